@@ -1,0 +1,77 @@
+-- By the lemmas on one bit more, at the numbers of the blocks.
+use Rattle.std.proofs.Common.{rules, arith, ◌≡◌, ◌%◌, ◌<◌, map, mod-lt, sym, ap, ◌∙◌}
+use Rattle.std.proofs.lemmas.List.{length-map, map_push}
+use Rattle.std.proofs.lemmas.Result.{err_from_is_err_and}
+use Rattle.vob_block.proofs.PlaceLemmas.{width_pos, mask-is}
+use Rattle.vob.proofs.PushLemmas.{push_block, push_false, mark_last, full_is_needed, last_in_range}
+use Rattle.vob.proofs.packed.append_bit.Goals as goal
+
+-- the read of the width is the width, also under `%` and `/`
+pub index-block-requires : goal.index-block-requires
+index-block-requires g c =
+    let wide = width_pos g.T.FixedWidth.width _ g.met.T.Block.width_law in
+    let partial = λ (e : c.args.len % g.T.Block.BITS ≡ 0). c.if-place-eq0.false (ap (λ w. c.args.len % w) c.BITS-width.ensures ∙ e) in
+    let there = last_in_range g.T.Block.BITS wide c.args.len (map g.T.Block.number c.args.blocks.now.items) c.requires partial in
+    rw c.BITS-width.ensures (omega (arith, there, length-map c.args.blocks.now.items g.T.Block.number, c.args.blocks.now.ok.0))
+
+pub returns-in_err-push-clause-full : goal.returns-in_err-push-clause-full
+returns-in_err-push-clause-full g c =
+    let p = err_from_is_err_and c.from_residual.result c.from_residual.ensures.1 in
+    let wide = width_pos g.T.FixedWidth.width _ g.met.T.Block.width_law in
+    let full = ap (λ w. c.args.len % w) (sym c.BITS-width.ensures) ∙ c.if-place-eq0.true in
+    let held = c.in_err-push.ensures.full in
+    rw p.1 (full_is_needed g.T.Block.BITS wide c.args.len (map g.T.Block.number c.args.blocks.now.items) c.requires _ full (omega (arith, length-map c.args.blocks.now.items g.T.Block.number, c.args.blocks.now.ok.0)))
+
+pub returns-in_ok-push : goal.returns-in_ok-push
+returns-in_ok-push g c =
+    let number = g.T.Block.number in
+    let wide = width_pos g.T.FixedWidth.width _ g.met.T.Block.width_law in
+    let full = ap (λ w. c.args.len % w) (sym c.BITS-width.ensures) ∙ c.if-place-eq0.true in
+    let items = ap (map number) c.in_ok-push.ensures.items ∙ map_push number c.args.blocks.now.items c.first_place.result in
+    let both = push_block g.T.Block.BITS wide c.args.len (map number c.args.blocks.now.items) c.requires c.args.value (number c.first_place.result) full c.first_place.ensures in
+    record {
+      canonical = rw items both.0;
+      bits = rw items both.1;
+      err = search rules;
+      full = search rules;
+      capacity = search rules;
+    }
+
+pub returns-else-value : goal.returns-else-value
+returns-else-value g c =
+    let wide = width_pos g.T.FixedWidth.width _ g.met.T.Block.width_law in
+    let partial = λ (e : c.args.len % g.T.Block.BITS ≡ 0). c.if-place-eq0.false (ap (λ w. c.args.len % w) c.BITS-width.ensures ∙ e) in
+    let both = push_false g.T.Block.BITS wide c.args.len (map g.T.Block.number c.args.blocks.now.items) c.requires partial in
+    record {
+      canonical = both.0;
+      bits = rw c.if-value.false both.1;
+      err = search rules;
+      full = search rules;
+      capacity = search rules;
+    }
+
+pub index_mut-requires : goal.index_mut-requires
+index_mut-requires g c =
+    let wide = width_pos g.T.FixedWidth.width _ g.met.T.Block.width_law in
+    let partial = λ (e : c.args.len % g.T.Block.BITS ≡ 0). c.if-place-eq0.false (ap (λ w. c.args.len % w) c.BITS-width.ensures ∙ e) in
+    let there = last_in_range g.T.Block.BITS wide c.args.len (map g.T.Block.number c.args.blocks.now.items) c.requires partial in
+    rw c.BITS-width.ensures (omega (arith, there, length-map c.args.blocks.now.items g.T.Block.number, c.args.blocks.now.ok.0))
+
+pub returns-then-value : goal.returns-then-value
+returns-then-value g c =
+    let number = g.T.Block.number in
+    let w = g.T.Block.BITS in
+    let v = c.BITS-width.result in
+    let wide = width_pos g.T.FixedWidth.width _ g.met.T.Block.width_law in
+    let partial = λ (e : c.args.len % w ≡ 0). c.if-place-eq0.false (ap (λ u. c.args.len % u) c.BITS-width.ensures ∙ e) in
+    let inside : c.args.len % v < w = rw c.BITS-width.ensures (mod-lt c.args.len wide) in
+    let one = ap number c.ONE.ensures ∙ g.met.T.Block.one_number_law in
+    let mask = mask-is w (c.args.len % v) inside (number c.ONE.result) (number c.up.result) one c.up.ensures.within c.up.ensures.places in
+    let both = mark_last number w wide c.args.len c.args.blocks.now.items c.requires partial v c.BITS-width.ensures c.index-block.result.now c.bor.result (number c.up.result) c.index-block.ensures c.bor.ensures.within c.bor.ensures.places mask in
+    record {
+      canonical = both.0;
+      bits = rw c.if-value.true both.1;
+      err = search rules;
+      full = search rules;
+      capacity = search rules;
+    }

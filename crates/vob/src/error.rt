@@ -1,0 +1,38 @@
+//! Why a call on a Vob was refused.
+ghost use Rattle.vob.specs.declared.error.VobError.TheVariants.{Memory};
+
+use std::alloc::AllocError;
+
+/// Why a call was refused. vob 4.0.1 panics, or ends the process, in its place.
+#[derive(Clone, Copy, Debug, PartialEq, Eq)]
+pub enum VobError {
+    /// The new length would pass the greatest one, `usize::MAX`.
+    TooLong,
+    /// There was no memory for the blocks.
+    Memory,
+}
+
+impl VobError {
+    ghost use Rattle.std.specs.Prelude.{◌≡◌};
+    ghost use Rattle.vob.specs.Refusal.{refusal_number};
+
+    /// The number of the refusal: 1 for `TooLong`, 2 for `Memory`.
+    pub fn number(self) -> u8
+        ensures { result ≡ refusal_number self }
+    {
+        match self {
+            VobError::TooLong => 1,
+            VobError::Memory => 2,
+        }
+    }
+}
+
+impl From<AllocError> for VobError {
+    ghost use Rattle.std.specs.Prelude.{◌≡◌};
+
+    ghost from_gives = { λ _ refusal. refusal ≡ Memory };
+
+    fn from(_: AllocError) -> VobError {
+        VobError::Memory
+    }
+}

@@ -1,0 +1,52 @@
+//! The work on a Vob's fields: a length and the blocks that store so many bits.
+ghost use Rattle.std.specs.Prelude.{◌≡◌, if◌then◌else◌, ◌+◌, ◌*◌, ◌<◌, ◌≤◌, [], ◌∷◌, ◌++◌, map, length, slice_get, Some, OnOk, OnErr, vec_capacity};
+ghost use Rattle.vob_block.specs.Packing.{need, stored, spelled, IsCanonical};
+
+use std::alloc::AllocError;
+use vob_block::Block;
+
+/// Bit `index` of the blocks.
+pub(crate) fn stored_bit<T: Block>(blocks: &[T], len: usize, index: usize) -> bool
+    requires canonical { IsCanonical len (map T.number blocks.now) T.BITS }
+    requires in_range { index < len }
+    ensures { slice_get (spelled len (map T.number blocks.now) T.BITS) index ≡ Some result }
+{
+    let width = T::BITS;
+    blocks[index / width].bit(index % width)
+}
+
+/// A block whose first place is `value`, and whose other places are false.
+fn first_place<T: Block>(value: bool) -> T
+    ensures { T.number result ≡ (if value then 1 else 0) }
+{
+    if value { T::ONE } else { T::ZERO }
+}
+
+/// Adds a bit behind the last one, with a block more where the last one is full.
+pub(crate) fn append_bit<T: Block>(
+    blocks: &mut Vec<T>,
+    len: usize,
+    value: bool,
+) -> Result<(), AllocError>
+    requires { IsCanonical len (map T.number blocks.old.items) T.BITS }
+    ensures canonical { OnOk result (IsCanonical (len + 1) (map T.number blocks.new.items) T.BITS) }
+    ensures bits { OnOk result (spelled (len + 1) (map T.number blocks.new.items) T.BITS
+        ≡ spelled len (map T.number blocks.old.items) T.BITS ++ value ∷ []) }
+
+    // Memory is asked for only where the blocks have no room for the bit.
+    ensures err { OnErr result (blocks.new.items ≡ blocks.old.items) }
+    ensures full { OnErr result ((vec_capacity blocks.old * T.BITS ≤ len)
+        × (need len T.BITS < need (len + 1) T.BITS)) }
+    ensures capacity { vec_capacity blocks.old ≤ vec_capacity blocks.new }
+{
+    let width = T::BITS;
+    let place = len % width;
+    if place == 0 {
+        blocks.push(first_place(value))?;
+    } else if value {
+        let last = len / width;
+        let block = blocks[last];
+        blocks[last] = block.bor(T::ONE.up(place));
+    }
+    Ok(())
+}

@@ -1,0 +1,5 @@
+pub mod NeedLemmas
+pub mod NumberLemmas
+pub mod PackingLemmas
+pub mod PlaceLemmas
+pub mod ValueLemmas

@@ -1,0 +1,8 @@
+-- From the laws of a block type to the number of a result, at any type S with these members.
+use Rattle.std.proofs.Common.{◌≡◌, ℕ, ◌^◌, ◌<◌, ap, ◌∙◌}
+
+module _ {S : Type 0} (number : S → ℕ) (of_bits : ℕ → S) (width : ℕ)
+    (of_bits_number : (n : ℕ) → n < 2 ^ width → number (of_bits n) ≡ n) where
+  -- a result that is made of some bits, which are n, has the number n
+  pub number_from_bits : (x : S) (bits n : ℕ) → x ≡ of_bits bits → bits ≡ n → n < 2 ^ width → number x ≡ n
+  number_from_bits x bits n made same h = ap number (made ∙ ap of_bits same) ∙ of_bits_number n h

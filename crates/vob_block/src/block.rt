@@ -1,0 +1,109 @@
+//! The trait of the types that store bits, by their places.
+ghost use Rattle.std.specs.Prelude.{◌≡◌, ◌≢◌, ◌==◌, ℕ, ◌+◌, ◌-◌, ◌^◌, ◌<◌, ◌≤◌, ◌&&◌, ◌||◌, ◌↔◌, not, true, false, nat_le, pos, IsTrue, length, All, map};
+ghost use Rattle.num_traits.specs.Laws.{bit_len};
+ghost use Rattle.vob_block.specs.Places.{place, HasPlaces};
+
+use num_traits::PrimInt;
+use std::fmt::Debug;
+use std::hash::Hash;
+
+/// An unsigned integer type whose values store `BITS` truth values each: place `j` is the bit of
+/// weight `2^j`.
+///
+/// vob 4.0.1 takes any `T: Debug + PrimInt`, signed types too.
+pub trait Block: PrimInt + Hash + Debug {
+    ghost BITS: { ℕ };
+
+    /// How many places a block has.
+    const BITS: usize;
+
+    ghost ZERO: { Self };
+
+    /// No place is true.
+    const ZERO: Self;
+
+    ghost ONE: { Self };
+
+    /// Place 0 alone is true.
+    const ONE: Self;
+
+    ghost ONES: { Self };
+
+    /// Every place is true.
+    const ONES: Self;
+
+    // The number that a block is.
+    ghost number: { Self → ℕ };
+
+    /// Does nothing: a block at hand is in the range of its type, which generic code can't see.
+    fn known(self)
+        ensures { number self < 2 ^ BITS };
+
+    /// The places that both blocks have.
+    fn band(self, other: Self) -> Self
+        ensures places { HasPlaces BITS (number result) (λ j. place j (number self) && place j (number other)) }
+        ensures within { number result < 2 ^ BITS }
+    {
+        self.known();
+        other.known();
+        self & other
+    }
+
+    /// The places that either block has.
+    fn bor(self, other: Self) -> Self
+        ensures places { HasPlaces BITS (number result) (λ j. place j (number self) || place j (number other)) }
+        ensures within { number result < 2 ^ BITS }
+    {
+        self.known();
+        other.known();
+        self | other
+    }
+
+    /// The places that the block doesn't have.
+    final fn bnot(self) -> Self
+        ensures places { HasPlaces BITS (number result) (λ j. not (place j (number self))) }
+        ensures within { number result < 2 ^ BITS }
+    {
+        self.known();
+        !self
+    }
+
+    /// Moves each place up by `n`. What passes the width is dropped, and the low `n` places are false.
+    fn up(self, n: usize) -> Self
+        requires { n < BITS }
+        ensures places { HasPlaces BITS (number result) (λ j. nat_le n j && place (j - n) (number self)) }
+        ensures within { number result < 2 ^ BITS }
+    {
+        self.known();
+        self.unsigned_shl(n as u32)
+    }
+
+    /// Place `j`.
+    final fn bit(self, j: usize) -> bool
+        requires { j < BITS }
+        ensures { result ≡ place j (number self) }
+    {
+        self.band(Self::ONE.up(j)) != Self::ZERO
+    }
+
+    // The number is the one that `PrimInt` states.
+    ghost number_law: { (x : Self) → Self.value x ≡ pos (number x) };
+
+    // `==` on blocks is `==` on their numbers.
+    ghost equal_law: { (x y : Self) → IsTrue (Self.eq x y) ↔ (number x ≡ number y) };
+
+    // Equal numbers feed a hasher the same.
+    ghost hash_law: { (x y : Self) → number x ≡ number y → Self.hash_input x ≡ Self.hash_input y };
+
+    ghost width_law: { BITS ≡ bit_len Self.width };
+
+    ghost bits_law: { (x : Self) → Self.bits_of x ≡ number x };
+
+    ghost of_bits_number_law: { (n : ℕ) → n < 2 ^ BITS → number (Self.of_bits n) ≡ n };
+
+    ghost zero_number_law: { number ZERO ≡ 0 };
+
+    ghost one_number_law: { number ONE ≡ 1 };
+
+    ghost ones_number_law: { number ONES ≡ 2 ^ BITS - 1 };
+}

@@ -1,0 +1,7 @@
+//! The blocks that a bit vector stores its bits in, and the words that say what they hold.
+#![tactic(auto)]
+
+pub mod block;
+mod impls;
+
+pub use block::Block;

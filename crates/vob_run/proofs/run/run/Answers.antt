@@ -1,0 +1,19 @@
+-- No command is a run of no replies, and each reply goes on from the run so far.
+use Rattle.std.proofs.Common.{arith, ◌∷◌, ◌++◌, [], map, refl, sym, ap, ◌∙◌, append_assoc}
+use Rattle.std.proofs.lemmas.List.{append-nil, map_push}
+use Rattle.vob_run.specs.Step.{meaning}
+use Rattle.vob_run.proofs.RunLemmas.{IsRun-more}
+use Rattle.vob_run.proofs.run.run.Goals as goal
+
+pub loop-command-init : goal.loop-command-init
+loop-command-init g c = (([], c.in_ok-reserve.ensures.items ∙ sym (append-nil _), refl), omega (arith, c.in_ok-reserve.ensures.ok))
+
+pub loop-command-preserved : goal.loop-command-preserved
+loop-command-preserved g c =
+    let m = meaning g.T.Block.number in
+    let so_far = c.loop-command.invariant.0 in
+    let reply = c.run_one-reply.result in
+    let ran = IsRun-more g.T.Block.BITS _ _ _ c.args.commands.now c.loop-command.command-index _ (map m so_far.0) (m reply) c.loop-command-test.true so_far.2 c.run_one-reply.ensures in (
+      (so_far.0 ++ reply ∷ [], c.push_reserved.ensures.items ∙ ap (λ rs. rs ++ reply ∷ []) so_far.1 ∙ append_assoc c.args.replies.now.items so_far.0 (reply ∷ []), rw (map_push m so_far.0 reply) ran),
+      omega (arith, c.loop-command.invariant.1, c.push_reserved.ensures.len, c.push_reserved.ensures.capacity),
+    )

@@ -1,0 +1,8 @@
+//! Commands on numbered bit vectors, run in order with one reply each.
+#![tactic(auto)]
+
+mod calls;
+pub mod command;
+pub mod run;
+
+pub use command::{Command, Reply};

@@ -1,0 +1,49 @@
+//! A list of commands, run in order.
+ghost use Rattle.std.specs.Prelude.{◌≡◌, [], ◌++◌, map, OnOk, OnErr, IsOk};
+ghost use Rattle.vob_run.specs.Step.{Answer, meaning};
+ghost use Rattle.vob_run.specs.Run.{lists, IsStep, IsRun};
+
+use crate::calls;
+use crate::command::{Command, Reply};
+use std::alloc::{AllocError, Global};
+use vob::Vob;
+use vob_block::Block;
+
+// Runs one command.
+fn run_one<T: Block>(alloc: Global, vobs: &mut Vec<Vob<T>>, command: &Command) -> Reply<T>
+    ensures { IsStep T.BITS (lists vobs.old.items) command.now
+        (meaning T.number result) (lists vobs.new.items) }
+{
+    match command {
+        Command::New { capacity } => calls::new(alloc, vobs, *capacity),
+        Command::Push { which, value } => calls::push(vobs, *which, *value),
+        Command::GetBit { which, index } => calls::get_bit(vobs, *which, *index),
+        Command::Length { which } => calls::length(vobs, *which),
+        Command::Bits { which } => calls::bits(alloc, vobs, *which),
+        Command::Storage { which } => calls::storage(alloc, vobs, *which),
+    }
+}
+
+/// Runs the commands in order on the numbered Vobs, and appends one reply for each. Room for the
+/// replies is made first: where it is refused, no command was run. A command that is refused, or
+/// that names no Vob, changes nothing and has its own reply.
+pub fn run<T: Block>(
+    alloc: Global,
+    commands: &[Command],
+    vobs: &mut Vec<Vob<T>>,
+    replies: &mut Vec<Reply<T>>,
+) -> Result<(), AllocError>
+    ensures ok { OnOk result ((added : _) × (replies.new.items ≡ replies.old.items ++ added)
+        × IsRun T.BITS (lists vobs.old.items) commands.now (map (meaning T.number) added)
+        (lists vobs.new.items)) }
+    ensures vobs_stay { OnErr result (vobs.new.items ≡ vobs.old.items) }
+    ensures replies_stay { OnErr result (replies.new.items ≡ replies.old.items) }
+    ensures nothing { commands.now ≡ [] → IsOk result }
+{
+    replies.reserve(commands.len())?;
+    for command in commands {
+        let reply = run_one(alloc, vobs, command);
+        replies.push_reserved(reply);
+    }
+    Ok(())
+}

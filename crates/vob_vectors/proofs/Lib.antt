@@ -1,0 +1,4 @@
+pub mod ValueLemmas
+pub mod ListLemmas
+pub mod RunLemmas
+mod WorkedValues

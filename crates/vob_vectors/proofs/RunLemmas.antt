@@ -1,0 +1,83 @@
+-- A run that goes on, and the steps that refuse nothing for want of memory.
+use Rattle.std.proofs.Common.{◌≡◌, ◌≢◌, ℕ, Bool, true, false, List, [], ◌∷◌, ◌++◌, length, map, Some, None, Option, refl, inl, arith, subst}
+use Rattle.std.specs.Prelude.{slice_get, nat_lt, if◌then◌else◌}
+use Rattle.std.specs.Option.{option_map_or}
+use Rattle.std.proofs.lemmas.List.{map_push}
+use Rattle.std.proofs.lemmas.List.Elements.{All-push}
+use Rattle.vob_block.specs.Packing.{packing}
+use Rattle.vob_run.specs.declared.command.Command.{Command}
+use Rattle.vob_run.specs.declared.command.Command.TheVariants.{New, Push, GetBit, Length, Bits, Storage}
+use Rattle.vob_run.specs.declared.command.Reply.{Reply}
+use Rattle.vob_run.specs.Step.{Answer, Outcome, done, bit, number, made, bit_list, block_list, refused, skipped, outcome, on, pushed, step, greatest_length}
+use Rattle.vob_run.specs.Run.{IsRun, IsStep}
+use Rattle.vob_vectors.specs.Plain.{IsPlainRun, said}
+
+-- what holds of each list's answer, and of `skipped`, holds of the answer
+answer-found : (found : Option (List Bool)) (all : List (List Bool)) (f : List Bool → Outcome) →
+    ((bits : List Bool) → (f bits).answer ≢ refused 2) →
+    (option_map_or f found (outcome skipped all)).answer ≢ refused 2
+answer-found None all f holds = λ (e : skipped ≡ refused 2). cc
+answer-found (Some bits) all f holds = holds bits
+
+answer-on : (all : List (List Bool)) (which : ℕ) (f : List Bool → Outcome) →
+    ((bits : List Bool) → (f bits).answer ≢ refused 2) → (on all which f).answer ≢ refused 2
+answer-on all which f holds = answer-found (slice_get all which) all f holds
+
+answer-if : (short : Bool) (all after : List (List Bool)) →
+    (if short then outcome done after else outcome (refused 1) all).answer ≢ refused 2
+answer-if true all after = λ (e : done ≡ refused 2). cc
+answer-if false all after = λ (e : refused 1 ≡ refused 2). cc
+
+module _ (width : ℕ) where
+  answer-pushed : (all : List (List Bool)) (which : ℕ) (value : Bool) (bits : List Bool) →
+      (pushed width all which value bits).answer ≢ refused 2
+  answer-pushed all which value bits = answer-if (nat_lt (length bits) greatest_length) all _
+
+  -- a run goes on by one step
+  pub run_more : (before : List (List Bool)) (commands : List Command) (answers : List Answer)
+      (between : List (List Bool)) → IsRun width before commands answers between →
+      (command : Command) (answer : Answer) (after : List (List Bool)) →
+      IsStep width between command answer after →
+      IsRun width before (commands ++ command ∷ []) (answers ++ answer ∷ []) after
+  run_more before [] [] between same command answer after taken = (
+    after,
+    subst (λ (all : List (List Bool)). IsStep width all command answer after) same taken,
+    refl,
+  )
+  run_more before (first ∷ commands) (reply ∷ answers) between run command answer after taken =
+      (run.0, run.1, run_more run.0 commands answers between run.2 command answer after taken)
+  run_more before [] (reply ∷ answers) between run command answer after taken = absurd run
+  run_more before (first ∷ commands) [] between run command answer after taken = absurd run
+
+  -- no step refuses for want of memory
+  pub answer-step : (all : List (List Bool)) (command : Command) →
+      (step width all command).answer ≢ refused 2
+  answer-step all (New capacity) = λ (e : made (length all) ≡ refused 2). cc
+  answer-step all (Push which value) = answer-on all which (pushed width all which value)
+      (λ bits. answer-pushed all which value bits)
+  answer-step all (GetBit which index) =
+      answer-on all which (λ bits. outcome (bit (slice_get bits index)) all) (λ bits e. cc)
+  answer-step all (Length which) = answer-on all which (λ bits. outcome (number (length bits)) all)
+      (λ bits e. cc)
+  answer-step all (Bits which) = answer-on all which (λ bits. outcome (bit_list bits) all)
+      (λ bits e. cc)
+  answer-step all (Storage which) =
+      answer-on all which (λ bits. outcome (block_list (packing bits width)) all) (λ bits e. cc)
+
+  pub no_commands : (all : List (List Bool)) → IsPlainRun width [] all all []
+  no_commands all = record { run = refl; none_refused = λ k d h. absurd (omega arith) }
+
+  -- the reply of the next command's step goes behind the others
+  pub plain_run_more : (before : List (List Bool)) (commands : List Command)
+      (replies : List (Reply ℕ)) (between : List (List Bool)) (command : Command) (reply : Reply ℕ)
+      (after : List (List Bool)) → IsPlainRun width commands before between replies →
+      step width between command ≡ outcome (said reply) after →
+      IsPlainRun width (commands ++ command ∷ []) before after (replies ++ reply ∷ [])
+  plain_run_more before commands replies between command reply after so_far taken =
+      let run = run_more before commands (map said replies) between so_far.run command (said reply) after (inl taken) in
+      let kept : said reply ≢ refused 2 =
+      subst (λ (o : Outcome). o.answer ≢ refused 2) taken (answer-step between command) in
+      record {
+        run = rw (map_push said replies reply) run;
+        none_refused = All-push (λ r. said r ≢ refused 2) replies reply so_far.none_refused kept;
+      }

@@ -1,0 +1,8 @@
+use Rattle.std.proofs.Common.{take}
+use Rattle.vob_vectors.specs.Plain.{AddsRun}
+use Rattle.vob_vectors.proofs.plain.plain_run.Given as goal
+
+-- the commands so far are a run
+abbrev pub invariant-loop-command : goal.invariant-loop-command
+invariant-loop-command l =
+    AddsRun l.width (take l.command-index l.commands) l.initial.lists l.lists l.initial.replies l.replies

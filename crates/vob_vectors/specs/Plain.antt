@@ -1,0 +1,42 @@
+-- What a contract sees of the plain program: its lists, its steps and its runs.
+use Rattle.std.specs.Prelude.{◌≡◌, ◌≢◌, ℕ, List, ◌++◌, map, All, Bool, Vec}
+use Rattle.std.specs.declared.alloc.Global.{Global}
+use Rattle.vob_run.specs.declared.command.Command.{Command}
+use Rattle.vob_run.specs.declared.command.Reply.{Reply}
+use Rattle.vob_run.specs.Step.{Answer, meaning, outcome, step, refused}
+use Rattle.vob_run.specs.Run.{IsRun}
+
+-- the numbered lists of the program
+abbrev pub Lists : Type 0
+Lists = Vec (Vec Bool Global) Global
+
+-- the bits of each of some lists
+abbrev pub bits_of_each : List (Vec Bool Global) → List (List Bool)
+bits_of_each lists = map (λ v. v.items) lists
+
+-- the bits of each numbered list
+abbrev pub bit_lists : Lists → List (List Bool)
+bit_lists lists = bits_of_each lists.items
+
+-- what a reply says, in which blocks are numbers already
+abbrev pub said : Reply ℕ → Answer
+said reply = meaning (λ x. x) reply
+
+-- the reply and the lists after are what the command means on the lists before
+abbrev pub IsPlainStep : ℕ → Lists → Command → Lists → Reply ℕ → Type 0
+IsPlainStep width before command after reply =
+    step width (bit_lists before) command ≡ outcome (said reply) (bit_lists after)
+
+-- replies that lead, one a command, from the lists before to the lists after, with no command
+-- refused for want of memory
+pub record IsPlainRun (width : ℕ) (commands : List Command)
+    (before after : List (List Bool)) (replies : List (Reply ℕ)) : Type 0 where
+  pub run : IsRun width before commands (map said replies) after
+  pub none_refused : All (λ reply. said reply ≢ refused 2) replies
+
+-- a run whose replies stand behind those that were there
+abbrev pub AddsRun : ℕ → List Command → Lists → Lists → Vec (Reply ℕ) Global →
+    Vec (Reply ℕ) Global → Type 0
+AddsRun width commands before after old new =
+    (replies : List (Reply ℕ)) × (new.items ≡ old.items ++ replies)
+    × IsPlainRun width commands (bit_lists before) (bit_lists after) replies

@@ -1,0 +1,168 @@
+//! The commands on lists of bits, bit by bit: slow, and plainly what the definitions say.
+ghost use Rattle.std.specs.Prelude.{◌≡◌, ℕ, ◌+◌, ◌<◌, ◌≤◌, length, IfOk, OnOk, OnErr};
+ghost use Rattle.vob_block.specs.Places.{value};
+ghost use Rattle.vob_block.specs.Packing.{item, packing};
+ghost use Rattle.vob_vectors.specs.Plain.{AddsRun, IsPlainStep, bit_lists};
+
+use std::alloc::{AllocError, Global};
+use vob_run::command::{Command, Reply};
+
+/// The bit at `index`, false past the end.
+fn bit_or_false(bits: &[bool], index: usize) -> bool
+    ensures { result ≡ item bits.now index }
+{
+    bits.get(index).copied().unwrap_or(false)
+}
+
+/// The sum of the weights of the true bits among the `width` ones from `first` on.
+fn block_value(bits: &[bool], width: usize, first: usize) -> u128
+    requires width_in { width ≤ 128 }
+    requires first_in { first ≤ length bits.now }
+    ensures { result ≡ value width (λ j. item bits.now (first + j)) }
+{
+    let mut sum = 0;
+    for place in 0..width {
+        if bit_or_false(bits, first + place) {
+            sum += 2u128.pow(place as u32);
+        }
+    }
+    sum
+}
+
+/// The blocks of a list, one after the other.
+fn blocks_of(alloc: Global, bits: &[bool], width: usize) -> Result<Vec<u128>, AllocError>
+    requires positive { 0 < width }
+    requires width_in { width ≤ 128 }
+    ensures { IfOk result (λ blocks. blocks.items ≡ packing bits.now width) }
+{
+    let count = (bits.len() + (width - 1)) / width;
+    let mut blocks = Vec::new(alloc);
+    for k in 0..count {
+        blocks.push(block_value(bits, width, k * width))?;
+    }
+    Ok(blocks)
+}
+
+/// A copy of the bits.
+fn bits_of(alloc: Global, bits: &[bool]) -> Result<Vec<bool>, AllocError>
+    ensures { IfOk result (λ copy. copy.items ≡ bits.now) }
+{
+    bits.iter().copied().collect(alloc)
+}
+
+/// A new empty list, behind the others.
+fn new_list(alloc: Global, lists: &mut Vec<Vec<bool>>) -> Result<Reply<u128>, AllocError>
+    ensures ok { (w n : ℕ) → IfOk result (IsPlainStep w lists.old (Command.New n) lists.new) }
+    ensures err { OnErr result (bit_lists lists.new ≡ bit_lists lists.old) }
+{
+    let made = lists.len();
+    lists.push(Vec::new(alloc))?;
+    Ok(Reply::Made(made))
+}
+
+/// One bit more behind the last one of a list.
+fn push_bit(
+    lists: &mut Vec<Vec<bool>>,
+    which: usize,
+    value: bool,
+) -> Result<Reply<u128>, AllocError>
+    ensures ok { (w : ℕ) → IfOk result (IsPlainStep w lists.old (Command.Push which value) lists.new) }
+    ensures err { OnErr result (bit_lists lists.new ≡ bit_lists lists.old) }
+{
+    if which >= lists.len() {
+        return Ok(Reply::Skipped);
+    }
+    if lists[which].len() == usize::MAX {
+        return Ok(Reply::Refused(1));
+    }
+    lists[which].push(value)?;
+    Ok(Reply::Done)
+}
+
+/// One bit of a list.
+fn get_bit(lists: &Vec<Vec<bool>>, which: usize, index: usize) -> Reply<u128>
+    ensures { (w : ℕ) → IsPlainStep w lists.now (Command.GetBit which index) lists.now result }
+{
+    match lists.get(which) {
+        None => Reply::Skipped,
+        Some(bits) => Reply::Bit(bits.get(index).copied()),
+    }
+}
+
+/// How many bits a list has.
+fn count_bits(lists: &Vec<Vec<bool>>, which: usize) -> Reply<u128>
+    ensures { (w : ℕ) → IsPlainStep w lists.now (Command.Length which) lists.now result }
+{
+    match lists.get(which) {
+        None => Reply::Skipped,
+        Some(bits) => Reply::Number(bits.len()),
+    }
+}
+
+/// All bits of a list.
+fn list_bits(alloc: Global, lists: &Vec<Vec<bool>>, which: usize) -> Result<Reply<u128>, AllocError>
+    ensures { (w : ℕ) → IfOk result (IsPlainStep w lists.now (Command.Bits which) lists.now) }
+{
+    match lists.get(which) {
+        None => Ok(Reply::Skipped),
+        Some(bits) => Ok(Reply::BitList(bits_of(alloc, bits)?)),
+    }
+}
+
+/// All blocks of a list.
+fn list_blocks(
+    alloc: Global,
+    width: usize,
+    lists: &Vec<Vec<bool>>,
+    which: usize,
+) -> Result<Reply<u128>, AllocError>
+    requires positive { 0 < width }
+    requires width_in { width ≤ 128 }
+    ensures { IfOk result (IsPlainStep width lists.now (Command.Storage which) lists.now) }
+{
+    match lists.get(which) {
+        None => Ok(Reply::Skipped),
+        Some(bits) => Ok(Reply::BlockList(blocks_of(alloc, bits, width)?)),
+    }
+}
+
+/// Does what a command means on the lists, or answers `Err` and leaves them.
+pub fn plain_step(
+    alloc: Global,
+    width: usize,
+    lists: &mut Vec<Vec<bool>>,
+    command: &Command,
+) -> Result<Reply<u128>, AllocError>
+    requires positive { 0 < width }
+    requires width_in { width ≤ 128 }
+    ensures ok { IfOk result (IsPlainStep width lists.old command.now lists.new) }
+    ensures err { OnErr result (bit_lists lists.new ≡ bit_lists lists.old) }
+{
+    match *command {
+        Command::New { .. } => new_list(alloc, lists),
+        Command::Push { which, value } => push_bit(lists, which, value),
+        Command::GetBit { which, index } => Ok(get_bit(lists, which, index)),
+        Command::Length { which } => Ok(count_bits(lists, which)),
+        Command::Bits { which } => list_bits(alloc, lists, which),
+        Command::Storage { which } => list_blocks(alloc, width, lists, which),
+    }
+}
+
+/// Does what each command means, in order, and adds one reply a command behind the replies.
+pub fn plain_run(
+    alloc: Global,
+    width: usize,
+    commands: &[Command],
+    lists: &mut Vec<Vec<bool>>,
+    replies: &mut Vec<Reply<u128>>,
+) -> Result<(), AllocError>
+    requires positive { 0 < width }
+    requires width_in { width ≤ 128 }
+    ensures { OnOk result (AddsRun width commands.now lists.old lists.new replies.old replies.new) }
+{
+    for command in commands {
+        let reply = plain_step(alloc, width, lists, command)?;
+        replies.push(reply)?;
+    }
+    Ok(())
+}

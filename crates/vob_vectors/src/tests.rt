@@ -1,0 +1,3 @@
+//! Tests of packed vectors of bits, and of commands on them.
+mod agreement;
+mod rows;
