@@ -14,8 +14,8 @@ use vob_block::Block;
 #[derive(Drop)]
 pub struct Vob<T: Block = usize> {
     // In bits.
-    len: usize,
-    vec: Vec<T>,
+    pub(crate) len: usize,
+    pub(crate) vec: Vec<T>,
 }
 
 impl<T: Block> Model for Vob<T> {

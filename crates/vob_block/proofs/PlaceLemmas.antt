@@ -2,11 +2,11 @@
 use Rattle.std.specs.Prelude.{bit_and, bit_or}
 use Rattle.std.specs.Int.{Width, w8, w16, w32, w64, w128, bit_at, bit_not}
 use Rattle.num_traits.specs.Laws.{bit_len, shift_left}
-use Rattle.std.proofs.Common.{◌≡◌, ◌≢◌, ℕ, ◌-◌, ◌*◌, ◌/◌, ◌%◌, ◌^◌, ◌<◌, ◌≤◌, Bool, true, false, not, ◌&&◌, ◌||◌, min, max, eqb, leb, refl, sym, ap, ◌∙◌, arith, mod-lt, one-mul, add-zero, inl, inr, subst}
-use Rattle.std.proofs.lemmas.Bool.{cases_lt, and_left, and_right, cases_Bool, cases_eq, false≢true, cases_order, lt-leb, le-leb, eq-eqb, ne_eqb}
+use Rattle.std.proofs.Common.{◌≡◌, ◌≢◌, ℕ, ◌+◌, ◌-◌, ◌*◌, ◌/◌, ◌%◌, ◌^◌, ◌<◌, ◌≤◌, Bool, true, false, not, ◌&&◌, ◌||◌, min, max, eqb, leb, refl, sym, ap, ◌∙◌, arith, ltb, lt_of_le_of_lt, add_comm, mod-lt, one-mul, add-zero, inl, inr, subst}
+use Rattle.std.proofs.lemmas.Bool.{lt-ltb, le-ltb, cases_lt, and_left, and_right, cases_Bool, cases_eq, false≢true, cases_order, lt-leb, le-leb, eq-eqb, ne_eqb}
 use Rattle.std.proofs.lemmas.Bool.Decides.{nat_tests}
-use Rattle.std.proofs.lemmas.Nat.{pow_pos, pow_below, shr_split}
-use Rattle.std.proofs.lemmas.Nat.Bits.{bit_at_and, bit_at_or, bit_at-lt, bit_at-zero, bit_at-pow_same, bit_at-pow_other, bit_at_above, bit_at_cat_low, bit_at_cat_high, bit_at_not, same_from_bits_below}
+use Rattle.std.proofs.lemmas.Nat.{shr_le, shr-shr, pow_pos, pow_below, shr_split}
+use Rattle.std.proofs.lemmas.Nat.Bits.{bit_at_and, bit_at_or, bit_at-lt, bit_at-zero, bit_at-pow_same, bit_at-pow_other, bit_at_above, bit_at_ones, bit_at_cat_low, bit_at_cat_high, bit_at_not, same_from_bits_below}
 use mir.Val.{bits}
 use Rattle.vob_block.specs.Places.{place, HasPlaces}
 
@@ -118,6 +118,37 @@ shift-lt w n x k e = subst (λ (m : ℕ). shift_left w x k < 2 ^ m) (sym e) (mod
 
 pub HasPlaces-shift : (w : Width) (n x k : ℕ) → n ≡ bit_len w → HasPlaces n (shift_left w x k) (λ j. leb k j && place (j - k) x)
 HasPlaces-shift w n x k e = record { each = λ j h. place-shift (bit_len w) x k j (subst (λ (m : ℕ). j < m) e h) }
+
+-- `x >> n`
+pub shift_down-lt : (w x n : ℕ) → x < 2 ^ w → x / 2 ^ n < 2 ^ w
+shift_down-lt w x n h = lt_of_le_of_lt (shr_le x n) h
+
+pub HasPlaces-shift_down : (w x n : ℕ) → x < 2 ^ w → HasPlaces w (x / 2 ^ n) (λ j. ltb (j + n) w && place (j + n) x)
+HasPlaces-shift_down w x n h = record { each = λ j k. elim (cases_lt (j + n) w) [
+    | inl inside ↦ moved j ∙ sym (ap (λ b. b && place (j + n) x) (lt-ltb (j + n) w inside))
+    | inr past ↦ moved j ∙ place_above x w (j + n) h past ∙ sym (and_left (ltb (j + n) w) (place (j + n) x) (le-ltb (j + n) w past))
+  ] }
+  where
+    moved : (j : ℕ) → place j (x / 2 ^ n) ≡ place (j + n) x
+    moved j = ap (λ y. eqb (y % 2) 1) (shr-shr x n j ∙ ap (λ k. x / 2 ^ k) (add_comm n j))
+
+-- every place, and no place
+pub place-ones : (w j : ℕ) → j < w → place j (2 ^ w - 1) ≡ true
+place-ones w j h = ap (λ c. eqb c 1) (bit_at_ones w j h)
+
+-- ---- a mask of the low places
+
+pub HasPlaces-mask_none : (w x n : ℕ) → x ≡ 0 → n ≡ 0 → HasPlaces w x (λ j. ltb j n)
+HasPlaces-mask_none w x n e none = record { each = λ j k. ap (place j) e ∙ place-zero j ∙ sym (le-ltb j n (omega arith)) }
+
+pub HasPlaces-mask : (w x y n : ℕ) → x ≡ 2 ^ w - 1 → n ≤ w → HasPlaces w y (λ j. ltb (j + (w - n)) w && place (j + (w - n)) x) → HasPlaces w y (λ j. ltb j n)
+HasPlaces-mask w x y n all fits h = record { each = λ j k. h.each j k ∙ elim (cases_lt j n) [
+    | inl below ↦
+        let inside : j + (w - n) < w = omega arith in
+        ap (λ b. b && place (j + (w - n)) x) (lt-ltb (j + (w - n)) w inside) ∙ ap (place (j + (w - n))) all ∙ place-ones w (j + (w - n)) inside ∙ sym (lt-ltb j n below)
+    | inr above ↦
+        and_left (ltb (j + (w - n)) w) (place (j + (w - n)) x) (le-ltb (j + (w - n)) w (omega arith)) ∙ sym (le-ltb j n above)
+  ] }
 
 -- ---- a test of one place
 

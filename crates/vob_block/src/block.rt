@@ -1,5 +1,5 @@
 //! The trait of the types that store bits, by their places.
-ghost use Rattle.std.specs.Prelude.{◌≡◌, ◌≢◌, ◌==◌, ℕ, ◌+◌, ◌-◌, ◌^◌, ◌<◌, ◌≤◌, ◌&&◌, ◌||◌, ◌↔◌, not, true, false, nat_le, pos, IsTrue, length, All, map};
+ghost use Rattle.std.specs.Prelude.{◌≡◌, ◌≢◌, ◌==◌, ℕ, ◌+◌, ◌-◌, ◌^◌, ◌<◌, ◌≤◌, ◌&&◌, ◌||◌, ◌↔◌, not, true, false, nat_le, nat_lt, pos, IsTrue, length, All, map};
 ghost use Rattle.num_traits.specs.Laws.{bit_len};
 ghost use Rattle.vob_block.specs.Places.{place, HasPlaces};
 
@@ -76,6 +76,30 @@ pub trait Block: PrimInt + Hash + Debug {
     {
         self.known();
         self.unsigned_shl(n as u32)
+    }
+
+    /// Moves each place down by `n`. The low `n` places are dropped, and the high `n` are false.
+    final fn down(self, n: usize) -> Self
+        requires { n < BITS }
+        ensures places { HasPlaces BITS (number result)
+            (λ j. nat_lt (j + n) BITS && place (j + n) (number self)) }
+        ensures within { number result < 2 ^ BITS }
+    {
+        self.known();
+        self.unsigned_shr(n as u32)
+    }
+
+    /// The places below `n`, and no others.
+    final fn low_mask(n: usize) -> Self
+        requires { n ≤ BITS }
+        ensures places { HasPlaces BITS (number result) (λ j. nat_lt j n) }
+        ensures within { number result < 2 ^ BITS }
+    {
+        if n == 0 {
+            Self::ZERO
+        } else {
+            Self::ONES.down(Self::BITS - n)
+        }
     }
 
     /// Place `j`.
