@@ -2,6 +2,8 @@
 #![tactic(auto)]
 
 pub mod block;
+mod blocks;
 mod impls;
 
 pub use block::Block;
+pub use blocks::Blocks;

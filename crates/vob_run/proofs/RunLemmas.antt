@@ -2,7 +2,7 @@
 use Rattle.std.proofs.Common.{ℕ, ◌+◌, ◌<◌, List, [], ◌∷◌, ◌++◌, Bool, length, take, get_or, refl, subst}
 use Rattle.std.proofs.lemmas.List.{take_more}
 use Rattle.vob_run.specs.declared.command.Command.{Command}
-use Rattle.vob_run.specs.Step.{Answer}
+use Rattle.vob_run.specs.Answer.{Answer}
 use Rattle.vob_run.specs.Run.{IsStep, IsRun}
 
 pub IsRun-push : (width : ℕ) (before between after : List (List Bool)) (commands : List Command) (answers : List Answer) (command : Command) (answer : Answer)

@@ -11,7 +11,9 @@ use Rattle.vob.specs.declared.error.VobError.{VobError}
 use Rattle.vob.specs.declared.error.VobError.TheVariants.{TooLong, Memory}
 use Rattle.vob_run.specs.declared.command.Command.{Command}
 use Rattle.vob_run.specs.declared.command.Command.TheVariants.{Push}
-use Rattle.vob_run.specs.Step.{outcome, done, refused, step, MayRefuse}
+use Rattle.vob_run.specs.Answer.{outcome, done, refused}
+use Rattle.vob_run.specs.Memory.{MayRefuse}
+use Rattle.vob_run.specs.Step.{step}
 use Rattle.vob_run.specs.Run.{lists, IsStep}
 
 module _ (items : List BitVector) (which : ℕ) (old : BitVector) (there : slice_get items which ≡ Some old) where

@@ -1,2 +1,4 @@
-pub mod Step
+pub mod Answer
+pub mod Memory
 pub mod Run
+pub mod Step

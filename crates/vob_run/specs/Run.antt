@@ -2,7 +2,9 @@
 use Rattle.std.specs.Prelude.{◌≡◌, ◌⊎◌, ℕ, List, [], ◌∷◌, map, Bool}
 use Rattle.vob.specs.Vob.{BitVector}
 use Rattle.vob_run.specs.declared.command.Command.{Command}
-use Rattle.vob_run.specs.Step.{Answer, refused, outcome, step, MayRefuse}
+use Rattle.vob_run.specs.Answer.{Answer, refused, outcome}
+use Rattle.vob_run.specs.Memory.{MayRefuse}
+use Rattle.vob_run.specs.Step.{step}
 
 -- the bits of each numbered Vob
 abbrev pub lists : List BitVector → List (List Bool)

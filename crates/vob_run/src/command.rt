@@ -9,11 +9,33 @@ pub enum Command {
     New { capacity: usize },
     /// Adds a bit behind the last one: `Vob::push`.
     Push { which: usize, value: bool },
+    /// Takes the last bit off: `Vob::pop`.
+    Pop { which: usize },
     /// Reads a bit: `Vob::get`.
     GetBit { which: usize, index: usize },
+    /// Reads a bit below the length: `Vob::get_unchecked`. Skipped past the end.
+    GetUnchecked { which: usize, index: usize },
+    /// Reads a bit below the length: `Index`. Skipped past the end.
+    IndexBit { which: usize, index: usize },
+    /// Writes a bit below the length: `Vob::set`. Skipped past the end.
+    SetBit {
+        which: usize,
+        index: usize,
+        value: bool,
+    },
+    /// Writes a bit below the length: `Vob::set_unchecked`. Skipped past the end.
+    SetUnchecked {
+        which: usize,
+        index: usize,
+        value: bool,
+    },
     /// Counts the bits: `Vob::len`.
     Length { which: usize },
-    /// Reads all bits: `Vob::get` at each index.
+    /// Whether there are no bits: `Vob::is_empty`.
+    IsEmpty { which: usize },
+    /// Keeps the first `len` bits: `Vob::truncate`.
+    Truncate { which: usize, len: usize },
+    /// Reads all bits: `Vob::iter`.
     Bits { which: usize },
     /// Reads all blocks: `Vob::iter_storage`.
     Storage { which: usize },
@@ -26,6 +48,8 @@ pub enum Reply<T> {
     Done,
     /// A bit, or `None` where the index is past the last one.
     Bit(Option<bool>),
+    /// Whether it is so, or whether something changed.
+    Flag(bool),
     /// A count.
     Number(usize),
     /// The number of the Vob that was made.
@@ -34,7 +58,7 @@ pub enum Reply<T> {
     BitList(Vec<bool>),
     /// All blocks, the one with bit 0 first.
     BlockList(Vec<T>),
-    /// No Vob has that number; nothing was done.
+    /// No Vob has that number, or the call's condition doesn't hold; nothing was done.
     Skipped,
     /// The call was refused, for the reason with this number (see `VobError::number`), and all Vobs
     /// are as they were.

@@ -1,9 +1,9 @@
 //! A list of commands, run in order.
 ghost use Rattle.std.specs.Prelude.{◌≡◌, [], ◌++◌, map, OnOk, OnErr, IsOk};
-ghost use Rattle.vob_run.specs.Step.{Answer, meaning};
+ghost use Rattle.vob_run.specs.Answer.{Answer, meaning};
 ghost use Rattle.vob_run.specs.Run.{lists, IsStep, IsRun};
 
-use crate::calls;
+use crate::calls::{make, read, write};
 use crate::command::{Command, Reply};
 use std::alloc::{AllocError, Global};
 use vob::Vob;
@@ -15,12 +15,27 @@ fn run_one<T: Block>(alloc: Global, vobs: &mut Vec<Vob<T>>, command: &Command) -
         (meaning T.number result) (lists vobs.new.items) }
 {
     match command {
-        Command::New { capacity } => calls::new(alloc, vobs, *capacity),
-        Command::Push { which, value } => calls::push(vobs, *which, *value),
-        Command::GetBit { which, index } => calls::get_bit(vobs, *which, *index),
-        Command::Length { which } => calls::length(vobs, *which),
-        Command::Bits { which } => calls::bits(alloc, vobs, *which),
-        Command::Storage { which } => calls::storage(alloc, vobs, *which),
+        Command::New { capacity } => make::new(alloc, vobs, *capacity),
+        Command::Push { which, value } => write::push(vobs, *which, *value),
+        Command::Pop { which } => write::pop(vobs, *which),
+        Command::GetBit { which, index } => read::get_bit(vobs, *which, *index),
+        Command::GetUnchecked { which, index } => read::get_unchecked(vobs, *which, *index),
+        Command::IndexBit { which, index } => read::index_bit(vobs, *which, *index),
+        Command::SetBit {
+            which,
+            index,
+            value,
+        } => write::set_bit(vobs, *which, *index, *value),
+        Command::SetUnchecked {
+            which,
+            index,
+            value,
+        } => write::set_unchecked(vobs, *which, *index, *value),
+        Command::Length { which } => read::length(vobs, *which),
+        Command::IsEmpty { which } => read::is_empty(vobs, *which),
+        Command::Truncate { which, len } => write::truncate(vobs, *which, *len),
+        Command::Bits { which } => read::bits(alloc, vobs, *which),
+        Command::Storage { which } => read::storage(alloc, vobs, *which),
     }
 }
 

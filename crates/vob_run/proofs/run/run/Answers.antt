@@ -1,7 +1,7 @@
 -- No command is a run of no replies, and each reply goes on from the run so far.
 use Rattle.std.proofs.Common.{arith, ◌∷◌, ◌++◌, [], map, refl, sym, ap, ◌∙◌, append_assoc}
 use Rattle.std.proofs.lemmas.List.{append-nil, map_push}
-use Rattle.vob_run.specs.Step.{meaning}
+use Rattle.vob_run.specs.Answer.{meaning}
 use Rattle.vob_run.proofs.RunLemmas.{IsRun-more}
 use Rattle.vob_run.proofs.run.run.Goals as goal
 

@@ -1,6 +1,6 @@
 -- The commands so far are a run, and there is room for the other replies.
 use Rattle.std.proofs.Common.{◌≡◌, ◌≤◌, ◌+◌, ◌++◌, take, map, length, vec_len, vec_capacity}
-use Rattle.vob_run.specs.Step.{meaning}
+use Rattle.vob_run.specs.Answer.{meaning}
 use Rattle.vob_run.specs.Run.{lists, IsRun}
 use Rattle.vob_run.proofs.run.run.Given as goal
 

@@ -2,7 +2,7 @@
 use Rattle.std.proofs.Common.{arith, ◌<◌, true, length, refl, sym, ◌∙◌}
 use Rattle.std.proofs.lemmas.List.{take_more}
 use Rattle.std.proofs.lemmas.Option.{slice_get-get_or, get_or_from_slice_get}
-use Rattle.vob_run.proofs.calls.bits_of.Goals as goal
+use Rattle.vob_run.proofs.calls.read.bits_of.Goals as goal
 
 pub unwrap-requires : goal.unwrap-requires
 unwrap-requires g c =

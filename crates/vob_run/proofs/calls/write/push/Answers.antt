@@ -5,7 +5,7 @@ use Rattle.vob.specs.declared.error.VobError.TheVariants.{TooLong, Memory}
 use Rattle.vob_run.specs.declared.command.Command.TheVariants.{Push}
 use Rattle.vob_run.specs.Run.{lists}
 use Rattle.vob_run.proofs.StepLemmas.{list_at, lists-set, lists-same, refused_step, step-push_short, step-push_long, MayRefuse-push}
-use Rattle.vob_run.proofs.calls.push.Goals as goal
+use Rattle.vob_run.proofs.calls.write.push.Goals as goal
 
 pub returns-in-Ok : goal.returns-in-Ok
 returns-in-Ok g c =

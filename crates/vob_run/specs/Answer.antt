@@ -1,0 +1,36 @@
+-- What a reply says, and what a command leaves.
+use Rattle.std.specs.Prelude.{ℕ, List, Bool, Option, map}
+use Rattle.vob_run.specs.declared.command.Reply.{Reply}
+use Rattle.vob_run.specs.declared.command.Reply.TheVariants.{Done, Bit, Flag, Number, Made, BitList, BlockList, Skipped, Refused}
+
+-- what a reply says: as the reply, with lists for vectors and numbers for blocks
+pub data Answer : Type 0 where
+  done : Answer
+  bit : Option Bool → Answer
+  flag : Bool → Answer
+  number : ℕ → Answer
+  made : ℕ → Answer
+  bit_list : List Bool → Answer
+  block_list : List ℕ → Answer
+  skipped : Answer
+  refused : ℕ → Answer
+
+-- the answer of a reply whose blocks have these numbers
+abbrev pub meaning : {X : Type 0} → (X → ℕ) → Reply X → Answer
+meaning block_number Done = done
+meaning block_number (Bit value) = bit value
+meaning block_number (Flag value) = flag value
+meaning block_number (Number n) = number n
+meaning block_number (Made which) = made which
+meaning block_number (BitList bits) = bit_list bits.items
+meaning block_number (BlockList blocks) = block_list (map block_number blocks.items)
+meaning block_number Skipped = skipped
+meaning block_number (Refused reason) = refused reason
+
+-- an answer, and the lists after it
+pub record Outcome : Type 0 where
+  pub answer : Answer
+  pub lists : List (List Bool)
+
+abbrev pub outcome : Answer → List (List Bool) → Outcome
+outcome a lists = record { answer = a; lists = lists }

@@ -1,0 +1,101 @@
+//! The commands that read a Vob.
+ghost use Rattle.std.specs.Prelude.{◌≡◌, IfOk, map};
+ghost use Rattle.vob_block.specs.Packing.{packing};
+ghost use Rattle.vob_run.specs.Answer.{meaning};
+ghost use Rattle.vob_run.specs.Run.{lists, IsStep};
+
+use crate::calls::refused;
+use crate::command::{Command, Reply};
+use std::alloc::{AllocError, Global};
+use vob::{Vob, VobError};
+use vob_block::Block;
+
+pub(crate) fn get_bit<T: Block>(vobs: &Vec<Vob<T>>, which: usize, index: usize) -> Reply<T>
+    ensures { IsStep T.BITS (lists vobs.now.items) (Command.GetBit which index)
+        (meaning T.number result) (lists vobs.now.items) }
+{
+    match vobs.get(which) {
+        Some(vob) => Reply::Bit(vob.get(index)),
+        None => Reply::Skipped,
+    }
+}
+
+pub(crate) fn get_unchecked<T: Block>(vobs: &Vec<Vob<T>>, which: usize, index: usize) -> Reply<T>
+    ensures { IsStep T.BITS (lists vobs.now.items) (Command.GetUnchecked which index)
+        (meaning T.number result) (lists vobs.now.items) }
+{
+    match vobs.get(which) {
+        Some(vob) if index < vob.len() => Reply::Flag(vob.get_unchecked(index)),
+        _ => Reply::Skipped,
+    }
+}
+
+pub(crate) fn index_bit<T: Block>(vobs: &Vec<Vob<T>>, which: usize, index: usize) -> Reply<T>
+    ensures { IsStep T.BITS (lists vobs.now.items) (Command.IndexBit which index)
+        (meaning T.number result) (lists vobs.now.items) }
+{
+    match vobs.get(which) {
+        Some(vob) if index < vob.len() => Reply::Flag(vob[index]),
+        _ => Reply::Skipped,
+    }
+}
+
+pub(crate) fn length<T: Block>(vobs: &Vec<Vob<T>>, which: usize) -> Reply<T>
+    ensures { IsStep T.BITS (lists vobs.now.items) (Command.Length which)
+        (meaning T.number result) (lists vobs.now.items) }
+{
+    match vobs.get(which) {
+        Some(vob) => Reply::Number(vob.len()),
+        None => Reply::Skipped,
+    }
+}
+
+pub(crate) fn is_empty<T: Block>(vobs: &Vec<Vob<T>>, which: usize) -> Reply<T>
+    ensures { IsStep T.BITS (lists vobs.now.items) (Command.IsEmpty which)
+        (meaning T.number result) (lists vobs.now.items) }
+{
+    match vobs.get(which) {
+        Some(vob) => Reply::Flag(vob.is_empty()),
+        None => Reply::Skipped,
+    }
+}
+
+// The bits, in a vector with room for all of them from the start.
+fn bits_of<T: Block>(alloc: Global, vob: &Vob<T>) -> Result<Vec<bool>, AllocError>
+    ensures { IfOk result (λ bits. bits.items ≡ vob.now.bits) }
+{
+    vob.iter().collect(alloc)
+}
+
+pub(crate) fn bits<T: Block>(alloc: Global, vobs: &Vec<Vob<T>>, which: usize) -> Reply<T>
+    ensures { IsStep T.BITS (lists vobs.now.items) (Command.Bits which)
+        (meaning T.number result) (lists vobs.now.items) }
+{
+    let Some(vob) = vobs.get(which) else {
+        return Reply::Skipped;
+    };
+    match bits_of(alloc, vob) {
+        Ok(bits) => Reply::BitList(bits),
+        Err(refusal) => refused(VobError::from(refusal)),
+    }
+}
+
+// The blocks, in a vector with room for all of them from the start.
+fn blocks_of<T: Block>(alloc: Global, vob: &Vob<T>) -> Result<Vec<T>, AllocError>
+    ensures { IfOk result (λ blocks. map T.number blocks.items ≡ packing vob.now.bits T.BITS) }
+{
+    vob.iter_storage().collect(alloc)
+}
+
+pub(crate) fn storage<T: Block>(alloc: Global, vobs: &Vec<Vob<T>>, which: usize) -> Reply<T>
+    ensures { IsStep T.BITS (lists vobs.now.items) (Command.Storage which)
+        (meaning T.number result) (lists vobs.now.items) }
+{
+    let Some(vob) = vobs.get(which) else {
+        return Reply::Skipped;
+    };
+    match blocks_of(alloc, vob) {
+        Ok(blocks) => Reply::BlockList(blocks),
+        Err(refusal) => refused(VobError::from(refusal)),
+    }
+}

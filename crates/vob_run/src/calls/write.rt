@@ -1,0 +1,72 @@
+//! The commands that change a Vob in its place.
+ghost use Rattle.vob_run.specs.Answer.{meaning};
+ghost use Rattle.vob_run.specs.Run.{lists, IsStep};
+
+use crate::calls::refused;
+use crate::command::{Command, Reply};
+use vob::Vob;
+use vob_block::Block;
+
+pub(crate) fn push<T: Block>(vobs: &mut Vec<Vob<T>>, which: usize, value: bool) -> Reply<T>
+    ensures { IsStep T.BITS (lists vobs.old.items) (Command.Push which value)
+        (meaning T.number result) (lists vobs.new.items) }
+{
+    let Some(vob) = vobs.get_mut(which) else {
+        return Reply::Skipped;
+    };
+    match vob.push(value) {
+        Ok(()) => Reply::Done,
+        Err(refusal) => refused(refusal),
+    }
+}
+
+pub(crate) fn pop<T: Block>(vobs: &mut Vec<Vob<T>>, which: usize) -> Reply<T>
+    ensures { IsStep T.BITS (lists vobs.old.items) (Command.Pop which)
+        (meaning T.number result) (lists vobs.new.items) }
+{
+    match vobs.get_mut(which) {
+        Some(vob) => Reply::Bit(vob.pop()),
+        None => Reply::Skipped,
+    }
+}
+
+pub(crate) fn set_bit<T: Block>(
+    vobs: &mut Vec<Vob<T>>,
+    which: usize,
+    index: usize,
+    value: bool,
+) -> Reply<T>
+    ensures { IsStep T.BITS (lists vobs.old.items) (Command.SetBit which index value)
+        (meaning T.number result) (lists vobs.new.items) }
+{
+    match vobs.get_mut(which) {
+        Some(vob) if index < vob.len() => Reply::Flag(vob.set(index, value)),
+        _ => Reply::Skipped,
+    }
+}
+
+pub(crate) fn set_unchecked<T: Block>(
+    vobs: &mut Vec<Vob<T>>,
+    which: usize,
+    index: usize,
+    value: bool,
+) -> Reply<T>
+    ensures { IsStep T.BITS (lists vobs.old.items) (Command.SetUnchecked which index value)
+        (meaning T.number result) (lists vobs.new.items) }
+{
+    match vobs.get_mut(which) {
+        Some(vob) if index < vob.len() => Reply::Flag(vob.set_unchecked(index, value)),
+        _ => Reply::Skipped,
+    }
+}
+
+pub(crate) fn truncate<T: Block>(vobs: &mut Vec<Vob<T>>, which: usize, len: usize) -> Reply<T>
+    ensures { IsStep T.BITS (lists vobs.old.items) (Command.Truncate which len)
+        (meaning T.number result) (lists vobs.new.items) }
+{
+    let Some(vob) = vobs.get_mut(which) else {
+        return Reply::Skipped;
+    };
+    vob.truncate(len);
+    Reply::Done
+}
