@@ -1,3 +1,4 @@
+pub mod KernelLemmas
 pub mod NeedLemmas
 pub mod NumberLemmas
 pub mod PackingLemmas

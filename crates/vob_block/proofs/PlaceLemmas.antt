@@ -1,14 +1,15 @@
 -- The places of what `&`, `|`, `!` and `<<` give, over a plain width.
-use Rattle.std.specs.Prelude.{bit_and, bit_or}
+use Rattle.std.specs.Prelude.{bit_and, bit_or, bit_xor}
 use Rattle.std.specs.Int.{Width, w8, w16, w32, w64, w128, bit_at, bit_not}
 use Rattle.num_traits.specs.Laws.{bit_len, shift_left}
-use Rattle.std.proofs.Common.{◌≡◌, ◌≢◌, ℕ, ◌+◌, ◌-◌, ◌*◌, ◌/◌, ◌%◌, ◌^◌, ◌<◌, ◌≤◌, Bool, true, false, not, ◌&&◌, ◌||◌, min, max, eqb, leb, refl, sym, ap, ◌∙◌, arith, ltb, lt_of_le_of_lt, add_comm, mod-lt, one-mul, add-zero, inl, inr, subst}
+use Rattle.std.proofs.Common.{◌≡◌, ◌≢◌, ℕ, zero, suc, ◌+◌, ◌-◌, ◌*◌, ◌/◌, ◌%◌, ◌^◌, ◌<◌, ◌≤◌, Bool, true, false, not, ◌&&◌, ◌||◌, min, max, eqb, leb, refl, sym, ap, ◌∙◌, arith, ltb, lt_of_le_of_lt, add_comm, mod-lt, one-mul, add-zero, inl, inr, subst}
 use Rattle.std.proofs.lemmas.Bool.{lt-ltb, le-ltb, cases_lt, and_left, and_right, cases_Bool, cases_eq, false≢true, cases_order, lt-leb, le-leb, eq-eqb, ne_eqb}
 use Rattle.std.proofs.lemmas.Bool.Decides.{nat_tests}
 use Rattle.std.proofs.lemmas.Nat.{shr_le, shr-shr, pow_pos, pow_below, shr_split}
-use Rattle.std.proofs.lemmas.Nat.Bits.{bit_at_and, bit_at_or, bit_at-lt, bit_at-zero, bit_at-pow_same, bit_at-pow_other, bit_at_above, bit_at_ones, bit_at_cat_low, bit_at_cat_high, bit_at_not, same_from_bits_below}
+use Rattle.std.proofs.lemmas.Nat.Bits.{bit_at_and, bit_at_or, bit_at_xor, bit_at-lt, bit_at-zero, bit_at-pow_same, bit_at-pow_other, bit_at_above, bit_at_ones, bit_at_cat_low, bit_at_cat_high, bit_at_not, same_from_bits_below}
 use mir.Val.{bits}
 use Rattle.vob_block.specs.Places.{place, HasPlaces}
+use Rattle.vob_block.specs.Pointwise.{differ}
 
 -- a bit is 0 or 1, so its tests for 1 go together as the bits do
 tests-min : (a b : ℕ) → a < 2 → b < 2 → eqb (min a b) 1 ≡ (eqb a 1 && eqb b 1)
@@ -50,6 +51,18 @@ place-and a b j = ap (λ c. eqb c 1) (bit_at_and a b j) ∙ tests-min _ _ (bit_a
 
 pub place-or : (a b j : ℕ) → place j (bit_or a b) ≡ (place j a || place j b)
 place-or a b j = ap (λ c. eqb c 1) (bit_at_or a b j) ∙ tests-max _ _ (bit_at-lt a j) (bit_at-lt b j)
+
+tests-sum : (a b : ℕ) → a < 2 → b < 2 → eqb ((a + b) % 2) 1 ≡ differ (eqb a 1) (eqb b 1)
+tests-sum zero zero h k = refl
+tests-sum zero (suc zero) h k = refl
+tests-sum (suc zero) zero h k = refl
+tests-sum (suc zero) (suc zero) h k = refl
+tests-sum (suc (suc a)) b h k = absurd (omega arith)
+tests-sum zero (suc (suc b)) h k = absurd (omega arith)
+tests-sum (suc zero) (suc (suc b)) h k = absurd (omega arith)
+
+pub place-xor : (a b j : ℕ) → place j (bit_xor a b) ≡ differ (place j a) (place j b)
+place-xor a b j = ap (λ c. eqb c 1) (bit_at_xor a b j) ∙ tests-sum _ _ (bit_at-lt a j) (bit_at-lt b j)
 
 -- the low w places of y are those of `y % 2 ^ w`
 place-mod : (w y j : ℕ) → j < w → place j (y % 2 ^ w) ≡ place j y
@@ -124,10 +137,12 @@ pub shift_down-lt : (w x n : ℕ) → x < 2 ^ w → x / 2 ^ n < 2 ^ w
 shift_down-lt w x n h = lt_of_le_of_lt (shr_le x n) h
 
 pub HasPlaces-shift_down : (w x n : ℕ) → x < 2 ^ w → HasPlaces w (x / 2 ^ n) (λ j. ltb (j + n) w && place (j + n) x)
-HasPlaces-shift_down w x n h = record { each = λ j k. elim (cases_lt (j + n) w) [
+HasPlaces-shift_down w x n h = record {
+  each = λ j k. elim (cases_lt (j + n) w) [
     | inl inside ↦ moved j ∙ sym (ap (λ b. b && place (j + n) x) (lt-ltb (j + n) w inside))
     | inr past ↦ moved j ∙ place_above x w (j + n) h past ∙ sym (and_left (ltb (j + n) w) (place (j + n) x) (le-ltb (j + n) w past))
-  ] }
+  ];
+}
   where
     moved : (j : ℕ) → place j (x / 2 ^ n) ≡ place (j + n) x
     moved j = ap (λ y. eqb (y % 2) 1) (shr-shr x n j ∙ ap (λ k. x / 2 ^ k) (add_comm n j))
@@ -142,13 +157,15 @@ pub HasPlaces-mask_none : (w x n : ℕ) → x ≡ 0 → n ≡ 0 → HasPlaces w 
 HasPlaces-mask_none w x n e none = record { each = λ j k. ap (place j) e ∙ place-zero j ∙ sym (le-ltb j n (omega arith)) }
 
 pub HasPlaces-mask : (w x y n : ℕ) → x ≡ 2 ^ w - 1 → n ≤ w → HasPlaces w y (λ j. ltb (j + (w - n)) w && place (j + (w - n)) x) → HasPlaces w y (λ j. ltb j n)
-HasPlaces-mask w x y n all fits h = record { each = λ j k. h.each j k ∙ elim (cases_lt j n) [
+HasPlaces-mask w x y n all fits h = record {
+  each = λ j k. h.each j k ∙ elim (cases_lt j n) [
     | inl below ↦
         let inside : j + (w - n) < w = omega arith in
         ap (λ b. b && place (j + (w - n)) x) (lt-ltb (j + (w - n)) w inside) ∙ ap (place (j + (w - n))) all ∙ place-ones w (j + (w - n)) inside ∙ sym (lt-ltb j n below)
     | inr above ↦
         and_left (ltb (j + (w - n)) w) (place (j + (w - n)) x) (le-ltb (j + (w - n)) w (omega arith)) ∙ sym (le-ltb j n above)
-  ] }
+  ];
+}
 
 -- ---- a test of one place
 

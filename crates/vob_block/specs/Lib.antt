@@ -1,3 +1,4 @@
 pub mod Places
 pub mod Packing
+pub mod Pointwise
 pub mod Reading

@@ -2,7 +2,9 @@
 ghost use Rattle.std.specs.Prelude.{◌≡◌, ◌≢◌, ◌==◌, ℕ, ◌+◌, ◌-◌, ◌^◌, ◌<◌, ◌≤◌, ◌&&◌, ◌||◌, ◌↔◌, not, true, false, nat_le, nat_lt, pos, IsTrue, length, All, map};
 ghost use Rattle.num_traits.specs.Laws.{bit_len};
 ghost use Rattle.vob_block.specs.Places.{place, HasPlaces};
+ghost use Rattle.vob_block.specs.Pointwise.{IsPointwise, differ};
 
+use crate::blocks::Blocks;
 use num_traits::PrimInt;
 use std::fmt::Debug;
 use std::hash::Hash;
@@ -59,6 +61,17 @@ pub trait Block: PrimInt + Hash + Debug {
         self | other
     }
 
+    /// The places that one of the blocks has and the other hasn't.
+    fn bxor(self, other: Self) -> Self
+        ensures places { HasPlaces BITS (number result)
+            (λ j. differ (place j (number self)) (place j (number other))) }
+        ensures within { number result < 2 ^ BITS }
+    {
+        self.known();
+        other.known();
+        self ^ other
+    }
+
     /// The places that the block doesn't have.
     final fn bnot(self) -> Self
         ensures places { HasPlaces BITS (number result) (λ j. not (place j (number self))) }
@@ -108,6 +121,72 @@ pub trait Block: PrimInt + Hash + Debug {
         ensures { result ≡ place j (number self) }
     {
         self.band(Self::ONE.up(j)) != Self::ZERO
+    }
+
+    /// Keeps in `own` the places that both have, and answers whether a block changed. Each block of
+    /// `other` is read once.
+    fn and_into(own: &mut [Self], other: &mut Blocks<'_, Self>) -> bool
+        requires { length own.old ≡ length other.old.items }
+        ensures blocks { IsPointwise BITS ◌&&◌ (map number own.old) (map number other.old.items)
+            (map number own.new) }
+        ensures within { All (λ n. n < 2 ^ BITS) (map number own.new) }
+        ensures changed { IsTrue result ↔ (map number own.new ≢ map number own.old) }
+        ensures items { other.new.items ≡ other.old.items }
+        ensures reads { other.new.reads ≡ other.old.reads + length other.old.items }
+    {
+        let mut changed = Self::ZERO;
+        for k in 0..own.len() {
+            let old = own[k];
+            old.known();
+            let new = old.band(other.block(k));
+            own[k] = new;
+            changed = changed.bor(old.bxor(new));
+        }
+        changed != Self::ZERO
+    }
+
+    /// Gives `own` the places that either has, and answers whether a block changed. Each block of
+    /// `other` is read once.
+    fn or_into(own: &mut [Self], other: &mut Blocks<'_, Self>) -> bool
+        requires { length own.old ≡ length other.old.items }
+        ensures blocks { IsPointwise BITS ◌||◌ (map number own.old) (map number other.old.items)
+            (map number own.new) }
+        ensures within { All (λ n. n < 2 ^ BITS) (map number own.new) }
+        ensures changed { IsTrue result ↔ (map number own.new ≢ map number own.old) }
+        ensures items { other.new.items ≡ other.old.items }
+        ensures reads { other.new.reads ≡ other.old.reads + length other.old.items }
+    {
+        let mut changed = Self::ZERO;
+        for k in 0..own.len() {
+            let old = own[k];
+            old.known();
+            let new = old.bor(other.block(k));
+            own[k] = new;
+            changed = changed.bor(old.bxor(new));
+        }
+        changed != Self::ZERO
+    }
+
+    /// Gives `own` the places that one has and the other hasn't, and answers whether a block changed. Each block of
+    /// `other` is read once.
+    fn xor_into(own: &mut [Self], other: &mut Blocks<'_, Self>) -> bool
+        requires { length own.old ≡ length other.old.items }
+        ensures blocks { IsPointwise BITS differ (map number own.old) (map number other.old.items)
+            (map number own.new) }
+        ensures within { All (λ n. n < 2 ^ BITS) (map number own.new) }
+        ensures changed { IsTrue result ↔ (map number own.new ≢ map number own.old) }
+        ensures items { other.new.items ≡ other.old.items }
+        ensures reads { other.new.reads ≡ other.old.reads + length other.old.items }
+    {
+        let mut changed = Self::ZERO;
+        for k in 0..own.len() {
+            let old = own[k];
+            old.known();
+            let new = old.bxor(other.block(k));
+            own[k] = new;
+            changed = changed.bor(old.bxor(new));
+        }
+        changed != Self::ZERO
     }
 
     // The number is the one that `PrimInt` states.
