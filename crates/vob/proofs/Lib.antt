@@ -1,2 +1,3 @@
+pub mod PointwiseLemmas
 pub mod PushLemmas
 pub mod StorageLemmas

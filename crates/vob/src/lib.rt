@@ -3,6 +3,7 @@
 
 mod error;
 pub mod iter;
+pub mod ops;
 mod packed;
 pub mod vob;
 

@@ -7,7 +7,7 @@ use crate::iter::StorageIter;
 use crate::packed::{append_bit, stored_bit};
 use std::alloc::{AllocError, Global};
 use std::marker::Model;
-use vob_block::Block;
+use vob_block::{Block, Blocks};
 
 /// A vector of bits in blocks of the type `T`. Bit `i` stands in block `i / T::BITS`, at the place
 /// `i % T::BITS`, and the unused bits of the last block are 0.
@@ -90,6 +90,14 @@ impl<T: Block> Vob<T> {
         ensures { map T.number result.now ≡ packing self.now.bits T.BITS }
     {
         self.vec.as_slice()
+    }
+
+    /// The blocks, the one with bit 0 first, to be read with a count that contracts see.
+    pub fn blocks(&self) -> Blocks<'_, T>
+        ensures blocks { map T.number result.items ≡ packing self.now.bits T.BITS }
+        ensures reads { result.reads ≡ 0 }
+    {
+        Blocks::new(self.vec.as_slice())
     }
 
     /// A walk over the blocks, the one with bit 0 first.

@@ -1,0 +1,41 @@
+//! Two Vobs taken together, bit by bit.
+ghost use Rattle.std.specs.Prelude.{◌≡◌, ◌≢◌, ◌↔◌, ◌&&◌, ◌||◌, length, IsTrue};
+ghost use Rattle.vob_block.specs.Pointwise.{differ, pointwise};
+
+use crate::vob::Vob;
+use vob_block::Block;
+
+impl<T: Block> Vob<T> {
+    /// Keeps the bits that both have, and answers whether a bit changed. vob 4.0.1 panics on unequal
+    /// lengths.
+    pub fn and(&mut self, other: &Vob<T>) -> bool
+        requires { length self.old.bits ≡ length other.now.bits }
+        ensures bits { self.new.bits ≡ pointwise ◌&&◌ self.old.bits other.now.bits }
+        ensures changed { IsTrue result ↔ (self.new.bits ≢ self.old.bits) }
+        ensures capacity { self.new.capacity ≡ self.old.capacity }
+    {
+        T::and_into(self.vec.as_mut_slice(), &mut other.blocks())
+    }
+
+    /// Gets the bits that either has, and answers whether a bit changed. vob 4.0.1 panics on unequal
+    /// lengths.
+    pub fn or(&mut self, other: &Vob<T>) -> bool
+        requires { length self.old.bits ≡ length other.now.bits }
+        ensures bits { self.new.bits ≡ pointwise ◌||◌ self.old.bits other.now.bits }
+        ensures changed { IsTrue result ↔ (self.new.bits ≢ self.old.bits) }
+        ensures capacity { self.new.capacity ≡ self.old.capacity }
+    {
+        T::or_into(self.vec.as_mut_slice(), &mut other.blocks())
+    }
+
+    /// Gets the bits that one has and the other hasn't, and answers whether a bit changed. vob 4.0.1
+    /// panics on unequal lengths.
+    pub fn xor(&mut self, other: &Vob<T>) -> bool
+        requires { length self.old.bits ≡ length other.now.bits }
+        ensures bits { self.new.bits ≡ pointwise differ self.old.bits other.now.bits }
+        ensures changed { IsTrue result ↔ (self.new.bits ≢ self.old.bits) }
+        ensures capacity { self.new.capacity ≡ self.old.capacity }
+    {
+        T::xor_into(self.vec.as_mut_slice(), &mut other.blocks())
+    }
+}
