@@ -1,2 +1,4 @@
+pub mod CutLemmas
 pub mod PushLemmas
 pub mod StorageLemmas
+pub mod WriteLemmas

@@ -1,6 +1,8 @@
 //! A packed vector of bits: `Vec<bool>` at one bit an item, rounded up to whole blocks.
 #![tactic(auto)]
 
+mod bits;
+mod edit;
 mod error;
 pub mod iter;
 mod packed;

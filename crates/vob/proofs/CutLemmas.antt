@@ -1,0 +1,122 @@
+-- The bits from some index on taken off, at a plain width.
+use Rattle.std.specs.Prelude.{All}
+use Rattle.std.specs.List.{range_with_len}
+use Rattle.std.proofs.Common.{◌≡◌, ◌≢◌, ℕ, ◌+◌, ◌*◌, ◌/◌, ◌%◌, ◌^◌, ◌<◌, ◌≤◌, min, Bool, true, false, ◌&&◌, List, length, map, get_or, set, take, ltb, refl, sym, ap, ◌∙◌, subst, arith, inl, inr, mod-lt, div-add-mod'}
+use Rattle.std.proofs.lemmas.Bool.{cases_eq, cases_lt, lt-ltb, le-ltb, and_right}
+use Rattle.std.proofs.lemmas.List.{get_or-map, map-set, length-map, length-set, get_or-take, length-take-le, take-map}
+use Rattle.std.proofs.lemmas.List.Elements.{All-set, All-take}
+use Rattle.std.proofs.lemmas.List.FromFn.{take-map-range_with_len}
+use Rattle.std.proofs.lemmas.Nat.{mul-le}
+use Rattle.vob_block.specs.Places.{place, HasPlaces}
+use Rattle.vob_block.specs.Packing.{item, need, stored, spelled, IsCanonical}
+use Rattle.vob_block.proofs.NeedLemmas.{need_is, need-le-need, need_at_full, need_at_open, div-lt-need}
+use Rattle.vob_block.proofs.PackingLemmas.{stored_from, stored_past, stored-set_same, stored-set_other, length-spelled, get_or-spelled, spelled_from_items}
+
+and-true : (b : Bool) → (b && true) ≡ b
+and-true true = refl
+and-true false = refl
+
+-- ---- what is spelled, at fewer bits
+
+-- blocks that store the same below n spell the same n bits
+pub spelled_same : (n : ℕ) (xs ys : List ℕ) (w : ℕ) → ((i : ℕ) → i < n → stored ys w i ≡ stored xs w i) → spelled n ys w ≡ spelled n xs w
+spelled_same n xs ys w same = spelled_from_items (spelled n xs w) n ys w (length-spelled n xs w) (λ i h. same i h ∙ sym (get_or-spelled n xs w i false h))
+
+pub take-spelled : (m n : ℕ) (xs : List ℕ) (w : ℕ) → m ≤ n → take m (spelled n xs w) ≡ spelled m xs w
+unfolding spelled
+take-spelled m n xs w h = take-map-range_with_len (stored xs w) 0 n m h
+
+module _ (w : ℕ) (wide : 0 < w) where
+  -- the blocks that the first n bits need store them
+  pub spelled-take : (n : ℕ) (xs : List ℕ) → spelled n (take (need n w) xs) w ≡ spelled n xs w
+  spelled-take n xs = spelled_same n xs (take (need n w) xs) w (λ i h.
+      stored_from (take (need n w) xs) w i ∙ ap (place (i % w)) (get_or-take (need n w) xs (i / w) 0 (div-lt-need w wide n i h)) ∙ sym (stored_from xs w i))
+
+  -- what the code computes for the need
+  pub div_ceil-need : (n : ℕ) → n / w + min 1 (n % w) ≡ need n w
+  div_ceil-need n = elim (cases_eq (n % w) 0) [
+    | inl full ↦ omega (arith, (need_at_full w wide n full).0)
+    | inr partial ↦ omega (arith, (need_at_open w wide n partial).0)
+  ]
+
+-- ---- blocks that are as many as n bits need, and the places of the last one from n on
+
+module _ (w : ℕ) (wide : 0 < w) (n : ℕ) (xs : List ℕ) (count : length xs ≡ need n w) (within : All (λ x. x < 2 ^ w) xs) where
+  -- where the last block is full, nothing stands past the bits
+  pub canonical_at_full : n % w ≡ 0 → IsCanonical n xs w
+  canonical_at_full full = record {
+    count = count;
+    within = within;
+    unused = λ i past. stored_past xs w i (past_blocks i past);
+  }
+    where
+      past_blocks : (i : ℕ) → n ≤ i → length xs ≤ i / w
+      past_blocks i past = elim (cases_lt (i / w) (length xs)) [
+        | inr fine ↦ fine
+        | inl below ↦
+            let needs = need_at_full w wide n full in
+            let row : (i / w + 1) * w ≤ n / w * w = mul-le (i / w + 1) w (n / w) w (omega (arith, needs.0)) (omega arith) in
+            absurd (omega (arith, row, div-add-mod' i w, div-add-mod' n w, mod-lt i wide))
+      ]
+
+  module _ (partial : n % w ≢ 0) where
+    pub last_there : n / w < length xs
+    last_there = omega (arith, count, (need_at_open w wide n partial).0)
+
+    -- elsewhere the last block is masked
+    pub mask_last : (y : ℕ) → y < 2 ^ w → ((j : ℕ) → j < w → place j y ≡ (place j (get_or xs (n / w) 0) && ltb j (n % w)))
+        → IsCanonical n (set xs (n / w) y) w × (spelled n (set xs (n / w) y) w ≡ spelled n xs w)
+    mask_last y small places = (
+      record {
+        count = length-set xs (n / w) y ∙ count;
+        within = All-set (λ x. x < 2 ^ w) xs (n / w) y small within;
+        unused = λ i past. elim (cases_eq (i / w) (n / w)) [
+          | inl here ↦ masked i here ∙ and_right (old i) (ltb (i % w) (n % w)) (le-ltb (i % w) (n % w) (above i here past))
+          | inr apart ↦ stored_past (set xs (n / w) y) w i (past_last i apart past)
+        ];
+      },
+      spelled_same n xs (set xs (n / w) y) w (λ i below. elim (cases_eq (i / w) (n / w)) [
+        | inl here ↦
+            masked i here ∙ ap (λ t. old i && t) (lt-ltb (i % w) (n % w) (under i here below)) ∙ and-true (old i)
+            ∙ ap (λ q. place (i % w) (get_or xs q 0)) (sym here) ∙ sym (stored_from xs w i)
+        | inr apart ↦ stored-set_other xs w (n / w) y i apart
+      ]),
+    )
+      where
+        old : ℕ → Bool
+        old i = place (i % w) (get_or xs (n / w) 0)
+
+        masked : (i : ℕ) → i / w ≡ n / w → stored (set xs (n / w) y) w i ≡ (old i && ltb (i % w) (n % w))
+        unfolding old
+        masked i here = stored-set_same xs w (n / w) y i last_there here ∙ places (i % w) (mod-lt i wide)
+
+        above : (i : ℕ) → i / w ≡ n / w → n ≤ i → n % w ≤ i % w
+        above i here past = omega (arith, ap (λ q. q * w) here, div-add-mod' i w, div-add-mod' n w)
+
+        under : (i : ℕ) → i / w ≡ n / w → i < n → i % w < n % w
+        under i here below = omega (arith, ap (λ q. q * w) here, div-add-mod' i w, div-add-mod' n w)
+
+        past_last : (i : ℕ) → i / w ≢ n / w → n ≤ i → length (set xs (n / w) y) ≤ i / w
+        past_last i apart past = elim (cases_lt (n / w) (i / w)) [
+          | inl more ↦ omega (arith, length-set xs (n / w) y, count, (need_at_open w wide n partial).0)
+          | inr few ↦
+              let less : i / w < n / w = omega arith in
+              let row : (i / w + 1) * w ≤ n / w * w = mul-le (i / w + 1) w (n / w) w (omega arith) (omega arith) in
+              absurd (omega (arith, row, div-add-mod' i w, div-add-mod' n w, mod-lt i wide))
+        ]
+
+-- the same of items with a number each; u is the width as the code read it
+module _ {X : Type 0} (number : X → ℕ) (w : ℕ) (wide : 0 < w) (n : ℕ) (items : List X) (count : length items ≡ need n w) (within : All (λ x. x < 2 ^ w) (map number items)) where
+  pub mask_last_at : (u : ℕ) → u ≡ w → n % u ≢ 0 → (x y : X) → x ≡ get_or items (n / u) x → number y < 2 ^ w
+      → ((j : ℕ) → j < w → place j (number y) ≡ (place j (number x) && ltb j (n % u)))
+      → IsCanonical n (map number (set items (n / u) y)) w × (spelled n (map number (set items (n / u) y)) w ≡ spelled n (map number items) w)
+  mask_last_at u same partial x y read small places = rw same (at_width (rw same at partial) (rw same at read) (rw same at places))
+    where
+      at_width : n % w ≢ 0 → x ≡ get_or items (n / w) x → ((j : ℕ) → j < w → place j (number y) ≡ (place j (number x) && ltb j (n % w)))
+          → IsCanonical n (map number (set items (n / w) y)) w × (spelled n (map number (set items (n / w) y)) w ≡ spelled n (map number items) w)
+      at_width open_last is masks =
+          let xs = map number items in
+          let all = length-map items number ∙ count in
+          let there : n / w < length items = omega (arith, count, (need_at_open w wide n open_last).0) in
+          let block : number x ≡ get_or xs (n / w) 0 = ap number is ∙ sym (get_or-map number items (n / w) x 0 there) in
+          rw map-set (mask_last w wide n xs all within open_last (number y) small (λ j k. masks j k ∙ ap (λ b. place j b && ltb j (n % w)) block))
