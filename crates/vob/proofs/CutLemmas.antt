@@ -63,60 +63,63 @@ module _ (w : ℕ) (wide : 0 < w) (n : ℕ) (xs : List ℕ) (count : length xs �
     pub last_there : n / w < length xs
     last_there = omega (arith, count, (need_at_open w wide n partial).0)
 
-    -- elsewhere the last block is masked
-    pub mask_last : (y : ℕ) → y < 2 ^ w → ((j : ℕ) → j < w → place j y ≡ (place j (get_or xs (n / w) 0) && ltb j (n % w)))
-        → IsCanonical n (set xs (n / w) y) w × (spelled n (set xs (n / w) y) w ≡ spelled n xs w)
-    mask_last y small places = (
-      record {
-        count = length-set xs (n / w) y ∙ count;
-        within = All-set (λ x. x < 2 ^ w) xs (n / w) y small within;
-        unused = λ i past. elim (cases_eq (i / w) (n / w)) [
-          | inl here ↦ masked i here ∙ and_right (old i) (ltb (i % w) (n % w)) (le-ltb (i % w) (n % w) (above i here past))
-          | inr apart ↦ stored_past (set xs (n / w) y) w i (past_last i apart past)
-        ];
-      },
-      spelled_same n xs (set xs (n / w) y) w (λ i below. elim (cases_eq (i / w) (n / w)) [
+    above : (i : ℕ) → i / w ≡ n / w → n ≤ i → n % w ≤ i % w
+    above i here past = omega (arith, ap (λ q. q * w) here, div-add-mod' i w, div-add-mod' n w)
+
+    under : (i : ℕ) → i / w ≡ n / w → i < n → i % w < n % w
+    under i here below = omega (arith, ap (λ q. q * w) here, div-add-mod' i w, div-add-mod' n w)
+
+    past_last : (i : ℕ) → i / w ≢ n / w → n ≤ i → length xs ≤ i / w
+    past_last i apart past = elim (cases_lt (n / w) (i / w)) [
+      | inl more ↦ omega (arith, count, (need_at_open w wide n partial).0)
+      | inr few ↦
+          let row : (i / w + 1) * w ≤ n / w * w = mul-le (i / w + 1) w (n / w) w (omega arith) (omega arith) in
+          absurd (omega (arith, row, div-add-mod' i w, div-add-mod' n w, mod-lt i wide))
+    ]
+
+    module _ (y : ℕ) (places : (j : ℕ) → j < w → place j y ≡ (place j (get_or xs (n / w) 0) && ltb j (n % w))) where
+      masked : (i : ℕ) → i / w ≡ n / w → stored (set xs (n / w) y) w i ≡ (place (i % w) (get_or xs (n / w) 0) && ltb (i % w) (n % w))
+      masked i here = stored-set_same xs w (n / w) y i last_there here ∙ places (i % w) (mod-lt i wide)
+
+      none_above : (i : ℕ) → n ≤ i → stored (set xs (n / w) y) w i ≡ false
+      none_above i past = elim (cases_eq (i / w) (n / w)) [
+        | inl here ↦ masked i here ∙ and_right (place (i % w) (get_or xs (n / w) 0)) (ltb (i % w) (n % w)) (le-ltb (i % w) (n % w) (above i here past))
+        | inr apart ↦ stored_past (set xs (n / w) y) w i (omega (arith, length-set xs (n / w) y, past_last i apart past))
+      ]
+
+      same_below : (i : ℕ) → i < n → stored (set xs (n / w) y) w i ≡ stored xs w i
+      same_below i below = elim (cases_eq (i / w) (n / w)) [
         | inl here ↦
-            masked i here ∙ ap (λ t. old i && t) (lt-ltb (i % w) (n % w) (under i here below)) ∙ and-true (old i)
-            ∙ ap (λ q. place (i % w) (get_or xs q 0)) (sym here) ∙ sym (stored_from xs w i)
+            masked i here ∙ ap (λ t. place (i % w) (get_or xs (n / w) 0) && t) (lt-ltb (i % w) (n % w) (under i here below))
+            ∙ and-true (place (i % w) (get_or xs (n / w) 0)) ∙ ap (λ q. place (i % w) (get_or xs q 0)) (sym here) ∙ sym (stored_from xs w i)
         | inr apart ↦ stored-set_other xs w (n / w) y i apart
-      ]),
-    )
-      where
-        old : ℕ → Bool
-        old i = place (i % w) (get_or xs (n / w) 0)
+      ]
 
-        masked : (i : ℕ) → i / w ≡ n / w → stored (set xs (n / w) y) w i ≡ (old i && ltb (i % w) (n % w))
-        unfolding old
-        masked i here = stored-set_same xs w (n / w) y i last_there here ∙ places (i % w) (mod-lt i wide)
+      -- elsewhere the last block is masked
+      pub mask_last : y < 2 ^ w → IsCanonical n (set xs (n / w) y) w × (spelled n (set xs (n / w) y) w ≡ spelled n xs w)
+      mask_last small = (
+        record {
+          count = length-set xs (n / w) y ∙ count;
+          within = All-set (λ x. x < 2 ^ w) xs (n / w) y small within;
+          unused = none_above;
+        },
+        spelled_same n xs (set xs (n / w) y) w same_below,
+      )
 
-        above : (i : ℕ) → i / w ≡ n / w → n ≤ i → n % w ≤ i % w
-        above i here past = omega (arith, ap (λ q. q * w) here, div-add-mod' i w, div-add-mod' n w)
+-- the same of items with a number each; u is the width as the code read it, and m the mask
+module _ {X : Type 0} (number : X → ℕ) (w : ℕ) (wide : 0 < w) (n : ℕ) (items : List X) (count : length items ≡ need n w) (u : ℕ) (same : u ≡ w) where
+  pub canonical_at_full_width : All (λ x. x < 2 ^ w) (map number items) → n % u ≡ 0 → IsCanonical n (map number items) w
+  canonical_at_full_width within full = canonical_at_full w wide n (map number items) (length-map items number ∙ count) within (rw same at full)
 
-        under : (i : ℕ) → i / w ≡ n / w → i < n → i % w < n % w
-        under i here below = omega (arith, ap (λ q. q * w) here, div-add-mod' i w, div-add-mod' n w)
+  pub last_in_items : n % u ≢ 0 → n / u < length items
+  last_in_items partial = rw same (omega (arith, count, (need_at_open w wide n (rw same at partial)).0))
 
-        past_last : (i : ℕ) → i / w ≢ n / w → n ≤ i → length (set xs (n / w) y) ≤ i / w
-        past_last i apart past = elim (cases_lt (n / w) (i / w)) [
-          | inl more ↦ omega (arith, length-set xs (n / w) y, count, (need_at_open w wide n partial).0)
-          | inr few ↦
-              let less : i / w < n / w = omega arith in
-              let row : (i / w + 1) * w ≤ n / w * w = mul-le (i / w + 1) w (n / w) w (omega arith) (omega arith) in
-              absurd (omega (arith, row, div-add-mod' i w, div-add-mod' n w, mod-lt i wide))
-        ]
-
--- the same of items with a number each; u is the width as the code read it
-module _ {X : Type 0} (number : X → ℕ) (w : ℕ) (wide : 0 < w) (n : ℕ) (items : List X) (count : length items ≡ need n w) (within : All (λ x. x < 2 ^ w) (map number items)) where
-  pub mask_last_at : (u : ℕ) → u ≡ w → n % u ≢ 0 → (x y : X) → x ≡ get_or items (n / u) x → number y < 2 ^ w
-      → ((j : ℕ) → j < w → place j (number y) ≡ (place j (number x) && ltb j (n % u)))
+  pub mask_last_at : All (λ x. x < 2 ^ w) (map number items) → n % u ≢ 0 → (x y : X) (m : ℕ) → x ≡ get_or items (n / u) x → number y < 2 ^ w
+      → HasPlaces w (number y) (λ j. place j (number x) && place j m) → HasPlaces w m (λ j. ltb j (n % u))
       → IsCanonical n (map number (set items (n / u) y)) w × (spelled n (map number (set items (n / u) y)) w ≡ spelled n (map number items) w)
-  mask_last_at u same partial x y read small places = rw same (at_width (rw same at partial) (rw same at read) (rw same at places))
-    where
-      at_width : n % w ≢ 0 → x ≡ get_or items (n / w) x → ((j : ℕ) → j < w → place j (number y) ≡ (place j (number x) && ltb j (n % w)))
-          → IsCanonical n (map number (set items (n / w) y)) w × (spelled n (map number (set items (n / w) y)) w ≡ spelled n (map number items) w)
-      at_width open_last is masks =
-          let xs = map number items in
-          let all = length-map items number ∙ count in
-          let there : n / w < length items = omega (arith, count, (need_at_open w wide n open_last).0) in
-          let block : number x ≡ get_or xs (n / w) 0 = ap number is ∙ sym (get_or-map number items (n / w) x 0 there) in
-          rw map-set (mask_last w wide n xs all within open_last (number y) small (λ j k. masks j k ∙ ap (λ b. place j b && ltb j (n % w)) block))
+  mask_last_at within partial x y m read small places mask =
+      let xs = map number items in
+      let block : number x ≡ get_or xs (n / w) 0 = ap number read ∙ sym (get_or-map number items (n / u) x 0 (last_in_items partial)) ∙ ap (λ k. get_or xs (n / k) 0) same in
+      let masked = λ (j : ℕ) (k : j < w). places.each j k ∙ ap (λ b. place j (number x) && b) (mask.each j k ∙ ap (λ k. ltb j (n % k)) same) ∙ ap (λ b. place j b && ltb j (n % w)) block in
+      let both = mask_last w wide n xs (length-map items number ∙ count) within (rw same at partial) (number y) masked small in
+      rw (same, map-set) both

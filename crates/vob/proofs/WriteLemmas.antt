@@ -1,6 +1,8 @@
 -- One place of one block written, and what the blocks store then, at a plain width.
 use Rattle.std.specs.Prelude.{All, Option, Some, IsTrue}
-use Rattle.std.proofs.Common.{◌≡◌, ◌≢◌, ◌↔◌, ℕ, ◌/◌, ◌%◌, ◌^◌, ◌<◌, Bool, true, false, not, ◌&&◌, ◌||◌, cond, List, length, map, get_or, set, eqb, refl, sym, ap, ◌∙◌, arith, inl, inr, mod-lt}
+use Rattle.std.specs.Int.{w64}
+use Rattle.std.proofs.lemmas.Nat.{mul-le}
+use Rattle.std.proofs.Common.{Fits, ◌*◌, ◌≤◌, ◌≡◌, ◌≢◌, ◌↔◌, ℕ, ◌/◌, ◌%◌, ◌^◌, ◌<◌, Bool, true, false, not, ◌&&◌, ◌||◌, cond, List, length, map, get_or, set, eqb, refl, sym, ap, ◌∙◌, arith, inl, inr, mod-lt}
 use Rattle.std.proofs.lemmas.Bool.{cases_eq, eq-eqb, ne_eqb, cond-true, cond-false}
 use Rattle.std.proofs.lemmas.List.{get_or-map, map-set, length-map, length-set, get_or-set_same, get_or-set_other}
 use Rattle.std.proofs.lemmas.List.Elements.{All-set}
@@ -88,3 +90,9 @@ module _ {X : Type 0} (number : X → ℕ) (w : ℕ) (wide : 0 < w) (n : ℕ) (i
       → IsCanonical n (map number (set items (index / u) y)) w
       × (spelled n (map number (set items (index / u) y)) w ≡ set (spelled n (map number items) w) index v)
   write_at u same v x y read small places = rw same (write_at_width v x y (rw same at read) small (rw same at places))
+
+-- where a block stands in memory is a number that fits
+pub offset_fits : (i n size : ℕ) → i < n → n * size < 2 ^ 63 → Fits w64 (i * size)
+offset_fits i n size inside small =
+    let row : i * size ≤ n * size = mul-le i size n size (omega arith) (omega arith) in
+    record { fits = omega (arith, row, small) }
