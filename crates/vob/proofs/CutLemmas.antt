@@ -123,3 +123,19 @@ module _ {X : Type 0} (number : X → ℕ) (w : ℕ) (wide : 0 < w) (n : ℕ) (i
       let masked = λ (j : ℕ) (k : j < w). places.each j k ∙ ap (λ b. place j (number x) && b) (mask.each j k ∙ ap (λ k. ltb j (n % k)) same) ∙ ap (λ b. place j b && ltb j (n % w)) block in
       let both = mask_last w wide n xs (length-map items number ∙ count) within (rw same at partial) (number y) masked small in
       rw (same, map-set) both
+
+-- the first blocks of canonical storage, as many as m bits need; u is the width as the code read it
+module _ {X : Type 0} (number : X → ℕ) (w : ℕ) (wide : 0 < w) (n : ℕ) (items : List X) (h : IsCanonical n (map number items) w) (m : ℕ) (shorter : m ≤ n) (u k : ℕ) (same : u ≡ w) (needed : k ≡ m / u + min 1 (m % u)) where
+  kept_is : k ≡ need m w
+  kept_is = needed ∙ ap (λ v. m / v + min 1 (m % v)) same ∙ div_ceil-need w wide m
+
+  pub length-kept : length (take k items) ≡ need m w
+  length-kept = length-take-le k items (omega (arith, kept_is, need-le-need w wide m n shorter, h.count, length-map items number)) ∙ kept_is
+
+  pub kept_within : All (λ x. x < 2 ^ w) (map number (take k items))
+  kept_within = rw (← take-map) (All-take (λ x. x < 2 ^ w) k (map number items) h.within)
+
+  pub spelled-kept : spelled m (map number (take k items)) w ≡ take m (spelled n (map number items) w)
+  spelled-kept =
+      ap (λ xs. spelled m xs w) (sym (take-map number k items) ∙ ap (λ q. take q (map number items)) kept_is)
+      ∙ spelled-take w wide m (map number items) ∙ sym (take-spelled m n (map number items) w shorter)

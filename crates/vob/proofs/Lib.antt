@@ -1,4 +1,5 @@
 pub mod CutLemmas
 pub mod PushLemmas
+pub mod RestLemmas
 pub mod StorageLemmas
 pub mod WriteLemmas

@@ -1,5 +1,6 @@
 -- One place of one block written, and what the blocks store then, at a plain width.
 use Rattle.std.specs.Prelude.{All, Option, Some, IsTrue}
+use Rattle.std.specs.Bool.{beq}
 use Rattle.std.specs.Int.{w64}
 use Rattle.std.proofs.lemmas.Nat.{mul-le}
 use Rattle.std.proofs.Common.{Fits, ◌*◌, ◌≤◌, ◌≡◌, ◌≢◌, ◌↔◌, ℕ, ◌/◌, ◌%◌, ◌^◌, ◌<◌, Bool, true, false, not, ◌&&◌, ◌||◌, cond, List, length, map, get_or, set, eqb, refl, sym, ap, ◌∙◌, arith, inl, inr, mod-lt}
@@ -96,3 +97,10 @@ pub offset_fits : (i n size : ℕ) → i < n → n * size < 2 ^ 63 → Fits w64 
 offset_fits i n size inside small =
     let row : i * size ≤ n * size = mul-le i size n size (omega arith) (omega arith) in
     record { fits = omega (arith, row, small) }
+
+-- a bit that is b becomes another one exactly where b isn't the new value
+pub changed_from : (o : Option Bool) (b v : Bool) → o ≡ Some b → IsTrue (not (beq b v)) ↔ (o ≢ Some v)
+changed_from o true true e = ((λ t. absurd (cc)), (λ other. absurd (other e)))
+changed_from o true false e = ((λ _ f. absurd (cc)), (λ _. refl))
+changed_from o false true e = ((λ _ f. absurd (cc)), (λ _. refl))
+changed_from o false false e = ((λ t. absurd (cc)), (λ other. absurd (other e)))

@@ -9,6 +9,6 @@ mod packed;
 pub mod vob;
 
 pub use error::VobError;
-pub use iter::StorageIter;
+pub use iter::{Iter, StorageIter};
 pub use vob::Vob;
 pub use vob_block;
