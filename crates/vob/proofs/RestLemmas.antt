@@ -1,5 +1,8 @@
 -- What a walk over bits has left, from its first to its last.
 use Rattle.std.specs.List.{range_with_len}
+use Rattle.std.specs.Iterator.{YieldsFirst, YieldsLast}
+use Rattle.std.specs.Iterator.Runs.{YieldsInOrder, YieldsInReverse}
+use Rattle.std.proofs.iter.runs.Sources.{from_front, from_back, as_is, as_is_back}
 use Rattle.std.proofs.Common.{◌≡◌, ℕ, zero, suc, ◌+◌, ◌-◌, ◌*◌, ◌/◌, ◌%◌, ◌<◌, ◌≤◌, Bool, List, [], ◌∷◌, ◌++◌, length, map, get_or, refl, sym, ap, ◌∙◌, arith, add-one}
 use Rattle.std.proofs.lemmas.List.{get_or-map, length-map}
 use Rattle.std.proofs.lemmas.List.FromFn.{length-map-range_with_len, map-range_with_len_more}
@@ -48,3 +51,10 @@ module _ {X : Type 0} (number : X → ℕ) (w : ℕ) (wide : 0 < w) (items : Lis
       let xs = map number items in
       let block : number x ≡ get_or xs (i / u) 0 = ap number read ∙ sym (get_or-map number items (i / u) x 0 block_there) in
       tested ∙ ap (place (i % u)) block ∙ ap (λ k. place (i % k) (get_or xs (i / k) 0)) same ∙ sym (stored_from xs w i)
+
+-- a walk that is seen as the list of what is left gives that list, from the front and from the back
+pub rest_runs : {X : Type 0} → YieldsInOrder (YieldsFirst {A = X} (λ rest. rest)) (λ rest. rest)
+rest_runs {X} p s = as_is p p.from (from_front (YieldsFirst {A = X} (λ rest. rest)) (λ x. x) (λ rest. rest) (λ s t h. ap length h.0) (λ s x t h. h) p s)
+
+pub rest_runs_back : {X : Type 0} → YieldsInReverse (YieldsLast {A = X} (λ rest. rest)) (λ rest. rest)
+rest_runs_back {X} p s = as_is_back p p.from (from_back (YieldsLast {A = X} (λ rest. rest)) (λ x. x) (λ rest. rest) (λ s t h. ap length h.0) (λ s x t h. h) p s)
