@@ -33,7 +33,7 @@ first-lt true w h = pow_below 0 w h
 first-lt false w h = pow_pos w
 
 -- two bits of one block are the same where their places are
-eqb-places : (w i n : ℕ) → i / w ≡ n / w → eqb i n ≡ eqb (i % w) (n % w)
+pub eqb-places : (w i n : ℕ) → i / w ≡ n / w → eqb i n ≡ eqb (i % w) (n % w)
 eqb-places w i n block = elim (cases_eq (i % w) (n % w)) [
   | inl same ↦
       let whole : i ≡ n = sym (div-add-mod' i w) ∙ ap (λ q. q * w + i % w) block ∙ ap (λ r. n / w * w + r) same ∙ div-add-mod' n w in
@@ -41,7 +41,7 @@ eqb-places w i n block = elim (cases_eq (i % w) (n % w)) [
   | inr other ↦ ne_eqb i n (λ e. other (ap (λ k. k % w) e)) ∙ sym (ne_eqb (i % w) (n % w) other)
 ]
 
-eqb-blocks : (w i n : ℕ) → i / w ≢ n / w → eqb i n ≡ false
+pub eqb-blocks : (w i n : ℕ) → i / w ≢ n / w → eqb i n ≡ false
 eqb-blocks w i n apart = ne_eqb i n (λ e. apart (ap (λ k. k / w) e))
 
 -- `x | m`, where m is the place r alone

@@ -1,2 +1,3 @@
 pub mod Refusal
+pub mod Rest
 pub mod Vob

@@ -1,10 +1,121 @@
-//! The walks over a Vob.
-ghost use Rattle.std.specs.Prelude.{◌≡◌, length, Some, IfSome};
-ghost use Rattle.std.specs.Iterator.{YieldsFirst, item_count, at_most, UpTo};
+//! The walks over a Vob: over its bits from both ends, and over its blocks.
+ghost use Rattle.std.specs.Prelude.{◌≡◌, ◌*◌, ◌<◌, Bool, map, length, Some, IfSome};
+ghost use Rattle.std.specs.Iterator.{YieldsFirst, YieldsLast, item_count, at_most, UpTo};
 ghost use Rattle.std.specs.Iterator.SizeHint.{IsWithinCount};
+ghost use Rattle.std.specs.Iterator.Runs.{YieldsInOrder, YieldsInReverse};
+ghost use Rattle.vob_block.specs.Packing.{stored};
 
+use crate::vob::Vob;
+use std::iter::FusedIterator;
 use std::marker::Model;
 use vob_block::Block;
+
+/// The bits of a Vob in order, seen as the list of those that are left.
+#[derive(Drop)]
+pub struct Iter<'a, T: Block> {
+    pub(crate) blocks: &'a [T],
+    // The bits from `next` to below `end` are left.
+    pub(crate) next: usize,
+    pub(crate) end: usize,
+}
+
+impl<'a, T: Block> Model for Iter<'a, T> {
+    ghost use Rattle.std.specs.Prelude.{◌*◌, ◌≤◌, Bool, List, length, map};
+    ghost use Rattle.vob.specs.Rest.{bits_between};
+
+    ghost Value = { List Bool };
+
+    ghost view = { λ walk. bits_between walk.next walk.end (map T.number walk.blocks.now) T.BITS };
+
+    ghost invariant = { λ walk. (walk.next ≤ walk.end)
+        × (walk.end ≤ length walk.blocks.now * T.BITS) };
+}
+
+impl<T: Block> Vob<T> {
+    /// A walk over the bits, index 0 first.
+    pub fn iter(&self) -> Iter<'_, T>
+        ensures bits { result ≡ self.now.bits }
+        ensures runs { YieldsInOrder (YieldsFirst {A = Bool} (λ rest. rest)) (λ rest. rest) }
+        ensures runs_back { YieldsInReverse (YieldsLast {A = Bool} (λ rest. rest)) (λ rest. rest) }
+    {
+        Iter {
+            blocks: self.vec.as_slice(),
+            next: 0,
+            end: self.len,
+        }
+    }
+}
+
+impl<'a, T: Block> IntoIterator for &'a Vob<T> {
+    type Item = bool;
+
+    type IntoIter = Iter<'a, T>;
+
+    ghost into_iter_gives = { λ vob walk. (walk ≡ vob.now.bits)
+        × YieldsInOrder (YieldsFirst {A = Bool} (λ rest. rest)) (λ rest. rest)
+        × YieldsInReverse (YieldsLast {A = Bool} (λ rest. rest)) (λ rest. rest) };
+
+    fn into_iter(self) -> Iter<'a, T> {
+        self.iter()
+    }
+}
+
+/// The place of bit `index` in its block. The bits past the length are places too.
+fn block_bit<T: Block>(blocks: &[T], index: usize) -> bool
+    requires { index < length blocks.now * T.BITS }
+    ensures { result ≡ stored (map T.number blocks.now) T.BITS index }
+{
+    let width = T::BITS;
+    blocks[index / width].bit(index % width)
+}
+
+impl<'a, T: Block> Iterator for Iter<'a, T> {
+    type Item = bool;
+
+    ghost next_gives = { YieldsFirst (λ rest. rest) };
+
+    ghost remaining = { item_count (λ rest. rest) };
+
+    fn next(&mut self) -> Option<bool> {
+        let index = self.next;
+        if index == self.end {
+            return None;
+        }
+        self.next = index + 1;
+        Some(block_bit(self.blocks, index))
+    }
+
+    /// The number of bits that are left, as both bounds.
+    fn size_hint(&self) -> (usize, Option<usize>)
+        ensures lower { IsWithinCount result.0 (at_most (length self.now)) }
+        ensures upper { IfSome result.1 (UpTo (at_most (length self.now))) }
+        ensures exact { result ≡ (length self.now, Some (length self.now)) }
+    {
+        let left = self.end - self.next;
+        (left, Some(left))
+    }
+}
+
+impl<'a, T: Block> DoubleEndedIterator for Iter<'a, T> {
+    ghost next_back_gives = { YieldsLast (λ rest. rest) };
+
+    fn next_back(&mut self) -> Option<bool> {
+        if self.next == self.end {
+            return None;
+        }
+        let index = self.end - 1;
+        self.end = index;
+        Some(block_bit(self.blocks, index))
+    }
+}
+
+impl<'a, T: Block> ExactSizeIterator for Iter<'a, T> {
+    fn len(&self) -> usize {
+        self.end - self.next
+    }
+}
+
+impl<'a, T: Block> FusedIterator for Iter<'a, T> {}
 
 /// The blocks of a Vob in order, seen as the list of those that are left.
 #[derive(Drop)]

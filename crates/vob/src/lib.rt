@@ -1,6 +1,8 @@
 //! A packed vector of bits: `Vec<bool>` at one bit an item, rounded up to whole blocks.
 #![tactic(auto)]
 
+mod bits;
+mod edit;
 mod error;
 pub mod iter;
 pub mod ops;
@@ -8,6 +10,6 @@ mod packed;
 pub mod vob;
 
 pub use error::VobError;
-pub use iter::StorageIter;
+pub use iter::{Iter, StorageIter};
 pub use vob::Vob;
 pub use vob_block;
