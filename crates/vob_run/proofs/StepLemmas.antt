@@ -1,6 +1,6 @@
 -- What a call on one Vob, or its refusal, is as a step.
 use Rattle.std.specs.Prelude.{Some, slice_get}
-use Rattle.std.proofs.Common.{◌≡◌, ◌^◌, ◌+◌, ◌-◌, ◌<◌, ℕ, List, [], ◌∷◌, ◌++◌, Bool, length, set, ap, sym, refl, ◌∙◌, inl, inr, arith}
+use Rattle.std.proofs.Common.{◌≡◌, ◌^◌, ◌+◌, ◌-◌, ◌<◌, ◌≢◌, ℕ, List, [], ◌∷◌, ◌++◌, Bool, true, false, ◌↔◌, length, set, ap, sym, refl, ◌∙◌, inl, inr, arith}
 use Rattle.std.proofs.lemmas.List.{map-set, set-get_or}
 use Rattle.std.proofs.lemmas.Option.{slice_get-map, get_or_from_slice_get}
 use Rattle.std.proofs.lemmas.Bool.{lt-ltb, le-ltb}
@@ -13,7 +13,7 @@ use Rattle.vob_run.specs.declared.command.Command.{Command}
 use Rattle.vob_run.specs.declared.command.Command.TheVariants.{Push}
 use Rattle.vob_run.specs.Answer.{outcome, done, refused}
 use Rattle.vob_run.specs.Memory.{MayRefuse}
-use Rattle.vob_run.specs.Step.{step}
+use Rattle.vob_run.specs.Step.{differ, step}
 use Rattle.vob_run.specs.Run.{lists, IsStep}
 
 module _ (items : List BitVector) (which : ℕ) (old : BitVector) (there : slice_get items which ≡ Some old) where
@@ -51,3 +51,14 @@ module _ (width : ℕ) (all : List (List Bool)) (which : ℕ) (value : Bool) (bi
   MayRefuse-push short grows =
       let answers : (step width all (Push which value)).answer ≡ done = ap (λ o. o.answer) (step-push_short short) in
       (rw at grows, (λ e. cc), (λ e. cc))
+
+-- whether a bit changed, as a step tells it
+pub flag-differ : (changed old value : Bool) → ((changed ≡ true) ↔ (Some old ≢ Some value)) → changed ≡ differ old value
+flag-differ true true true h = absurd (h.0 refl refl)
+flag-differ true true false h = refl
+flag-differ true false true h = refl
+flag-differ true false false h = absurd (h.0 refl refl)
+flag-differ false true true h = refl
+flag-differ false true false h = h.1 (λ e. cc)
+flag-differ false false true h = h.1 (λ e. cc)
+flag-differ false false false h = refl

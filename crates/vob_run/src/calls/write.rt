@@ -24,10 +24,10 @@ pub(crate) fn pop<T: Block>(vobs: &mut Vec<Vob<T>>, which: usize) -> Reply<T>
     ensures { IsStep T.BITS (lists vobs.old.items) (Command.Pop which)
         (meaning T.number result) (lists vobs.new.items) }
 {
-    match vobs.get_mut(which) {
-        Some(vob) => Reply::Bit(vob.pop()),
-        None => Reply::Skipped,
-    }
+    let Some(vob) = vobs.get_mut(which) else {
+        return Reply::Skipped;
+    };
+    Reply::Bit(vob.pop())
 }
 
 pub(crate) fn set_bit<T: Block>(
@@ -39,10 +39,13 @@ pub(crate) fn set_bit<T: Block>(
     ensures { IsStep T.BITS (lists vobs.old.items) (Command.SetBit which index value)
         (meaning T.number result) (lists vobs.new.items) }
 {
-    match vobs.get_mut(which) {
-        Some(vob) if index < vob.len() => Reply::Flag(vob.set(index, value)),
-        _ => Reply::Skipped,
+    let Some(vob) = vobs.get_mut(which) else {
+        return Reply::Skipped;
+    };
+    if index >= vob.len() {
+        return Reply::Skipped;
     }
+    Reply::Flag(vob.set(index, value))
 }
 
 pub(crate) fn set_unchecked<T: Block>(
@@ -54,10 +57,13 @@ pub(crate) fn set_unchecked<T: Block>(
     ensures { IsStep T.BITS (lists vobs.old.items) (Command.SetUnchecked which index value)
         (meaning T.number result) (lists vobs.new.items) }
 {
-    match vobs.get_mut(which) {
-        Some(vob) if index < vob.len() => Reply::Flag(vob.set_unchecked(index, value)),
-        _ => Reply::Skipped,
+    let Some(vob) = vobs.get_mut(which) else {
+        return Reply::Skipped;
+    };
+    if index >= vob.len() {
+        return Reply::Skipped;
     }
+    Reply::Flag(vob.set_unchecked(index, value))
 }
 
 pub(crate) fn truncate<T: Block>(vobs: &mut Vec<Vob<T>>, which: usize, len: usize) -> Reply<T>
