@@ -1,5 +1,5 @@
 -- The words behind a keyword have its kinds, whichever command they stand for.
-use Rattle.std.proofs.Common.{◌≡◌, ℕ, suc, ◌+◌, Bool, true, false, cond, List, [], ◌∷◌, length, map, Some, refl, subst, ap, sym, ◌∙◌, arith}
+use Rattle.std.proofs.Common.{Option, None, ◌≡◌, ℕ, suc, ◌+◌, Bool, true, false, cond, List, [], ◌∷◌, length, map, Some, refl, subst, ap, sym, ◌∙◌, arith}
 use Rattle.std.specs.Prelude.{find}
 use Rattle.std.specs.Str.{bytes_eq}
 use Rattle.std.proofs.lemmas.Option.{none-some, same_Some}
@@ -7,7 +7,7 @@ use Rattle.std.proofs.lemmas.Slice.Eq.{bytes_eq-Decides}
 use Rattle.std.proofs.lemmas.List.{nil_from_length, length-map}
 use Rattle.vob_run.specs.declared.command.Command.{Command}
 use Rattle.vob_run.specs.declared.command.Command.TheVariants as command
-use Rattle.vob_use.specs.Grammar.{Argument, form_of, AllSpell, Reads}
+use Rattle.vob_use.specs.Grammar.{Argument, number, bit, digit, form_of, Spells, AllSpell, Reads}
 use Rattle.vob_use.specs.Kinds.{kind_of, word_of, kinds_of, keywords, keyword_named, BeginWith, TakesAll}
 use Rattle.vob_use.specs.declared.line.Keyword.{Keyword}
 use Rattle.vob_use.specs.declared.line.Keyword.TheVariants.{New, Push, Get, Len, Bits, Blocks}
@@ -35,6 +35,25 @@ belongs (command.Length which) = record { word = refl; kinds = refl }
 belongs (command.Bits which) = record { word = refl; kinds = refl }
 belongs (command.Storage which) = record { word = refl; kinds = refl }
 
+-- the command of a keyword and its arguments
+command_of : Keyword → List Argument → Option Command
+command_of New (number capacity ∷ []) = Some (command.New capacity)
+command_of Push (number which ∷ bit value ∷ []) = Some (command.Push which value)
+command_of Get (number which ∷ number index ∷ []) = Some (command.GetBit which index)
+command_of Len (number which ∷ []) = Some (command.Length which)
+command_of Bits (number which ∷ []) = Some (command.Bits which)
+command_of Blocks (number which ∷ []) = Some (command.Storage which)
+command_of _ _ = None
+
+again : (c : Command) → command_of (keyword_of c) (form_of c).arguments ≡ Some c
+unfolding keyword_of command_of
+again (command.New capacity) = refl
+again (command.Push which value) = refl
+again (command.GetBit which index) = refl
+again (command.Length which) = refl
+again (command.Bits which) = refl
+again (command.Storage which) = refl
+
 -- the table of keywords finds each of them
 named-word : (k : Keyword) → keyword_named (word_of k) ≡ Some k
 named-word New = refl
@@ -43,6 +62,9 @@ named-word Get = refl
 named-word Len = refl
 named-word Bits = refl
 named-word Blocks = refl
+
+named-form : (c : Command) → keyword_named (form_of c).word ≡ Some (keyword_of c)
+named-form c = ap keyword_named (belongs c).word ∙ named-word (keyword_of c)
 
 -- a command whose word names a keyword belongs to it
 belongs_named : (c : Command) (k : Keyword) → keyword_named (form_of c).word ≡ Some k → Belongs c k
@@ -98,6 +120,49 @@ word_named : (word : List ℕ) (k : Keyword) → keyword_named word ≡ Some k �
 word_named word k named =
     let passes = passes-find (λ keyword. bytes_eq (word_of keyword) word) keywords k named in
     sym ((bytes_eq-Decides (word_of k) word).0 passes)
+
+digit_once : (a b : Bool) → digit a ≡ digit b → a ≡ b
+digit_once true true e = refl
+digit_once false false e = refl
+digit_once true false e = absurd (omega (arith, e))
+digit_once false true e = absurd (omega (arith, e))
+
+-- a word stands for one argument of a kind
+spells_once : (word : List ℕ) (a b : Argument) → kind_of a ≡ kind_of b →
+    Spells word a → Spells word b → a ≡ b
+spells_once word (number m) (number n) kinds here there = ap number (sym here.1 ∙ there.1)
+spells_once word (bit x) (bit y) kinds here there =
+    ap bit (digit_once x y (let e = sym here ∙ there in cc))
+spells_once word (number m) (bit y) kinds here there = cc
+spells_once word (bit x) (number n) kinds here there = cc
+
+all_spell_once : (words : List (List ℕ)) (xs ys : List Argument) → map kind_of xs ≡ map kind_of ys →
+    AllSpell words xs → AllSpell words ys → xs ≡ ys
+all_spell_once [] [] [] kinds here there = refl
+all_spell_once (word ∷ words) (x ∷ xs) (y ∷ ys) kinds here there =
+    let first : kind_of x ≡ kind_of y = cc in
+    let others : map kind_of xs ≡ map kind_of ys = cc in
+    let same = spells_once word x y first here.0 there.0 in
+    let rest = all_spell_once words xs ys others here.1 there.1 in
+    cc
+all_spell_once [] (x ∷ xs) ys kinds here there = absurd here
+all_spell_once [] [] (y ∷ ys) kinds here there = absurd there
+all_spell_once (word ∷ words) [] ys kinds here there = absurd here
+all_spell_once (word ∷ words) (x ∷ xs) [] kinds here there = absurd there
+
+-- words read as one command at most
+pub reads_once : (line : List (List ℕ)) (c d : Command) → Reads line c → Reads line d → c ≡ d
+reads_once [] c d here there = absurd here
+reads_once (word ∷ words) c d here there =
+    let named = ap keyword_named (sym here.0 ∙ there.0) in
+    let same : Some (keyword_of c) ≡ Some (keyword_of d) =
+    sym (named-form c) ∙ named ∙ named-form d in
+    let key : keyword_of c ≡ keyword_of d = cc in
+    let kinds = (belongs c).kinds ∙ ap kinds_of key ∙ sym (belongs d).kinds in
+    let arguments = all_spell_once words _ _ kinds here.1 there.1 in
+    let back : command_of (keyword_of c) (form_of c).arguments
+    ≡ command_of (keyword_of d) (form_of d).arguments = cc in
+    same_Some c d (sym (again c) ∙ back ∙ again d)
 
 module _ (k : Keyword) (line : List (List ℕ)) (word : List ℕ) (words : List (List ℕ))
     (cut : line ≡ word ∷ words) (named : keyword_named word ≡ Some k) where

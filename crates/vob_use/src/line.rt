@@ -36,6 +36,7 @@ impl Keyword {
         Keyword::Blocks,
     ];
 
+    /// Its text.
     fn word(self) -> &'static str
         ensures { result.now ≡ word_of self }
     {
@@ -49,6 +50,7 @@ impl Keyword {
         }
     }
 
+    /// The keyword with this text.
     fn named(word: &[u8]) -> Option<Keyword>
         ensures { result ≡ keyword_named word.now }
     {
@@ -59,7 +61,7 @@ impl Keyword {
     }
 }
 
-/// The words of a line that are still to be read.
+/// The words of a line that are still to be read, seen as their list.
 #[derive(Drop)]
 struct Words<'a> {
     rest: &'a [u8],
@@ -72,6 +74,7 @@ impl<'a> Model for Words<'a> {
 }
 
 impl<'a> Words<'a> {
+    /// The first word.
     fn word(&mut self) -> Result<&'a [u8], Unreadable>
         ensures ok { IfOk result (λ word. self.old ≡ word.now ∷ self.new) }
         ensures err { OnErr result (self.old ≡ []) }
@@ -85,6 +88,7 @@ impl<'a> Words<'a> {
         Ok(word)
     }
 
+    /// The first word as a number.
     fn number(&mut self) -> Result<usize, Unreadable>
         ensures ok { IfOk result (λ n. Takes self.old (number n) self.new) }
         ensures err { OnErr result (BeginWith self.old (a_number ∷ []) → ⊥) }
@@ -92,6 +96,7 @@ impl<'a> Words<'a> {
         number_of(self.word()?)
     }
 
+    /// The first word as a bit.
     fn bit(&mut self) -> Result<bool, Unreadable>
         ensures ok { IfOk result (λ value. Takes self.old (bit value) self.new) }
         ensures err { OnErr result (BeginWith self.old (a_bit ∷ []) → ⊥) }
@@ -99,7 +104,7 @@ impl<'a> Words<'a> {
         bit_of(self.word()?)
     }
 
-    /// No word is left.
+    /// Refuses words that are left.
     fn end(&self) -> Result<(), Unreadable>
         ensures ok { OnOk result (self.now ≡ []) }
         ensures err { OnErr result (self.now ≢ []) }
@@ -111,6 +116,7 @@ impl<'a> Words<'a> {
         }
     }
 
+    /// The command of a keyword, with the first words as its arguments.
     fn arguments(&mut self, keyword: Keyword) -> Result<Command, Unreadable>
         ensures word { IfOk result (λ command. (form_of command).word ≡ word_of keyword) }
         ensures ok { IfOk result (λ command.
@@ -142,6 +148,7 @@ impl<'a> Words<'a> {
     }
 }
 
+/// The number that a word stands for: decimal digits alone, at most `usize::MAX`.
 fn number_of(word: &[u8]) -> Result<usize, Unreadable>
     ensures ok { IfOk result (λ n. Spells word.now (number n)) }
     ensures err { OnErr result ((n : _) → Spells word.now (number n) → ⊥) }
@@ -156,6 +163,7 @@ fn number_of(word: &[u8]) -> Result<usize, Unreadable>
     text.parse().map_err(|_| Unreadable)
 }
 
+/// The bit that a word stands for: `0` or `1`.
 fn bit_of(word: &[u8]) -> Result<bool, Unreadable>
     ensures ok { IfOk result (λ value. Spells word.now (bit value)) }
     ensures err { OnErr result ((value : _) → Spells word.now (bit value) → ⊥) }
@@ -221,9 +229,11 @@ fn without_return(line: &[u8]) -> &[u8]
     }
 }
 
-/// The command that a line reads as. It reads as one at most.
+/// The command that a line reads as.
 pub fn read_command(line: &[u8]) -> Result<Command, Unreadable>
     ensures found { IfOk result (λ command. Reads (words_of line.now) command) }
+    ensures one { IfOk result (λ command.
+        (other : Command) → Reads (words_of line.now) other → other ≡ command) }
     ensures only { OnErr result ((command : Command) → Reads (words_of line.now) command → ⊥) }
 {
     let mut words = Words { rest: line };

@@ -1,7 +1,7 @@
 //! A conversation: the whole input is read, its lines are run as commands, and a line is printed
 //! for each reply.
 
-ghost use Rattle.std.specs.Prelude.{◌≡◌, ◌≢◌, ℕ, List, [], ◌++◌, map, IfOk, IfErr, OnOk, IfSome, IsOk};
+ghost use Rattle.std.specs.Prelude.{◌≡◌, ◌≢◌, ℕ, List, [], ◌++◌, map, IfOk, IfErr, OnOk, OnErr, IfSome, IsOkUnless, IsErrOf};
 ghost use Rattle.std.specs.Io.KnownBytes.{Appends};
 ghost use Rattle.vob_run.specs.Run.{IsRun};
 ghost use Rattle.vob_run.specs.declared.command.Command.{Command};
@@ -73,6 +73,7 @@ fn read_all<R: Read>(alloc: Global, input: &mut R) -> Result<Vec<u8>, Ending>
 fn read_commands(alloc: Global, text: &[u8]) -> Result<Vec<Command>, Ending>
     ensures ok { IfOk result (λ commands. AllRead (sentences (lines_of text.now)) commands.items) }
     ensures err { IfErr result (λ ending. Ends (lines_of text.now) ending) }
+    ensures failed { ¬ (IsErrOf result Ending.Failed) }
 {
     let mut commands = Vec::new(alloc);
     let mut rest = text;
@@ -93,7 +94,7 @@ fn read_commands(alloc: Global, text: &[u8]) -> Result<Vec<Command>, Ending>
 fn answer(alloc: Global, commands: &[Command]) -> Result<Vec<Reply<u8>>, Ending>
     ensures ok { IfOk result (λ replies.
         (after : _) × IsRun 8 [] commands.now (map answer_of replies.items) after) }
-    ensures err { IfErr result (λ ending. (lines : _) → Ends lines ending) }
+    ensures err { IsOkUnless result Ending.Memory }
 {
     let mut vobs = Vec::new(alloc);
     let mut replies = Vec::new(alloc);
@@ -127,8 +128,8 @@ fn write_replies<W: Write>(replies: &[Reply<u8>], output: &mut W) -> io::Result<
 
 /// The status of a conversation whose last text was written, or 1 where it wasn't.
 fn status_after(written: io::Result<()>, status: u8) -> u8
-    ensures written { result ≢ 1 → IsOk written }
-    ensures status { result ≢ 1 → result ≡ status }
+    ensures ok { OnOk written (result ≡ status) }
+    ensures err { OnErr written (result ≡ 1) }
 {
     if written.is_ok() { status } else { 1 }
 }

@@ -48,6 +48,7 @@ impl fmt::Display for Digits<'_> {
     }
 }
 
+/// The digit of a bit.
 fn digit_of(bit: bool) -> char
     ensures { result ≡ digit bit }
 {

@@ -1,7 +1,7 @@
 -- A line reads as the command that its keyword's arguments make, and as no other.
 use Rattle.std.proofs.Common.{◌≡◌, Some, sym, ◌∙◌, arith}
 use Rattle.std.proofs.lemmas.Result.{MatchResult-from_err}
-use Rattle.vob_use.proofs.KeywordLemmas.{not_read, too_long, read_whole}
+use Rattle.vob_use.proofs.KeywordLemmas.{not_read, too_long, read_whole, reads_once}
 use Rattle.vob_use.proofs.line.read_command.Goals as goal
 
 -- a word that is no argument
@@ -31,3 +31,6 @@ returns-clause-found c =
     let command = c.in_ok-command.ensures in
     read_whole _ _ _ _ c.in_ok-word.ensures.ok named
     c.in_ok-command.command _ command.word command.ok c.in_ok-end.ensures.ok
+
+pub returns-clause-one : goal.returns-clause-one
+returns-clause-one c = λ other reads. reads_once _ _ _ reads (returns-clause-found c)
