@@ -2,6 +2,5 @@
 #![tactic(auto)]
 
 pub mod plain;
-
 #[cfg(test)]
 mod tests;

@@ -1,0 +1,202 @@
+-- The words behind a keyword have its kinds, whichever command they stand for.
+use Rattle.std.proofs.Common.{Option, None, ◌≡◌, ℕ, suc, ◌+◌, Bool, true, false, cond, List, [], ◌∷◌, length, map, Some, refl, subst, ap, sym, ◌∙◌, arith}
+use Rattle.std.specs.Prelude.{find}
+use Rattle.std.specs.Str.{bytes_eq}
+use Rattle.std.proofs.lemmas.Option.{none-some, same_Some}
+use Rattle.std.proofs.lemmas.Slice.Eq.{bytes_eq-Decides}
+use Rattle.std.proofs.lemmas.List.{nil_from_length, length-map}
+use Rattle.vob_run.specs.declared.command.Command.{Command}
+use Rattle.vob_run.specs.declared.command.Command.TheVariants as command
+use Rattle.vob_use.specs.Grammar.{Argument, number, bit, digit, form_of, Spells, AllSpell, Reads}
+use Rattle.vob_use.specs.Kinds.{kind_of, word_of, kinds_of, keywords, keyword_named, BeginWith, TakesAll}
+use Rattle.vob_use.specs.declared.line.Keyword.{Keyword}
+use Rattle.vob_use.specs.declared.line.Keyword.TheVariants.{New, Push, Get, Len, Bits, Blocks}
+
+-- the keyword of a command
+keyword_of : Command → Keyword
+keyword_of (command.New capacity) = New
+keyword_of (command.Push which value) = Push
+keyword_of (command.GetBit which index) = Get
+keyword_of (command.Length which) = Len
+keyword_of (command.Bits which) = Bits
+keyword_of (command.Storage which) = Blocks
+
+-- the word of a command is its keyword's, and its arguments are of the keyword's kinds
+record Belongs (c : Command) (k : Keyword) : Type 0 where
+  word : (form_of c).word ≡ word_of k
+  kinds : map kind_of (form_of c).arguments ≡ kinds_of k
+
+belongs : (c : Command) → Belongs c (keyword_of c)
+unfolding keyword_of
+belongs (command.New capacity) = record { word = refl; kinds = refl }
+belongs (command.Push which value) = record { word = refl; kinds = refl }
+belongs (command.GetBit which index) = record { word = refl; kinds = refl }
+belongs (command.Length which) = record { word = refl; kinds = refl }
+belongs (command.Bits which) = record { word = refl; kinds = refl }
+belongs (command.Storage which) = record { word = refl; kinds = refl }
+
+-- the command of a keyword and its arguments
+command_of : Keyword → List Argument → Option Command
+command_of New (number capacity ∷ []) = Some (command.New capacity)
+command_of Push (number which ∷ bit value ∷ []) = Some (command.Push which value)
+command_of Get (number which ∷ number index ∷ []) = Some (command.GetBit which index)
+command_of Len (number which ∷ []) = Some (command.Length which)
+command_of Bits (number which ∷ []) = Some (command.Bits which)
+command_of Blocks (number which ∷ []) = Some (command.Storage which)
+command_of _ _ = None
+
+again : (c : Command) → command_of (keyword_of c) (form_of c).arguments ≡ Some c
+unfolding keyword_of command_of
+again (command.New capacity) = refl
+again (command.Push which value) = refl
+again (command.GetBit which index) = refl
+again (command.Length which) = refl
+again (command.Bits which) = refl
+again (command.Storage which) = refl
+
+-- the table of keywords finds each of them
+named-word : (k : Keyword) → keyword_named (word_of k) ≡ Some k
+named-word New = refl
+named-word Push = refl
+named-word Get = refl
+named-word Len = refl
+named-word Bits = refl
+named-word Blocks = refl
+
+named-form : (c : Command) → keyword_named (form_of c).word ≡ Some (keyword_of c)
+named-form c = ap keyword_named (belongs c).word ∙ named-word (keyword_of c)
+
+-- a command whose word names a keyword belongs to it
+belongs_named : (c : Command) (k : Keyword) → keyword_named (form_of c).word ≡ Some k → Belongs c k
+belongs_named c k named =
+    let own = belongs c in
+    let same : Some (keyword_of c) ≡ Some k =
+    sym (named-word (keyword_of c)) ∙ ap keyword_named (sym own.word) ∙ named in
+    let key : keyword_of c ≡ k = cc in
+    subst (Belongs c) key own
+
+-- words that stand for arguments are of their kinds
+BeginWith-spelled : (words : List (List ℕ)) (arguments : List Argument) →
+    AllSpell words arguments → BeginWith words (map kind_of arguments)
+BeginWith-spelled [] [] spelled = tt
+BeginWith-spelled (word ∷ words) (argument ∷ arguments) spelled =
+    ((argument, refl, spelled.0), BeginWith-spelled words arguments spelled.1)
+BeginWith-spelled [] (argument ∷ arguments) spelled = absurd spelled
+BeginWith-spelled (word ∷ words) [] spelled = absurd spelled
+
+length-spelled : (words : List (List ℕ)) (arguments : List Argument) → AllSpell words arguments →
+    length words ≡ length arguments
+length-spelled [] [] spelled = refl
+length-spelled (word ∷ words) (argument ∷ arguments) spelled =
+    ap suc (length-spelled words arguments spelled.1)
+length-spelled [] (argument ∷ arguments) spelled = absurd spelled
+length-spelled (word ∷ words) [] spelled = absurd spelled
+
+length-takes : (before : List (List ℕ)) (arguments : List Argument) (after : List (List ℕ)) →
+    TakesAll before arguments after → length before ≡ length arguments + length after
+length-takes before [] after same = omega (arith, ap length same)
+length-takes before (argument ∷ arguments) after takes =
+    let first = ap length takes.1.first in
+    omega (arith, length-takes takes.0 arguments after takes.2)
+
+AllSpell-takes : (before : List (List ℕ)) (arguments : List Argument) (after : List (List ℕ)) →
+    TakesAll before arguments after → after ≡ [] → AllSpell before arguments
+AllSpell-takes before [] after same none = subst (λ words. AllSpell words []) (sym (same ∙ none)) tt
+AllSpell-takes before (argument ∷ arguments) after takes none =
+    subst (λ words. AllSpell words (argument ∷ arguments)) (sym takes.1.first)
+    (takes.1.spelled, AllSpell-takes takes.0 arguments after takes.2 none)
+
+passes-find : (p : Keyword → Bool) (ks : List Keyword) (k : Keyword) → find p ks ≡ Some k →
+    p k ≡ true
+passes-find p [] k e = absurd (none-some k e)
+passes-find p (x ∷ ks) k e =
+    elim (p x) as (λ b. p x ≡ b → cond b (Some x) (find p ks) ≡ Some k → p k ≡ true) [
+      | true ↦ λ here same. ap p (sym (same_Some x k same)) ∙ here
+      | false ↦ λ _ later. passes-find p ks k later
+    ] refl e
+
+-- the table finds a keyword by its text alone
+word_named : (word : List ℕ) (k : Keyword) → keyword_named word ≡ Some k → word ≡ word_of k
+word_named word k named =
+    let passes = passes-find (λ keyword. bytes_eq (word_of keyword) word) keywords k named in
+    sym ((bytes_eq-Decides (word_of k) word).0 passes)
+
+digit_once : (a b : Bool) → digit a ≡ digit b → a ≡ b
+digit_once true true e = refl
+digit_once false false e = refl
+digit_once true false e = absurd (omega (arith, e))
+digit_once false true e = absurd (omega (arith, e))
+
+-- a word stands for one argument of a kind
+spells_once : (word : List ℕ) (a b : Argument) → kind_of a ≡ kind_of b →
+    Spells word a → Spells word b → a ≡ b
+spells_once word (number m) (number n) kinds here there = ap number (sym here.1 ∙ there.1)
+spells_once word (bit x) (bit y) kinds here there =
+    ap bit (digit_once x y (let e = sym here ∙ there in cc))
+spells_once word (number m) (bit y) kinds here there = cc
+spells_once word (bit x) (number n) kinds here there = cc
+
+all_spell_once : (words : List (List ℕ)) (xs ys : List Argument) → map kind_of xs ≡ map kind_of ys →
+    AllSpell words xs → AllSpell words ys → xs ≡ ys
+all_spell_once [] [] [] kinds here there = refl
+all_spell_once (word ∷ words) (x ∷ xs) (y ∷ ys) kinds here there =
+    let first : kind_of x ≡ kind_of y = cc in
+    let others : map kind_of xs ≡ map kind_of ys = cc in
+    let same = spells_once word x y first here.0 there.0 in
+    let rest = all_spell_once words xs ys others here.1 there.1 in
+    cc
+all_spell_once [] (x ∷ xs) ys kinds here there = absurd here
+all_spell_once [] [] (y ∷ ys) kinds here there = absurd there
+all_spell_once (word ∷ words) [] ys kinds here there = absurd here
+all_spell_once (word ∷ words) (x ∷ xs) [] kinds here there = absurd there
+
+-- words read as one command at most
+pub reads_once : (line : List (List ℕ)) (c d : Command) → Reads line c → Reads line d → c ≡ d
+reads_once [] c d here there = absurd here
+reads_once (word ∷ words) c d here there =
+    let named = ap keyword_named (sym here.0 ∙ there.0) in
+    let same : Some (keyword_of c) ≡ Some (keyword_of d) =
+    sym (named-form c) ∙ named ∙ named-form d in
+    let key : keyword_of c ≡ keyword_of d = cc in
+    let kinds = (belongs c).kinds ∙ ap kinds_of key ∙ sym (belongs d).kinds in
+    let arguments = all_spell_once words _ _ kinds here.1 there.1 in
+    let back : command_of (keyword_of c) (form_of c).arguments
+    ≡ command_of (keyword_of d) (form_of d).arguments = cc in
+    same_Some c d (sym (again c) ∙ back ∙ again d)
+
+module _ (k : Keyword) (line : List (List ℕ)) (word : List ℕ) (words : List (List ℕ))
+    (cut : line ≡ word ∷ words) (named : keyword_named word ≡ Some k) where
+  -- the line reads as commands of the keyword alone
+  arguments_read : (c : Command) → Reads line c →
+      AllSpell words (form_of c).arguments × (map kind_of (form_of c).arguments ≡ kinds_of k)
+  arguments_read c reads =
+      let here = subst (λ line. Reads line c) cut reads in
+      (here.1, (belongs_named c k (ap keyword_named (sym here.0) ∙ named)).kinds)
+
+  -- words of other kinds are no arguments of the keyword
+  pub not_read : (BeginWith words (kinds_of k) → ⊥) → (c : Command) → Reads line c → ⊥
+  not_read others c reads =
+      let read = arguments_read c reads in
+      others (subst (BeginWith words) read.1 (BeginWith-spelled words (form_of c).arguments read.0))
+
+  -- a word behind the arguments is too much
+  pub too_long : (d : Command) (after : List (List ℕ)) → (form_of d).word ≡ word_of k →
+      TakesAll words (form_of d).arguments after → (after ≡ [] → ⊥) →
+      (c : Command) → Reads line c → ⊥
+  too_long d after same takes more c reads =
+      let read = arguments_read c reads in
+      let other = belongs_named d k (ap keyword_named same ∙ named-word k) in
+      let counts = simp length-map at (ap length (read.1 ∙ sym other.kinds)) in
+      let all = length-spelled words (form_of c).arguments read.0 in
+      let taken = length-takes words (form_of d).arguments after takes in
+      more (nil_from_length after (omega (arith, counts, all, taken)))
+
+  -- the keyword and its arguments, with nothing behind them
+  pub read_whole : (d : Command) (after : List (List ℕ)) → (form_of d).word ≡ word_of k →
+      TakesAll words (form_of d).arguments after → after ≡ [] → Reads line d
+  read_whole d after same takes none =
+      let here : Reads (word ∷ words) d = (
+        word_named word k named ∙ sym same,
+        AllSpell-takes words (form_of d).arguments after takes none,
+      ) in
+      subst (λ line. Reads line d) (sym cut) here

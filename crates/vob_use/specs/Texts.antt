@@ -1,0 +1,37 @@
+-- What is printed for an answer.
+use Rattle.std.specs.Prelude.{ℕ, Bool, List, [], ◌∷◌, ◌++◌, map, codes, None, Some}
+use Rattle.std.specs.List.{flat_map}
+use Rattle.std.specs.Fmt.{decimal}
+use Rattle.vob_run.specs.declared.command.Reply.{Reply}
+use Rattle.vob_run.specs.Step.{Answer, meaning, done, bit, number, made, bit_list, block_list, skipped, refused}
+use Rattle.vob_use.specs.Grammar.{digit}
+
+-- what a reply says; its blocks are numbers already
+abbrev pub answer_of : Reply ℕ → Answer
+answer_of = meaning (λ block. block)
+
+-- a digit for each bit, or a dash for none
+abbrev pub digits : List Bool → List ℕ
+digits [] = codes "-"
+digits (value ∷ values) = map digit (value ∷ values)
+
+-- each with one space between, or a dash for none
+abbrev pub listed : List (List ℕ) → List ℕ
+listed [] = codes "-"
+listed (text ∷ texts) = text ++ flat_map (λ other. codes " " ++ other) texts
+
+-- the text of each answer
+abbrev pub text_of : Answer → List ℕ
+text_of done = codes "done"
+text_of (bit None) = codes "bit none"
+text_of (bit (Some value)) = codes "bit " ++ digit value ∷ []
+text_of (number n) = codes "number " ++ decimal n
+text_of (made which) = codes "vob " ++ decimal which
+text_of (bit_list values) = codes "bits " ++ digits values
+text_of (block_list blocks) = codes "blocks " ++ listed (map decimal blocks)
+text_of skipped = codes "skipped"
+text_of (refused reason) = codes "refused " ++ decimal reason
+
+-- a text and a line feed
+abbrev pub line_of : List ℕ → List ℕ
+line_of text = text ++ 10 ∷ []

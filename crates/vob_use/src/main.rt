@@ -1,0 +1,16 @@
+//! Reads command lines from standard input, runs them on numbered bit vectors, and prints a line
+//! for each reply.
+#![tactic(auto)]
+
+mod line;
+mod session;
+#[cfg(test)]
+mod tests;
+mod text;
+
+use session::converse;
+use std::process::ExitCode;
+
+fn main(rt: HostRuntime) -> ExitCode {
+    ExitCode::from(converse(rt.alloc(), &mut rt.stdin(), &mut rt.stdout()))
+}
