@@ -10,14 +10,21 @@ use Rattle.vob_run.specs.declared.command.Command.TheVariants as command
 use Rattle.vob_use.specs.Grammar.{Argument, number, bit, digit, form_of, Spells, AllSpell, Reads}
 use Rattle.vob_use.specs.Kinds.{kind_of, word_of, kinds_of, keywords, keyword_named, BeginWith, TakesAll}
 use Rattle.vob_use.specs.declared.line.Keyword.{Keyword}
-use Rattle.vob_use.specs.declared.line.Keyword.TheVariants.{New, Push, Get, Len, Bits, Blocks}
+use Rattle.vob_use.specs.declared.line.Keyword.TheVariants.{New, Push, Pop, Get, GetUnchecked, Index, Set, SetUnchecked, Len, Empty, Truncate, Bits, Blocks}
 
 -- the keyword of a command
 keyword_of : Command → Keyword
 keyword_of (command.New capacity) = New
 keyword_of (command.Push which value) = Push
+keyword_of (command.Pop which) = Pop
 keyword_of (command.GetBit which index) = Get
+keyword_of (command.GetUnchecked which index) = GetUnchecked
+keyword_of (command.IndexBit which index) = Index
+keyword_of (command.SetBit which index value) = Set
+keyword_of (command.SetUnchecked which index value) = SetUnchecked
 keyword_of (command.Length which) = Len
+keyword_of (command.IsEmpty which) = Empty
+keyword_of (command.Truncate which len) = Truncate
 keyword_of (command.Bits which) = Bits
 keyword_of (command.Storage which) = Blocks
 
@@ -30,8 +37,15 @@ belongs : (c : Command) → Belongs c (keyword_of c)
 unfolding keyword_of
 belongs (command.New capacity) = record { word = refl; kinds = refl }
 belongs (command.Push which value) = record { word = refl; kinds = refl }
+belongs (command.Pop which) = record { word = refl; kinds = refl }
 belongs (command.GetBit which index) = record { word = refl; kinds = refl }
+belongs (command.GetUnchecked which index) = record { word = refl; kinds = refl }
+belongs (command.IndexBit which index) = record { word = refl; kinds = refl }
+belongs (command.SetBit which index value) = record { word = refl; kinds = refl }
+belongs (command.SetUnchecked which index value) = record { word = refl; kinds = refl }
 belongs (command.Length which) = record { word = refl; kinds = refl }
+belongs (command.IsEmpty which) = record { word = refl; kinds = refl }
+belongs (command.Truncate which len) = record { word = refl; kinds = refl }
 belongs (command.Bits which) = record { word = refl; kinds = refl }
 belongs (command.Storage which) = record { word = refl; kinds = refl }
 
@@ -39,8 +53,15 @@ belongs (command.Storage which) = record { word = refl; kinds = refl }
 command_of : Keyword → List Argument → Option Command
 command_of New (number capacity ∷ []) = Some (command.New capacity)
 command_of Push (number which ∷ bit value ∷ []) = Some (command.Push which value)
+command_of Pop (number which ∷ []) = Some (command.Pop which)
 command_of Get (number which ∷ number index ∷ []) = Some (command.GetBit which index)
+command_of GetUnchecked (number which ∷ number index ∷ []) = Some (command.GetUnchecked which index)
+command_of Index (number which ∷ number index ∷ []) = Some (command.IndexBit which index)
+command_of Set (number which ∷ number index ∷ bit value ∷ []) = Some (command.SetBit which index value)
+command_of SetUnchecked (number which ∷ number index ∷ bit value ∷ []) = Some (command.SetUnchecked which index value)
 command_of Len (number which ∷ []) = Some (command.Length which)
+command_of Empty (number which ∷ []) = Some (command.IsEmpty which)
+command_of Truncate (number which ∷ number len ∷ []) = Some (command.Truncate which len)
 command_of Bits (number which ∷ []) = Some (command.Bits which)
 command_of Blocks (number which ∷ []) = Some (command.Storage which)
 command_of _ _ = None
@@ -49,8 +70,15 @@ again : (c : Command) → command_of (keyword_of c) (form_of c).arguments ≡ So
 unfolding keyword_of command_of
 again (command.New capacity) = refl
 again (command.Push which value) = refl
+again (command.Pop which) = refl
 again (command.GetBit which index) = refl
+again (command.GetUnchecked which index) = refl
+again (command.IndexBit which index) = refl
+again (command.SetBit which index value) = refl
+again (command.SetUnchecked which index value) = refl
 again (command.Length which) = refl
+again (command.IsEmpty which) = refl
+again (command.Truncate which len) = refl
 again (command.Bits which) = refl
 again (command.Storage which) = refl
 
@@ -58,8 +86,15 @@ again (command.Storage which) = refl
 named-word : (k : Keyword) → keyword_named (word_of k) ≡ Some k
 named-word New = refl
 named-word Push = refl
+named-word Pop = refl
 named-word Get = refl
+named-word GetUnchecked = refl
+named-word Index = refl
+named-word Set = refl
+named-word SetUnchecked = refl
 named-word Len = refl
+named-word Empty = refl
+named-word Truncate = refl
 named-word Bits = refl
 named-word Blocks = refl
 

@@ -3,7 +3,7 @@ use Rattle.std.specs.Prelude.{◌≡◌, ◌≢◌, ◌⊎◌, ℕ, ◌+◌, Boo
 use Rattle.std.specs.List.{flat_map}
 use Rattle.std.specs.Fmt.{decimal}
 use Rattle.vob_run.specs.declared.command.Command.{Command}
-use Rattle.vob_run.specs.Step.{Answer}
+use Rattle.vob_run.specs.Answer.{Answer}
 use Rattle.vob_run.specs.Run.{IsRun}
 use Rattle.vob_use.specs.Cuts.{lines_of, words_of}
 use Rattle.vob_use.specs.Grammar.{Reads}
@@ -30,7 +30,7 @@ pub record Answers (input written : List ℕ) : Type 0 where
   pub read : AllRead (sentences (lines_of input)) commands
   pub answers : List Answer
   pub after : List (List Bool)
-  pub run : IsRun 8 [] commands answers after
+  pub run : IsRun 64 [] commands answers after
   pub text : written ≡ lines_for answers
 
 -- a line that has words and reads as no command, after lines that do; its number counts from 1

@@ -2,7 +2,7 @@
 use Rattle.std.specs.Prelude.{◌≡◌, ℕ, ◌^◌, ◌<◌, Bool, if◌then◌else◌, List, [], ◌∷◌, codes, ⊤}
 use Rattle.std.specs.Str.Parse.{IsNumeral, digits_value}
 use Rattle.vob_run.specs.declared.command.Command.{Command}
-use Rattle.vob_run.specs.declared.command.Command.TheVariants.{New, Push, GetBit, Length, Bits, Storage}
+use Rattle.vob_run.specs.declared.command.Command.TheVariants.{New, Push, Pop, GetBit, GetUnchecked, IndexBit, SetBit, SetUnchecked, Length, IsEmpty, Truncate, Bits, Storage}
 
 -- what a word behind the first one stands for
 pub data Argument : Type 0 where
@@ -37,8 +37,15 @@ form word arguments = record { word = word; arguments = arguments }
 abbrev pub form_of : Command → Form
 form_of (New capacity) = form (codes "new") (number capacity ∷ [])
 form_of (Push which value) = form (codes "push") (number which ∷ bit value ∷ [])
+form_of (Pop which) = form (codes "pop") (number which ∷ [])
 form_of (GetBit which index) = form (codes "get") (number which ∷ number index ∷ [])
+form_of (GetUnchecked which index) = form (codes "getu") (number which ∷ number index ∷ [])
+form_of (IndexBit which index) = form (codes "index") (number which ∷ number index ∷ [])
+form_of (SetBit which index value) = form (codes "set") (number which ∷ number index ∷ bit value ∷ [])
+form_of (SetUnchecked which index value) = form (codes "setu") (number which ∷ number index ∷ bit value ∷ [])
 form_of (Length which) = form (codes "len") (number which ∷ [])
+form_of (IsEmpty which) = form (codes "empty") (number which ∷ [])
+form_of (Truncate which len) = form (codes "truncate") (number which ∷ number len ∷ [])
 form_of (Bits which) = form (codes "bits") (number which ∷ [])
 form_of (Storage which) = form (codes "blocks") (number which ∷ [])
 

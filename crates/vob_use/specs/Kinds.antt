@@ -3,7 +3,7 @@ use Rattle.std.specs.Prelude.{◌≡◌, ℕ, List, [], ◌∷◌, codes, ⊤, O
 use Rattle.std.specs.Str.{bytes_eq}
 use Rattle.vob_use.specs.Grammar.{Argument, number, bit, Spells}
 use Rattle.vob_use.specs.declared.line.Keyword.{Keyword}
-use Rattle.vob_use.specs.declared.line.Keyword.TheVariants.{New, Push, Get, Len, Bits, Blocks}
+use Rattle.vob_use.specs.declared.line.Keyword.TheVariants.{New, Push, Pop, Get, GetUnchecked, Index, Set, SetUnchecked, Len, Empty, Truncate, Bits, Blocks}
 
 -- a kind of word
 pub data Kind : Type 0 where
@@ -18,8 +18,15 @@ kind_of (bit value) = a_bit
 abbrev pub word_of : Keyword → List ℕ
 word_of New = codes "new"
 word_of Push = codes "push"
+word_of Pop = codes "pop"
 word_of Get = codes "get"
+word_of GetUnchecked = codes "getu"
+word_of Index = codes "index"
+word_of Set = codes "set"
+word_of SetUnchecked = codes "setu"
 word_of Len = codes "len"
+word_of Empty = codes "empty"
+word_of Truncate = codes "truncate"
 word_of Bits = codes "bits"
 word_of Blocks = codes "blocks"
 
@@ -27,14 +34,22 @@ word_of Blocks = codes "blocks"
 abbrev pub kinds_of : Keyword → List Kind
 kinds_of New = a_number ∷ []
 kinds_of Push = a_number ∷ a_bit ∷ []
+kinds_of Pop = a_number ∷ []
 kinds_of Get = a_number ∷ a_number ∷ []
+kinds_of GetUnchecked = a_number ∷ a_number ∷ []
+kinds_of Index = a_number ∷ a_number ∷ []
+kinds_of Set = a_number ∷ a_number ∷ a_bit ∷ []
+kinds_of SetUnchecked = a_number ∷ a_number ∷ a_bit ∷ []
 kinds_of Len = a_number ∷ []
+kinds_of Empty = a_number ∷ []
+kinds_of Truncate = a_number ∷ a_number ∷ []
 kinds_of Bits = a_number ∷ []
 kinds_of Blocks = a_number ∷ []
 
 -- all keywords, and the one with this text
 abbrev pub keywords : List Keyword
-keywords = New ∷ Push ∷ Get ∷ Len ∷ Bits ∷ Blocks ∷ []
+keywords = New ∷ Push ∷ Pop ∷ Get ∷ GetUnchecked ∷ Index ∷ Set
+    ∷ SetUnchecked ∷ Len ∷ Empty ∷ Truncate ∷ Bits ∷ Blocks ∷ []
 
 abbrev pub keyword_named : List ℕ → Option Keyword
 keyword_named word = find (λ keyword. bytes_eq (word_of keyword) word) keywords

@@ -1,9 +1,9 @@
 -- What is printed for an answer.
-use Rattle.std.specs.Prelude.{ℕ, Bool, List, [], ◌∷◌, ◌++◌, map, codes, None, Some}
+use Rattle.std.specs.Prelude.{ℕ, Bool, true, false, List, [], ◌∷◌, ◌++◌, map, codes, None, Some}
 use Rattle.std.specs.List.{flat_map}
 use Rattle.std.specs.Fmt.{decimal}
 use Rattle.vob_run.specs.declared.command.Reply.{Reply}
-use Rattle.vob_run.specs.Step.{Answer, meaning, done, bit, number, made, bit_list, block_list, skipped, refused}
+use Rattle.vob_run.specs.Answer.{Answer, meaning, done, bit, flag, number, made, bit_list, block_list, skipped, refused}
 use Rattle.vob_use.specs.Grammar.{digit}
 
 -- what a reply says; its blocks are numbers already
@@ -25,6 +25,8 @@ abbrev pub text_of : Answer → List ℕ
 text_of done = codes "done"
 text_of (bit None) = codes "bit none"
 text_of (bit (Some value)) = codes "bit " ++ digit value ∷ []
+text_of (flag true) = codes "true"
+text_of (flag false) = codes "false"
 text_of (number n) = codes "number " ++ decimal n
 text_of (made which) = codes "vob " ++ decimal which
 text_of (bit_list values) = codes "bits " ++ digits values

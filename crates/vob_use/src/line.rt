@@ -20,18 +20,32 @@ pub struct Unreadable;
 enum Keyword {
     New,
     Push,
+    Pop,
     Get,
+    GetUnchecked,
+    Index,
+    Set,
+    SetUnchecked,
     Len,
+    Empty,
+    Truncate,
     Bits,
     Blocks,
 }
 
 impl Keyword {
-    const ALL: [Keyword; 6] = [
+    const ALL: [Keyword; 13] = [
         Keyword::New,
         Keyword::Push,
+        Keyword::Pop,
         Keyword::Get,
+        Keyword::GetUnchecked,
+        Keyword::Index,
+        Keyword::Set,
+        Keyword::SetUnchecked,
         Keyword::Len,
+        Keyword::Empty,
+        Keyword::Truncate,
         Keyword::Bits,
         Keyword::Blocks,
     ];
@@ -43,8 +57,15 @@ impl Keyword {
         match self {
             Keyword::New => "new",
             Keyword::Push => "push",
+            Keyword::Pop => "pop",
             Keyword::Get => "get",
+            Keyword::GetUnchecked => "getu",
+            Keyword::Index => "index",
+            Keyword::Set => "set",
+            Keyword::SetUnchecked => "setu",
             Keyword::Len => "len",
+            Keyword::Empty => "empty",
+            Keyword::Truncate => "truncate",
             Keyword::Bits => "bits",
             Keyword::Blocks => "blocks",
         }
@@ -131,12 +152,40 @@ impl<'a> Words<'a> {
                 which: self.number()?,
                 value: self.bit()?,
             },
+            Keyword::Pop => Command::Pop {
+                which: self.number()?,
+            },
             Keyword::Get => Command::GetBit {
                 which: self.number()?,
                 index: self.number()?,
             },
+            Keyword::GetUnchecked => Command::GetUnchecked {
+                which: self.number()?,
+                index: self.number()?,
+            },
+            Keyword::Index => Command::IndexBit {
+                which: self.number()?,
+                index: self.number()?,
+            },
+            Keyword::Set => Command::SetBit {
+                which: self.number()?,
+                index: self.number()?,
+                value: self.bit()?,
+            },
+            Keyword::SetUnchecked => Command::SetUnchecked {
+                which: self.number()?,
+                index: self.number()?,
+                value: self.bit()?,
+            },
             Keyword::Len => Command::Length {
                 which: self.number()?,
+            },
+            Keyword::Empty => Command::IsEmpty {
+                which: self.number()?,
+            },
+            Keyword::Truncate => Command::Truncate {
+                which: self.number()?,
+                len: self.number()?,
             },
             Keyword::Bits => Command::Bits {
                 which: self.number()?,

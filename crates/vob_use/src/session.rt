@@ -91,22 +91,22 @@ fn read_commands(alloc: Global, text: &[u8]) -> Result<Vec<Command>, Ending>
 }
 
 /// Runs commands, from no Vobs at all.
-fn answer(alloc: Global, commands: &[Command]) -> Result<Vec<Reply<u8>>, Ending>
+fn answer(alloc: Global, commands: &[Command]) -> Result<Vec<Reply<usize>>, Ending>
     ensures ok { IfOk result (λ replies.
-        (after : _) × IsRun 8 [] commands.now (map answer_of replies.items) after) }
+        (after : _) × IsRun 64 [] commands.now (map answer_of replies.items) after) }
     ensures err { IsOkUnless result Ending.Memory }
 {
     let mut vobs = Vec::new(alloc);
     let mut replies = Vec::new(alloc);
-    run::<u8>(alloc, commands, &mut vobs, &mut replies)?;
+    run::<usize>(alloc, commands, &mut vobs, &mut replies)?;
     Ok(replies)
 }
 
 /// Reads the whole input and runs its lines.
-fn replies_to<R: Read>(alloc: Global, input: &mut R) -> Result<Vec<Reply<u8>>, Ending>
+fn replies_to<R: Read>(alloc: Global, input: &mut R) -> Result<Vec<Reply<usize>>, Ending>
     ensures ok { IfOk result (λ replies. IfSome (R.remaining input.old) (λ text.
         (commands : List Command) × AllRead (sentences (lines_of text)) commands
-        × ((after : _) × IsRun 8 [] commands (map answer_of replies.items) after))) }
+        × ((after : _) × IsRun 64 [] commands (map answer_of replies.items) after))) }
     ensures err { IfErr result (λ ending. IfSome (R.remaining input.old) (λ text.
         Ends (lines_of text) ending)) }
 {
@@ -116,7 +116,7 @@ fn replies_to<R: Read>(alloc: Global, input: &mut R) -> Result<Vec<Reply<u8>>, E
 }
 
 /// Writes a line for each reply.
-fn write_replies<W: Write>(replies: &[Reply<u8>], output: &mut W) -> io::Result<()>
+fn write_replies<W: Write>(replies: &[Reply<usize>], output: &mut W) -> io::Result<()>
     ensures { OnOk result (Appends (W.contents output.old) (W.contents output.new)
         (lines_for (map answer_of replies.now))) }
 {

@@ -10,7 +10,7 @@ use vob_run::Reply;
 
 /// A reply, to be printed.
 #[derive(Clone, Copy)]
-pub struct ReplyText<'a>(pub &'a Reply<u8>);
+pub struct ReplyText<'a>(pub &'a Reply<usize>);
 
 impl fmt::Display for ReplyText<'_> {
     ghost output = { λ reply. Some (text_of (answer_of reply.0.now)) };
@@ -20,6 +20,7 @@ impl fmt::Display for ReplyText<'_> {
             Reply::Done => write!(f, "done"),
             Reply::Bit(None) => write!(f, "bit none"),
             Reply::Bit(Some(value)) => write!(f, "bit {}", digit_of(*value)),
+            Reply::Flag(value) => write!(f, "{value}"),
             Reply::Number(n) => write!(f, "number {n}"),
             Reply::Made(which) => write!(f, "vob {which}"),
             Reply::BitList(bits) => write!(f, "bits {}", Digits(bits)),
@@ -57,7 +58,7 @@ fn digit_of(bit: bool) -> char
 
 /// Blocks in decimal, the one with bit 0 first.
 #[derive(Clone, Copy)]
-struct Blocks<'a>(&'a [u8]);
+struct Blocks<'a>(&'a [usize]);
 
 impl fmt::Display for Blocks<'_> {
     ghost output = { λ blocks. Some (listed (map decimal blocks.0.now)) };
