@@ -1,5 +1,5 @@
 //! The walks over a Vob: over its bits from both ends, and over its blocks.
-ghost use Rattle.std.specs.Prelude.{◌≡◌, ◌*◌, ◌<◌, Bool, map, length, Some, IfSome};
+ghost use Rattle.std.specs.Prelude.{◌≡◌, ◌*◌, ◌^◌, ◌<◌, ◌≤◌, Bool, map, length, Some, IfSome};
 ghost use Rattle.std.specs.Iterator.{YieldsFirst, YieldsLast, item_count, at_most, UpTo};
 ghost use Rattle.std.specs.Iterator.SizeHint.{IsWithinCount};
 ghost use Rattle.std.specs.Iterator.Runs.{YieldsInOrder, YieldsInReverse};
@@ -35,13 +35,16 @@ impl<T: Block> Vob<T> {
     /// A walk over the bits, index 0 first.
     pub fn iter(&self) -> Iter<'_, T>
         ensures bits { result ≡ self.now.bits }
+        ensures longest { length result ≤ usize.MAX }
+
+        // It gives them in order, or from the back.
         ensures runs { YieldsInOrder (YieldsFirst {A = Bool} (λ rest. rest)) (λ rest. rest) }
         ensures runs_back { YieldsInReverse (YieldsLast {A = Bool} (λ rest. rest)) (λ rest. rest) }
     {
         Iter {
             blocks: self.vec.as_slice(),
             next: 0,
-            end: self.len,
+            end: self.len(),
         }
     }
 }
@@ -52,6 +55,7 @@ impl<'a, T: Block> IntoIterator for &'a Vob<T> {
     type IntoIter = Iter<'a, T>;
 
     ghost into_iter_gives = { λ vob walk. (walk ≡ vob.now.bits)
+        × (length walk < 2 ^ 64)
         × YieldsInOrder (YieldsFirst {A = Bool} (λ rest. rest)) (λ rest. rest)
         × YieldsInReverse (YieldsLast {A = Bool} (λ rest. rest)) (λ rest. rest) };
 
@@ -91,7 +95,7 @@ impl<'a, T: Block> Iterator for Iter<'a, T> {
         ensures upper { IfSome result.1 (UpTo (at_most (length self.now))) }
         ensures exact { result ≡ (length self.now, Some (length self.now)) }
     {
-        let left = self.end - self.next;
+        let left = self.len();
         (left, Some(left))
     }
 }
@@ -103,9 +107,9 @@ impl<'a, T: Block> DoubleEndedIterator for Iter<'a, T> {
         if self.next == self.end {
             return None;
         }
-        let index = self.end - 1;
-        self.end = index;
-        Some(block_bit(self.blocks, index))
+        let last = self.end - 1;
+        self.end = last;
+        Some(block_bit(self.blocks, last))
     }
 }
 
