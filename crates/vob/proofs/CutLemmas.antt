@@ -1,15 +1,14 @@
 -- The bits from some index on taken off, at a plain width.
 use Rattle.std.specs.Prelude.{All}
-use Rattle.std.specs.List.{range_with_len}
-use Rattle.std.proofs.Common.{◌≡◌, ◌≢◌, ℕ, ◌+◌, ◌*◌, ◌/◌, ◌%◌, ◌^◌, ◌<◌, ◌≤◌, min, Bool, true, false, ◌&&◌, List, length, map, get_or, set, take, ltb, refl, sym, ap, ◌∙◌, subst, arith, inl, inr, mod-lt, div-add-mod'}
+use Rattle.std.proofs.Common.{◌≡◌, ◌≢◌, ℕ, ◌+◌, ◌*◌, ◌/◌, ◌%◌, ◌^◌, ◌<◌, ◌≤◌, min, Bool, true, false, ◌&&◌, List, length, map, get_or, set, take, ltb, refl, sym, ap, ◌∙◌, arith, inl, inr, mod-lt, div-add-mod'}
 use Rattle.std.proofs.lemmas.Bool.{cases_eq, cases_lt, lt-ltb, le-ltb, and_right}
 use Rattle.std.proofs.lemmas.List.{get_or-map, map-set, length-map, length-set, get_or-take, length-take-le, take-map}
 use Rattle.std.proofs.lemmas.List.Elements.{All-set, All-take}
 use Rattle.std.proofs.lemmas.List.FromFn.{take-map-range_with_len}
 use Rattle.std.proofs.lemmas.Nat.{mul-le}
 use Rattle.vob_block.specs.Places.{place, HasPlaces}
-use Rattle.vob_block.specs.Packing.{item, need, stored, spelled, IsCanonical}
-use Rattle.vob_block.proofs.NeedLemmas.{need_is, need-le-need, need_at_full, need_at_open, div-lt-need}
+use Rattle.vob_block.specs.Packing.{need, stored, spelled, IsCanonical}
+use Rattle.vob_block.proofs.NeedLemmas.{need-le-need, need_at_full, need_at_open, div-lt-need}
 use Rattle.vob_block.proofs.PackingLemmas.{stored_from, stored_past, stored-set_same, stored-set_other, length-spelled, get_or-spelled, spelled_from_items}
 
 and-true : (b : Bool) → (b && true) ≡ b

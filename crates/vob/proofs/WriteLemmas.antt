@@ -1,5 +1,5 @@
 -- One place of one block written, and what the blocks store then, at a plain width.
-use Rattle.std.specs.Prelude.{All, Option, Some, IsTrue}
+use Rattle.std.specs.Prelude.{Option, Some, IsTrue}
 use Rattle.std.specs.Bool.{beq}
 use Rattle.std.specs.Int.{w64}
 use Rattle.std.proofs.lemmas.Nat.{mul-le}

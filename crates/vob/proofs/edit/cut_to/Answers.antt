@@ -1,6 +1,5 @@
 -- The blocks that the bits left need are kept, and the last of them is cleared.
-use Rattle.std.proofs.Common.{◌≡◌, ◌^◌, ◌<◌, sym, ap, ◌∙◌, map, length, arith}
-use Rattle.std.specs.Prelude.{All}
+use Rattle.std.proofs.Common.{◌≡◌, ap, ◌∙◌, map, length, arith}
 use Rattle.std.proofs.lemmas.List.{take_at}
 use Rattle.vob_block.specs.Packing.{spelled}
 use Rattle.vob_block.proofs.PlaceLemmas.{width_pos}
