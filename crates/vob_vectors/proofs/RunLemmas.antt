@@ -1,14 +1,15 @@
 -- A run that goes on, and the steps that refuse nothing for want of memory.
 use Rattle.std.proofs.Common.{◌≡◌, ◌≢◌, ℕ, Bool, true, false, List, [], ◌∷◌, ◌++◌, length, map, Some, None, Option, refl, inl, arith, subst}
-use Rattle.std.specs.Prelude.{slice_get, nat_lt, if◌then◌else◌}
+use Rattle.std.specs.Prelude.{slice_get, slice_set, nat_lt, take, ◌==◌, if◌then◌else◌}
 use Rattle.std.specs.Option.{option_map_or}
 use Rattle.std.proofs.lemmas.List.{map_push}
 use Rattle.std.proofs.lemmas.List.Elements.{All-push}
 use Rattle.vob_block.specs.Packing.{packing}
 use Rattle.vob_run.specs.declared.command.Command.{Command}
-use Rattle.vob_run.specs.declared.command.Command.TheVariants.{New, Push, GetBit, Length, Bits, Storage}
+use Rattle.vob_run.specs.declared.command.Command.TheVariants.{New, Push, Pop, GetBit, GetUnchecked, IndexBit, SetBit, SetUnchecked, Length, IsEmpty, Truncate, Bits, Storage}
 use Rattle.vob_run.specs.declared.command.Reply.{Reply}
-use Rattle.vob_run.specs.Step.{Answer, Outcome, done, bit, number, made, bit_list, block_list, refused, skipped, outcome, on, pushed, step, greatest_length}
+use Rattle.vob_run.specs.Answer.{Answer, Outcome, done, bit, flag, number, made, bit_list, block_list, refused, skipped, outcome}
+use Rattle.vob_run.specs.Step.{differ, on, tells, tells_bit, leaves, pushed, popped, written, step, greatest_length}
 use Rattle.vob_run.specs.Run.{IsRun, IsStep}
 use Rattle.vob_vectors.specs.Plain.{IsPlainRun, said}
 
@@ -28,9 +29,20 @@ answer-if : (short : Bool) (all after : List (List Bool)) →
 answer-if true all after = λ (e : done ≡ refused 2). cc
 answer-if false all after = λ (e : refused 1 ≡ refused 2). cc
 
+answer-told : (all : List (List Bool)) (value : Option Bool) → (tells_bit all value).answer ≢ refused 2
+answer-told all None e = cc
+answer-told all (Some value) e = cc
+
+answer-written : (all : List (List Bool)) (which index : ℕ) (value : Bool) (bits : List Bool) → (written all which index value bits).answer ≢ refused 2
+answer-written all which index value bits = found (slice_get bits index)
+  where
+    found : (old : Option Bool) → (option_map_or (λ b. leaves all which (flag (differ b value)) (slice_set bits index value)) old (tells all skipped)).answer ≢ refused 2
+    found None e = cc
+    found (Some b) e = cc
+
 module _ (width : ℕ) where
   answer-pushed : (all : List (List Bool)) (which : ℕ) (value : Bool) (bits : List Bool) →
-      (pushed width all which value bits).answer ≢ refused 2
+      (pushed all which value bits).answer ≢ refused 2
   answer-pushed all which value bits = answer-if (nat_lt (length bits) greatest_length) all _
 
   -- a run goes on by one step
@@ -53,8 +65,19 @@ module _ (width : ℕ) where
   pub answer-step : (all : List (List Bool)) (command : Command) →
       (step width all command).answer ≢ refused 2
   answer-step all (New capacity) = λ (e : made (length all) ≡ refused 2). cc
-  answer-step all (Push which value) = answer-on all which (pushed width all which value)
+  answer-step all (Push which value) = answer-on all which (pushed all which value)
       (λ bits. answer-pushed all which value bits)
+  answer-step all (Pop which) = answer-on all which (popped all which) (λ bits e. cc)
+  answer-step all (GetUnchecked which index) =
+      answer-on all which (λ bits. tells_bit all (slice_get bits index)) (λ bits. answer-told all (slice_get bits index))
+  answer-step all (IndexBit which index) =
+      answer-on all which (λ bits. tells_bit all (slice_get bits index)) (λ bits. answer-told all (slice_get bits index))
+  answer-step all (SetBit which index value) =
+      answer-on all which (written all which index value) (answer-written all which index value)
+  answer-step all (SetUnchecked which index value) =
+      answer-on all which (written all which index value) (answer-written all which index value)
+  answer-step all (IsEmpty which) = answer-on all which (λ bits. tells all (flag (length bits == 0))) (λ bits e. cc)
+  answer-step all (Truncate which len) = answer-on all which (λ bits. leaves all which done (take len bits)) (λ bits e. cc)
   answer-step all (GetBit which index) =
       answer-on all which (λ bits. outcome (bit (slice_get bits index)) all) (λ bits e. cc)
   answer-step all (Length which) = answer-on all which (λ bits. outcome (number (length bits)) all)

@@ -3,7 +3,8 @@ use Rattle.std.specs.Prelude.{◌≡◌, ◌≢◌, ℕ, List, ◌++◌, map, Al
 use Rattle.std.specs.declared.alloc.Global.{Global}
 use Rattle.vob_run.specs.declared.command.Command.{Command}
 use Rattle.vob_run.specs.declared.command.Reply.{Reply}
-use Rattle.vob_run.specs.Step.{Answer, meaning, outcome, step, refused}
+use Rattle.vob_run.specs.Answer.{Answer, meaning, outcome, refused}
+use Rattle.vob_run.specs.Step.{step}
 use Rattle.vob_run.specs.Run.{IsRun}
 
 -- the numbered lists of the program

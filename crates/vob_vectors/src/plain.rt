@@ -79,6 +79,63 @@ fn push_bit(
     Ok(Reply::Done)
 }
 
+/// The last bit of a list, taken off.
+fn pop_bit(lists: &mut Vec<Vec<bool>>, which: usize) -> Reply<u128>
+    ensures { (w : ℕ) → IsPlainStep w lists.old (Command.Pop which) lists.new result }
+{
+    let Some(bits) = lists.get_mut(which) else {
+        return Reply::Skipped;
+    };
+    Reply::Bit(bits.pop())
+}
+
+/// The first `len` bits of a list, alone.
+fn cut_bits(lists: &mut Vec<Vec<bool>>, which: usize, len: usize) -> Reply<u128>
+    ensures { (w : ℕ) → IsPlainStep w lists.old (Command.Truncate which len) lists.new result }
+{
+    let Some(bits) = lists.get_mut(which) else {
+        return Reply::Skipped;
+    };
+    bits.truncate(len);
+    Reply::Done
+}
+
+/// One bit of a list, written.
+fn write_bit(lists: &mut Vec<Vec<bool>>, which: usize, index: usize, value: bool) -> Reply<u128>
+    ensures { (w : ℕ) → IsPlainStep w lists.old (Command.SetBit which index value) lists.new
+        result }
+{
+    let Some(bits) = lists.get_mut(which) else {
+        return Reply::Skipped;
+    };
+    if index >= bits.len() {
+        return Reply::Skipped;
+    }
+    let old = bits[index];
+    bits[index] = value;
+    Reply::Flag(old != value)
+}
+
+/// One bit of a list, which is there.
+fn tell_bit(lists: &Vec<Vec<bool>>, which: usize, index: usize) -> Reply<u128>
+    ensures { (w : ℕ) → IsPlainStep w lists.now (Command.IndexBit which index) lists.now result }
+{
+    match lists.get(which).and_then(|bits| bits.get(index)) {
+        None => Reply::Skipped,
+        Some(value) => Reply::Flag(*value),
+    }
+}
+
+/// Whether a list has no bits.
+fn has_none(lists: &Vec<Vec<bool>>, which: usize) -> Reply<u128>
+    ensures { (w : ℕ) → IsPlainStep w lists.now (Command.IsEmpty which) lists.now result }
+{
+    match lists.get(which) {
+        None => Reply::Skipped,
+        Some(bits) => Reply::Flag(bits.is_empty()),
+    }
+}
+
 /// One bit of a list.
 fn get_bit(lists: &Vec<Vec<bool>>, which: usize, index: usize) -> Reply<u128>
     ensures { (w : ℕ) → IsPlainStep w lists.now (Command.GetBit which index) lists.now result }
@@ -141,7 +198,22 @@ pub fn plain_step(
     match *command {
         Command::New { .. } => new_list(alloc, lists),
         Command::Push { which, value } => push_bit(lists, which, value),
+        Command::Pop { which } => Ok(pop_bit(lists, which)),
         Command::GetBit { which, index } => Ok(get_bit(lists, which, index)),
+        Command::GetUnchecked { which, index } => Ok(tell_bit(lists, which, index)),
+        Command::IndexBit { which, index } => Ok(tell_bit(lists, which, index)),
+        Command::SetBit {
+            which,
+            index,
+            value,
+        } => Ok(write_bit(lists, which, index, value)),
+        Command::SetUnchecked {
+            which,
+            index,
+            value,
+        } => Ok(write_bit(lists, which, index, value)),
+        Command::IsEmpty { which } => Ok(has_none(lists, which)),
+        Command::Truncate { which, len } => Ok(cut_bits(lists, which, len)),
         Command::Length { which } => Ok(count_bits(lists, which)),
         Command::Bits { which } => list_bits(alloc, lists, which),
         Command::Storage { which } => list_blocks(alloc, width, lists, which),

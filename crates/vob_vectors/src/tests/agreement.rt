@@ -1,6 +1,7 @@
 //! Packed vectors and the plain program answer the same, on every list of up to ten bits.
 use crate::plain;
 use std::alloc::{AllocError, Global};
+use std::process::Abort;
 use std::test::Fail;
 use vob_run::command::{Command, Reply};
 use vob_run::run;
@@ -45,6 +46,74 @@ fn bits_of(alloc: Global, len: usize, pattern: u32) -> Result<Vec<bool>, AllocEr
         rest /= 2;
     }
     Ok(bits)
+}
+
+/// Makes a list with these bits, changes and reads each of them and one past the end, and cuts it.
+fn changes_of(alloc: Global, bits: &[bool]) -> Result<Vec<Command>, AllocError> {
+    let which = 0;
+    let mut commands = Vec::new(alloc);
+    commands.push(Command::New { capacity: 0 })?;
+    for value in bits {
+        commands.push(Command::Push {
+            which,
+            value: *value,
+        })?;
+    }
+    for index in 0..=bits.len().min(64) {
+        for value in [true, false, false, true] {
+            commands.push(Command::SetBit {
+                which,
+                index,
+                value,
+            })?;
+            commands.push(Command::GetUnchecked { which, index })?;
+            commands.push(Command::SetUnchecked {
+                which,
+                index,
+                value: !value,
+            })?;
+            commands.push(Command::IndexBit { which, index })?;
+        }
+    }
+    for len in [usize::MAX, bits.len(), bits.len() / 2] {
+        commands.push(Command::Truncate { which, len })?;
+        commands.push(Command::Storage { which })?;
+        commands.push(Command::Pop { which })?;
+        commands.push(Command::Storage { which })?;
+        commands.push(Command::IsEmpty { which })?;
+    }
+    Ok(commands)
+}
+
+/// Runs the commands packed and plain, and compares the replies by their text: a block prints as
+/// its number, whatever its type.
+fn check_agreement(rt: &impl Abort, alloc: Global, commands: &[Command]) -> Result<(), Fail> {
+    let mut vobs = Vec::new(alloc);
+    let mut packed: Vec<Reply<u8>> = Vec::new(alloc);
+    run::run(alloc, commands, &mut vobs, &mut packed)?;
+    let mut lists = Vec::new(alloc);
+    let mut plain: Vec<Reply<u128>> = Vec::new(alloc);
+    plain::plain_run(alloc, 8, commands, &mut lists, &mut plain)?;
+    let packed_text = format!(in alloc; "{packed:?}")?;
+    let plain_text = format!(in alloc; "{plain:?}")?;
+    assert_eq!(rt;
+        packed_text.as_str(),
+        plain_text.as_str(),
+        "after {commands:?}"
+    );
+    Ok(())
+}
+
+#[test]
+fn packed_and_plain_changes_agree(rt: HostRuntime) -> Result<(), Fail> {
+    let alloc = rt.alloc();
+    for (len, patterns) in (0..10).zip([1u32, 2, 4, 8, 16, 32, 64, 128, 256, 512]) {
+        for pattern in 0..patterns {
+            let bits = bits_of(alloc, len, pattern)?;
+            check_agreement(&rt, alloc, &changes_of(alloc, &bits)?)?;
+        }
+    }
+    Ok(())
 }
 
 #[test]

@@ -61,18 +61,34 @@ fn word_of_pushes<T: Block>(rt: &impl Abort, alloc: Global, width: u8) -> Result
     assert_eq!(rt; vob.get(next), None, "past the block");
     assert_eq!(rt; vob.get_storage().len(), 1, "one block is full");
     vob.push(true)?;
-    assert_eq!(rt; vob.get(next), Some(true), "the first bit of the next block");
+    assert_eq!(rt;
+        vob.get(next),
+        Some(true),
+        "the first bit of the next block"
+    );
     assert_eq!(rt; vob.get_storage().len(), 2, "one bit more takes a block");
-    assert_eq!(rt; write(&mut vob, next, false), Some(true), "true becomes false");
+    assert_eq!(rt;
+        write(&mut vob, next, false),
+        Some(true),
+        "true becomes false"
+    );
     assert_eq!(rt; vob.get(next), Some(false), "it is false now");
     assert_eq!(rt; read(&vob, next), Some(false), "also unchecked");
     assert_eq!(rt; vob.get(next + 1), None, "past the end");
-    assert_eq!(rt; write(&mut vob, next, true), Some(true), "false becomes true");
+    assert_eq!(rt;
+        write(&mut vob, next, true),
+        Some(true),
+        "false becomes true"
+    );
     assert_eq!(rt; write(&mut vob, next, true), Some(false), "true stays true");
     assert_eq!(rt; vob.get(last), Some(true), "the neighbour below stays");
     assert_eq!(rt; vob.get(before), Some(true), "and the one below that");
     assert_eq!(rt; read(&vob, before), Some(true), "also unchecked");
-    assert_eq!(rt; write_unchecked(&mut vob, before, true), Some(false), "true stays true");
+    assert_eq!(rt;
+        write_unchecked(&mut vob, before, true),
+        Some(false),
+        "true stays true"
+    );
     Ok(())
 }
 
@@ -127,11 +143,18 @@ fn check_pattern<T: Block>(
     let mut one: Vob<T> = pattern(alloc, seed, count)?;
     let mut other: Vob<T> = pattern(alloc, seed, count)?;
     for index in 0..one.len() {
-        assert_eq!(rt; read(&one, index), one.get(index), "bit {index} of {count}, seed {seed}");
+        assert_eq!(rt;
+            read(&one, index),
+            one.get(index),
+            "bit {index} of {count}, seed {seed}"
+        );
         for value in [false, true] {
             let changed = write(&mut one, index, value);
-            assert_eq!(rt; write_unchecked(&mut other, index, value), changed,
-                "bit {index} of {count} to {value}, seed {seed}");
+            assert_eq!(rt;
+                write_unchecked(&mut other, index, value),
+                changed,
+                "bit {index} of {count} to {value}, seed {seed}"
+            );
             assert_eq!(rt; read(&one, index), Some(value), "bit {index} of {count}");
             assert_eq!(rt; read(&other, index), Some(value), "bit {index} of {count}");
         }

@@ -1,7 +1,7 @@
 use Rattle.std.proofs.Common.{ℕ, Bool, List, ap, sym, ◌∙◌}
 use Rattle.std.proofs.lemmas.List.{map-id}
 use Rattle.vob_block.specs.Packing.{packing}
-use Rattle.vob_run.specs.Step.{outcome, block_list}
+use Rattle.vob_run.specs.Answer.{outcome, block_list}
 use Rattle.vob_vectors.specs.Plain.{bit_lists}
 use Rattle.vob_vectors.proofs.ListLemmas.{on_found}
 use Rattle.vob_vectors.proofs.plain.list_blocks.Goals as goal
