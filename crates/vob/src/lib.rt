@@ -4,6 +4,7 @@
 mod error;
 pub mod iter;
 mod packed;
+mod room;
 pub mod vob;
 
 pub use error::VobError;
