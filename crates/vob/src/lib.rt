@@ -3,6 +3,8 @@
 
 mod error;
 pub mod iter;
+mod macros;
+mod make;
 mod packed;
 mod room;
 pub mod vob;
