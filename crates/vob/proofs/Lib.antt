@@ -1,3 +1,5 @@
+pub mod LaidLemmas
 pub mod PushLemmas
 pub mod RoomLemmas
 pub mod StorageLemmas
+pub mod UnusedLemmas
