@@ -1,8 +1,8 @@
 -- Blocks that hold a list of bits from the first block on, at a plain width.
 use Rattle.std.specs.Prelude.{All}
-use Rattle.std.proofs.Common.{◌≡◌, ◌≢◌, ℕ, zero, suc, ◌+◌, ◌-◌, ◌*◌, ◌/◌, ◌%◌, ◌^◌, ◌<◌, ◌≤◌, Bool, true, false, ◌&&◌, ◌||◌, cond, List, [], ◌∷◌, ◌++◌, length, map, get_or, take, drop, min, eqb, leb, ltb, refl, sym, ap, ◌∙◌, subst, arith, inl, inr, mod-lt, div-add-mod'}
-use Rattle.std.proofs.lemmas.Bool.{cases_lt, cases_order, lt-ltb, le-ltb, lt-leb, le-leb, and_left, eq-eqb, ne_eqb}
-use Rattle.std.proofs.lemmas.List.{get_or_past, get_or-take, get_or-drop, drop-drop, length-drop, length-take, length-map, length_push, get_or_push, get_or_append_left, map_push}
+use Rattle.std.proofs.Common.{◌≡◌, ◌≢◌, ℕ, zero, suc, ◌+◌, ◌-◌, ◌*◌, ◌/◌, ◌%◌, ◌^◌, ◌<◌, ◌≤◌, Bool, true, false, ◌&&◌, ◌||◌, cond, List, [], ◌∷◌, ◌++◌, length, map, get_or, take, drop, min, eqb, leb, ltb, refl, sym, ap, ◌∙◌, subst, arith, inl, inr, mod-lt, div-add-mod', add-one, suc-mul, le_antisymm}
+use Rattle.std.proofs.lemmas.Bool.{cases_lt, cases_order, lt-ltb, le-ltb, lt-leb, le-leb, and_left, eq-eqb, eqb-true, ne_eqb, false≢true}
+use Rattle.std.proofs.lemmas.List.{nil_from_length, get_or_past, get_or-take, get_or-drop, drop-drop, length-drop, length-take, length-map, length_push, get_or_push, get_or_append_left, map_push}
 use Rattle.std.proofs.lemmas.List.Elements.{All-push}
 use Rattle.std.proofs.lemmas.Nat.{mul-le}
 use Rattle.vob_block.specs.Places.{place, HasPlaces}
@@ -107,3 +107,47 @@ module _ (w : ℕ) (wide : 0 < w) (bits : List Bool) where
         let enough : need (length bits) w * w ≡ length xs * w = ap (λ k. k * w) (sym count) in
         stored_past xs w i past ∙ sym (get_or_past bits i false (omega (arith, need_enough w wide (length bits), div-add-mod' i w)))
   ])
+
+-- ---- a walk over some bits by pieces of the width
+
+-- what a test for none left says
+pub some_left : (n : ℕ) (b : Bool) → b ≡ eqb n 0 → b ≡ false → 0 < n
+some_left n b e f = elim (cases_lt 0 n) [
+  | inl some ↦ some
+  | inr none ↦ absurd (false≢true (sym f ∙ e ∙ eq-eqb n 0 (omega arith)))
+]
+
+pub none_left : (n : ℕ) (b : Bool) → b ≡ eqb n 0 → b ≡ true → n ≡ 0
+none_left n b e t = eqb-true n 0 (sym e ∙ t)
+
+module _ (w : ℕ) (wide : 0 < w) (bits : List Bool) where
+  -- what is left after m pieces
+  pub rest_more : (m n : ℕ) (rest : List Bool) → rest ≡ drop (m * w) bits → n ≡ min (length rest) w → drop n rest ≡ drop ((m + 1) * w) bits
+  rest_more m n rest left size = elim (cases_lt w (length rest)) [
+    | inl more ↦
+        ap (λ k. drop k rest) (omega (arith, size)) ∙ ap (drop w) left ∙ drop-drop w (m * w) bits ∙ ap (λ k. drop k bits) (sym (product m))
+    | inr last ↦
+        drop_all n rest (omega (arith, size)) ∙ sym (drop_all ((m + 1) * w) bits (omega (arith, product m, length-drop (m * w) bits, ap length left)))
+  ]
+    where
+      product : (m : ℕ) → (m + 1) * w ≡ m * w + w
+      product m = ap (λ k. k * w) (add-one m) ∙ suc-mul m w
+      drop_all : (n : ℕ) (xs : List Bool) → length xs ≤ n → drop n xs ≡ []
+      drop_all n xs h = nil_from_length (drop n xs) (omega (arith, length-drop n xs))
+
+  -- the first piece of the rest holds the bits of the next block
+  pub piece-places : (m n x : ℕ) (rest : List Bool) → rest ≡ drop (m * w) bits → n ≡ min (length rest) w → HasPlaces w x (item (take n rest)) → HasPlaces w x (λ j. item bits (m * w + j))
+  piece-places m n x rest left size h = record { each = λ j below. h.each j below ∙ elim (cases_lt j n) [
+    | inl inside ↦ get_or-take n rest j false inside ∙ ap (λ xs. get_or xs j false) left ∙ get_or-drop (m * w) bits j false
+    | inr past ↦
+        get_or_past (take n rest) j false (omega (arith, length-take n rest))
+        ∙ sym (get_or_past bits (m * w + j) false (omega (arith, size, ap length left, length-drop (m * w) bits)))
+  ] }
+
+  -- where bits are left, the next block is needed
+  pub more_needed : (m : ℕ) (rest : List Bool) → rest ≡ drop (m * w) bits → 0 < length rest → m < need (length bits) w
+  more_needed m rest left some = lt-need w wide (length bits) m (omega (arith, ap length left, length-drop (m * w) bits))
+
+  -- and where none are, no more is
+  pub all_needed : (m : ℕ) (rest : List Bool) → rest ≡ drop (m * w) bits → length rest ≡ 0 → m ≤ need (length bits) w → m ≡ need (length bits) w
+  all_needed m rest left none few = le_antisymm few (need_least w wide (length bits) m (omega (arith, ap length left, length-drop (m * w) bits)))

@@ -3,6 +3,7 @@ ghost use Rattle.std.specs.Prelude.{◌≡◌, ◌≤◌, ◌<◌, ◌-◌, ◌^
 ghost use Rattle.vob_block.specs.Places.{HasPlaces};
 ghost use Rattle.vob_block.specs.Packing.{item, need, spelled, IsCanonical};
 
+use crate::packed::first_place;
 use crate::vob::Vob;
 use std::alloc::{AllocError, Global};
 use std::fmt;
@@ -54,7 +55,7 @@ pub(crate) fn gather<T: Block>(bits: &[bool]) -> T
 {
     let mut block = T::ZERO;
     for (place, bit) in bits.iter().enumerate() {
-        let mark = if *bit { T::ONE } else { T::ZERO };
+        let mark: T = first_place(*bit);
         block = block.bor(mark.up(place));
     }
     block
