@@ -1,6 +1,7 @@
 //! A packed vector of bits: `Vec<bool>` at one bit an item, rounded up to whole blocks.
 #![tactic(auto)]
 
+mod bytes;
 mod error;
 pub mod iter;
 mod macros;

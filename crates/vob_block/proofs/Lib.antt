@@ -1,3 +1,4 @@
+pub mod ByteLemmas
 pub mod NeedLemmas
 pub mod NumberLemmas
 pub mod PackingLemmas

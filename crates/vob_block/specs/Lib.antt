@@ -1,2 +1,3 @@
 pub mod Places
 pub mod Packing
+pub mod Bytes
