@@ -31,3 +31,9 @@ module _ (w : ℕ) (wide : 0 < w) where
   -- more blocks have no less room
   pub room-le-room : (blocks more : ℕ) → blocks ≤ more → min (blocks * w) (2 ^ 64 - 1) ≤ min (more * w) (2 ^ 64 - 1)
   room-le-room blocks more h = let held : blocks * w ≤ more * w = mul-le blocks w more w h (omega arith) in omega arith
+
+-- the bits of n bytes need a block of 64 for each eight bytes, rounded up
+pub need_in_bytes : (n bits : ℕ) → bits ≡ 8 * n → need bits 64 ≡ div_ceil n 8
+need_in_bytes n bits is =
+    let times = div_ceil_times n 8 (omega arith) in
+    need_is 64 (omega arith) bits (div_ceil n 8) (omega (arith, times.0)) (omega (arith, times.1))
