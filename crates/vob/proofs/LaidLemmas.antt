@@ -22,7 +22,7 @@ pub first_none : (w x : ℕ) (bits : List Bool) → x ≡ 0 → x < 2 ^ w → Ha
 first_none w x bits none small = record { within = small; each = λ j h. ap (place j) none ∙ place-zero j ∙ sym (and_left (ltb j 0) (item bits j) (le-ltb j 0 (omega arith))) }
 
 -- a bit moved up to place n
-mark-places : (b : Bool) (n j : ℕ) → (leb n j && place (j - n) (cond b 1 0)) ≡ (b && eqb j n)
+pub mark-places : (b : Bool) (n j : ℕ) → (leb n j && place (j - n) (cond b 1 0)) ≡ (b && eqb j n)
 mark-places b n j = elim (cases_lt j n) [
   | inl below ↦ and_left (leb n j) (place (j - n) (cond b 1 0)) (lt-leb n j below) ∙ sym (nowhere b j n (ne_eqb j n (λ e. absurd (omega arith))))
   | inr above ↦ ap (λ t. t && place (j - n) (cond b 1 0)) (le-leb n j above) ∙ bit b (j - n) ∙ ap (λ t. b && t) (shifted j n above)

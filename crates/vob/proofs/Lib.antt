@@ -1,3 +1,4 @@
+pub mod GatherLemmas
 pub mod LaidLemmas
 pub mod PushLemmas
 pub mod RoomLemmas

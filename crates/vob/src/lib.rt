@@ -3,6 +3,7 @@
 
 mod bytes;
 mod error;
+mod items;
 pub mod iter;
 mod macros;
 mod make;
