@@ -144,10 +144,21 @@ module _ (w : ℕ) (wide : 0 < w) (bits : List Bool) where
         ∙ sym (get_or_past bits (m * w + j) false (omega (arith, size, ap length left, length-drop (m * w) bits)))
   ] }
 
+  -- and so does the rest, where it is no longer than one piece
+  pub last-places : (m x : ℕ) (rest : List Bool) → rest ≡ drop (m * w) bits → HasPlaces w x (item rest) → HasPlaces w x (λ j. item bits (m * w + j))
+  last-places m x rest left h = record { each = λ j below. h.each j below ∙ ap (λ xs. get_or xs j false) left ∙ get_or-drop (m * w) bits j false }
+
   -- where bits are left, the next block is needed
   pub more_needed : (m : ℕ) (rest : List Bool) → rest ≡ drop (m * w) bits → 0 < length rest → m < need (length bits) w
   more_needed m rest left some = lt-need w wide (length bits) m (omega (arith, ap length left, length-drop (m * w) bits))
 
-  -- and where none are, no more is
+  -- where one piece is left, the block for it is the last that is needed
+  pub last_needed : (m : ℕ) (rest : List Bool) → rest ≡ drop (m * w) bits → 0 < length rest → length rest ≤ w → m + 1 ≡ need (length bits) w
+  last_needed m rest left some few =
+      let next : (m + 1) * w ≡ m * w + w = ap (λ k. k * w) (add-one m) ∙ suc-mul m w in
+      let least = need_least w wide (length bits) (m + 1) (omega (arith, next, few, ap length left, length-drop (m * w) bits)) in
+      omega (arith, least, more_needed m rest left some)
+
+  -- and where none are left, no more is needed
   pub all_needed : (m : ℕ) (rest : List Bool) → rest ≡ drop (m * w) bits → length rest ≡ 0 → m ≤ need (length bits) w → m ≡ need (length bits) w
   all_needed m rest left none few = le_antisymm few (need_least w wide (length bits) m (omega (arith, ap length left, length-drop (m * w) bits)))

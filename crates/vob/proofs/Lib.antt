@@ -4,3 +4,4 @@ pub mod PushLemmas
 pub mod RoomLemmas
 pub mod StorageLemmas
 pub mod UnusedLemmas
+pub mod TurnLemmas

@@ -4,13 +4,13 @@ use Rattle.vob_block.specs.Bytes.{bytes_list}
 use Rattle.vob.proofs.LaidLemmas.{Lays}
 use Rattle.vob.proofs.bytes.byte_blocks.Given as goal
 
-abbrev pub invariant-loop-rest : goal.invariant-loop-rest
-invariant-loop-rest l = record {
+abbrev pub invariant-loop-first : goal.invariant-loop-first
+invariant-loop-first l = record {
   lays : Lays 64 (bytes_list l.bytes) l.blocks.items;
   left : bytes_list l.rest ≡ drop (length l.blocks.items * 64) (bytes_list l.bytes);
   few : length l.blocks.items ≤ need (length (bytes_list l.bytes)) 64;
   room : need (length (bytes_list l.bytes)) 64 ≤ vec_capacity l.blocks;
 }
 
-abbrev pub decreases-loop-rest : goal.decreases-loop-rest
-decreases-loop-rest l = length l.rest
+abbrev pub decreases-loop-first : goal.decreases-loop-first
+decreases-loop-first l = length l.rest
