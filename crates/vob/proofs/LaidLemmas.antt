@@ -31,9 +31,11 @@ mark-places b n j = elim (cases_lt j n) [
     nowhere : (b : Bool) (j n : ℕ) → eqb j n ≡ false → (b && eqb j n) ≡ false
     nowhere true j n e = e
     nowhere false j n e = refl
+
     bit : (b : Bool) (j : ℕ) → place j (cond b 1 0) ≡ (b && eqb j 0)
     bit true j = place-pow 0 j
     bit false j = place-zero j
+
     shifted : (j n : ℕ) → n ≤ j → eqb (j - n) 0 ≡ eqb j n
     shifted j n h = elim (cases_order j n) [
       | inl same ↦ eq-eqb (j - n) 0 (omega arith) ∙ sym (eq-eqb j n same)
@@ -45,36 +47,43 @@ mark-places b n j = elim (cases_lt j n) [
 -- one bit more at place n
 pub first_more : (w x y n mark moved : ℕ) (bits : List Bool) (b : Bool) → HasFirst w x bits n → b ≡ item bits n → mark ≡ cond b 1 0 → y < 2 ^ w
     → HasPlaces w moved (λ j. leb n j && place (j - n) mark) → HasPlaces w y (λ j. place j x || place j moved) → HasFirst w y bits (n + 1)
-first_more w x y n mark moved bits b h is marked small up both = record { within = small; each = λ j below.
-    both.each j below ∙ ap (λ t. t || place j moved) (h.each j below) ∙ ap (λ t. (ltb j n && item bits j) || t) (up.each j below ∙ ap (λ z. leb n j && place (j - n) z) marked ∙ mark-places b n j)
-    ∙ elim (cases_order j n) [
-      | inl same ↦
-          ap (λ t. (t && item bits j) || (b && eqb j n)) (le-ltb j n (omega arith)) ∙ ap (λ t. b && t) (eq-eqb j n same)
-          ∙ and-true b ∙ is ∙ ap (item bits) (sym same) ∙ sym (ap (λ t. t && item bits j) (lt-ltb j (n + 1) (omega arith)))
-      | inr (inl before) ↦
-          ap (λ t. (ltb j n && item bits j) || (b && t)) (ne_eqb j n (λ e. absurd (omega arith))) ∙ ap (λ t. (ltb j n && item bits j) || t) (and-false b) ∙ or-false (ltb j n && item bits j)
-          ∙ ap (λ t. t && item bits j) (lt-ltb j n before ∙ sym (lt-ltb j (n + 1) (omega arith)))
-      | inr (inr after) ↦
-          ap (λ t. (t && item bits j) || (b && eqb j n)) (le-ltb j n (omega arith)) ∙ ap (λ t. b && t) (ne_eqb j n (λ e. absurd (omega arith))) ∙ and-false b
-          ∙ sym (ap (λ t. t && item bits j) (le-ltb j (n + 1) (omega arith)))
-    ] }
+first_more w x y n mark moved bits b h is marked small up both = record {
+  within = small;
+  each = λ j below.
+      both.each j below ∙ ap (λ t. t || place j moved) (h.each j below) ∙ ap (λ t. (ltb j n && item bits j) || t) (up.each j below ∙ ap (λ z. leb n j && place (j - n) z) marked ∙ mark-places b n j)
+      ∙ elim (cases_order j n) [
+        | inl same ↦
+            ap (λ t. (t && item bits j) || (b && eqb j n)) (le-ltb j n (omega arith)) ∙ ap (λ t. b && t) (eq-eqb j n same)
+            ∙ and-true b ∙ is ∙ ap (item bits) (sym same) ∙ sym (ap (λ t. t && item bits j) (lt-ltb j (n + 1) (omega arith)))
+        | inr (inl before) ↦
+            ap (λ t. (ltb j n && item bits j) || (b && t)) (ne_eqb j n (λ e. absurd (omega arith))) ∙ ap (λ t. (ltb j n && item bits j) || t) (and-false b) ∙ or-false (ltb j n && item bits j)
+            ∙ ap (λ t. t && item bits j) (lt-ltb j n before ∙ sym (lt-ltb j (n + 1) (omega arith)))
+        | inr (inr after) ↦
+            ap (λ t. (t && item bits j) || (b && eqb j n)) (le-ltb j n (omega arith)) ∙ ap (λ t. b && t) (ne_eqb j n (λ e. absurd (omega arith))) ∙ and-false b
+            ∙ sym (ap (λ t. t && item bits j) (le-ltb j (n + 1) (omega arith)))
+      ];
+}
   where
     and-true : (b : Bool) → (b && true) ≡ b
     and-true true = refl
     and-true false = refl
+
     and-false : (b : Bool) → (b && false) ≡ false
     and-false true = refl
     and-false false = refl
+
     or-false : (b : Bool) → (b || false) ≡ b
     or-false true = refl
     or-false false = refl
 
 -- all of them
 pub first_all : (w x n : ℕ) (bits : List Bool) → length bits ≤ n → HasFirst w x bits n → HasPlaces w x (item bits)
-first_all w x n bits all h = record { each = λ j below. h.each j below ∙ elim (cases_lt j n) [
-  | inl inside ↦ ap (λ t. t && item bits j) (lt-ltb j n inside)
-  | inr past ↦ and_left (ltb j n) (item bits j) (le-ltb j n past) ∙ sym (get_or_past bits j false (omega arith))
-] }
+first_all w x n bits all h = record {
+  each = λ j below. h.each j below ∙ elim (cases_lt j n) [
+    | inl inside ↦ ap (λ t. t && item bits j) (lt-ltb j n inside)
+    | inr past ↦ and_left (ltb j n) (item bits j) (le-ltb j n past) ∙ sym (get_or_past bits j false (omega arith))
+  ];
+}
 
 -- ---- block after block
 
@@ -132,17 +141,20 @@ module _ (w : ℕ) (wide : 0 < w) (bits : List Bool) where
     where
       product : (m : ℕ) → (m + 1) * w ≡ m * w + w
       product m = ap (λ k. k * w) (add-one m) ∙ suc-mul m w
+
       drop_all : (n : ℕ) (xs : List Bool) → length xs ≤ n → drop n xs ≡ []
       drop_all n xs h = nil_from_length (drop n xs) (omega (arith, length-drop n xs))
 
   -- the first piece of the rest holds the bits of the next block
   pub piece-places : (m n x : ℕ) (rest : List Bool) → rest ≡ drop (m * w) bits → n ≡ min (length rest) w → HasPlaces w x (item (take n rest)) → HasPlaces w x (λ j. item bits (m * w + j))
-  piece-places m n x rest left size h = record { each = λ j below. h.each j below ∙ elim (cases_lt j n) [
-    | inl inside ↦ get_or-take n rest j false inside ∙ ap (λ xs. get_or xs j false) left ∙ get_or-drop (m * w) bits j false
-    | inr past ↦
-        get_or_past (take n rest) j false (omega (arith, length-take n rest))
-        ∙ sym (get_or_past bits (m * w + j) false (omega (arith, size, ap length left, length-drop (m * w) bits)))
-  ] }
+  piece-places m n x rest left size h = record {
+    each = λ j below. h.each j below ∙ elim (cases_lt j n) [
+      | inl inside ↦ get_or-take n rest j false inside ∙ ap (λ xs. get_or xs j false) left ∙ get_or-drop (m * w) bits j false
+      | inr past ↦
+          get_or_past (take n rest) j false (omega (arith, length-take n rest))
+          ∙ sym (get_or_past bits (m * w + j) false (omega (arith, size, ap length left, length-drop (m * w) bits)))
+    ];
+  }
 
   -- and so does the rest, where it is no longer than one piece
   pub last-places : (m x : ℕ) (rest : List Bool) → rest ≡ drop (m * w) bits → HasPlaces w x (item rest) → HasPlaces w x (λ j. item bits (m * w + j))

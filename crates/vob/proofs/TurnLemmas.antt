@@ -99,15 +99,17 @@ pub turned_places : (x p q y : ℕ)
     → HasPlaces 64 q (λ j. ((ltb (j + 2) 64 && place (j + 2) p) && place j 3689348814741910323) || (leb 2 j && (place (j - 2) p && place (j - 2) 3689348814741910323)))
     → HasPlaces 64 y (λ j. ((ltb (j + 4) 64 && place (j + 4) q) && place j 1085102592571150095) || (leb 4 j && (place (j - 4) q && place (j - 4) 1085102592571150095)))
     → HasPlaces 64 y (λ j. place (j / 8 * 8 + (7 - j % 8)) x)
-turned_places x p q y first second third = record { each = λ j h.
-    let all = below_from_test 64 is_turned refl j h in
-    let a = partner 4 fours j in
-    let b = partner 2 twos a in
-    let inside_a = ltb-true a 64 (and-first (ltb a 64) _ all) in
-    let rest = and-second (ltb a 64) (ltb b 64 && eqb (partner 1 ones b) (j / 8 * 8 + (7 - j % 8))) all in
-    let inside_b = ltb-true b 64 (and-first (ltb b 64) _ rest) in
-    let at = eqb-true (partner 1 ones b) (j / 8 * 8 + (7 - j % 8)) (and-second (ltb b 64) (eqb (partner 1 ones b) (j / 8 * 8 + (7 - j % 8))) rest) in
-    exchanged_place 4 fours q y refl third j h ∙ exchanged_place 2 twos p q refl second a inside_a ∙ exchanged_place 1 ones x p refl first b inside_b ∙ ap (λ i. place i x) at }
+turned_places x p q y first second third = record {
+  each = λ j h.
+      let all = below_from_test 64 is_turned refl j h in
+      let a = partner 4 fours j in
+      let b = partner 2 twos a in
+      let inside_a = ltb-true a 64 (and-first (ltb a 64) _ all) in
+      let rest = and-second (ltb a 64) (ltb b 64 && eqb (partner 1 ones b) (j / 8 * 8 + (7 - j % 8))) all in
+      let inside_b = ltb-true b 64 (and-first (ltb b 64) _ rest) in
+      let at = eqb-true (partner 1 ones b) (j / 8 * 8 + (7 - j % 8)) (and-second (ltb b 64) (eqb (partner 1 ones b) (j / 8 * 8 + (7 - j % 8))) rest) in
+      exchanged_place 4 fours q y refl third j h ∙ exchanged_place 2 twos p q refl second a inside_a ∙ exchanged_place 1 ones x p refl first b inside_b ∙ ap (λ i. place i x) at;
+}
 
 -- ---- the word of eight bytes
 
@@ -145,13 +147,17 @@ module _ (bs : List ℕ) (small : (i : ℕ) → get_or bs i 0 < 256) where
 
   -- its places, with each byte turned round, are the bits of the bytes
   pub turned_bits : (y : ℕ) → HasPlaces 64 y (λ j. place (j / 8 * 8 + (7 - j % 8)) (from_le_bytes w64 bs)) → HasPlaces 64 y (item (bytes_list bs))
-  turned_bits y h = record { each = λ j below.
-      let i = j / 8 * 8 + (7 - j % 8) in
-      let low : i % 8 ≡ 7 - j % 8 = omega arith in
-      let high : i / 8 ≡ j / 8 = omega arith in
-      h.each j below ∙ place-sum 7 i (omega arith) ∙ ap (λ r. place r (get_or bs (i / 8) 0)) low ∙ ap (λ q. place (7 - j % 8) (get_or bs q 0)) high ∙ sym (item-bytes_list bs j) }
+  turned_bits y h = record {
+    each = λ j below.
+        let i = j / 8 * 8 + (7 - j % 8) in
+        let low : i % 8 ≡ 7 - j % 8 = omega arith in
+        let high : i / 8 ≡ j / 8 = omega arith in
+        h.each j below ∙ place-sum 7 i (omega arith) ∙ ap (λ r. place r (get_or bs (i / 8) 0)) low ∙ ap (λ q. place (7 - j % 8) (get_or bs q 0)) high ∙ sym (item-bytes_list bs j);
+  }
 
 -- bytes that are the same, up to zeros behind them, have the same bits
 pub places_from_same : (w x : ℕ) (front bs : List ℕ) → ((k : ℕ) → get_or front k 0 ≡ get_or bs k 0) → HasPlaces w x (item (bytes_list front)) → HasPlaces w x (item (bytes_list bs))
-places_from_same w x front bs same h = record { each = λ j below.
-    h.each j below ∙ item-bytes_list front j ∙ ap (place (7 - j % 8)) (same (j / 8)) ∙ sym (item-bytes_list bs j) }
+places_from_same w x front bs same h = record {
+  each = λ j below.
+      h.each j below ∙ item-bytes_list front j ∙ ap (place (7 - j % 8)) (same (j / 8)) ∙ sym (item-bytes_list bs j);
+}

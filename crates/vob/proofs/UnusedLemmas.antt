@@ -52,7 +52,7 @@ module _ (w : ℕ) (wide : 0 < w) where
     canonical_from_cut ys many small same = (
       (record { count = many; within = small; unused = λ i h. same i ∙ and-same (ltb i n) false (stored xs w i) (le-ltb i n h) }),
       spelled_from_items (spelled n xs w) n ys w (length-spelled n xs w)
-      (λ i h. same i ∙ and-same (ltb i n) true (stored xs w i) (lt-ltb i n h) ∙ sym (get_or-spelled n xs w i false h)),
+          (λ i h. same i ∙ and-same (ltb i n) true (stored xs w i) (lt-ltb i n h) ∙ sym (get_or-spelled n xs w i false h)),
     )
 
     -- past the last block nothing is stored

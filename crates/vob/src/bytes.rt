@@ -15,7 +15,7 @@ fn exchange<T: Block>(block: T, by: usize, mask: T) -> T
     ensures { HasPlaces T.BITS (T.number result) (λ j.
         ((nat_lt (j + by) T.BITS && place (j + by) (T.number block)) && place j (T.number mask))
         || (nat_le by j
-            && (place (j - by) (T.number block) && place (j - by) (T.number mask)))) }
+        && (place (j - by) (T.number block) && place (j - by) (T.number mask)))) }
 {
     block.down(by).band(mask).bor(block.band(mask).up(by))
 }

@@ -133,7 +133,11 @@ impl<T: Block> fmt::Debug for Vob<T> {
     fn fmt<W: fmt::Write>(&self, f: &mut fmt::Formatter<W>) -> fmt::Result {
         write!(f, "Vob[")?;
         for index in 0..self.len() {
-            let digit = if self.get(index) == Some(true) { "1" } else { "0" };
+            let digit = if self.get(index) == Some(true) {
+                "1"
+            } else {
+                "0"
+            };
             write!(f, "{digit}")?;
         }
         write!(f, "]")

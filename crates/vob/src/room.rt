@@ -49,7 +49,7 @@ impl<T: Block> Vob<T> {
         ensures memory { result ≡ Err VobError.Memory
             → (self.old.capacity < length self.old.bits + additional)
             × (need (length self.old.bits) T.BITS
-                < need (length self.old.bits + additional) T.BITS) }
+            < need (length self.old.bits + additional) T.BITS) }
         ensures err { OnErr result (self.new.capacity ≡ self.old.capacity) }
         ensures capacity { self.old.capacity ≤ self.new.capacity }
         ensures room { length self.old.bits + additional ≤ self.old.capacity → IsOk result }

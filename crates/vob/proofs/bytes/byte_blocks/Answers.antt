@@ -28,7 +28,7 @@ push_reserved-requires c =
     let front = c.in-Some.ensures.cases in
     let some : 0 < length rest = omega (arith, front.2) in
     let more = more_needed 64 (omega arith) (bytes_list c.args.bytes.now) (length c.loop-first.blocks.items) (bytes_list rest) h.left (omega (arith, some, length-bytes_list rest)) in
-    omega (arith, more, h.room, c.loop-first.blocks.ok)
+    omega (arith, more, h.room)
 
 pub loop-first-preserved : goal.loop-first-preserved
 loop-first-preserved c =
@@ -55,7 +55,7 @@ push_reserved-requires-then-not-is_empty c =
     let rest = c.loop-first.rest.now in
     let some = some_left (length rest) c.is_empty.result c.is_empty.ensures c.if-not-is_empty.true in
     let more = more_needed 64 (omega arith) (bytes_list c.args.bytes.now) (length c.loop-first.blocks.items) (bytes_list rest) h.left (omega (arith, some, length-bytes_list rest)) in
-    omega (arith, more, h.room, c.loop-first.blocks.ok)
+    omega (arith, more, h.room)
 
 pub returns-clause-canonical : goal.returns-clause-canonical
 returns-clause-canonical c =

@@ -9,8 +9,10 @@ returns g c =
     let number = g.T.Block.number in
     let n = c.args.by in
     let m = number c.args.mask in
-    record { each = λ j h.
-      let inside : j - n < w = omega (arith, h) in
-      c.bor.ensures.places.each j h
-      ∙ ap (λ b. b || place j (number c.up.result)) (c.band.ensures.places.each j h ∙ ap (λ b. b && place j m) (c.down.ensures.places.each j h))
-      ∙ ap (λ b. ((ltb (j + n) w && place (j + n) (number c.args.block)) && place j m) || b) (c.up.ensures.places.each j h ∙ ap (λ b. leb n j && b) (c.band-2.ensures.places.each (j - n) inside)) }
+    record {
+      each = λ j h.
+          let inside : j - n < w = omega (arith, h) in
+          c.bor.ensures.places.each j h
+          ∙ ap (λ b. b || place j (number c.up.result)) (c.band.ensures.places.each j h ∙ ap (λ b. b && place j m) (c.down.ensures.places.each j h))
+          ∙ ap (λ b. ((ltb (j + n) w && place (j + n) (number c.args.block)) && place j m) || b) (c.up.ensures.places.each j h ∙ ap (λ b. leb n j && b) (c.band-2.ensures.places.each (j - n) inside));
+    }

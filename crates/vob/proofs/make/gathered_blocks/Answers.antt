@@ -27,7 +27,7 @@ push_reserved-requires g c =
     let wide = width_pos g.T.FixedWidth.width _ g.met.T.Block.width_law in
     let h = c.loop-rest.invariant in
     let more = more_needed w wide c.args.bits.now (length c.loop-rest.blocks.items) c.loop-rest.rest.now h.left (some_left (length c.loop-rest.rest.now) c.is_empty.result c.is_empty.ensures c.loop-rest-test.true) in
-    omega (arith, more, h.room, c.loop-rest.blocks.ok)
+    omega (arith, more, h.room)
 
 pub loop-rest-preserved : goal.loop-rest-preserved
 loop-rest-preserved g c =
