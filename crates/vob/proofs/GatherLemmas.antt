@@ -1,13 +1,13 @@
 -- Bits that are gathered in a block at hand, behind the blocks that are full, at a plain width.
 use Rattle.std.specs.Prelude.{All}
-use Rattle.std.proofs.Common.{◌≡◌, ◌≢◌, ℕ, zero, suc, ◌+◌, ◌-◌, ◌*◌, ◌/◌, ◌%◌, ◌^◌, ◌<◌, ◌≤◌, Bool, false, ◌&&◌, ◌||◌, List, [], ◌∷◌, ◌++◌, length, get_or, cond, eqb, leb, Option, refl, sym, ap, ◌∙◌, subst, arith, inl, inr, mod-lt, div-add-mod', add-one, suc-mul}
-use Rattle.std.proofs.lemmas.Bool.{cases_lt, cases_eq}
+use Rattle.std.proofs.Common.{◌≡◌, ◌≢◌, ℕ, ◌+◌, ◌-◌, ◌*◌, ◌/◌, ◌%◌, ◌^◌, ◌<◌, Bool, false, ◌&&◌, ◌||◌, List, [], ◌∷◌, ◌++◌, length, cond, eqb, leb, Option, refl, sym, ap, ◌∙◌, subst, arith, inl, inr, mod-lt, div-add-mod', add-one, suc-mul}
+use Rattle.std.proofs.lemmas.Bool.{cases_eq}
 use Rattle.std.proofs.lemmas.List.{get_or_past, length_push}
 use Rattle.std.proofs.lemmas.List.Elements.{All-push}
-use Rattle.std.proofs.lemmas.Nat.{div-mul-add, div_below, pow_pos, mul-le}
+use Rattle.std.proofs.lemmas.Nat.{div-mul-add, div_below, pow_pos}
 use Rattle.std.specs.Iterator.{Yields}
 use Rattle.vob_block.specs.Places.{place, HasPlaces}
-use Rattle.vob_block.specs.Packing.{item, need, stored, spelled, IsCanonical}
+use Rattle.vob_block.specs.Packing.{item, stored, spelled, IsCanonical}
 use Rattle.vob_block.proofs.NeedLemmas.{need_at_full, need_at_open}
 use Rattle.vob_block.proofs.PackingLemmas.{stored_past, stored-push_same, stored-push_other, canonical_from_items}
 use Rattle.vob_block.proofs.PlaceLemmas.{place-zero}

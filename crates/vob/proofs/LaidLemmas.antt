@@ -1,12 +1,12 @@
 -- Blocks that hold a list of bits from the first block on, at a plain width.
 use Rattle.std.specs.Prelude.{All}
-use Rattle.std.proofs.Common.{◌≡◌, ◌≢◌, ℕ, zero, suc, ◌+◌, ◌-◌, ◌*◌, ◌/◌, ◌%◌, ◌^◌, ◌<◌, ◌≤◌, Bool, true, false, ◌&&◌, ◌||◌, cond, List, [], ◌∷◌, ◌++◌, length, map, get_or, take, drop, min, eqb, leb, ltb, refl, sym, ap, ◌∙◌, subst, arith, inl, inr, mod-lt, div-add-mod', add-one, suc-mul, le_antisymm}
+use Rattle.std.proofs.Common.{◌≡◌, ◌≢◌, ℕ, ◌+◌, ◌-◌, ◌*◌, ◌/◌, ◌%◌, ◌^◌, ◌<◌, ◌≤◌, Bool, true, false, ◌&&◌, ◌||◌, cond, List, [], ◌∷◌, ◌++◌, length, get_or, take, drop, min, eqb, leb, ltb, refl, sym, ap, ◌∙◌, subst, arith, inl, inr, mod-lt, div-add-mod', add-one, suc-mul, le_antisymm}
 use Rattle.std.proofs.lemmas.Bool.{cases_lt, cases_order, lt-ltb, le-ltb, lt-leb, le-leb, and_left, eq-eqb, eqb-true, ne_eqb, false≢true}
-use Rattle.std.proofs.lemmas.List.{nil_from_length, get_or_past, get_or-take, get_or-drop, drop-drop, length-drop, length-take, length-map, length_push, get_or_push, get_or_append_left, map_push}
+use Rattle.std.proofs.lemmas.List.{nil_from_length, get_or_past, get_or-take, get_or-drop, drop-drop, length-drop, length-take, length_push, get_or_push, get_or_append_left}
 use Rattle.std.proofs.lemmas.List.Elements.{All-push}
 use Rattle.std.proofs.lemmas.Nat.{mul-le}
 use Rattle.vob_block.specs.Places.{place, HasPlaces}
-use Rattle.vob_block.specs.Packing.{item, need, stored, spelled, IsCanonical}
+use Rattle.vob_block.specs.Packing.{item, need, spelled, IsCanonical}
 use Rattle.vob_block.proofs.NeedLemmas.{need_enough, need_least, lt-need}
 use Rattle.vob_block.proofs.PackingLemmas.{stored_from, stored_past, canonical_from_items}
 use Rattle.vob_block.proofs.PlaceLemmas.{place-zero, place-pow}

@@ -1,12 +1,12 @@
 -- Blocks whose unused places are cleared, at a plain width.
 use Rattle.std.specs.Prelude.{All}
-use Rattle.std.proofs.Common.{◌≡◌, ◌≢◌, ℕ, ◌+◌, ◌-◌, ◌*◌, ◌/◌, ◌%◌, ◌^◌, ◌<◌, ◌≤◌, Bool, true, false, ◌&&◌, cond, List, [], ◌++◌, zero, suc, length, map, get_or, set, take, replicate, ltb, refl, sym, ap, ◌∙◌, subst, arith, inl, inr, mod-lt, div-add-mod'}
+use Rattle.std.proofs.Common.{◌≡◌, ◌≢◌, ℕ, ◌-◌, ◌*◌, ◌/◌, ◌%◌, ◌^◌, ◌<◌, ◌≤◌, Bool, true, false, ◌&&◌, cond, List, [], ◌++◌, zero, suc, length, map, get_or, set, take, replicate, ltb, refl, sym, ap, ◌∙◌, subst, arith, inl, inr, mod-lt, div-add-mod'}
 use Rattle.std.proofs.lemmas.Bool.{cases_lt, cases_eq, lt-ltb, le-ltb, and_right}
 use Rattle.std.proofs.lemmas.List.{get_or-map, map-set, length-map, length-set, length-replicate, get_or-replicate}
 use Rattle.std.proofs.lemmas.List.Elements.{All-set, All-from_get_or}
-use Rattle.std.proofs.lemmas.Nat.{le-div, pow_pos, mul-le, div_below}
+use Rattle.std.proofs.lemmas.Nat.{le-div, pow_pos}
 use Rattle.vob_block.specs.Places.{place, HasPlaces}
-use Rattle.vob_block.specs.Packing.{item, need, stored, spelled, IsCanonical}
+use Rattle.vob_block.specs.Packing.{need, stored, spelled, IsCanonical}
 use Rattle.vob_block.proofs.NeedLemmas.{need_at_full, need_at_open, div-lt-need}
 use Rattle.vob_block.proofs.PackingLemmas.{stored_from, stored_past, stored-set_same, stored-set_other, length-spelled, get_or-spelled, spelled_from_items}
 use Rattle.vob_block.proofs.PlaceLemmas.{place-ones, place-zero}

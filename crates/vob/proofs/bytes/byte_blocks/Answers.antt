@@ -1,10 +1,10 @@
 -- Each piece of eight bytes is the next block, and pieces are taken while there are eight bytes, and the rest is the last one.
-use Rattle.std.proofs.Common.{rules, ◌≡◌, ◌*◌, ◌+◌, ◌<◌, ◌≤◌, ◌∷◌, ◌++◌, [], length, min, take, drop, sym, ap, ◌∙◌, refl, arith}
+use Rattle.std.proofs.Common.{rules, ◌≡◌, ◌<◌, ◌≤◌, ◌∷◌, ◌++◌, [], length, min, sym, ap, ◌∙◌, refl, arith}
 use Rattle.std.proofs.lemmas.List.{length_push}
-use Rattle.vob_block.specs.Packing.{need, item}
+use Rattle.vob_block.specs.Packing.{need}
 use Rattle.vob_block.specs.Bytes.{bytes_list}
 use Rattle.vob_block.proofs.ByteLemmas.{length-bytes_list, bytes_list-take, bytes_list-drop}
-use Rattle.vob.proofs.RoomLemmas.{need-is-div_ceil, need_in_bytes}
+use Rattle.vob.proofs.RoomLemmas.{need_in_bytes}
 use Rattle.vob.proofs.LaidLemmas.{lays_none, lays_more, canonical_from_laid, rest_more, piece-places, more_needed, all_needed, last_needed, last-places, some_left, none_left}
 use Rattle.vob.proofs.TurnLemmas.{places_from_same}
 use Rattle.vob.proofs.bytes.byte_blocks.Goals as goal

@@ -1,5 +1,5 @@
 -- By the three exchanges.
-use Rattle.vob.proofs.TurnLemmas.{turned_places, turned_bits}
+use Rattle.vob.proofs.TurnLemmas.{turned_places}
 use Rattle.vob.proofs.bytes.turn_bytes.Goals as goal
 
 pub returns : goal.returns

@@ -1,8 +1,6 @@
 -- Each piece is the next block, and pieces are taken until no bits are left.
-use Rattle.std.proofs.Common.{◌≡◌, ◌*◌, ℕ, length, map, sym, ap, ◌∙◌, refl, arith, min, zero-mul}
+use Rattle.std.proofs.Common.{◌≡◌, length, map, ap, ◌∙◌, refl, arith, min, zero-mul}
 use Rattle.std.proofs.lemmas.List.{length-map, map_push, length_push}
-use Rattle.vob_block.specs.Packing.{need, item, IsCanonical}
-use Rattle.vob_block.specs.Places.{HasPlaces}
 use Rattle.vob_block.proofs.PlaceLemmas.{width_pos}
 use Rattle.vob.proofs.RoomLemmas.{need-is-div_ceil}
 use Rattle.vob.proofs.LaidLemmas.{lays_none, lays_more, canonical_from_laid, rest_more, piece-places, more_needed, all_needed, some_left, none_left}
