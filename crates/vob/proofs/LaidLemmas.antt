@@ -18,9 +18,6 @@ pub record HasFirst (w x : ℕ) (bits : List Bool) (n : ℕ) : Type 0 where
   pub within : x < 2 ^ w
   pub each : (j : ℕ) → j < w → place j x ≡ (ltb j n && item bits j)
 
-pub first_none : (w x : ℕ) (bits : List Bool) → x ≡ 0 → x < 2 ^ w → HasFirst w x bits 0
-first_none w x bits none small = record { within = small; each = λ j h. ap (place j) none ∙ place-zero j ∙ sym (and_left (ltb j 0) (item bits j) (le-ltb j 0 (omega arith))) }
-
 -- a bit moved up to place n
 pub mark-places : (b : Bool) (n j : ℕ) → (leb n j && place (j - n) (cond b 1 0)) ≡ (b && eqb j n)
 mark-places b n j = elim (cases_lt j n) [
@@ -75,15 +72,6 @@ first_more w x y n mark moved bits b h is marked small up both = record {
     or-false : (b : Bool) → (b || false) ≡ b
     or-false true = refl
     or-false false = refl
-
--- all of them
-pub first_all : (w x n : ℕ) (bits : List Bool) → length bits ≤ n → HasFirst w x bits n → HasPlaces w x (item bits)
-first_all w x n bits all h = record {
-  each = λ j below. h.each j below ∙ elim (cases_lt j n) [
-    | inl inside ↦ ap (λ t. t && item bits j) (lt-ltb j n inside)
-    | inr past ↦ and_left (ltb j n) (item bits j) (le-ltb j n past) ∙ sym (get_or_past bits j false (omega arith))
-  ];
-}
 
 -- ---- block after block
 

@@ -27,10 +27,6 @@ module _ (w : ℕ) (wide : 0 < w) where
   pub no_room : (n blocks : ℕ) → blocks < need n w → min (blocks * w) (2 ^ 64 - 1) < n
   no_room n blocks h = let short = mul-lt_from_need w wide n blocks h in omega (arith, short)
 
-  -- more blocks have no less room
-  pub room-le-room : (blocks more : ℕ) → blocks ≤ more → min (blocks * w) (2 ^ 64 - 1) ≤ min (more * w) (2 ^ 64 - 1)
-  room-le-room blocks more h = let held : blocks * w ≤ more * w = mul-le blocks w more w h (omega arith) in omega arith
-
 -- the bits of n bytes need a block of 64 for each eight bytes, rounded up
 pub need_in_bytes : (n bits : ℕ) → bits ≡ 8 * n → need bits 64 ≡ div_ceil n 8
 need_in_bytes n bits is =

@@ -15,11 +15,11 @@ and-same : (a b c : Bool) → a ≡ b → (a && c) ≡ (b && c)
 and-same a b c e = ap (λ d. d && c) e
 
 -- blocks of places that are all v
-pub place-even : (v : Bool) (w x j : ℕ) → x ≡ cond v (2 ^ w - 1) 0 → j < w → place j x ≡ v
+place-even : (v : Bool) (w x j : ℕ) → x ≡ cond v (2 ^ w - 1) 0 → j < w → place j x ≡ v
 place-even true w x j e h = ap (place j) e ∙ place-ones w j h
 place-even false w x j e h = ap (place j) e ∙ place-zero j
 
-pub even-lt : (v : Bool) (w x : ℕ) → x ≡ cond v (2 ^ w - 1) 0 → x < 2 ^ w
+even-lt : (v : Bool) (w x : ℕ) → x ≡ cond v (2 ^ w - 1) 0 → x < 2 ^ w
 even-lt true w x e = omega (arith, pow_pos w)
 even-lt false w x e = omega (arith, pow_pos w)
 
@@ -62,7 +62,7 @@ module _ (w : ℕ) (wide : 0 < w) where
         none ∙ sym (and_right (ltb i n) (stored xs w i) none)
 
     -- where the last block is full, nothing is unused
-    pub canonical_at_full : n % w ≡ 0 → IsCanonical n xs w × (spelled n xs w ≡ spelled n xs w)
+    canonical_at_full : n % w ≡ 0 → IsCanonical n xs w × (spelled n xs w ≡ spelled n xs w)
     canonical_at_full full =
         let needs = need_at_full w wide n full in
         canonical_from_cut xs count within (λ i. elim (cases_lt i n) [
@@ -71,11 +71,11 @@ module _ (w : ℕ) (wide : 0 < w) where
         ])
 
     -- elsewhere the last block is there
-    pub last_is_there : n % w ≢ 0 → n / w < length xs
+    last_is_there : n % w ≢ 0 → n / w < length xs
     last_is_there partial = omega (arith, count, (need_at_open w wide n partial).0)
 
     -- and its places from n on are cleared
-    pub canonical_at_open : (y : ℕ) → n % w ≢ 0 → y < 2 ^ w → ((j : ℕ) → j < w → place j y ≡ (place j (get_or xs (n / w) 0) && ltb j (n % w)))
+    canonical_at_open : (y : ℕ) → n % w ≢ 0 → y < 2 ^ w → ((j : ℕ) → j < w → place j y ≡ (place j (get_or xs (n / w) 0) && ltb j (n % w)))
         → IsCanonical n (set xs (n / w) y) w × (spelled n (set xs (n / w) y) w ≡ spelled n xs w)
     canonical_at_open y partial small places =
         let there = last_is_there partial in
