@@ -1,6 +1,11 @@
 pub mod CutLemmas
+pub mod GatherLemmas
+pub mod LaidLemmas
 pub mod PointwiseLemmas
 pub mod PushLemmas
 pub mod RestLemmas
+pub mod RoomLemmas
 pub mod StorageLemmas
+pub mod TurnLemmas
+pub mod UnusedLemmas
 pub mod WriteLemmas

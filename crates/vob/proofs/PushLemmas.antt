@@ -11,20 +11,20 @@ use Rattle.vob_block.proofs.NeedLemmas.{need_at_full, need_at_open}
 use Rattle.vob_block.proofs.PackingLemmas.{stored_from, stored_past, stored-set_same, stored-set_other, stored-push_same, stored-push_other, length-spelled, stored_is_item, canonical_from_items}
 use Rattle.vob_block.proofs.PlaceLemmas.{place-pow, place-zero}
 
-or-false : (b : Bool) → (b || false) ≡ b
+pub or-false : (b : Bool) → (b || false) ≡ b
 or-false true = refl
 or-false false = refl
 
-and-false : (b : Bool) → (b && false) ≡ false
+pub and-false : (b : Bool) → (b && false) ≡ false
 and-false true = refl
 and-false false = refl
 
-and-true : (b : Bool) → (b && true) ≡ b
+pub and-true : (b : Bool) → (b && true) ≡ b
 and-true true = refl
 and-true false = refl
 
 -- the place that holds the first bit of a block
-place-first : (v : Bool) (j : ℕ) → place j (cond v 1 0) ≡ (v && eqb j 0)
+pub place-first : (v : Bool) (j : ℕ) → place j (cond v 1 0) ≡ (v && eqb j 0)
 place-first true j = place-pow 0 j
 place-first false j = place-zero j
 
@@ -49,7 +49,7 @@ pub marked-places : (w x y m r : ℕ) → HasPlaces w y (λ j. place j x || plac
 marked-places w x y m r h alone j k = h.each j k ∙ ap (λ b. place j x || b) (ap (place j) alone ∙ place-pow r j)
 
 -- the bits with one more behind them
-item-push : (bits : List Bool) (n : ℕ) (v : Bool) (i : ℕ) → length bits ≡ n → item (bits ++ v ∷ []) i ≡ (item bits i || (v && eqb i n))
+pub item-push : (bits : List Bool) (n : ℕ) (v : Bool) (i : ℕ) → length bits ≡ n → item (bits ++ v ∷ []) i ≡ (item bits i || (v && eqb i n))
 item-push bits n v i e = elim (cases_order i n) [
   | inl same ↦
       get_or_push bits v false i (e ∙ sym same)

@@ -1,5 +1,5 @@
--- The numbers of the refusals.
-use Rattle.std.specs.Prelude.{ℕ}
+-- The numbers of the refusals, and when the items of an iterator are refused.
+use Rattle.std.specs.Prelude.{ℕ, ◌<◌, ◌-◌, ◌^◌}
 use Rattle.vob.specs.declared.error.VobError.{VobError}
 use Rattle.vob.specs.declared.error.VobError.TheVariants.{TooLong, Memory}
 
@@ -7,3 +7,8 @@ use Rattle.vob.specs.declared.error.VobError.TheVariants.{TooLong, Memory}
 abbrev pub refusal_number : VobError → ℕ
 refusal_number TooLong = 1
 refusal_number Memory = 2
+
+-- n items may be refused: for their length past the greatest one, for memory where there is one
+abbrev pub MayRefuseItems : VobError → ℕ → Type 0
+MayRefuseItems TooLong n = 2 ^ 64 - 1 < n
+MayRefuseItems Memory n = 0 < n

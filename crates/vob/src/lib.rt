@@ -2,11 +2,16 @@
 #![tactic(auto)]
 
 mod bits;
+mod bytes;
 mod edit;
 mod error;
+mod items;
 pub mod iter;
+mod macros;
+mod make;
 pub mod ops;
 mod packed;
+mod room;
 pub mod vob;
 
 pub use error::VobError;

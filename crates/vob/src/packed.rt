@@ -16,7 +16,7 @@ pub(crate) fn stored_bit<T: Block>(blocks: &[T], len: usize, index: usize) -> bo
 }
 
 /// A block whose first place is `value`, and whose other places are false.
-fn first_place<T: Block>(value: bool) -> T
+pub(crate) fn first_place<T: Block>(value: bool) -> T
     ensures { T.number result ≡ (if value then 1 else 0) }
 {
     if value { T::ONE } else { T::ZERO }

@@ -1,3 +1,4 @@
+pub mod ByteLemmas
 pub mod KernelLemmas
 pub mod NeedLemmas
 pub mod NumberLemmas

@@ -1,4 +1,5 @@
-pub mod Places
+pub mod Bytes
 pub mod Packing
+pub mod Places
 pub mod Pointwise
 pub mod Reading
