@@ -31,16 +31,20 @@ and-test false false = refl
 -- `x | m`, where m is place j alone
 pub HasPlaces-marked : (w x y m j : ℕ) (v : Bool) → v ≡ true → m ≡ 2 ^ j → HasPlaces w y (λ i. place i x || place i m)
     → HasPlaces w y (λ i. cond (eqb i j) v (place i x))
-HasPlaces-marked w x y m j v is alone h = record { each = λ i k.
-    h.each i k ∙ ap (λ b. place i x || b) (ap (place i) alone ∙ place-pow j i) ∙ or-test (place i x) (eqb i j)
-    ∙ ap (λ b. cond (eqb i j) b (place i x)) (sym is) }
+HasPlaces-marked w x y m j v is alone h = record {
+  each = λ i k.
+      h.each i k ∙ ap (λ b. place i x || b) (ap (place i) alone ∙ place-pow j i) ∙ or-test (place i x) (eqb i j)
+      ∙ ap (λ b. cond (eqb i j) b (place i x)) (sym is);
+}
 
 -- `x & !m`
 pub HasPlaces-unmarked : (w x y z m j : ℕ) (v : Bool) → v ≡ false → m ≡ 2 ^ j → HasPlaces w z (λ i. not (place i m)) → HasPlaces w y (λ i. place i x && place i z)
     → HasPlaces w y (λ i. cond (eqb i j) v (place i x))
-HasPlaces-unmarked w x y z m j v is alone turned h = record { each = λ i k.
-    h.each i k ∙ ap (λ b. place i x && b) (turned.each i k ∙ ap (λ n. not (place i n)) alone ∙ ap not (place-pow j i)) ∙ and-test (place i x) (eqb i j)
-    ∙ ap (λ b. cond (eqb i j) b (place i x)) (sym is) }
+HasPlaces-unmarked w x y z m j v is alone turned h = record {
+  each = λ i k.
+      h.each i k ∙ ap (λ b. place i x && b) (turned.each i k ∙ ap (λ n. not (place i n)) alone ∙ ap not (place-pow j i)) ∙ and-test (place i x) (eqb i j)
+      ∙ ap (λ b. cond (eqb i j) b (place i x)) (sym is);
+}
 
 -- ---- blocks with another value at one bit
 
@@ -73,7 +77,7 @@ module _ (w : ℕ) (wide : 0 < w) (xs : List ℕ) (index : ℕ) (v : Bool) (y : 
       canonical_from_items w wide (set bits index v) n (set xs (index / w) y) (length-set bits index v ∙ length-spelled n xs w)
       (length-set xs (index / w) y ∙ h.count) (All-set (λ x. x < 2 ^ w) xs (index / w) y small h.within)
       (λ i. stored-write there places i ∙ ap (cond (eqb i index) v) (stored_is_item w wide n xs h i)
-          ∙ sym (item-set bits index v i (omega (arith, length-spelled n xs w))))
+      ∙ sym (item-set bits index v i (omega (arith, length-spelled n xs w))))
 
 -- the same of items with a number each; u is the width as the code read it
 module _ {X : Type 0} (number : X → ℕ) (w : ℕ) (wide : 0 < w) (n : ℕ) (items : List X) (h : IsCanonical n (map number items) w) (index : ℕ) (inside : index < n) where
@@ -85,7 +89,7 @@ module _ {X : Type 0} (number : X → ℕ) (w : ℕ) (wide : 0 < w) (n : ℕ) (i
       let there : index / w < length items = omega (arith, h.count, div-lt-need w wide n index inside, length-map items number) in
       let block : number x ≡ get_or xs (index / w) 0 = ap number read ∙ sym (get_or-map number items (index / w) x 0 there) in
       rw map-set (write_place w wide xs index v (number y) n h inside small
-          (λ j k. places.each j k ∙ ap (λ b. cond (eqb j (index % w)) v (place j b)) block))
+      (λ j k. places.each j k ∙ ap (λ b. cond (eqb j (index % w)) v (place j b)) block))
 
   pub write_at : (u : ℕ) → u ≡ w → (v : Bool) (x y : X) → x ≡ get_or items (index / u) x → number y < 2 ^ w → HasPlaces w (number y) (λ j. cond (eqb j (index % u)) v (place j (number x)))
       → IsCanonical n (map number (set items (index / u) y)) w

@@ -6,17 +6,33 @@
 pub enum Command {
     /// Makes an empty Vob with room for `capacity` bits, at the end of the list:
     /// `Vob::new_with_storage_type`.
-    New { capacity: usize },
+    New {
+        capacity: usize,
+    },
     /// Adds a bit behind the last one: `Vob::push`.
-    Push { which: usize, value: bool },
+    Push {
+        which: usize,
+        value: bool,
+    },
     /// Takes the last bit off: `Vob::pop`.
-    Pop { which: usize },
+    Pop {
+        which: usize,
+    },
     /// Reads a bit: `Vob::get`.
-    GetBit { which: usize, index: usize },
+    GetBit {
+        which: usize,
+        index: usize,
+    },
     /// Reads a bit below the length: `Vob::get_unchecked`. Skipped past the end.
-    GetUnchecked { which: usize, index: usize },
+    GetUnchecked {
+        which: usize,
+        index: usize,
+    },
     /// Reads a bit below the length: `Index`. Skipped past the end.
-    IndexBit { which: usize, index: usize },
+    IndexBit {
+        which: usize,
+        index: usize,
+    },
     /// Writes a bit below the length: `Vob::set`. Skipped past the end.
     SetBit {
         which: usize,
@@ -30,15 +46,26 @@ pub enum Command {
         value: bool,
     },
     /// Counts the bits: `Vob::len`.
-    Length { which: usize },
+    Length {
+        which: usize,
+    },
     /// Whether there are no bits: `Vob::is_empty`.
-    IsEmpty { which: usize },
+    IsEmpty {
+        which: usize,
+    },
     /// Keeps the first `len` bits: `Vob::truncate`.
-    Truncate { which: usize, len: usize },
+    Truncate {
+        which: usize,
+        len: usize,
+    },
     /// Reads all bits: `Vob::iter`.
-    Bits { which: usize },
+    Bits {
+        which: usize,
+    },
     /// Reads all blocks: `Vob::iter_storage`.
-    Storage { which: usize },
+    Storage {
+        which: usize,
+    },
 }
 
 /// What a command answers.

@@ -27,7 +27,7 @@ fn each_command_has_its_reply(rt: HostRuntime) {
         &rt,
         b"new 0\npush 0 1\npush 0 1\npush 0 1\npush 0 1\npush 0 1\n\
             push 0 1\npush 0 1\npush 0 1\npush 0 1\nblocks 0\n",
-        b"vob 0\ndone\ndone\ndone\ndone\ndone\ndone\ndone\ndone\ndone\nblocks 255 1\n",
+        b"vob 0\ndone\ndone\ndone\ndone\ndone\ndone\ndone\ndone\ndone\nblocks 511\n",
         0,
     );
     expect(
@@ -37,6 +37,24 @@ fn each_command_has_its_reply(rt: HostRuntime) {
         0,
     );
     expect(&rt, b"len 0\n", b"skipped\n", 0);
+}
+
+#[test]
+fn single_bits_are_set_and_taken_off(rt: HostRuntime) {
+    expect(
+        &rt,
+        b"new 0\npush 0 1\npush 0 0\npush 0 1\nset 0 1 1\nset 0 1 1\nset 0 3 1\npop 0\n\
+            truncate 0 9\ntruncate 0 1\nbits 0\nblocks 0\npop 0\npop 0\nempty 0\n",
+        b"vob 0\ndone\ndone\ndone\ntrue\nfalse\nskipped\nbit 1\n\
+            done\ndone\nbits 1\nblocks 1\nbit 1\nbit none\ntrue\n",
+        0,
+    );
+    expect(
+        &rt,
+        b"new 0\npush 0 0\nsetu 0 0 1\ngetu 0 0\nindex 0 0\ngetu 0 1\nindex 0 1\nsetu 0 1 0\nempty 0\n",
+        b"vob 0\ndone\ntrue\ntrue\ntrue\nskipped\nskipped\nskipped\nfalse\n",
+        0,
+    );
 }
 
 #[test]

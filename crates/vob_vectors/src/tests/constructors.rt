@@ -21,7 +21,13 @@ fn nothing_has_no_blocks(rt: HostRuntime) -> Result<(), Fail> {
     check_vob(&rt, "no bytes", &Vob::from_bytes(alloc, &[])?, 0, none);
     check_vob(&rt, "no items", &Vob::from_iter(alloc, None)?, 0, none);
     check_vob(&rt, "an empty list", &vob::vob!(alloc;)?, 0, none);
-    check_vob(&rt, "a copy of nothing", &vob::vob!(alloc;)?.clone()?, 0, none);
+    check_vob(
+        &rt,
+        "a copy of nothing",
+        &vob::vob!(alloc;)?.clone()?,
+        0,
+        none,
+    );
     assert_eq!(rt; Vob::with_capacity(alloc, 0)?.capacity(), 0);
     Ok(())
 }
@@ -30,9 +36,27 @@ fn nothing_has_no_blocks(rt: HostRuntime) -> Result<(), Fail> {
 fn one_bit_many_times_leaves_no_dirt(rt: HostRuntime) -> Result<(), Fail> {
     let alloc = rt.alloc();
     let word = usize::MAX;
-    check_vob(&rt, "129 true", &Vob::from_elem(alloc, true, 129)?, 129, &[word, word, 1]);
-    check_vob(&rt, "128 true", &Vob::from_elem(alloc, true, 128)?, 128, &[word, word]);
-    check_vob(&rt, "65 false", &Vob::from_elem(alloc, false, 65)?, 65, &[0, 0]);
+    check_vob(
+        &rt,
+        "129 true",
+        &Vob::from_elem(alloc, true, 129)?,
+        129,
+        &[word, word, 1],
+    );
+    check_vob(
+        &rt,
+        "128 true",
+        &Vob::from_elem(alloc, true, 128)?,
+        128,
+        &[word, word],
+    );
+    check_vob(
+        &rt,
+        "65 false",
+        &Vob::from_elem(alloc, false, 65)?,
+        65,
+        &[0, 0],
+    );
     let wide = Vob::<u128>::from_elem_with_storage_type(alloc, true, 129)?;
     assert_eq!(rt; wide.get_storage(), [u128::MAX, 1].as_slice());
     let bytes = Vob::<u8>::from_elem_with_storage_type(alloc, true, 13)?;
@@ -45,7 +69,10 @@ fn bytes_give_their_greatest_bit_first(rt: HostRuntime) -> Result<(), Fail> {
     let alloc = rt.alloc();
     let two = Vob::from_bytes(alloc, &[0b1010_0000, 0b0001_0010])?;
     check_vob(&rt, "two bytes", &two, 16, &[18437]);
-    assert_eq!(rt; format!(in alloc; "{two:?}")?.as_str(), "Vob[1010000000010010]");
+    assert_eq!(rt;
+        format!(in alloc; "{two:?}")?.as_str(),
+        "Vob[1010000000010010]"
+    );
     let three = Vob::from_bytes(alloc, &[0x80, 0x01, 0xff])?;
     check_vob(&rt, "three bytes", &three, 24, &[16744449]);
     let word = Vob::from_bytes(alloc, &[0xa0, 0x12, 0x35, 0xca, 0x31, 0x95, 0x7c, 0x51])?;
@@ -67,8 +94,20 @@ fn items_and_bits_are_kept_in_order(rt: HostRuntime) -> Result<(), Fail> {
     assert_eq!(rt; format!(in alloc; "{items:?}")?.as_str(), "Vob[101]");
     let ends = vec![in alloc; true; 65]?;
     let word = usize::MAX;
-    check_vob(&rt, "65 bits", &Vob::from_slice(alloc, &ends)?, 65, &[word, 1]);
-    check_vob(&rt, "65 items", &Vob::from_iter(alloc, ends)?, 65, &[word, 1]);
+    check_vob(
+        &rt,
+        "65 bits",
+        &Vob::from_slice(alloc, &ends)?,
+        65,
+        &[word, 1],
+    );
+    check_vob(
+        &rt,
+        "65 items",
+        &Vob::from_iter(alloc, ends)?,
+        65,
+        &[word, 1],
+    );
     Ok(())
 }
 
@@ -76,14 +115,26 @@ fn items_and_bits_are_kept_in_order(rt: HostRuntime) -> Result<(), Fail> {
 fn the_macro_has_three_forms(rt: HostRuntime) -> Result<(), Fail> {
     let alloc = rt.alloc();
     check_vob(&rt, "a list", &vob::vob!(alloc; false, true)?, 2, &[2]);
-    check_vob(&rt, "a trailing comma", &vob::vob!(alloc; false, true, false,)?, 3, &[2]);
+    check_vob(
+        &rt,
+        "a trailing comma",
+        &vob::vob!(alloc; false, true, false,)?,
+        3,
+        &[2],
+    );
     check_vob(&rt, "a repeated bit", &vob::vob!(alloc; true; 2)?, 2, &[3]);
     check_vob(&rt, "one bit", &vob::vob!(alloc; true)?, 1, &[1]);
     let listed = vob::vob!(alloc; true, false)?;
     let mut pushed = Vob::with_capacity(alloc, 0)?;
     pushed.push(true)?;
     pushed.push(false)?;
-    check_vob(&rt, "two pushes", &pushed, listed.len(), listed.get_storage());
+    check_vob(
+        &rt,
+        "two pushes",
+        &pushed,
+        listed.len(),
+        listed.get_storage(),
+    );
     Ok(())
 }
 
@@ -123,6 +174,10 @@ fn pushes_fill_the_room(rt: HostRuntime) -> Result<(), Fail> {
         made.push(true)?;
     }
     assert_eq!(rt; made.get_storage(), [255, 1].as_slice());
-    assert_eq!(rt; made.capacity(), room, "no push within the room takes memory");
+    assert_eq!(rt;
+        made.capacity(),
+        room,
+        "no push within the room takes memory"
+    );
     Ok(())
 }
