@@ -1,4 +1,5 @@
 pub mod CutLemmas
+pub mod EvenLemmas
 pub mod GatherLemmas
 pub mod LaidLemmas
 pub mod PointwiseLemmas
@@ -7,5 +8,4 @@ pub mod RestLemmas
 pub mod RoomLemmas
 pub mod StorageLemmas
 pub mod TurnLemmas
-pub mod UnusedLemmas
 pub mod WriteLemmas

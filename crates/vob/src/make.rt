@@ -1,8 +1,9 @@
 //! Constructors that give a Vob bits.
-ghost use Rattle.std.specs.Prelude.{◌≡◌, ◌≤◌, ◌<◌, ◌-◌, ◌^◌, if◌then◌else◌, [], List, Bool, map, length, replicate, All, IsOk, IfOk};
+ghost use Rattle.std.specs.Prelude.{◌≡◌, ◌≤◌, ◌<◌, ◌-◌, ◌^◌, if◌then◌else◌, [], List, Bool, map, length, replicate, IsOk, IfOk};
 ghost use Rattle.vob_block.specs.Places.{HasPlaces};
-ghost use Rattle.vob_block.specs.Packing.{item, need, spelled, IsCanonical};
+ghost use Rattle.vob_block.specs.Packing.{item, spelled, IsCanonical};
 
+use crate::edit::clear_from;
 use crate::packed::first_place;
 use crate::vob::Vob;
 use std::alloc::{AllocError, Global};
@@ -16,23 +17,6 @@ fn even_block<T: Block>(value: bool) -> T
     if value { T::ONES } else { T::ZERO }
 }
 
-/// Makes the places false that the first `len` bits don't use.
-pub(crate) fn clear_unused<T: Block>(blocks: &mut Vec<T>, len: usize)
-    requires count { length blocks.old.items ≡ need len T.BITS }
-    requires within { All (λ x. x < 2 ^ T.BITS) (map T.number blocks.old.items) }
-    ensures canonical { IsCanonical len (map T.number blocks.new.items) T.BITS }
-    ensures bits { spelled len (map T.number blocks.new.items) T.BITS
-        ≡ spelled len (map T.number blocks.old.items) T.BITS }
-{
-    let width = T::BITS;
-    let used = len % width;
-    if used != 0 {
-        let last = len / width;
-        let block = blocks[last];
-        blocks[last] = block.band(T::low_mask(used));
-    }
-}
-
 /// The blocks of `len` times `value`.
 fn even_blocks<T: Block>(alloc: Global, value: bool, len: usize) -> Result<Vec<T>, AllocError>
     ensures canonical { IfOk result (λ blocks. IsCanonical len (map T.number blocks.items) T.BITS) }
@@ -43,7 +27,7 @@ fn even_blocks<T: Block>(alloc: Global, value: bool, len: usize) -> Result<Vec<T
     let count = len.div_ceil(T::BITS);
     let mut blocks = Vec::with_capacity(alloc, count)?;
     blocks.resize(count, even_block(value))?;
-    clear_unused(&mut blocks, len);
+    clear_from(&mut blocks, len);
     Ok(blocks)
 }
 
