@@ -30,7 +30,7 @@ fn read<T: Block>(vob: &Vob<T>, index: usize) -> Option<bool> {
 }
 
 /// `set`, with the length tested first.
-fn write<T: Block>(vob: &mut Vob<T>, index: usize, value: bool) -> Option<bool> {
+pub fn write<T: Block>(vob: &mut Vob<T>, index: usize, value: bool) -> Option<bool> {
     if index < vob.len() {
         Some(vob.set(index, value))
     } else {
