@@ -13,7 +13,8 @@ use Rattle.vob_run.specs.declared.command.Command.{Command}
 use Rattle.vob_run.specs.declared.command.Command.TheVariants.{Push}
 use Rattle.vob_run.specs.Answer.{outcome, done, refused}
 use Rattle.vob_run.specs.Memory.{MayRefuse}
-use Rattle.vob_run.specs.Step.{differ, step}
+use Rattle.vob_block.specs.Pointwise.{differ}
+use Rattle.vob_run.specs.Step.{step}
 use Rattle.vob_run.specs.Run.{lists, IsStep}
 
 module _ (items : List BitVector) (which : ℕ) (old : BitVector) (there : slice_get items which ≡ Some old) where

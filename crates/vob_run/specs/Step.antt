@@ -1,7 +1,8 @@
 -- What each command means on the lists of bits that the numbered Vobs are.
-use Rattle.std.specs.Prelude.{ℕ, ◌+◌, ◌-◌, ◌^◌, List, [], ◌∷◌, ◌++◌, length, take, slice_get, slice_set, nat_lt, ◌==◌, Bool, true, false, not, if◌then◌else◌, Option, Some, None}
+use Rattle.std.specs.Prelude.{ℕ, ◌+◌, ◌-◌, ◌^◌, List, [], ◌∷◌, ◌++◌, length, take, slice_get, slice_set, nat_lt, ◌==◌, Bool, if◌then◌else◌, Option, Some, None}
 use Rattle.std.specs.Option.{option_map_or}
 use Rattle.vob_block.specs.Packing.{packing}
+use Rattle.vob_block.specs.Pointwise.{differ}
 use Rattle.vob_run.specs.declared.command.Command.{Command}
 use Rattle.vob_run.specs.declared.command.Command.TheVariants.{New, Push, Pop, GetBit, GetUnchecked, IndexBit, SetBit, SetUnchecked, Length, IsEmpty, Truncate, Bits, Storage}
 use Rattle.vob_run.specs.Answer.{Answer, done, bit, flag, number, made, bit_list, block_list, skipped, refused, Outcome, outcome}
@@ -9,11 +10,6 @@ use Rattle.vob_run.specs.Answer.{Answer, done, bit, flag, number, made, bit_list
 -- the greatest length of a list of bits
 abbrev pub greatest_length : ℕ
 greatest_length = 2 ^ 64 - 1
-
--- whether two bits differ
-abbrev pub differ : Bool → Bool → Bool
-differ true value = not value
-differ false value = value
 
 module _ (lists : List (List Bool)) where
   -- what f says of the list with this number, and `skipped` where there is none

@@ -9,7 +9,8 @@ use Rattle.vob_run.specs.declared.command.Command.{Command}
 use Rattle.vob_run.specs.declared.command.Command.TheVariants.{New, Push, Pop, GetBit, GetUnchecked, IndexBit, SetBit, SetUnchecked, Length, IsEmpty, Truncate, Bits, Storage}
 use Rattle.vob_run.specs.declared.command.Reply.{Reply}
 use Rattle.vob_run.specs.Answer.{Answer, Outcome, done, bit, flag, number, made, bit_list, block_list, refused, skipped, outcome}
-use Rattle.vob_run.specs.Step.{differ, on, tells, tells_bit, leaves, pushed, popped, written, step, greatest_length}
+use Rattle.vob_block.specs.Pointwise.{differ}
+use Rattle.vob_run.specs.Step.{on, tells, tells_bit, leaves, pushed, popped, written, step, greatest_length}
 use Rattle.vob_run.specs.Run.{IsRun, IsStep}
 use Rattle.vob_vectors.specs.Plain.{IsPlainRun, said}
 
