@@ -1,2 +1,4 @@
+pub mod Joining
+pub mod Laws
 pub mod Refusal
 pub mod Vob

@@ -1,0 +1,61 @@
+//! Joining and cutting on a Vob's fields: a length and the blocks that store so many bits. Blocks
+//! are stored whole, each made of two neighbours where an offset lies within a block.
+ghost use Rattle.std.specs.Prelude.{◌≡◌, ◌≢◌, ℕ, ◌+◌, ◌-◌, ◌%◌, ◌^◌, ◌<◌, ◌≤◌, map, length, take, All, IfOk, OnOk, OnErr, vec_capacity};
+ghost use Rattle.vob_block.specs.Packing.{need, spelled, IsCanonical};
+ghost use Rattle.vob.specs.Joining.{HaveRoom, IsJoined, IsRest};
+
+use std::alloc::AllocError;
+use vob_block::{Block, Blocks};
+
+/// How many blocks `len` bits take.
+pub(crate) fn block_count<T: Block>(len: usize) -> usize
+    ensures { result ≡ need len T.BITS }
+{
+    len.div_ceil(T::BITS)
+}
+
+/// Stores the blocks of `other` behind `len` bits that fill their blocks.
+fn join_whole<T: Block>(own: &mut [T], len: usize, other: &mut Blocks<'_, T>)
+    ghost more: { ℕ }
+    requires room { HaveRoom T.BITS len more (map T.number own.old) (map T.number other.old.items) }
+    requires full { len % T.BITS ≡ 0 }
+    ensures joined { IsJoined T.BITS len more (map T.number own.old) (map T.number other.old.items)
+        (map T.number own.new) }
+    ensures items { other.new.items ≡ other.old.items }
+    ensures reads { other.new.reads ≡ other.old.reads + length other.old.items }
+{
+    let width = T::BITS;
+    let at = len / width;
+    for k in 0..other.len() {
+        let block = other.block(k);
+        block.known();
+        own[at + k] = block;
+    }
+}
+
+/// Stores the bits of `other` behind `len` bits whose last block has room. Each block that is
+/// stored takes its low places from the block before, and the others from the block just read.
+fn join_straddled<T: Block>(own: &mut [T], len: usize, other: &mut Blocks<'_, T>)
+    ghost more: { ℕ }
+    requires room { HaveRoom T.BITS len more (map T.number own.old) (map T.number other.old.items) }
+    requires partial { len % T.BITS ≢ 0 }
+    requires last { len / T.BITS < length own.old }
+    ensures joined { IsJoined T.BITS len more (map T.number own.old) (map T.number other.old.items)
+        (map T.number own.new) }
+    ensures items { other.new.items ≡ other.old.items }
+    ensures reads { other.new.reads ≡ other.old.reads + length other.old.items }
+{
+    let width = T::BITS;
+    let at = len / width;
+    let from = width - len % width;
+    let mut before = own[at].up(from);
+    let count = other.len();
+    for k in 0..count {
+        let block = other.block(k);
+        own[at + k] = before.straddle(block, from);
+        before = block;
+    }
+    if at + count < own.len() {
+        own[at + count] = before.down(from);
+    }
+}
