@@ -1,2 +1,3 @@
+pub mod JoinLemmas
 pub mod PushLemmas
 pub mod StorageLemmas
