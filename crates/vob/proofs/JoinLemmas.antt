@@ -84,6 +84,18 @@ module _ (w : ℕ) (wide : 0 < w) (n m : ℕ) (olds others : List ℕ) (room : H
       let below : (n / w + k) * w < n + m = omega (arith, div-add-mod' n w) in
       omega (arith, lt-need w wide (n + m) (n / w + k) below, room.count)
 
+  -- and so does the block that bits stand in already
+  pub partial_has_room : n % w ≢ 0 → n / w < length olds
+  partial_has_room partial =
+      let below : n / w * w < n + m = omega (arith, div-add-mod' n w) in
+      omega (arith, lt-need w wide (n + m) (n / w) below, room.count)
+
+  pub blocks_have_room : n % w ≢ 0 → n / w + length others ≤ length olds
+  blocks_have_room partial = elim (cases_lt 0 (length others)) [
+    | inl some ↦ omega (arith, block_has_room (length others - 1) (omega arith))
+    | inr none ↦ omega (arith, partial_has_room partial)
+  ]
+
   -- with at most one block behind them
   pub blocks-le-room : length olds ≤ n / w + length others + 1
   blocks-le-room =
@@ -211,6 +223,18 @@ module _ (w : ℕ) (wide : 0 < w) (n m : ℕ) (olds others : List ℕ) (room : H
           (stored-laid w joined xs k laid all (λ i past. joined-past i (subst (λ (l : ℕ). l ≤ i / w) count past))) in
       record { canonical = both.0; bits = both.1 }
 
+
+  module _ (from : ℕ) (rest : from + n % w ≡ w) where
+    -- with the last block behind them, where there is one
+    pub IsJoined-last : (xs : List ℕ) (k q y before : ℕ) → k ≡ length others → q ≡ length others → Joined xs k → Carried from before k → n / w + q < length xs → y < 2 ^ w
+        → HasPlaces w y (λ j. ltb (j + from) w && place (j + from) before) → IsJoined w n m olds others (set xs (n / w + q) y)
+    IsJoined-last xs k q y before k-is q-is h carried inside small places =
+        let last : n / w + length others < length xs = omega arith in
+        let all = rw k-is at h in
+        let ys = set xs (n / w + length others) y in
+        let count : length ys ≡ length xs = length-set xs (n / w + length others) y in
+        rw q-is (IsJoined-laid ys (n / w + length others + 1) (count ∙ h.count) (All-set (λ x. x < 2 ^ w) xs (n / w + length others) y small h.within)
+        (AreLaid-last from rest xs y before all (rw k-is at carried) last places) (omega (arith, count, h.count, blocks-le-room)))
 
 -- a block read, by its number
 pub number_read : {X : Type 0} (number : X → ℕ) (items : List X) (k : ℕ) (x : X) → slice_get items k ≡ Some x → number x ≡ get_or (map number items) k 0

@@ -1,6 +1,6 @@
 //! Joining and cutting on a Vob's fields: a length and the blocks that store so many bits. Blocks
 //! are stored whole, each made of two neighbours where an offset lies within a block.
-ghost use Rattle.std.specs.Prelude.{◌≡◌, ◌≢◌, ℕ, ◌+◌, ◌-◌, ◌%◌, ◌^◌, ◌<◌, ◌≤◌, map, length, take, All, IfOk, OnOk, OnErr, vec_capacity};
+ghost use Rattle.std.specs.Prelude.{◌≡◌, ◌≢◌, ℕ, ◌+◌, ◌-◌, ◌*◌, ◌%◌, ◌^◌, ◌<◌, ◌≤◌, map, length, take, All, IfOk, OnOk, OnErr, vec_capacity};
 ghost use Rattle.vob_block.specs.Packing.{need, spelled, IsCanonical};
 ghost use Rattle.vob.specs.Joining.{HaveRoom, IsJoined, IsRest};
 
@@ -39,7 +39,6 @@ fn join_straddled<T: Block>(own: &mut [T], len: usize, other: &mut Blocks<'_, T>
     ghost more: { ℕ }
     requires room { HaveRoom T.BITS len more (map T.number own.old) (map T.number other.old.items) }
     requires partial { len % T.BITS ≢ 0 }
-    requires last { len / T.BITS < length own.old }
     ensures joined { IsJoined T.BITS len more (map T.number own.old) (map T.number other.old.items)
         (map T.number own.new) }
     ensures items { other.new.items ≡ other.old.items }
@@ -58,4 +57,42 @@ fn join_straddled<T: Block>(own: &mut [T], len: usize, other: &mut Blocks<'_, T>
     if at + count < own.len() {
         own[at + count] = before.down(from);
     }
+}
+
+/// Stores the bits of `other` behind `len` bits, whose blocks have room for them.
+fn join_within<T: Block>(own: &mut [T], len: usize, other: &mut Blocks<'_, T>)
+    ghost more: { ℕ }
+    requires room { HaveRoom T.BITS len more (map T.number own.old) (map T.number other.old.items) }
+    ensures joined { IsJoined T.BITS len more (map T.number own.old) (map T.number other.old.items)
+        (map T.number own.new) }
+    ensures items { other.new.items ≡ other.old.items }
+    ensures reads { other.new.reads ≡ other.old.reads + length other.old.items }
+{
+    if len % T::BITS == 0 {
+        join_whole(own, len, other);
+    } else {
+        join_straddled(own, len, other);
+    }
+}
+
+/// Joins the `more` bits of `other` behind `len` bits, in the room that is there.
+pub(crate) fn join<T: Block>(
+    blocks: &mut Vec<T>,
+    len: usize,
+    other: &mut Blocks<'_, T>,
+    more: usize,
+)
+    requires canonical { IsCanonical len (map T.number blocks.old.items) T.BITS }
+    requires other { IsCanonical more (map T.number other.old.items) T.BITS }
+    requires longest { len + more ≤ usize.MAX }
+    requires room { len + more ≤ vec_capacity blocks.old * T.BITS }
+    ensures joined { IsJoined T.BITS len more (map T.number blocks.old.items)
+        (map T.number other.old.items) (map T.number blocks.new.items) }
+    ensures capacity { vec_capacity blocks.old ≤ vec_capacity blocks.new }
+    ensures items { other.new.items ≡ other.old.items }
+    ensures reads { other.new.reads ≡ other.old.reads + length other.old.items }
+{
+    // There is room, so this isn't refused.
+    let _ = blocks.resize(block_count::<T>(len + more), T::ZERO);
+    join_within(blocks, len, other);
 }
