@@ -1,6 +1,6 @@
 //! Joining and cutting on a Vob's fields: a length and the blocks that store so many bits. Blocks
 //! are stored whole, each made of two neighbours where an offset lies within a block.
-ghost use Rattle.std.specs.Prelude.{◌≡◌, ◌≢◌, ℕ, ◌+◌, ◌-◌, ◌*◌, ◌%◌, ◌^◌, ◌<◌, ◌≤◌, map, length, take, All, IfOk, OnOk, OnErr, vec_capacity};
+ghost use Rattle.std.specs.Prelude.{◌≡◌, ◌≢◌, ◌+◌, ◌-◌, ◌*◌, ◌%◌, ◌^◌, ◌<◌, ◌≤◌, map, length, take, All, IfOk, OnOk, OnErr, vec_capacity};
 ghost use Rattle.vob_block.specs.Packing.{need, spelled, IsCanonical};
 ghost use Rattle.vob.specs.Joining.{HaveRoom, IsJoined, IsRest};
 
@@ -15,8 +15,7 @@ pub(crate) fn block_count<T: Block>(len: usize) -> usize
 }
 
 /// Stores the blocks of `other` behind `len` bits that fill their blocks.
-fn join_whole<T: Block>(own: &mut [T], len: usize, other: &mut Blocks<'_, T>)
-    ghost more: { ℕ }
+fn join_whole<T: Block>(own: &mut [T], len: usize, other: &mut Blocks<'_, T>, more: usize)
     requires room { HaveRoom T.BITS len more (map T.number own.old) (map T.number other.old.items) }
     requires full { len % T.BITS ≡ 0 }
     ensures joined { IsJoined T.BITS len more (map T.number own.old) (map T.number other.old.items)
@@ -26,7 +25,7 @@ fn join_whole<T: Block>(own: &mut [T], len: usize, other: &mut Blocks<'_, T>)
 {
     let width = T::BITS;
     let at = len / width;
-    for k in 0..other.len() {
+    for k in 0..block_count::<T>(more) {
         let block = other.block(k);
         block.known();
         own[at + k] = block;
@@ -35,8 +34,7 @@ fn join_whole<T: Block>(own: &mut [T], len: usize, other: &mut Blocks<'_, T>)
 
 /// Stores the bits of `other` behind `len` bits whose last block has room. Each block that is
 /// stored takes its low places from the block before, and the others from the block just read.
-fn join_straddled<T: Block>(own: &mut [T], len: usize, other: &mut Blocks<'_, T>)
-    ghost more: { ℕ }
+fn join_straddled<T: Block>(own: &mut [T], len: usize, other: &mut Blocks<'_, T>, more: usize)
     requires room { HaveRoom T.BITS len more (map T.number own.old) (map T.number other.old.items) }
     requires partial { len % T.BITS ≢ 0 }
     ensures joined { IsJoined T.BITS len more (map T.number own.old) (map T.number other.old.items)
@@ -48,7 +46,7 @@ fn join_straddled<T: Block>(own: &mut [T], len: usize, other: &mut Blocks<'_, T>
     let at = len / width;
     let from = width - len % width;
     let mut before = own[at].up(from);
-    let count = other.len();
+    let count = block_count::<T>(more);
     for k in 0..count {
         let block = other.block(k);
         own[at + k] = before.straddle(block, from);
@@ -60,8 +58,7 @@ fn join_straddled<T: Block>(own: &mut [T], len: usize, other: &mut Blocks<'_, T>
 }
 
 /// Stores the bits of `other` behind `len` bits, whose blocks have room for them.
-fn join_within<T: Block>(own: &mut [T], len: usize, other: &mut Blocks<'_, T>)
-    ghost more: { ℕ }
+fn join_within<T: Block>(own: &mut [T], len: usize, other: &mut Blocks<'_, T>, more: usize)
     requires room { HaveRoom T.BITS len more (map T.number own.old) (map T.number other.old.items) }
     ensures joined { IsJoined T.BITS len more (map T.number own.old) (map T.number other.old.items)
         (map T.number own.new) }
@@ -69,9 +66,9 @@ fn join_within<T: Block>(own: &mut [T], len: usize, other: &mut Blocks<'_, T>)
     ensures reads { other.new.reads ≡ other.old.reads + length other.old.items }
 {
     if len % T::BITS == 0 {
-        join_whole(own, len, other);
+        join_whole(own, len, other, more);
     } else {
-        join_straddled(own, len, other);
+        join_straddled(own, len, other, more);
     }
 }
 
@@ -94,5 +91,5 @@ pub(crate) fn join<T: Block>(
 {
     // There is room, so this isn't refused.
     let _ = blocks.resize(block_count::<T>(len + more), T::ZERO);
-    join_within(blocks, len, other);
+    join_within(blocks, len, other, more);
 }

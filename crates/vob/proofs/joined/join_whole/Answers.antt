@@ -10,7 +10,7 @@ pub loop-k-init : goal.loop-k-init
 loop-k-init g c =
     let wide = width_pos g.T.FixedWidth.width _ g.met.T.Block.width_law in
     record {
-      joined = AreJoined-none g.T.Block.BITS wide c.args.len g.more _ _ c.requires.1.1.0;
+      joined = AreJoined-none g.T.Block.BITS wide c.args.len c.args.more _ _ c.requires.room;
       items = search rules;
       reads = omega arith;
     }
@@ -19,7 +19,7 @@ pub bounds-own-at : goal.bounds-own-at
 bounds-own-at g c =
     let wide = width_pos g.T.FixedWidth.width _ g.met.T.Block.width_law in
     let number = g.T.Block.number in
-    let there = block_has_room g.T.Block.BITS wide c.args.len g.more (map number c.args.own.now) (map number c.args.other.now.items) c.requires.1.1.0 c.loop-k.k (omega (arith, length-map c.args.other.now.items number)) in
+    let there = block_has_room g.T.Block.BITS wide c.args.len c.args.more (map number c.args.own.now) (map number c.args.other.now.items) c.requires.room c.loop-k.k (omega (arith, length-map c.args.other.now.items number, c.requires.room.other.count, c.block_count-k-end.ensures)) in
     rw c.BITS-width.ensures (omega (arith, there, length-map c.args.own.now number, c.loop-k.auto.own))
 
 pub overflow_add-block : goal.overflow_add-block
@@ -38,8 +38,8 @@ loop-k-preserved g c =
     let so_far = c.loop-k.invariant in
     let read = number_read number c.args.other.now.items c.loop-k.k c.block-block.result (rw so_far.items at c.block-block.ensures.block) in
     record {
-      joined = rw (c.BITS-width.ensures, map-set) (AreJoined-whole g.T.Block.BITS wide c.args.len g.more (map number c.args.own.now) (map number c.args.other.now.items) c.requires.1.1.0
-          (map number c.loop-k.own) c.loop-k.k (number c.block-block.result) so_far.joined (omega (arith, length-map c.args.other.now.items number)) c.requires.1.1.1 c.known.ensures read);
+      joined = rw (c.BITS-width.ensures, map-set) (AreJoined-whole g.T.Block.BITS wide c.args.len c.args.more (map number c.args.own.now) (map number c.args.other.now.items) c.requires.room
+          (map number c.loop-k.own) c.loop-k.k (number c.block-block.result) so_far.joined (omega (arith, length-map c.args.other.now.items number, c.requires.room.other.count, c.block_count-k-end.ensures)) c.requires.full c.known.ensures read);
       items = c.block-block.ensures.items ∙ so_far.items;
       reads = omega (arith, c.block-block.ensures.reads, so_far.reads);
     }
@@ -49,5 +49,5 @@ returns-clause-joined g c =
     let wide = width_pos g.T.FixedWidth.width _ g.met.T.Block.width_law in
     let number = g.T.Block.number in
     let h = c.loop-k.invariant.joined in
-    IsJoined-laid g.T.Block.BITS wide c.args.len g.more (map number c.args.own.now) (map number c.args.other.now.items) c.requires.1.1.0 (map number c.loop-k.own) _ h.count h.within h.laid
-    (omega (arith, h.count, blocks-le-room_full g.T.Block.BITS wide c.args.len g.more (map number c.args.own.now) (map number c.args.other.now.items) c.requires.1.1.0 c.requires.1.1.1, length-map c.args.other.now.items number, c.loop-k.auto.k-end, c.loop-k-test.false))
+    IsJoined-laid g.T.Block.BITS wide c.args.len c.args.more (map number c.args.own.now) (map number c.args.other.now.items) c.requires.room (map number c.loop-k.own) _ h.count h.within h.laid
+    (omega (arith, h.count, blocks-le-room_full g.T.Block.BITS wide c.args.len c.args.more (map number c.args.own.now) (map number c.args.other.now.items) c.requires.room c.requires.full, length-map c.args.other.now.items number, c.requires.room.other.count, c.block_count-k-end.ensures, c.loop-k.auto.k-end, c.loop-k-test.false))
