@@ -1,3 +1,4 @@
 pub mod JoinLemmas
 pub mod PushLemmas
+pub mod RoomLemmas
 pub mod StorageLemmas

@@ -93,3 +93,27 @@ pub(crate) fn join<T: Block>(
     let _ = blocks.resize(block_count::<T>(len + more), T::ZERO);
     join_within(blocks, len, other, more);
 }
+
+/// Cuts off the bits from index `at` on, of `len` bits: a block of the answer straddles two.
+fn cut_straddled<T: Block>(rest: &mut [T], blocks: &[T], len: usize, at: usize)
+    requires canonical { IsCanonical len (map T.number blocks.now) T.BITS }
+    requires inside { at < len }
+    requires count { length rest.old ≡ need (len - at) T.BITS }
+    requires partial { at % T.BITS ≢ 0 }
+    ensures { IsRest T.BITS len at (map T.number blocks.now) (map T.number rest.new) }
+{
+    let width = T::BITS;
+    let from = at % width;
+    let last = block_count::<T>(len - at) - 1;
+    // The blocks from the one of bit `at` on.
+    let blocks = &blocks[at / width..];
+    for k in 0..last {
+        rest[k] = blocks[k].straddle(blocks[k + 1], from);
+    }
+    let low = blocks[last];
+    rest[last] = if last + 1 < blocks.len() {
+        low.straddle(blocks[last + 1], from)
+    } else {
+        low.down(from)
+    };
+}
