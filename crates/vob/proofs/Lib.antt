@@ -1,3 +1,4 @@
+pub mod CutLemmas
 pub mod JoinLemmas
 pub mod PushLemmas
 pub mod RoomLemmas

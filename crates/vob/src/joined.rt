@@ -105,14 +105,13 @@ fn cut_straddled<T: Block>(rest: &mut [T], blocks: &[T], len: usize, at: usize)
     let width = T::BITS;
     let from = at % width;
     let last = block_count::<T>(len - at) - 1;
-    // The blocks from the one of bit `at` on.
-    let blocks = &blocks[at / width..];
+    let first = at / width;
     for k in 0..last {
-        rest[k] = blocks[k].straddle(blocks[k + 1], from);
+        rest[k] = blocks[first + k].straddle(blocks[first + k + 1], from);
     }
-    let low = blocks[last];
-    rest[last] = if last + 1 < blocks.len() {
-        low.straddle(blocks[last + 1], from)
+    let low = blocks[first + last];
+    rest[last] = if first + last + 1 < blocks.len() {
+        low.straddle(blocks[first + last + 1], from)
     } else {
         low.down(from)
     };
