@@ -1,4 +1,5 @@
 pub mod CutLemmas
+pub mod ExtendLemmas
 pub mod JoinLemmas
 pub mod PushLemmas
 pub mod RoomLemmas
