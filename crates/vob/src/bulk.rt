@@ -3,8 +3,10 @@ ghost use Rattle.std.specs.Prelude.{◌≡◌, ◌↔◌, ◌+◌, ◌<◌, ◌�
 ghost use Rattle.vob_block.specs.Packing.{need, packing, spelled, IsCanonical};
 
 use crate::error::VobError;
-use crate::joined::{block_count, join};
+use crate::joined::{block_count, cut, join, keep};
 use crate::vob::Vob;
+use std::alloc::AllocError;
+use std::mem;
 use vob_block::{Block, Blocks};
 
 impl<T: Block> Vob<T> {
@@ -52,5 +54,39 @@ impl<T: Block> Vob<T> {
         self.vec.reserve(count - self.vec.len())?;
         self.append_blocks(&mut other.blocks(), other.len);
         Ok(())
+    }
+
+    /// Keeps the bits below `at`, and gives the others. From the length on there are none of them,
+    /// and nothing changes. vob 4.0.1 ends the process where memory is refused.
+    pub fn split_off(&mut self, at: usize) -> Result<Vob<T>, AllocError>
+        ensures rest { IfOk result (λ vob. vob.bits ≡ drop at self.old.bits) }
+        ensures ok { OnOk result (self.new.bits ≡ take at self.old.bits) }
+        ensures err { OnErr result (self.new.bits ≡ self.old.bits) }
+
+        // Where one part is empty, no memory is asked for.
+        ensures whole { at ≡ 0 → IsOk result }
+        ensures nothing { length self.old.bits ≤ at → IsOk result }
+    {
+        let alloc = *self.vec.allocator();
+        if self.len <= at {
+            return Ok(Vob {
+                len: 0,
+                vec: Vec::new(alloc),
+            });
+        }
+        if at == 0 {
+            return Ok(mem::replace(
+                self,
+                Vob {
+                    len: 0,
+                    vec: Vec::new(alloc),
+                },
+            ));
+        }
+        let vec = cut(alloc, self.vec.as_slice(), self.len, at)?;
+        let len = self.len - at;
+        keep(&mut self.vec, self.len, at);
+        self.len = at;
+        Ok(Vob { len, vec })
     }
 }

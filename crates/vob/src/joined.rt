@@ -4,7 +4,7 @@ ghost use Rattle.std.specs.Prelude.{◌≡◌, ◌≢◌, ◌+◌, ◌-◌, ◌*
 ghost use Rattle.vob_block.specs.Packing.{need, spelled, IsCanonical};
 ghost use Rattle.vob.specs.Joining.{HaveRoom, IsJoined, IsRest};
 
-use std::alloc::AllocError;
+use std::alloc::{AllocError, Global};
 use vob_block::{Block, Blocks};
 
 /// How many blocks `len` bits take.
@@ -99,6 +99,7 @@ fn cut_straddled<T: Block>(rest: &mut [T], blocks: &[T], len: usize, at: usize)
     requires canonical { IsCanonical len (map T.number blocks.now) T.BITS }
     requires inside { at < len }
     requires count { length rest.old ≡ need (len - at) T.BITS }
+    requires within { All (λ n. n < 2 ^ T.BITS) (map T.number rest.old) }
     requires partial { at % T.BITS ≢ 0 }
     ensures { IsRest T.BITS len at (map T.number blocks.now) (map T.number rest.new) }
 {
@@ -110,9 +111,83 @@ fn cut_straddled<T: Block>(rest: &mut [T], blocks: &[T], len: usize, at: usize)
         rest[k] = blocks[first + k].straddle(blocks[first + k + 1], from);
     }
     let low = blocks[first + last];
-    rest[last] = if first + last + 1 < blocks.len() {
-        low.straddle(blocks[first + last + 1], from)
+    if first + last + 1 < blocks.len() {
+        rest[last] = low.straddle(blocks[first + last + 1], from);
     } else {
-        low.down(from)
-    };
+        rest[last] = low.down(from);
+    }
+}
+
+/// Cuts off the bits from index `at` on, of `len` bits, where `at` is the first bit of a block.
+fn cut_whole<T: Block>(rest: &mut [T], blocks: &[T], len: usize, at: usize)
+    requires canonical { IsCanonical len (map T.number blocks.now) T.BITS }
+    requires inside { at < len }
+    requires count { length rest.old ≡ need (len - at) T.BITS }
+    requires whole { at % T.BITS ≡ 0 }
+    ensures { IsRest T.BITS len at (map T.number blocks.now) (map T.number rest.new) }
+{
+    rest.copy_from_slice(&blocks[at / T::BITS..]);
+}
+
+/// Cuts off the bits from index `at` on, of `len` bits.
+fn cut_within<T: Block>(rest: &mut [T], blocks: &[T], len: usize, at: usize)
+    requires canonical { IsCanonical len (map T.number blocks.now) T.BITS }
+    requires inside { at < len }
+    requires count { length rest.old ≡ need (len - at) T.BITS }
+    requires within { All (λ n. n < 2 ^ T.BITS) (map T.number rest.old) }
+    ensures { IsRest T.BITS len at (map T.number blocks.now) (map T.number rest.new) }
+{
+    if at % T::BITS == 0 {
+        cut_whole(rest, blocks, len, at);
+    } else {
+        cut_straddled(rest, blocks, len, at);
+    }
+}
+
+/// The blocks of the bits from index `at` on, of `len` bits.
+pub(crate) fn cut<T: Block>(
+    alloc: Global,
+    blocks: &[T],
+    len: usize,
+    at: usize,
+) -> Result<Vec<T>, AllocError>
+    requires canonical { IsCanonical len (map T.number blocks.now) T.BITS }
+    requires inside { at < len }
+    ensures { IfOk result (λ rest. IsRest T.BITS len at (map T.number blocks.now) (map T.number rest.items)) }
+{
+    let count = block_count::<T>(len - at);
+    let mut rest = Vec::with_capacity(alloc, count)?;
+    rest.resize(count, T::ZERO)?;
+    cut_within(&mut rest, blocks, len, at);
+    Ok(rest)
+}
+
+/// Makes the places of `blocks` behind the first `len` bits false.
+fn clear_behind<T: Block>(blocks: &mut [T], len: usize)
+    requires count { length blocks.old ≡ need len T.BITS }
+    requires within { All (λ n. n < 2 ^ T.BITS) (map T.number blocks.old) }
+    ensures canonical { IsCanonical len (map T.number blocks.new) T.BITS }
+    ensures bits { spelled len (map T.number blocks.new) T.BITS
+        ≡ spelled len (map T.number blocks.old) T.BITS }
+{
+    let width = T::BITS;
+    let place = len % width;
+    if place != 0 {
+        let last = len / width;
+        let block = blocks[last];
+        blocks[last] = block.band(T::low_mask(place));
+    }
+}
+
+/// Keeps the bits below index `at`, of `len` bits.
+pub(crate) fn keep<T: Block>(blocks: &mut Vec<T>, len: usize, at: usize)
+    requires canonical { IsCanonical len (map T.number blocks.old.items) T.BITS }
+    requires inside { at ≤ len }
+    ensures canonical { IsCanonical at (map T.number blocks.new.items) T.BITS }
+    ensures bits { spelled at (map T.number blocks.new.items) T.BITS
+        ≡ take at (spelled len (map T.number blocks.old.items) T.BITS) }
+    ensures capacity { vec_capacity blocks.new ≡ vec_capacity blocks.old }
+{
+    blocks.truncate(block_count::<T>(at));
+    clear_behind(blocks, at);
 }

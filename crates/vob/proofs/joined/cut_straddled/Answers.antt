@@ -8,7 +8,6 @@ use Rattle.vob_block.proofs.PlaceLemmas.{width_pos}
 use Rattle.vob_block.proofs.NeedLemmas.{lt-need}
 use Rattle.vob.proofs.CutLemmas.{AreCut-none, AreCut-more, HasPlaces-cut, HasPlaces-cut_last, IsRest-cut, cut_in_range}
 use Rattle.vob.proofs.joined.cut_straddled.Goals as goal
-use Rattle.vob.proofs.joined.cut_straddled.Goals.{then-first-last, else-first-last}
 
 pub overflow_sub-last : goal.overflow_sub-last
 overflow_sub-last g c =
@@ -17,7 +16,7 @@ overflow_sub-last g c =
     omega (arith, some, c.block_count-last.ensures)
 
 pub loop-k-init : goal.loop-k-init
-loop-k-init g c = record { cut = AreCut-none _ _ _ _; within = ? }
+loop-k-init g c = record { cut = AreCut-none _ _ _ _; within = c.requires.within }
 
 pub bounds-blocks-first-in-loop-k : goal.bounds-blocks-first-in-loop-k
 bounds-blocks-first-in-loop-k g c =
@@ -40,7 +39,11 @@ pub offset_bounds-blocks-first : goal.offset_bounds-blocks-first
 offset_bounds-blocks-first g c = le_of_lt (bounds-blocks-first g c)
 
 pub overflow_add-first-in-loop-k : goal.overflow_add-first-in-loop-k
-overflow_add-first-in-loop-k g c = omega (arith, c.index-blocks-first)
+overflow_add-first-in-loop-k g c =
+    let w = g.T.Block.BITS in
+    let wide = width_pos g.T.FixedWidth.width _ g.met.T.Block.width_law in
+    let there = cut_in_range w wide c.args.len c.args.at (map g.T.Block.number c.args.blocks.now) c.requires.canonical c.loop-k.k c.requires.inside (omega (arith, c.block_count-last.ensures)) in
+    rw c.BITS-width.ensures (omega (arith, there, length-map c.args.blocks.now g.T.Block.number, c.well_formed.1.0.0))
 
 pub overflow_add-first-in-loop-k-2 : goal.overflow_add-first-in-loop-k-2
 overflow_add-first-in-loop-k-2 g c = let there = bounds-blocks-first-in-loop-k g c in omega (arith, there, c.well_formed.1.0.0)
@@ -49,7 +52,26 @@ pub offset_bounds-blocks-first-in-loop-k : goal.offset_bounds-blocks-first-in-lo
 offset_bounds-blocks-first-in-loop-k g c = le_of_lt (bounds-blocks-first-in-loop-k g c)
 
 pub loop-k-preserved : goal.loop-k-preserved
-loop-k-preserved g c = ?
+loop-k-preserved g c =
+    let w = g.T.Block.BITS in
+    let v = c.BITS-width.result in
+    let wide = width_pos g.T.FixedWidth.width _ g.met.T.Block.width_law in
+    let number = g.T.Block.number in
+    let h = c.loop-k.invariant in
+    let xs = map number c.args.blocks.now in
+    let ys = map number c.loop-k.rest in
+    let below : c.loop-k.k + 1 < need (c.args.len - c.args.at) w = omega (arith, c.block_count-last.ensures) in
+    let there = cut_in_range w wide c.args.len c.args.at xs c.requires.canonical (c.loop-k.k + 1) c.requires.inside below in
+    let inside : c.args.at / w + c.loop-k.k < length c.args.blocks.now = omega (arith, there, length-map c.args.blocks.now number) in
+    let next : c.args.at / w + c.loop-k.k + 1 < length c.args.blocks.now = omega (arith, there, length-map c.args.blocks.now number) in
+    let one = ap number (rw c.BITS-width.ensures at c.index-blocks-first.is) ∙ sym (get_or-map number c.args.blocks.now (c.args.at / w + c.loop-k.k) c.index-blocks-first.result 0 inside) in
+    let two = ap number (rw c.BITS-width.ensures at c.index-blocks-first-in-loop-k.is) ∙ sym (get_or-map number c.args.blocks.now (c.args.at / w + c.loop-k.k + 1) c.index-blocks-first-in-loop-k.result 0 next) in
+    let places = rw c.BITS-width.ensures at c.straddle.ensures.places in
+    let stored = HasPlaces-cut w wide c.args.len c.args.at xs c.requires.canonical c.loop-k.k (number c.straddle.result) (number c.index-blocks-first.result) (number c.index-blocks-first-in-loop-k.result) one two places in
+    rw map-set (record {
+      cut = AreCut-more w wide c.args.len c.args.at xs c.requires.canonical ys c.loop-k.k (number c.straddle.result) h.cut (omega (arith, below, c.requires.count, length-map c.loop-k.rest number, c.loop-k.auto.rest)) stored;
+      within = All-set (λ x. x < 2 ^ w) ys c.loop-k.k (number c.straddle.result) c.straddle.ensures.within h.within;
+    })
 
 pub bounds-blocks-first-2 : goal.bounds-blocks-first-2
 bounds-blocks-first-2 g c =
@@ -59,5 +81,3 @@ bounds-blocks-first-2 g c =
     let there = cut_in_range w wide c.args.len c.args.at (map g.T.Block.number c.args.blocks.now) c.requires.canonical (c.block_count-last.result - 1) c.requires.inside (omega (arith, some, c.block_count-last.ensures)) in
     rw c.BITS-width.ensures (omega (arith, there, length-map c.args.blocks.now g.T.Block.number))
 
-pub returns : goal.returns
-returns g c = ?
