@@ -3,16 +3,21 @@ use Rattle.std.specs.Prelude.{All}
 use Rattle.std.proofs.Common.{◌≡◌, ◌≢◌, ℕ, ◌+◌, ◌-◌, ◌*◌, ◌/◌, ◌%◌, ◌^◌, ◌<◌, ◌≤◌, Bool, false, ◌&&◌, cond, List, length, get_or, set, drop, ltb, refl, sym, ap, ◌∙◌, subst, arith, inl, inr, mod-lt, div-add-mod', add-mul, one-mul}
 use Rattle.std.proofs.lemmas.Bool.{cases_lt, lt-ltb, le-ltb, cond-true, cond-false, and_left}
 use Rattle.std.proofs.lemmas.List.{length-set, length-drop, get_or-drop}
-use Rattle.std.proofs.lemmas.List.Elements.{All-set}
+use Rattle.std.proofs.lemmas.List.Elements.{All-set, All-drop}
 use Rattle.std.proofs.lemmas.Nat.{le-div, mul-le}
 use Rattle.vob_block.specs.Places.{place, HasPlaces}
 use Rattle.vob_block.specs.Packing.{item, need, stored, spelled, IsCanonical}
-use Rattle.vob_block.proofs.NeedLemmas.{div-lt-need, lt-need, mul-lt_from_need, need_least, need_enough}
-use Rattle.vob_block.proofs.PackingLemmas.{stored_at, stored_past, length-spelled, stored_is_item, canonical_from_items}
+use Rattle.vob_block.proofs.NeedLemmas.{div-lt-need, lt-need, mul-lt_from_need, need_enough, need_is}
+use Rattle.vob_block.proofs.PackingLemmas.{stored_from, stored_at, stored_past, length-spelled, stored_is_item, canonical_from_items}
 use Rattle.vob.specs.Joining.{IsRest}
 use Rattle.vob.proofs.JoinLemmas.{AreLaid, AreLaid-more, stored-laid}
 
--- the first k blocks hold the bits from index at on; w ≡ width
+-- the blocks that bits need have less than one block of room behind them
+need-lt : (w : ℕ) → 0 < w → (n : ℕ) → need n w * w < n + w
+unfolding need
+need-lt w wide n = omega (arith, div-add-mod' (n + (w - 1)) w, mod-lt (n + (w - 1)) wide)
+
+-- the first k blocks hold the bits from index at on
 pub record AreCut (w at : ℕ) (xs ys : List ℕ) (k : ℕ) : Type 0 where
   pub laid : AreLaid w (λ i. stored xs w (at + i)) ys k
 
@@ -87,3 +92,34 @@ module _ (w : ℕ) (wide : 0 < w) (n at : ℕ) (xs : List ℕ) (h : IsCanonical 
       let both = canonical_from_items w wide bits (n - at) ys long count within (λ i.
           stored-laid w (λ i. stored xs w (at + i)) ys k cut.laid all none i ∙ stored_is_item w wide n xs h (at + i) ∙ sym (get_or-drop at (spelled n xs w) i false)) in
       record { canonical = both.0; bits = both.1 }
+
+  -- with the last one stored behind the others
+  pub IsRest-last : (ys : List ℕ) (k last y : ℕ) → length ys ≡ need (n - at) w → All (λ x. x < 2 ^ w) ys → y < 2 ^ w → AreCut w at xs ys k → k ≡ last → last + 1 ≡ need (n - at) w
+      → HasPlaces w y (λ j. stored xs w (at + (last * w + j))) → IsRest w n at xs (set ys last y)
+  IsRest-last ys k last y count within small cut same end places =
+      let long : length (set ys last y) ≡ length ys = length-set ys last y in
+      IsRest-cut (set ys last y) (last + 1) (long ∙ count) (All-set (λ x. x < 2 ^ w) ys last y small within)
+      (AreCut-more ys last y (subst (AreCut w at xs ys) same cut) (omega arith) places) (omega (arith, long))
+
+  -- from the first bit of a block on, the rest is the blocks from there on
+  pub length-drop_need : at % w ≡ 0 → at < n → length (drop (at / w) xs) ≡ need (n - at) w
+  length-drop_need whole inside =
+      let start : at / w * w < n = omega (arith, div-add-mod' at w) in
+      let below = lt-need w wide n (at / w) start in
+      let back : at / w + need (n - at) w ≡ need n w =
+          sym (need_is w wide n (at / w + need (n - at) w)
+          (omega (arith, div-add-mod' at w, add-mul (at / w) (need (n - at) w) w, need_enough w wide (n - at)))
+          (omega (arith, div-add-mod' at w, add-mul (at / w) (need (n - at) w) w, need_few))) in
+      omega (arith, length-drop (at / w) xs, h.count, back)
+    where
+      need_few : need (n - at) w * w < n - at + w
+      need_few = need-lt w wide (n - at)
+
+  pub IsRest-whole : at % w ≡ 0 → at < n → IsRest w n at xs (drop (at / w) xs)
+  IsRest-whole whole inside =
+      let ys = drop (at / w) xs in
+      IsRest-cut ys (length ys) (length-drop_need whole inside) (All-drop (λ x. x < 2 ^ w) (at / w) xs h.within)
+      (record { laid = record { each = λ i _.
+          let sum = add-mul (at / w) (i / w) w in
+          let same : (at / w + i / w) * w + i % w ≡ at + i = omega (arith, div-add-mod' at w, div-add-mod' i w) in
+          stored_from ys w i ∙ ap (place (i % w)) (get_or-drop (at / w) xs (i / w) 0) ∙ sym (stored_at xs w (at / w + i / w) (i % w) (mod-lt i wide)) ∙ ap (stored xs w) same } }) (omega arith)

@@ -6,7 +6,7 @@ use Rattle.std.proofs.lemmas.List.Elements.{All-set}
 use Rattle.vob_block.specs.Packing.{need}
 use Rattle.vob_block.proofs.PlaceLemmas.{width_pos}
 use Rattle.vob_block.proofs.NeedLemmas.{lt-need}
-use Rattle.vob.proofs.CutLemmas.{AreCut-none, AreCut-more, HasPlaces-cut, HasPlaces-cut_last, IsRest-cut, cut_in_range}
+use Rattle.vob.proofs.CutLemmas.{AreCut-none, AreCut-more, HasPlaces-cut, HasPlaces-cut_last, IsRest-last, cut_in_range}
 use Rattle.vob.proofs.joined.cut_straddled.Goals as goal
 
 pub overflow_sub-last : goal.overflow_sub-last
@@ -81,3 +81,83 @@ bounds-blocks-first-2 g c =
     let there = cut_in_range w wide c.args.len c.args.at (map g.T.Block.number c.args.blocks.now) c.requires.canonical (c.block_count-last.result - 1) c.requires.inside (omega (arith, some, c.block_count-last.ensures)) in
     rw c.BITS-width.ensures (omega (arith, there, length-map c.args.blocks.now g.T.Block.number))
 
+pub overflow_add-low : goal.overflow_add-low
+overflow_add-low g c =
+    let w = g.T.Block.BITS in
+    let wide = width_pos g.T.FixedWidth.width _ g.met.T.Block.width_law in
+    let some = lt-need w wide (c.args.len - c.args.at) 0 (omega (arith, c.requires.inside)) in
+    let there = cut_in_range w wide c.args.len c.args.at (map g.T.Block.number c.args.blocks.now) c.requires.canonical (c.block_count-last.result - 1) c.requires.inside (omega (arith, some, c.block_count-last.ensures)) in
+    rw c.BITS-width.ensures (omega (arith, there, length-map c.args.blocks.now g.T.Block.number, c.well_formed.1.0.0))
+
+pub offset_bounds-blocks-first-2 : goal.offset_bounds-blocks-first-2
+offset_bounds-blocks-first-2 g c = le_of_lt (bounds-blocks-first-2 g c)
+
+pub overflow_add-first-2 : goal.overflow_add-first-2
+overflow_add-first-2 g c =
+    let w = g.T.Block.BITS in
+    let wide = width_pos g.T.FixedWidth.width _ g.met.T.Block.width_law in
+    let some = lt-need w wide (c.args.len - c.args.at) 0 (omega (arith, c.requires.inside)) in
+    let there = cut_in_range w wide c.args.len c.args.at (map g.T.Block.number c.args.blocks.now) c.requires.canonical (c.block_count-last.result - 1) c.requires.inside (omega (arith, some, c.block_count-last.ensures)) in
+    rw c.BITS-width.ensures (omega (arith, there, length-map c.args.blocks.now g.T.Block.number, c.well_formed.1.0.0))
+
+pub overflow_add-first-3 : goal.overflow_add-first-3
+overflow_add-first-3 g c =
+    let w = g.T.Block.BITS in
+    let wide = width_pos g.T.FixedWidth.width _ g.met.T.Block.width_law in
+    let some = lt-need w wide (c.args.len - c.args.at) 0 (omega (arith, c.requires.inside)) in
+    let there = cut_in_range w wide c.args.len c.args.at (map g.T.Block.number c.args.blocks.now) c.requires.canonical (c.block_count-last.result - 1) c.requires.inside (omega (arith, some, c.block_count-last.ensures)) in
+    rw c.BITS-width.ensures (omega (arith, there, length-map c.args.blocks.now g.T.Block.number, c.well_formed.1.0.0))
+
+pub bounds-rest-last : goal.bounds-rest-last
+bounds-rest-last g c =
+    let wide = width_pos g.T.FixedWidth.width _ g.met.T.Block.width_law in
+    let some = lt-need g.T.Block.BITS wide (c.args.len - c.args.at) 0 (omega (arith, c.requires.inside)) in
+    omega (arith, some, c.block_count-last.ensures, c.requires.count, c.loop-k.auto.rest)
+
+pub bounds-rest-last-else-first-last : goal.bounds-rest-last-else-first-last
+bounds-rest-last-else-first-last g c =
+    let wide = width_pos g.T.FixedWidth.width _ g.met.T.Block.width_law in
+    let some = lt-need g.T.Block.BITS wide (c.args.len - c.args.at) 0 (omega (arith, c.requires.inside)) in
+    omega (arith, some, c.block_count-last.ensures, c.requires.count, c.loop-k.auto.rest)
+
+pub returns-then-first-last : goal.returns-then-first-last
+returns-then-first-last g c =
+    let w = g.T.Block.BITS in
+    let wide = width_pos g.T.FixedWidth.width _ g.met.T.Block.width_law in
+    let number = g.T.Block.number in
+    let h = c.loop-k.invariant in
+    let xs = map number c.args.blocks.now in
+    let ys = map number c.loop-k.rest in
+    let last = c.block_count-last.result - 1 in
+    let next : c.args.at / w + last + 1 < length c.args.blocks.now = rw c.BITS-width.ensures at c.if-first-last.true in
+    let inside : c.args.at / w + last < length c.args.blocks.now = omega (arith, next) in
+    let one = ap number (rw c.BITS-width.ensures at c.index-blocks-first-2.is) ∙ sym (get_or-map number c.args.blocks.now (c.args.at / w + last) c.index-blocks-first-2.result 0 inside) in
+    let two = ap number (rw c.BITS-width.ensures at c.index-blocks-first-then-first-last.is) ∙ sym (get_or-map number c.args.blocks.now (c.args.at / w + last + 1) c.index-blocks-first-then-first-last.result 0 next) in
+    let y = number c.straddle-then-first-last.result in
+    let places = rw c.BITS-width.ensures at c.straddle-then-first-last.ensures.places in
+    let stored = HasPlaces-cut w wide c.args.len c.args.at xs c.requires.canonical last y (number c.index-blocks-first-2.result) (number c.index-blocks-first-then-first-last.result) one two places in
+    let some = lt-need w wide (c.args.len - c.args.at) 0 (omega (arith, c.requires.inside)) in
+    rw map-set (IsRest-last w wide c.args.len c.args.at xs c.requires.canonical ys c.loop-k.k last y
+    (omega (arith, length-map c.loop-k.rest number, c.loop-k.auto.rest, c.requires.count)) h.within c.straddle-then-first-last.ensures.within h.cut
+    (omega (arith, c.loop-k.auto.k-end, c.loop-k-test.false)) (omega (arith, some, c.block_count-last.ensures)) stored)
+
+pub returns-else-first-last : goal.returns-else-first-last
+returns-else-first-last g c =
+    let w = g.T.Block.BITS in
+    let wide = width_pos g.T.FixedWidth.width _ g.met.T.Block.width_law in
+    let number = g.T.Block.number in
+    let h = c.loop-k.invariant in
+    let xs = map number c.args.blocks.now in
+    let ys = map number c.loop-k.rest in
+    let last = c.block_count-last.result - 1 in
+    let some = lt-need w wide (c.args.len - c.args.at) 0 (omega (arith, c.requires.inside)) in
+    let there = cut_in_range w wide c.args.len c.args.at xs c.requires.canonical last c.requires.inside (omega (arith, some, c.block_count-last.ensures)) in
+    let inside : c.args.at / w + last < length c.args.blocks.now = omega (arith, there, length-map c.args.blocks.now number) in
+    let none : length c.args.blocks.now ≤ c.args.at / w + last + 1 = rw c.BITS-width.ensures at c.if-first-last.false in
+    let one = ap number (rw c.BITS-width.ensures at c.index-blocks-first-2.is) ∙ sym (get_or-map number c.args.blocks.now (c.args.at / w + last) c.index-blocks-first-2.result 0 inside) in
+    let y = number c.down.result in
+    let places = rw c.BITS-width.ensures at c.down.ensures.places in
+    let stored = HasPlaces-cut_last w wide c.args.len c.args.at xs c.requires.canonical last y (number c.index-blocks-first-2.result) one (omega (arith, none, length-map c.args.blocks.now number)) places in
+    rw map-set (IsRest-last w wide c.args.len c.args.at xs c.requires.canonical ys c.loop-k.k last y
+    (omega (arith, length-map c.loop-k.rest number, c.loop-k.auto.rest, c.requires.count)) h.within c.down.ensures.within h.cut
+    (omega (arith, c.loop-k.auto.k-end, c.loop-k-test.false)) (omega (arith, some, c.block_count-last.ensures)) stored)
