@@ -123,3 +123,9 @@ module _ (w : ℕ) (wide : 0 < w) (n at : ℕ) (xs : List ℕ) (h : IsCanonical 
           let sum = add-mul (at / w) (i / w) w in
           let same : (at / w + i / w) * w + i % w ≡ at + i = omega (arith, div-add-mod' at w, div-add-mod' i w) in
           stored_from ys w i ∙ ap (place (i % w)) (get_or-drop (at / w) xs (i / w) 0) ∙ sym (stored_at xs w (at / w + i / w) (i % w) (mod-lt i wide)) ∙ ap (stored xs w) same } }) (omega arith)
+
+  -- the block of bit at is there
+  pub start-le : at < n → at / w ≤ length xs
+  start-le inside =
+      let start : at / w * w < n = omega (arith, div-add-mod' at w) in
+      omega (arith, lt-need w wide n (at / w) start, h.count)

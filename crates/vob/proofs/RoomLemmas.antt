@@ -1,9 +1,9 @@
 -- Blocks with room for more bits than they store, at the numbers of some items.
 use Rattle.std.specs.Prelude.{All}
-use Rattle.std.proofs.Common.{◌≡◌, ℕ, ◌+◌, ◌-◌, ◌*◌, ◌/◌, ◌%◌, ◌^◌, ◌<◌, ◌≤◌, List, ◌++◌, length, map, take, replicate, Bool, true, false, cond, refl, sym, ap, ◌∙◌, subst, arith}
+use Rattle.std.proofs.Common.{◌≡◌, ℕ, ◌+◌, ◌-◌, ◌*◌, ◌/◌, ◌%◌, ◌^◌, ◌<◌, ◌≤◌, List, [], ◌++◌, length, map, take, replicate, Bool, true, false, cond, refl, sym, ap, ◌∙◌, subst, arith}
 use Rattle.std.proofs.lemmas.Bool.{cond-true}
 use Rattle.std.proofs.lemmas.List.{length-append, length-map, length-replicate, map-append, take_all, get_or_append_left}
-use Rattle.std.proofs.lemmas.List.Elements.{All-append, All-map, All-replicate}
+use Rattle.std.proofs.lemmas.List.Elements.{All-append, All-map, All-replicate, All-same, All-take, All-nil}
 use Rattle.std.proofs.lemmas.Nat.{pow_pos}
 use Rattle.vob_block.specs.Places.{place}
 use Rattle.vob_block.specs.Packing.{need, spelled, IsCanonical}
@@ -46,3 +46,10 @@ module _ {X : Type 0} (number : X → ℕ) (w : ℕ) (wide : 0 < w) (n m : ℕ) 
       let same : spelled n (map number ys) w ≡ spelled n (map number xs) w =
           ap (λ zs. spelled n zs w) filled ∙ spelled-append w wide n (map number xs) (map number (replicate (need (n + m) w - length xs) zero)) (omega (arith, h.count)) in
       record { canonical = joined.canonical; bits = joined.bits ∙ ap (λ b. b ++ spelled m others w) same }
+
+-- blocks that are filled up from nothing are within the width
+pub All-filled : {X : Type 0} (number : X → ℕ) (w : ℕ) (xs ys : List X) (t m : ℕ) (zero : X) → xs ≡ [] → ys ≡ take t xs ++ replicate m zero → number zero ≡ 0 → All (λ x. x < 2 ^ w) (map number ys)
+All-filled number w xs ys t m zero empty is none =
+    let P = λ (x : _). number x < 2 ^ w in
+    All-map (λ x. x < 2 ^ w) number ys (All-same P ys (take t xs ++ replicate m zero) is
+    (All-append P (take t xs) (replicate m zero) (All-take P t xs (All-same P xs [] empty (All-nil P))) (All-replicate P m zero (subst (λ (x : ℕ). x < 2 ^ w) (sym none) (pow_pos w)))))
