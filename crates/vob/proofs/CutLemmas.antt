@@ -90,7 +90,7 @@ module _ (w : ℕ) (wide : 0 < w) (n at : ℕ) (xs : List ℕ) (h : IsCanonical 
         | inr fine ↦ omega arith
       ]) in
       let both = canonical_from_items w wide bits (n - at) ys long count within (λ i.
-          stored-laid w (λ i. stored xs w (at + i)) ys k cut.laid all none i ∙ stored_is_item w wide n xs h (at + i) ∙ sym (get_or-drop at (spelled n xs w) i false)) in
+      stored-laid w (λ i. stored xs w (at + i)) ys k cut.laid all none i ∙ stored_is_item w wide n xs h (at + i) ∙ sym (get_or-drop at (spelled n xs w) i false)) in
       record { canonical = both.0; bits = both.1 }
 
   -- with the last one stored behind the others
@@ -107,9 +107,9 @@ module _ (w : ℕ) (wide : 0 < w) (n at : ℕ) (xs : List ℕ) (h : IsCanonical 
       let start : at / w * w < n = omega (arith, div-add-mod' at w) in
       let below = lt-need w wide n (at / w) start in
       let back : at / w + need (n - at) w ≡ need n w =
-          sym (need_is w wide n (at / w + need (n - at) w)
-          (omega (arith, div-add-mod' at w, add-mul (at / w) (need (n - at) w) w, need_enough w wide (n - at)))
-          (omega (arith, div-add-mod' at w, add-mul (at / w) (need (n - at) w) w, need_few))) in
+      sym (need_is w wide n (at / w + need (n - at) w)
+      (omega (arith, div-add-mod' at w, add-mul (at / w) (need (n - at) w) w, need_enough w wide (n - at)))
+      (omega (arith, div-add-mod' at w, add-mul (at / w) (need (n - at) w) w, need_few))) in
       omega (arith, length-drop (at / w) xs, h.count, back)
     where
       need_few : need (n - at) w * w < n - at + w
@@ -119,10 +119,14 @@ module _ (w : ℕ) (wide : 0 < w) (n at : ℕ) (xs : List ℕ) (h : IsCanonical 
   IsRest-whole whole inside =
       let ys = drop (at / w) xs in
       IsRest-cut ys (length ys) (length-drop_need whole inside) (All-drop (λ x. x < 2 ^ w) (at / w) xs h.within)
-      (record { laid = record { each = λ i _.
-          let sum = add-mul (at / w) (i / w) w in
-          let same : (at / w + i / w) * w + i % w ≡ at + i = omega (arith, div-add-mod' at w, div-add-mod' i w) in
-          stored_from ys w i ∙ ap (place (i % w)) (get_or-drop (at / w) xs (i / w) 0) ∙ sym (stored_at xs w (at / w + i / w) (i % w) (mod-lt i wide)) ∙ ap (stored xs w) same } }) (omega arith)
+      (record {
+        laid = record {
+          each = λ i _.
+              let sum = add-mul (at / w) (i / w) w in
+              let same : (at / w + i / w) * w + i % w ≡ at + i = omega (arith, div-add-mod' at w, div-add-mod' i w) in
+              stored_from ys w i ∙ ap (place (i % w)) (get_or-drop (at / w) xs (i / w) 0) ∙ sym (stored_at xs w (at / w + i / w) (i % w) (mod-lt i wide)) ∙ ap (stored xs w) same;
+        };
+      }) (omega arith)
 
   -- the block of bit at is there
   pub start-le : at < n → at / w ≤ length xs

@@ -220,9 +220,8 @@ module _ (w : ℕ) (wide : 0 < w) (n m : ℕ) (olds others : List ℕ) (room : H
       let bits = spelled n olds w ++ spelled m others w in
       let long : length bits ≡ n + m = length-append (spelled n olds w) (spelled m others w) ∙ ap (λ a. a + length (spelled m others w)) (length-spelled n olds w) ∙ ap (λ a. n + a) (length-spelled m others w) in
       let both = canonical_from_items w wide bits (n + m) xs long (count ∙ room.count) within
-          (stored-laid w joined xs k laid all (λ i past. joined-past i (subst (λ (l : ℕ). l ≤ i / w) count past))) in
+      (stored-laid w joined xs k laid all (λ i past. joined-past i (subst (λ (l : ℕ). l ≤ i / w) count past))) in
       record { canonical = both.0; bits = both.1 }
-
 
   module _ (from : ℕ) (rest : from + n % w ≡ w) where
     -- with the last block behind them, where there is one

@@ -44,7 +44,7 @@ module _ {X : Type 0} (number : X → ℕ) (w : ℕ) (wide : 0 < w) (n m : ℕ) 
   pub IsJoined-filled : (after : List ℕ) → IsJoined w n m (map number ys) others after → IsJoined w n m (map number xs) others after
   IsJoined-filled after joined =
       let same : spelled n (map number ys) w ≡ spelled n (map number xs) w =
-          ap (λ zs. spelled n zs w) filled ∙ spelled-append w wide n (map number xs) (map number (replicate (need (n + m) w - length xs) zero)) (omega (arith, h.count)) in
+      ap (λ zs. spelled n zs w) filled ∙ spelled-append w wide n (map number xs) (map number (replicate (need (n + m) w - length xs) zero)) (omega (arith, h.count)) in
       record { canonical = joined.canonical; bits = joined.bits ∙ ap (λ b. b ++ spelled m others w) same }
 
 -- blocks that are filled up from nothing are within the width

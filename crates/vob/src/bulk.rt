@@ -44,7 +44,7 @@ impl<T: Block> Vob<T> {
         ensures memory { result ≡ Err VobError.Memory
             → (self.old.capacity < length self.old.bits + length other.now.bits)
             × (need (length self.old.bits) T.BITS
-                < need (length self.old.bits + length other.now.bits) T.BITS) }
+            < need (length self.old.bits + length other.now.bits) T.BITS) }
         ensures capacity { self.old.capacity ≤ self.new.capacity }
     {
         if usize::MAX - self.len < other.len {

@@ -5,11 +5,9 @@ ghost use Rattle.vob.specs.Laws.{JoinUndoesCut, JoinIsPushes};
 /// the part that both succeed leave the old bits.
 pub fn join_undoes_cut()
     ensures { JoinUndoesCut }
-{
-}
+{}
 
 /// Joining a list leaves what pushing each of its bits in order leaves.
 pub fn join_is_pushes()
     ensures { JoinIsPushes }
-{
-}
+{}

@@ -159,11 +159,11 @@ HasPlaces-rotate w v x n e h positive below = record {
       let turn : n % bits w ≡ n = mod-eq_of_lt (subst (λ (m : ℕ). n < m) all below) in
       let less : v - n < v = omega arith in
       let back : (bits w - n % bits w) % bits w ≡ v - n =
-          ap (λ m. (bits w - m) % bits w) turn ∙ ap (λ m. (m - n) % m) (sym all) ∙ mod-eq_of_lt less in
+      ap (λ m. (bits w - m) % bits w) turn ∙ ap (λ m. (m - n) % m) (sym all) ∙ mod-eq_of_lt less in
       let low : place j (x * 2 ^ (n % bits w) % 2 ^ bits w) ≡ (leb n j && place (j - n) x) =
-          ap (λ m. place j (x * 2 ^ m % 2 ^ bits w)) turn ∙ place-shift (bits w) x n j (subst (λ (m : ℕ). j < m) all k) in
+      ap (λ m. place j (x * 2 ^ m % 2 ^ bits w)) turn ∙ place-shift (bits w) x n j (subst (λ (m : ℕ). j < m) all k) in
       let high : place j (x / 2 ^ ((bits w - n % bits w) % bits w)) ≡ (ltb (j + (v - n)) v && place (j + (v - n)) x) =
-          ap (λ m. place j (x / 2 ^ m)) back ∙ (HasPlaces-shift_down v x (v - n) h).each j k in
+      ap (λ m. place j (x / 2 ^ m)) back ∙ (HasPlaces-shift_down v x (v - n) h).each j k in
       place-or (x * 2 ^ (n % bits w) % 2 ^ bits w) (x / 2 ^ ((bits w - n % bits w) % bits w)) j
       ∙ ap (λ b. b || place j (x / 2 ^ ((bits w - n % bits w) % bits w))) low ∙ ap (λ b. (leb n j && place (j - n) x) || b) high
       ∙ elim (cases_lt j n) [

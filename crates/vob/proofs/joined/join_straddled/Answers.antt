@@ -28,7 +28,7 @@ loop-k-init g c =
     let needed = partial_has_room w wide c.args.len c.args.more (map number c.args.own.now) (map number c.args.other.now.items) c.requires.room c.requires.partial in
     let there : c.args.len / w < length c.args.own.now = omega (arith, needed, length-map c.args.own.now number) in
     let read : number c.index-own-at.result ≡ get_or (map number c.args.own.now) (c.args.len / w) 0 =
-        ap number (rw c.BITS-width.ensures at c.index-own-at.is) ∙ sym (get_or-map number c.args.own.now (c.args.len / w) c.index-own-at.result 0 there) in
+    ap number (rw c.BITS-width.ensures at c.index-own-at.is) ∙ sym (get_or-map number c.args.own.now (c.args.len / w) c.index-own-at.result 0 there) in
     record {
       joined = AreJoined-none w wide c.args.len c.args.more _ _ c.requires.room;
       carried = IsCarried-first w wide c.args.len c.args.more _ _ c.requires.room (v - c.args.len % v) rest (number c.up-before.result) (number c.index-own-at.result) read c.up-before.ensures.places;

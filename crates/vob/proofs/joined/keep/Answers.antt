@@ -33,5 +33,5 @@ returns-clause-bits g c =
     let xs = map number c.args.blocks.now.items in
     let whole = with_items_is c.truncate.new.self c.clear_behind.new.blocks (omega (arith, c.clear_behind.auto.blocks, c.deref_mut.ensures.len)) in
     let kept : map number c.deref_mut.result.now ≡ take (need c.args.at w) xs =
-        ap (map number) (c.deref_mut.ensures.value ∙ c.truncate.ensures.items ∙ ap (λ k. take k c.args.blocks.now.items) c.block_count.ensures) ∙ sym (take-map number (need c.args.at w) c.args.blocks.now.items) in
+    ap (map number) (c.deref_mut.ensures.value ∙ c.truncate.ensures.items ∙ ap (λ k. take k c.args.blocks.now.items) c.block_count.ensures) ∙ sym (take-map number (need c.args.at w) c.args.blocks.now.items) in
     rw whole (c.clear_behind.ensures.bits ∙ ap (λ ys. spelled c.args.at ys w) kept ∙ spelled-take w wide c.args.len c.args.at xs c.requires.inside c.requires.canonical.count)

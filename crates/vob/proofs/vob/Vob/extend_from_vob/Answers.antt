@@ -47,7 +47,7 @@ append_blocks-requires-clause-room g c =
     let count = sym (length-map vec.items g.T.Block.number) ∙ c.self.invariant.count in
     let more = blocks-le-need g.T.Block.BITS wide c.self.inside.len c.other.inside.len (length vec.items) count in
     let enough : need (c.self.inside.len + c.other.inside.len) g.T.Block.BITS ≤ c.reserve.new.self.cap =
-        omega (arith, more, c.in_ok-reserve.ensures.ok, c.in_ok-reserve.ensures.len, c.block_count-count.ensures, c.len.ensures, vec.ok) in
+    omega (arith, more, c.in_ok-reserve.ensures.ok, c.in_ok-reserve.ensures.len, c.block_count-count.ensures, c.len.ensures, vec.ok) in
     rw length-spelled (sum-le-room g.T.Block.BITS wide c.self.inside.len c.other.inside.len c.reserve.new.self.cap enough (omega (arith, c.if-self-other.false, c.self.ranges)))
 
 pub returns-clause-ok : goal.returns-clause-ok
@@ -58,7 +58,7 @@ returns-clause-ok g c =
     let long : length c.args.other.now.bits ≡ c.other.inside.len = rw (← c.other.view_is) (length-spelled _ _ _) in
     let others = (packing_is w wide c.args.other.now.bits c.other.inside.len (map number c.blocks-2.result.items) c.blocks-2.ensures.blocks long).1 in
     let own : spelled c.self.inside.len (map number c.reserve.new.self.items) w ≡ c.args.self.now.bits =
-        ap (λ xs. spelled c.self.inside.len (map number xs) w) c.in_ok-reserve.ensures.items ∙ ap (λ v. v.bits) c.self.view_is in
+    ap (λ xs. spelled c.self.inside.len (map number xs) w) c.in_ok-reserve.ensures.items ∙ ap (λ v. v.bits) c.self.view_is in
     c.append_blocks.ensures.bits ∙ ap (λ b. b ++ spelled c.other.inside.len (map number c.blocks-2.result.items) w) own ∙ ap (λ o. c.args.self.now.bits ++ o) others
 
 pub returns-clause-too_long : goal.returns-clause-too_long
