@@ -1,11 +1,15 @@
 pub mod CutLemmas
 pub mod EvenLemmas
+pub mod ExtendLemmas
+pub mod FillLemmas
 pub mod GatherLemmas
+pub mod JoinLemmas
 pub mod LaidLemmas
 pub mod PointwiseLemmas
 pub mod PushLemmas
 pub mod RestLemmas
 pub mod RoomLemmas
 pub mod StorageLemmas
+pub mod StraddleLemmas
 pub mod TurnLemmas
 pub mod WriteLemmas

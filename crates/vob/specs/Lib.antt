@@ -1,3 +1,5 @@
+pub mod Joining
+pub mod Laws
 pub mod Refusal
 pub mod Rest
 pub mod Vob

@@ -2,11 +2,14 @@
 #![tactic(auto)]
 
 mod bits;
+pub mod bulk;
 mod bytes;
 mod edit;
 mod error;
 mod items;
 pub mod iter;
+mod joined;
+pub mod laws;
 mod macros;
 mod make;
 pub mod ops;

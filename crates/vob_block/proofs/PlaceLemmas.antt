@@ -1,11 +1,11 @@
 -- The places of what `&`, `|`, `!` and `<<` give, over a plain width.
 use Rattle.std.specs.Prelude.{bit_and, bit_or, bit_xor}
-use Rattle.std.specs.Int.{Width, w8, w16, w32, w64, w128, bit_at, bit_not}
+use Rattle.std.specs.Int.{Width, w8, w16, w32, w64, w128, bit_at, bit_not, rotate_left}
 use Rattle.num_traits.specs.Laws.{bit_len, shift_left}
-use Rattle.std.proofs.Common.{◌≡◌, ◌≢◌, ℕ, zero, suc, ◌+◌, ◌-◌, ◌*◌, ◌/◌, ◌%◌, ◌^◌, ◌<◌, ◌≤◌, Bool, true, false, not, ◌&&◌, ◌||◌, min, max, eqb, leb, refl, sym, ap, ◌∙◌, arith, ltb, lt_of_le_of_lt, add_comm, mod-lt, one-mul, add-zero, inl, inr, subst}
-use Rattle.std.proofs.lemmas.Bool.{lt-ltb, le-ltb, cases_lt, and_left, and_right, cases_Bool, cases_eq, false≢true, cases_order, lt-leb, le-leb, eq-eqb, ne_eqb}
+use Rattle.std.proofs.Common.{◌≡◌, ◌≢◌, ℕ, zero, suc, ◌+◌, ◌-◌, ◌*◌, ◌/◌, ◌%◌, ◌^◌, ◌<◌, ◌≤◌, Bool, true, false, not, ◌&&◌, ◌||◌, min, max, eqb, leb, refl, sym, ap, ◌∙◌, arith, ltb, lt_of_le_of_lt, add_comm, mod-lt, one-mul, add-zero, inl, inr, subst, cond, mod-eq_of_lt}
+use Rattle.std.proofs.lemmas.Bool.{lt-ltb, le-ltb, cases_lt, and_left, and_right, cases_Bool, cases_eq, false≢true, cases_order, lt-leb, le-leb, eq-eqb, ne_eqb, cond-true, cond-false}
 use Rattle.std.proofs.lemmas.Bool.Decides.{nat_tests}
-use Rattle.std.proofs.lemmas.Nat.{shr_le, shr-shr, pow_pos, pow_below, shr_split}
+use Rattle.std.proofs.lemmas.Nat.{shr_le, shr-shr, pow_pos, pow_below, shr_split, or_lt, mod-mul-add}
 use Rattle.std.proofs.lemmas.Nat.Bits.{bit_at_and, bit_at_or, bit_at_xor, bit_at-lt, bit_at-zero, bit_at-pow_same, bit_at-pow_other, bit_at_above, bit_at_ones, bit_at_cat_low, bit_at_cat_high, bit_at_not, same_from_bits_below}
 use mir.Val.{bits}
 use Rattle.vob_block.specs.Places.{place, HasPlaces}
@@ -146,6 +146,68 @@ HasPlaces-shift_down w x n h = record {
   where
     moved : (j : ℕ) → place j (x / 2 ^ n) ≡ place (j + n) x
     moved j = ap (λ y. eqb (y % 2) 1) (shr-shr x n j ∙ ap (λ k. x / 2 ^ k) (add_comm n j))
+
+-- `x.rotate_left(n)`
+or-false : (b : Bool) → (b || false) ≡ b
+or-false true = refl
+or-false false = refl
+
+pub HasPlaces-rotate : (w : Width) (v x n : ℕ) → v ≡ bit_len w → x < 2 ^ v → 0 < n → n < v → HasPlaces v (rotate_left w x n) (λ j. place ((j + (v - n)) % v) x)
+HasPlaces-rotate w v x n e h positive below = record {
+  each = λ j k.
+      let all : v ≡ bits w = e ∙ sym (bits_is w) in
+      let turn : n % bits w ≡ n = mod-eq_of_lt (subst (λ (m : ℕ). n < m) all below) in
+      let less : v - n < v = omega arith in
+      let back : (bits w - n % bits w) % bits w ≡ v - n =
+      ap (λ m. (bits w - m) % bits w) turn ∙ ap (λ m. (m - n) % m) (sym all) ∙ mod-eq_of_lt less in
+      let low : place j (x * 2 ^ (n % bits w) % 2 ^ bits w) ≡ (leb n j && place (j - n) x) =
+      ap (λ m. place j (x * 2 ^ m % 2 ^ bits w)) turn ∙ place-shift (bits w) x n j (subst (λ (m : ℕ). j < m) all k) in
+      let high : place j (x / 2 ^ ((bits w - n % bits w) % bits w)) ≡ (ltb (j + (v - n)) v && place (j + (v - n)) x) =
+      ap (λ m. place j (x / 2 ^ m)) back ∙ (HasPlaces-shift_down v x (v - n) h).each j k in
+      place-or (x * 2 ^ (n % bits w) % 2 ^ bits w) (x / 2 ^ ((bits w - n % bits w) % bits w)) j
+      ∙ ap (λ b. b || place j (x / 2 ^ ((bits w - n % bits w) % bits w))) low ∙ ap (λ b. (leb n j && place (j - n) x) || b) high
+      ∙ elim (cases_lt j n) [
+        | inl inside ↦
+            let fits : j + (v - n) < v = omega arith in
+            let whole : (j + (v - n)) % v ≡ j + (v - n) = mod-eq_of_lt fits in
+            ap (λ b. b || (ltb (j + (v - n)) v && place (j + (v - n)) x)) (and_left (leb n j) (place (j - n) x) (lt-leb n j inside))
+            ∙ ap (λ b. b && place (j + (v - n)) x) (lt-ltb (j + (v - n)) v (omega arith)) ∙ ap (λ i. place i x) (sym whole)
+        | inr past ↦
+            let same : j + (v - n) ≡ 1 * v + (j - n) = omega arith in
+            let whole : (j + (v - n)) % v ≡ j - n = ap (λ i. i % v) same ∙ mod-mul-add 1 v (j - n) (omega arith) in
+            ap (λ b. (leb n j && place (j - n) x) || b) (and_left (ltb (j + (v - n)) v) (place (j + (v - n)) x) (le-ltb (j + (v - n)) v (omega arith)))
+            ∙ or-false (leb n j && place (j - n) x) ∙ ap (λ b. b && place (j - n) x) (le-leb n j past) ∙ ap (λ i. place i x) (sym whole)
+      ];
+}
+
+pub rotate-lt : (w : Width) (v x n : ℕ) → v ≡ bit_len w → x < 2 ^ v → rotate_left w x n < 2 ^ v
+rotate-lt w v x n e h =
+    let all : bits w ≡ v = bits_is w ∙ sym e in
+    let low = subst (λ (m : ℕ). x * 2 ^ (n % bits w) % 2 ^ bits w < 2 ^ m) all (mod-lt (x * 2 ^ (n % bits w)) (pow_pos (bits w))) in
+    or_lt v (x * 2 ^ (n % bits w) % 2 ^ bits w) (x / 2 ^ ((bits w - n % bits w) % bits w)) low (lt_of_le_of_lt (shr_le x _) h)
+
+-- the places of two neighbours that a block in between straddles
+pub HasPlaces-straddle : (w from u low high below above both : ℕ) → u ≡ w → 0 < from → from < w
+    → HasPlaces w below (λ j. ltb (j + from) w && place (j + from) low)
+    → HasPlaces w above (λ j. leb (u - from) j && place (j - (u - from)) high)
+    → HasPlaces w both (λ j. place j below || place j above)
+    → HasPlaces w both (λ j. cond (ltb (j + from) w) (place (j + from) low) (place (j + from - w) high))
+HasPlaces-straddle w from u low high below above both same positive inside p q r = record {
+  each = λ j k.
+      let up : place j above ≡ (leb (w - from) j && place (j - (w - from)) high) = q.each j k ∙ ap (λ m. leb (m - from) j && place (j - (m - from)) high) same in
+      r.each j k ∙ ap (λ b. b || place j above) (p.each j k) ∙ ap (λ b. (ltb (j + from) w && place (j + from) low) || b) up
+      ∙ elim (cases_lt (j + from) w) [
+        | inl fits ↦
+            ap (λ b. (ltb (j + from) w && place (j + from) low) || b) (and_left (leb (w - from) j) (place (j - (w - from)) high) (lt-leb (w - from) j (omega arith)))
+            ∙ or-false (ltb (j + from) w && place (j + from) low) ∙ ap (λ b. b && place (j + from) low) (lt-ltb (j + from) w fits)
+            ∙ sym (cond-true (ltb (j + from) w) (place (j + from) low) (place (j + from - w) high) (lt-ltb (j + from) w fits))
+        | inr past ↦
+            let moved : j - (w - from) ≡ j + from - w = omega arith in
+            ap (λ b. b || (leb (w - from) j && place (j - (w - from)) high)) (and_left (ltb (j + from) w) (place (j + from) low) (le-ltb (j + from) w past))
+            ∙ ap (λ b. b && place (j - (w - from)) high) (le-leb (w - from) j (omega arith)) ∙ ap (λ i. place i high) moved
+            ∙ sym (cond-false (ltb (j + from) w) (place (j + from) low) (place (j + from - w) high) (le-ltb (j + from) w past))
+      ];
+}
 
 -- every place, and no place
 pub place-ones : (w j : ℕ) → j < w → place j (2 ^ w - 1) ≡ true

@@ -1,5 +1,5 @@
 //! The trait of the types that store bits, by their places.
-ghost use Rattle.std.specs.Prelude.{◌≡◌, ◌≢◌, ◌==◌, ℕ, ◌+◌, ◌-◌, ◌^◌, ◌<◌, ◌≤◌, ◌&&◌, ◌||◌, ◌↔◌, not, true, false, nat_le, nat_lt, pos, IsTrue, length, All, map};
+ghost use Rattle.std.specs.Prelude.{◌≡◌, ◌≢◌, ◌==◌, ℕ, ◌+◌, ◌-◌, ◌%◌, ◌^◌, ◌<◌, if◌then◌else◌, ◌≤◌, ◌&&◌, ◌||◌, ◌↔◌, not, true, false, nat_le, nat_lt, pos, IsTrue, length, All, map};
 ghost use Rattle.num_traits.specs.Laws.{bit_len};
 ghost use Rattle.vob_block.specs.Places.{place, HasPlaces};
 ghost use Rattle.vob_block.specs.Pointwise.{IsPointwise, differ};
@@ -100,6 +100,29 @@ pub trait Block: PrimInt + Hash + Debug {
     {
         self.known();
         self.unsigned_shr(n as u32)
+    }
+
+    /// Moves each place up by `n`, and the `n` places that pass the width to the lowest ones.
+    final fn rotate_up(self, n: usize) -> Self
+        requires positive { 0 < n }
+        requires below { n < BITS }
+        ensures places { HasPlaces BITS (number result) (λ j. place ((j + (BITS - n)) % BITS) (number self)) }
+        ensures within { number result < 2 ^ BITS }
+    {
+        self.known();
+        self.rotate_left(n as u32)
+    }
+
+    /// The places from `from` on, and behind them the low places of `high`: a block that straddles
+    /// two neighbours, of which `self` is the lower one.
+    final fn straddle(self, high: Self, from: usize) -> Self
+        requires positive { 0 < from }
+        requires below { from < BITS }
+        ensures places { HasPlaces BITS (number result) (λ j. if nat_lt (j + from) BITS
+            then place (j + from) (number self) else place (j + from - BITS) (number high)) }
+        ensures within { number result < 2 ^ BITS }
+    {
+        self.down(from).bor(high.up(Self::BITS - from))
     }
 
     /// The places below `n`, and no others.

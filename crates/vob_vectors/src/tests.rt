@@ -2,5 +2,6 @@
 mod agreement;
 mod constructors;
 mod made_and_changed;
+mod joins;
 mod rows;
 mod single_bits;

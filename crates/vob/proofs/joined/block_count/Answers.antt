@@ -1,0 +1,13 @@
+-- The quotient rounded up is enough, and no more than needed.
+use Rattle.std.proofs.Common.{◌≡◌, ◌<◌, sym, subst, ◌∙◌, arith, ℕ}
+use Rattle.std.proofs.lemmas.Grind.{div_ceil_times}
+use Rattle.vob_block.specs.Packing.{need}
+use Rattle.vob_block.proofs.PlaceLemmas.{width_pos}
+use Rattle.vob_block.proofs.NeedLemmas.{need_is}
+use Rattle.vob.proofs.joined.block_count.Goals as goal
+
+pub returns : goal.returns
+returns g c =
+    let wide = width_pos g.T.FixedWidth.width _ g.met.T.Block.width_law in
+    let times = div_ceil_times c.args.len g.T.Block.BITS wide in
+    rw c.BITS.ensures at c.div_ceil.ensures ∙ sym (need_is g.T.Block.BITS wide c.args.len _ times.0 times.1)

@@ -1,0 +1,105 @@
+//! Joining and cutting: worked rows, and patterns against a push of each bit.
+use std::alloc::Global;
+use std::process::Abort;
+use std::test::Fail;
+use vob::{Vob, VobError};
+use vob_block::Block;
+
+/// A packed vector of these bits.
+fn pushed<T: Block>(alloc: Global, bits: &[bool]) -> Result<Vob<T>, VobError> {
+    let mut vob = Vob::<T>::new_with_storage_type(alloc, 0)?;
+    for bit in bits {
+        vob.push(*bit)?;
+    }
+    Ok(vob)
+}
+
+/// `len` bits of a pattern: bit `i` is true where `i * i + seed` leaves 0 or 1 of a division by 5.
+fn pattern(alloc: Global, len: usize, seed: usize) -> Result<Vec<bool>, VobError> {
+    let mut bits = Vec::new(alloc);
+    for index in 0..len {
+        let rest = index % 5;
+        bits.push((rest * rest + seed % 5) % 5 < 2)?;
+    }
+    Ok(bits)
+}
+
+/// Two parts are joined, which leaves what pushes leave, and cut apart again.
+fn check_parts<T: Block>(
+    rt: &impl Abort,
+    alloc: Global,
+    first: usize,
+    second: usize,
+) -> Result<(), Fail> {
+    let low = pattern(alloc, first, 1)?;
+    let high = pattern(alloc, second, 3)?;
+    let one: Vob<T> = pushed(alloc, &low)?;
+    let two: Vob<T> = pushed(alloc, &high)?;
+    let mut plain: Vob<T> = pushed(alloc, &low)?;
+    for bit in &high {
+        plain.push(*bit)?;
+    }
+    let mut joined: Vob<T> = pushed(alloc, &low)?;
+    joined.extend_from_vob(&two)?;
+    assert_eq!(rt; joined.len(), plain.len(), "{first} and {second} bits");
+    assert_eq!(rt; joined.get_storage(), plain.get_storage(), "{first} and {second} bits");
+    let rest = joined.split_off(first)?;
+    assert_eq!(rt; joined.len(), first, "{first} and {second} bits");
+    assert_eq!(rt; joined.get_storage(), one.get_storage(), "{first} and {second} bits");
+    assert_eq!(rt; rest.len(), second, "{first} and {second} bits");
+    assert_eq!(rt; rest.get_storage(), two.get_storage(), "{first} and {second} bits");
+    Ok(())
+}
+
+#[test]
+fn joined_bits_are_cut_apart_again(rt: HostRuntime) -> Result<(), Fail> {
+    let alloc = rt.alloc();
+    let mut vob: Vob<u8> = pushed(alloc, &[true, false, true, true, false])?;
+    let other: Vob<u8> = pushed(alloc, &[true, true, true, false, true])?;
+    vob.extend_from_vob(&other)?;
+    assert_eq!(rt; vob.len(), 10);
+    assert_eq!(rt; vob.get_storage(), [237, 2].as_slice());
+    let rest = vob.split_off(5)?;
+    assert_eq!(rt; vob.len(), 5);
+    assert_eq!(rt; vob.get_storage(), [13].as_slice());
+    assert_eq!(rt; rest.len(), 5);
+    assert_eq!(rt; rest.get_storage(), [23].as_slice());
+    Ok(())
+}
+
+#[test]
+fn a_cut_past_the_end_gives_no_bits(rt: HostRuntime) -> Result<(), Fail> {
+    let mut vob: Vob<u8> = pushed(rt.alloc(), &[true, false, true])?;
+    let rest = vob.split_off(5)?;
+    assert_eq!(rt; rest.len(), 0);
+    assert_eq!(rt; vob.len(), 3);
+    assert_eq!(rt; vob.get_storage(), [5].as_slice());
+    Ok(())
+}
+
+#[test]
+fn false_bits_are_joined_behind_a_full_block(rt: HostRuntime) -> Result<(), Fail> {
+    let alloc = rt.alloc();
+    let mut vob: Vob<u8> = pushed(alloc, &[true; 8])?;
+    vob.extend_from_vob(&pushed(alloc, &[false; 9])?)?;
+    assert_eq!(rt; vob.len(), 17);
+    assert_eq!(rt; vob.get_storage(), [255, 0, 0].as_slice());
+    Ok(())
+}
+
+#[test]
+fn joins_leave_what_pushes_leave(rt: HostRuntime) -> Result<(), Fail> {
+    let alloc = rt.alloc();
+    for first in 0..128 {
+        for second in 0..128 {
+            check_parts::<usize>(&rt, alloc, first, second)?;
+        }
+    }
+    for first in 0..41 {
+        for second in 0..41 {
+            check_parts::<u8>(&rt, alloc, first, second)?;
+            check_parts::<u128>(&rt, alloc, first, second)?;
+        }
+    }
+    Ok(())
+}
