@@ -1,7 +1,7 @@
 //! Tests of packed vectors of bits, and of commands on them.
 mod agreement;
 mod constructors;
-mod made_and_changed;
 mod joins;
+mod made_and_changed;
 mod rows;
 mod single_bits;

@@ -1,4 +1,5 @@
 //! Joining and cutting: worked rows, and patterns against a push of each bit.
+use super::single_bits::pattern;
 use std::alloc::Global;
 use std::process::Abort;
 use std::test::Fail;
@@ -14,40 +15,41 @@ fn pushed<T: Block>(alloc: Global, bits: &[bool]) -> Result<Vob<T>, VobError> {
     Ok(vob)
 }
 
-/// `len` bits of a pattern: bit `i` is true where `i * i + seed` leaves 0 or 1 of a division by 5.
-fn pattern(alloc: Global, len: usize, seed: usize) -> Result<Vec<bool>, VobError> {
-    let mut bits = Vec::new(alloc);
-    for index in 0..len {
-        let rest = index % 5;
-        bits.push((rest * rest + seed % 5) % 5 < 2)?;
-    }
-    Ok(bits)
-}
-
 /// Two parts are joined, which leaves what pushes leave, and cut apart again.
 fn check_parts<T: Block>(
     rt: &impl Abort,
     alloc: Global,
-    first: usize,
-    second: usize,
+    seed: u64,
+    first: u64,
+    second: u64,
 ) -> Result<(), Fail> {
-    let low = pattern(alloc, first, 1)?;
-    let high = pattern(alloc, second, 3)?;
-    let one: Vob<T> = pushed(alloc, &low)?;
-    let two: Vob<T> = pushed(alloc, &high)?;
-    let mut plain: Vob<T> = pushed(alloc, &low)?;
-    for bit in &high {
-        plain.push(*bit)?;
+    let one: Vob<T> = pattern(alloc, seed, first)?;
+    let two: Vob<T> = pattern(alloc, seed, second)?;
+    let mut plain: Vob<T> = pattern(alloc, seed, first)?;
+    for bit in &two {
+        plain.push(bit)?;
     }
-    let mut joined: Vob<T> = pushed(alloc, &low)?;
+    let mut joined: Vob<T> = pattern(alloc, seed, first)?;
     joined.extend_from_vob(&two)?;
     assert_eq!(rt; joined.len(), plain.len(), "{first} and {second} bits");
-    assert_eq!(rt; joined.get_storage(), plain.get_storage(), "{first} and {second} bits");
-    let rest = joined.split_off(first)?;
-    assert_eq!(rt; joined.len(), first, "{first} and {second} bits");
-    assert_eq!(rt; joined.get_storage(), one.get_storage(), "{first} and {second} bits");
-    assert_eq!(rt; rest.len(), second, "{first} and {second} bits");
-    assert_eq!(rt; rest.get_storage(), two.get_storage(), "{first} and {second} bits");
+    assert_eq!(rt;
+        joined.get_storage(),
+        plain.get_storage(),
+        "{first} and {second} bits"
+    );
+    let rest = joined.split_off(one.len())?;
+    assert_eq!(rt; joined.len(), one.len(), "{first} and {second} bits");
+    assert_eq!(rt;
+        joined.get_storage(),
+        one.get_storage(),
+        "{first} and {second} bits"
+    );
+    assert_eq!(rt; rest.len(), two.len(), "{first} and {second} bits");
+    assert_eq!(rt;
+        rest.get_storage(),
+        two.get_storage(),
+        "{first} and {second} bits"
+    );
     Ok(())
 }
 
@@ -90,15 +92,25 @@ fn false_bits_are_joined_behind_a_full_block(rt: HostRuntime) -> Result<(), Fail
 #[test]
 fn joins_leave_what_pushes_leave(rt: HostRuntime) -> Result<(), Fail> {
     let alloc = rt.alloc();
-    for first in 0..128 {
-        for second in 0..128 {
-            check_parts::<usize>(&rt, alloc, first, second)?;
+    for seed in 0..3 {
+        for first in 0..128 {
+            for second in 0..128 {
+                check_parts::<usize>(&rt, alloc, seed, first, second)?;
+            }
         }
     }
-    for first in 0..41 {
-        for second in 0..41 {
-            check_parts::<u8>(&rt, alloc, first, second)?;
-            check_parts::<u128>(&rt, alloc, first, second)?;
+    Ok(())
+}
+
+#[test]
+fn short_joins_leave_what_pushes_leave(rt: HostRuntime) -> Result<(), Fail> {
+    let alloc = rt.alloc();
+    for seed in 0..3 {
+        for first in 0..41 {
+            for second in 0..41 {
+                check_parts::<u8>(&rt, alloc, seed, first, second)?;
+                check_parts::<u128>(&rt, alloc, seed, first, second)?;
+            }
         }
     }
     Ok(())

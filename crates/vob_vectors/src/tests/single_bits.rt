@@ -12,7 +12,7 @@ fn pattern_bit(seed: u64, index: u64) -> bool {
 }
 
 /// The first `count` bits of the pattern with this seed.
-fn pattern<T: Block>(alloc: Global, seed: u64, count: u64) -> Result<Vob<T>, Fail> {
+pub fn pattern<T: Block>(alloc: Global, seed: u64, count: u64) -> Result<Vob<T>, Fail> {
     let mut vob = Vob::<T>::new_with_storage_type(alloc, 0)?;
     for index in 0..count {
         vob.push(pattern_bit(seed, index))?;
