@@ -1,3 +1,4 @@
+pub mod AppendLemmas
 pub mod CutLemmas
 pub mod EvenLemmas
 pub mod ExtendLemmas
@@ -12,4 +13,5 @@ pub mod RoomLemmas
 pub mod StorageLemmas
 pub mod StraddleLemmas
 pub mod TurnLemmas
+pub mod WholeLemmas
 pub mod WriteLemmas

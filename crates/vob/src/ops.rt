@@ -1,11 +1,28 @@
-//! Two Vobs taken together, bit by bit.
-ghost use Rattle.std.specs.Prelude.{◌≡◌, ◌≢◌, ◌↔◌, ◌&&◌, ◌||◌, length, IsTrue};
+//! Calls on all bits at once: made one value, turned round, or taken together with another Vob's.
+ghost use Rattle.std.specs.Prelude.{◌≡◌, ◌≢◌, ◌↔◌, ◌&&◌, ◌||◌, not, map, length, replicate, IsTrue};
 ghost use Rattle.vob_block.specs.Pointwise.{differ, pointwise};
 
+use crate::fill::{fill, turn_round};
 use crate::vob::Vob;
 use vob_block::Block;
 
 impl<T: Block> Vob<T> {
+    /// Makes every bit `value`.
+    pub fn set_all(&mut self, value: bool)
+        ensures bits { self.new.bits ≡ replicate (length self.old.bits) value }
+        ensures capacity { self.new.capacity ≡ self.old.capacity }
+    {
+        fill(&mut self.vec, self.len, value);
+    }
+
+    /// Turns every bit round.
+    pub fn negate(&mut self)
+        ensures bits { self.new.bits ≡ map not self.old.bits }
+        ensures capacity { self.new.capacity ≡ self.old.capacity }
+    {
+        turn_round(&mut self.vec, self.len);
+    }
+
     /// Keeps the bits that both have, and answers whether a bit changed. vob 4.0.1 panics on unequal
     /// lengths.
     pub fn and(&mut self, other: &Vob<T>) -> bool
