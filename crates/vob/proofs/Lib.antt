@@ -2,6 +2,7 @@ pub mod AppendLemmas
 pub mod CutLemmas
 pub mod EvenLemmas
 pub mod ExtendLemmas
+pub mod ExtendingLemmas
 pub mod FillLemmas
 pub mod GatherLemmas
 pub mod JoinLemmas
