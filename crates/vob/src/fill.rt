@@ -1,5 +1,5 @@
-//! Blocks filled with one bit, and blocks whose bits are all turned round.
-ghost use Rattle.std.specs.Prelude.{◌≡◌, ◌+◌, ◌-◌, ◌*◌, ◌^◌, ◌≤◌, ◌<◌, ◌++◌, if◌then◌else◌, not, map, length, replicate, All, vec_capacity};
+//! Bits of one value: all bits made it, and others of it added behind them.
+ghost use Rattle.std.specs.Prelude.{◌≡◌, ◌+◌, ◌-◌, ◌*◌, ◌^◌, ◌≤◌, ◌<◌, ◌++◌, if◌then◌else◌, map, length, replicate, All, vec_capacity};
 ghost use Rattle.vob_block.specs.Packing.{need, spelled, IsCanonical};
 
 use crate::edit::clear_from;
@@ -21,20 +21,6 @@ pub(crate) fn fill<T: Block>(blocks: &mut [T], len: usize, value: bool)
     let even = even_block(value);
     for k in 0..blocks.len() {
         blocks[k] = even;
-    }
-    clear_from(blocks, len);
-}
-
-/// Turns each of the `len` bits round.
-pub(crate) fn turn_round<T: Block>(blocks: &mut [T], len: usize)
-    requires { IsCanonical len (map T.number blocks.old) T.BITS }
-    ensures canonical { IsCanonical len (map T.number blocks.new) T.BITS }
-    ensures bits { spelled len (map T.number blocks.new) T.BITS
-        ≡ map not (spelled len (map T.number blocks.old) T.BITS) }
-{
-    for k in 0..blocks.len() {
-        let block = blocks[k];
-        blocks[k] = block.bnot();
     }
     clear_from(blocks, len);
 }

@@ -2,7 +2,8 @@
 ghost use Rattle.std.specs.Prelude.{◌≡◌, ◌≢◌, ◌↔◌, ◌&&◌, ◌||◌, not, map, length, replicate, IsTrue};
 ghost use Rattle.vob_block.specs.Pointwise.{differ, pointwise};
 
-use crate::fill::{fill, turn_round};
+use crate::edit::turn_round;
+use crate::fill::fill;
 use crate::vob::Vob;
 use vob_block::Block;
 

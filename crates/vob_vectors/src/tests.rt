@@ -1,6 +1,7 @@
 //! Tests of packed vectors of bits, and of commands on them.
 mod agreement;
 mod constructors;
+mod growing;
 mod joins;
 mod made_and_changed;
 mod rows;

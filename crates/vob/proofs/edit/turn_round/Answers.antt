@@ -5,7 +5,7 @@ use Rattle.std.proofs.lemmas.List.Elements.{All-set}
 use Rattle.vob_block.specs.Packing.{stored}
 use Rattle.vob_block.proofs.PlaceLemmas.{width_pos}
 use Rattle.vob.proofs.WholeLemmas.{AreLaid-none, AreLaid-turned, spelled-turned}
-use Rattle.vob.proofs.fill.turn_round.Goals as goal
+use Rattle.vob.proofs.edit.turn_round.Goals as goal
 
 pub loop-k-init : goal.loop-k-init
 loop-k-init g c =

@@ -3,7 +3,7 @@ use Rattle.std.specs.Prelude.{All}
 use Rattle.std.proofs.Common.{◌≡◌, ℕ, ◌^◌, ◌<◌, ◌≤◌, not, map, get_or}
 use Rattle.vob_block.specs.Packing.{stored}
 use Rattle.vob.proofs.JoinLemmas.{AreLaid}
-use Rattle.vob.proofs.fill.turn_round.Given as goal
+use Rattle.vob.proofs.edit.turn_round.Given as goal
 
 abbrev pub invariant-loop-k : goal.invariant-loop-k
 invariant-loop-k g l = record {
