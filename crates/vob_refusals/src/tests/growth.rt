@@ -1,0 +1,88 @@
+//! Calls that make room behind the bits: refused, they leave the bits and the blocks.
+use super::{check_blocks, pushed};
+use std::test::Fail;
+use vob::{Vob, VobError};
+
+#[test]
+fn a_push_asks_for_memory_only_at_the_capacity(rt: HostRuntime) -> Result<(), Fail> {
+    let Ok(mut vob) = pushed(rt.alloc(), &[true; 8]) else {
+        return Ok(());
+    };
+    assert_eq!(rt; vob.pop(), Some(true));
+    assert_eq!(rt; vob.push(true), Ok(()), "the place of the popped bit");
+    check_blocks(&rt, &vob, 8, &[255]);
+    for len in vob.len()..vob.capacity() {
+        assert_eq!(rt; vob.push(true), Ok(()), "behind {len} bits");
+    }
+    let full = vob.len();
+    assert_eq!(rt; vob.capacity(), full);
+    let answer = vob.push(true);
+    for block in vob.get_storage().iter().take(full / 8) {
+        assert_eq!(rt; *block, 255);
+    }
+    if answer.is_ok() {
+        println!(rt; "answered")?;
+        return Ok(());
+    }
+    assert_eq!(rt; answer, Err(VobError::Memory));
+    assert_eq!(rt; vob.len(), full);
+    assert_eq!(rt; vob.get_storage().len(), full / 8);
+    Ok(())
+}
+
+#[test]
+fn a_join_within_the_capacity_takes_no_memory(rt: HostRuntime) -> Result<(), Fail> {
+    let Ok(mut vob) = Vob::<u8>::new_with_storage_type(rt.alloc(), 8) else {
+        return Ok(());
+    };
+    let Ok(five) = pushed(rt.alloc(), &[true; 5]) else {
+        return Ok(());
+    };
+    for _ in 0..3 {
+        assert_eq!(rt; vob.push(true), Ok(()));
+    }
+    assert_eq!(rt; vob.extend_from_vob(&five), Ok(()));
+    check_blocks(&rt, &vob, 8, &[255]);
+    println!(rt; "answered")?;
+    Ok(())
+}
+
+#[test]
+fn a_join_that_is_refused_leaves_all_bits(rt: HostRuntime) -> Result<(), Fail> {
+    let Ok(mut vob) = pushed(rt.alloc(), &[true, false, true]) else {
+        return Ok(());
+    };
+    let Ok(many) = Vob::<u8>::from_elem_with_storage_type(rt.alloc(), true, 999) else {
+        return Ok(());
+    };
+    let answer = vob.extend_from_vob(&many);
+    if answer.is_ok() {
+        assert_eq!(rt; vob.len(), 1002);
+        println!(rt; "answered")?;
+        return Ok(());
+    }
+    assert_eq!(rt; answer, Err(VobError::Memory));
+    check_blocks(&rt, &vob, 3, &[5]);
+    Ok(())
+}
+
+#[test]
+fn room_that_is_refused_leaves_all_bits(rt: HostRuntime) -> Result<(), Fail> {
+    let Ok(mut vob) = pushed(rt.alloc(), &[true, false, true]) else {
+        return Ok(());
+    };
+    let answer = vob.reserve(999);
+    check_blocks(&rt, &vob, 3, &[5]);
+    if answer.is_err() {
+        assert_eq!(rt; answer, Err(VobError::Memory));
+        return Ok(());
+    }
+    let room = vob.capacity();
+    assert!(rt; room >= 1002);
+    vob.shrink_to_fit();
+    check_blocks(&rt, &vob, 3, &[5]);
+    if vob.capacity() < room {
+        println!(rt; "answered")?;
+    }
+    Ok(())
+}

@@ -1,0 +1,87 @@
+//! Calls that take no memory: no refusal reaches them.
+use super::{check_blocks, pushed};
+use std::test::Fail;
+use vob::Vob;
+
+#[test]
+fn no_bits_take_no_memory(rt: HostRuntime) -> Result<(), Fail> {
+    let alloc = rt.alloc();
+    let empty = Vob::new(alloc);
+    assert_eq!(rt; empty.clone()?.len(), 0);
+    assert_eq!(rt; Vob::with_capacity(alloc, 0)?.capacity(), 0);
+    assert_eq!(rt; Vob::<u8>::new_with_storage_type(alloc, 0)?.capacity(), 0);
+    assert_eq!(rt; Vob::from_elem(alloc, true, 0)?.capacity(), 0);
+    assert_eq!(rt;
+        Vob::<u8>::from_elem_with_storage_type(alloc, true, 0)?.capacity(),
+        0
+    );
+    assert_eq!(rt; Vob::from_slice(alloc, &[])?.capacity(), 0);
+    assert_eq!(rt; Vob::from_bytes(alloc, &[])?.capacity(), 0);
+    assert_eq!(rt; Vob::from_iter(alloc, None)?.capacity(), 0);
+    println!(rt; "answered")?;
+    Ok(())
+}
+
+#[test]
+fn bits_are_read_and_written_in_place(rt: HostRuntime) -> Result<(), Fail> {
+    let Ok(mut vob) = pushed(rt.alloc(), &[true, false, true]) else {
+        return Ok(());
+    };
+    assert_eq!(rt; vob.len(), 3);
+    assert!(rt; !vob.is_empty());
+    assert!(rt; vob.set(1, true));
+    assert!(rt; vob.set_unchecked(0, false));
+    assert!(rt; vob.get_unchecked(1));
+    assert_eq!(rt; vob[2], true);
+    assert_eq!(rt; vob.get(3), None);
+    assert_eq!(rt; vob.iter().len(), 3);
+    assert_eq!(rt; vob.iter().next_back(), Some(true));
+    assert_eq!(rt; vob.iter_storage().next(), Some(6));
+    assert_eq!(rt; vob.blocks().len(), 1);
+    check_blocks(&rt, &vob, 3, &[6]);
+    vob.truncate(2);
+    assert_eq!(rt; vob.pop(), Some(true));
+    check_blocks(&rt, &vob, 1, &[0]);
+    println!(rt; "answered")?;
+    Ok(())
+}
+
+#[test]
+fn bits_are_combined_in_place(rt: HostRuntime) -> Result<(), Fail> {
+    let Ok(mut vob) = pushed(rt.alloc(), &[true, false, true]) else {
+        return Ok(());
+    };
+    let Ok(other) = pushed(rt.alloc(), &[true, true, false]) else {
+        return Ok(());
+    };
+    assert_eq!(rt; vob.len(), other.len());
+    assert!(rt; vob.or(&other));
+    check_blocks(&rt, &vob, 3, &[7]);
+    assert_eq!(rt; vob.len(), other.len());
+    assert!(rt; vob.xor(&other));
+    check_blocks(&rt, &vob, 3, &[4]);
+    assert_eq!(rt; vob.len(), other.len());
+    assert!(rt; vob.and(&other));
+    check_blocks(&rt, &vob, 3, &[0]);
+    println!(rt; "answered")?;
+    Ok(())
+}
+
+#[test]
+fn bits_move_in_the_room_that_there_is(rt: HostRuntime) -> Result<(), Fail> {
+    let Ok(mut vob) = pushed(rt.alloc(), &[true, false, true]) else {
+        return Ok(());
+    };
+    let Ok(other) = pushed(rt.alloc(), &[true, true, false]) else {
+        return Ok(());
+    };
+    assert_eq!(rt; vob.split_off(3)?.len(), 0);
+    let mut all = vob.split_off(0)?;
+    check_blocks(&rt, &vob, 0, &[]);
+    check_blocks(&rt, &all, 3, &[5]);
+    all.reserve(other.len())?;
+    all.append_blocks(&mut other.blocks(), other.len());
+    check_blocks(&rt, &all, 6, &[29]);
+    println!(rt; "answered")?;
+    Ok(())
+}
