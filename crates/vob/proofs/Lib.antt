@@ -1,6 +1,8 @@
+pub mod ChangeLemmas
 pub mod CutLemmas
 pub mod EvenLemmas
 pub mod ExtendLemmas
+pub mod FedLemmas
 pub mod FillLemmas
 pub mod GatherLemmas
 pub mod JoinLemmas

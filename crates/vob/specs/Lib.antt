@@ -1,3 +1,4 @@
+pub mod Fed
 pub mod Joining
 pub mod Laws
 pub mod Refusal

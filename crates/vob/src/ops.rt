@@ -1,14 +1,18 @@
 //! Two Vobs taken together, bit by bit.
 ghost use Rattle.std.specs.Prelude.{◌≡◌, ◌≢◌, ◌↔◌, ◌&&◌, ◌||◌, length, IsTrue, IfOk};
-ghost use Rattle.std.proofs.Common.{rules};
+ghost use Rattle.std.proofs.Common.{rules, ap};
+ghost use Rattle.std.specs.Cmp.{booleans_Decides};
+ghost use Rattle.std.specs.Cmp.Lexicographic.{pointwise_decides};
 ghost use Rattle.std.specs.Cmp.Rules.{comparing};
 ghost use Rattle.vob_block.specs.Pointwise.{differ, pointwise};
+ghost use Rattle.vob.specs.Fed.{fed_blocks};
 ghost use Rattle.vob.specs.Same.{same_bits};
 ghost use Rattle.vob.specs.Vob.{AreAsLong, IsTogether};
 
 use crate::same::same_blocks;
 use crate::vob::Vob;
 use std::alloc::AllocError;
+use std::hash::{Hash, Hasher};
 use std::ops::{BitAnd, BitAndAssign, BitOr, BitOrAssign, BitXor, BitXorAssign};
 use vob_block::Block;
 
@@ -189,4 +193,16 @@ impl<T: Block> PartialEq for Vob<T> {
 
 impl<T: Block> Eq for Vob<T> {
     ghost laws = { Prim.search (comparing, rules) };
+}
+
+impl<T: Block> Hash for Vob<T> {
+    ghost hash_input = { λ vob. fed_blocks T.hash_input T.of_bits T.BITS vob.bits };
+
+    ghost respects_eq = { λ vob other same. ap (fed_blocks T.hash_input T.of_bits T.BITS)
+        ((pointwise_decides booleans_Decides vob.bits other.bits).0 same) };
+
+    /// Feeds the blocks in order, and not the length: `0` and `00` feed a hasher the same.
+    fn hash<H: Hasher>(&self, state: &mut H) {
+        T::hash_slice(self.vec.as_slice(), state);
+    }
 }
