@@ -17,7 +17,8 @@ use std::ops::{BitAnd, BitAndAssign, BitOr, BitOrAssign, BitXor, BitXorAssign};
 use vob_block::Block;
 
 impl<T: Block> Vob<T> {
-    /// Keeps the bits that both have, and answers whether a bit changed. vob 4.0.1 panics on unequal
+    /// Keeps the bits that both have, and answers whether a bit changed. vob 4.0.1 panics on
+    /// unequal
     /// lengths.
     pub fn and(&mut self, other: &Vob<T>) -> bool
         requires { length self.old.bits ≡ length other.now.bits }
@@ -28,7 +29,8 @@ impl<T: Block> Vob<T> {
         T::and_into(self.vec.as_mut_slice(), &mut other.blocks())
     }
 
-    /// Gets the bits that either has, and answers whether a bit changed. vob 4.0.1 panics on unequal
+    /// Gets the bits that either has, and answers whether a bit changed. vob 4.0.1 panics on
+    /// unequal
     /// lengths.
     pub fn or(&mut self, other: &Vob<T>) -> bool
         requires { length self.old.bits ≡ length other.now.bits }
@@ -39,7 +41,8 @@ impl<T: Block> Vob<T> {
         T::or_into(self.vec.as_mut_slice(), &mut other.blocks())
     }
 
-    /// Gets the bits that one has and the other hasn't, and answers whether a bit changed. vob 4.0.1
+    /// Gets the bits that one has and the other hasn't, and answers whether a bit changed. vob
+    /// 4.0.1
     /// panics on unequal lengths.
     pub fn xor(&mut self, other: &Vob<T>) -> bool
         requires { length self.old.bits ≡ length other.now.bits }
@@ -59,7 +62,8 @@ impl<'a, 'b, T: Block> BitAnd<&'b Vob<T>> for &'a Vob<T> {
     ghost bitand_gives = { λ vob other result. IfOk result
         (λ made. made.bits ≡ pointwise ◌&&◌ vob.now.bits other.now.bits) };
 
-    /// The bits that both have, in a new Vob, or a refusal for its memory. vob 4.0.1 panics on unequal lengths, and
+    /// The bits that both have, in a new Vob, or a refusal for its memory. vob 4.0.1 panics on
+    /// unequal lengths, and
     /// ends the process where memory is refused.
     fn bitand(self, other: &'b Vob<T>) -> Result<Vob<T>, AllocError> {
         let mut made = self.clone()?;
@@ -76,7 +80,8 @@ impl<'a, 'b, T: Block> BitOr<&'b Vob<T>> for &'a Vob<T> {
     ghost bitor_gives = { λ vob other result. IfOk result
         (λ made. made.bits ≡ pointwise ◌||◌ vob.now.bits other.now.bits) };
 
-    /// The bits that either has, in a new Vob, or a refusal for its memory. vob 4.0.1 panics on unequal lengths, and
+    /// The bits that either has, in a new Vob, or a refusal for its memory. vob 4.0.1 panics on
+    /// unequal lengths, and
     /// ends the process where memory is refused.
     fn bitor(self, other: &'b Vob<T>) -> Result<Vob<T>, AllocError> {
         let mut made = self.clone()?;
@@ -93,7 +98,8 @@ impl<'a, 'b, T: Block> BitXor<&'b Vob<T>> for &'a Vob<T> {
     ghost bitxor_gives = { λ vob other result. IfOk result
         (λ made. made.bits ≡ pointwise differ vob.now.bits other.now.bits) };
 
-    /// The bits that one has and the other hasn't, in a new Vob, or a refusal for its memory. vob 4.0.1 panics on unequal lengths, and
+    /// The bits that one has and the other hasn't, in a new Vob, or a refusal for its memory. vob
+    /// 4.0.1 panics on unequal lengths, and
     /// ends the process where memory is refused.
     fn bitxor(self, other: &'b Vob<T>) -> Result<Vob<T>, AllocError> {
         let mut made = self.clone()?;
@@ -134,7 +140,8 @@ impl<'a, T: Block> BitOr<&'a Vob<T>> for Vob<T> {
 
     ghost bitor_gives = { λ vob other result. IsTogether ◌||◌ vob other.now result };
 
-    /// The bits that either has, in the blocks of the left one. vob 4.0.1 panics on unequal lengths.
+    /// The bits that either has, in the blocks of the left one. vob 4.0.1 panics on unequal
+    /// lengths.
     fn bitor(mut self, other: &'a Vob<T>) -> Vob<T> {
         self.or(other);
         self
@@ -159,7 +166,8 @@ impl<'a, T: Block> BitXor<&'a Vob<T>> for Vob<T> {
 
     ghost bitxor_gives = { λ vob other result. IsTogether differ vob other.now result };
 
-    /// The bits that one has and the other hasn't, in the blocks of the left one. vob 4.0.1 panics on unequal lengths.
+    /// The bits that one has and the other hasn't, in the blocks of the left one. vob 4.0.1 panics
+    /// on unequal lengths.
     fn bitxor(mut self, other: &'a Vob<T>) -> Vob<T> {
         self.xor(other);
         self

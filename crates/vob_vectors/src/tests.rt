@@ -3,5 +3,7 @@ mod agreement;
 mod constructors;
 mod joins;
 mod made_and_changed;
+mod pointwise;
+mod reachable;
 mod rows;
 mod single_bits;
