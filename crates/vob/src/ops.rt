@@ -195,7 +195,8 @@ impl<T: Block> PartialEq for Vob<T> {
         ensures answer { result ≡ same_bits self.now.bits other.now.bits }
         ensures lists { IsTrue result ↔ (self.now.bits ≡ other.now.bits) }
     {
-        self.len == other.len && same_blocks(self.vec.as_slice(), other.vec.as_slice())
+        let as_long = self.len == other.len;
+        as_long && same_blocks(self.vec.as_slice(), other.vec.as_slice())
     }
 }
 
