@@ -38,35 +38,12 @@ module _ (w : ℕ) (wide : 0 < w) (n m : ℕ) (xs ys : List ℕ) (g : IsCanonica
 pub same_bits_is : (bits others : List Bool) (r : Bool) → Decides r (bits ≡ others) → r ≡ same_bits bits others
 same_bits_is bits others r test = one_answer r (same_bits bits others) test (same_bits_decides bits others)
 
-pub AreSame-none : (from : ℕ) (xs ys : List ℕ) → AreSame from from xs ys
-AreSame-none from xs ys k above below = absurd (omega arith)
-
-pub AreSame-joined : (from mid to : ℕ) (xs ys : List ℕ) → AreSame from mid xs ys → AreSame mid to xs ys → AreSame from to xs ys
-AreSame-joined from mid to xs ys first second k above below = elim (cases_lt k mid) [
-  | inl less ↦ first k above less
-  | inr more ↦ second k more below
-]
-
--- lists of one length are equal exactly where all their blocks are the same
-pub lists_from_blocks : (xs ys : List ℕ) (n : ℕ) → length xs ≡ length ys → n ≡ length xs → AreSame 0 n xs ys → xs ≡ ys
-lists_from_blocks xs ys n count whole same = ext_get_or 0 xs ys count (λ k below. same k (omega arith) (omega arith))
-
-pub AreSame-equal : (from to : ℕ) (xs ys : List ℕ) → xs ≡ ys → AreSame from to xs ys
-AreSame-equal from to xs ys e k above below = ap (λ zs. get_or zs k 0) e
-
 -- blocks from one index on, compared one after another: a number that is 0 exactly where those so
 -- far are the same
 pub record IsGathered (w from k differing : ℕ) (xs ys : List ℕ) : Type 0 where
   pub small : differing < 2 ^ w
   pub same : differing ≡ 0 → AreSame from k xs ys
   pub none : AreSame from k xs ys → differing ≡ 0
-
-pub IsGathered-none : (w from differing : ℕ) (xs ys : List ℕ) → differing ≡ 0 → IsGathered w from from differing xs ys
-IsGathered-none w from differing xs ys e = record {
-  small = subst (λ (x : ℕ). x < 2 ^ w) (sym e) (pow_pos w);
-  same = λ _. AreSame-none from xs ys;
-  none = λ _. e;
-}
 
 module _ (w from k differing : ℕ) (xs ys : List ℕ) (h : IsGathered w from k differing xs ys) (order : from ≤ k)
     (mine theirs diff after : ℕ) (is : mine ≡ get_or xs k 0) (its : theirs ≡ get_or ys k 0)

@@ -18,8 +18,7 @@ use vob_block::Block;
 
 impl<T: Block> Vob<T> {
     /// Keeps the bits that both have, and answers whether a bit changed. vob 4.0.1 panics on
-    /// unequal
-    /// lengths.
+    /// unequal lengths.
     pub fn and(&mut self, other: &Vob<T>) -> bool
         requires { length self.old.bits ≡ length other.now.bits }
         ensures bits { self.new.bits ≡ pointwise ◌&&◌ self.old.bits other.now.bits }
@@ -30,8 +29,7 @@ impl<T: Block> Vob<T> {
     }
 
     /// Gets the bits that either has, and answers whether a bit changed. vob 4.0.1 panics on
-    /// unequal
-    /// lengths.
+    /// unequal lengths.
     pub fn or(&mut self, other: &Vob<T>) -> bool
         requires { length self.old.bits ≡ length other.now.bits }
         ensures bits { self.new.bits ≡ pointwise ◌||◌ self.old.bits other.now.bits }
@@ -42,8 +40,7 @@ impl<T: Block> Vob<T> {
     }
 
     /// Gets the bits that one has and the other hasn't, and answers whether a bit changed. vob
-    /// 4.0.1
-    /// panics on unequal lengths.
+    /// 4.0.1 panics on unequal lengths.
     pub fn xor(&mut self, other: &Vob<T>) -> bool
         requires { length self.old.bits ≡ length other.now.bits }
         ensures bits { self.new.bits ≡ pointwise differ self.old.bits other.now.bits }
@@ -63,8 +60,7 @@ impl<'a, 'b, T: Block> BitAnd<&'b Vob<T>> for &'a Vob<T> {
         (λ made. made.bits ≡ pointwise ◌&&◌ vob.now.bits other.now.bits) };
 
     /// The bits that both have, in a new Vob, or a refusal for its memory. vob 4.0.1 panics on
-    /// unequal lengths, and
-    /// ends the process where memory is refused.
+    /// unequal lengths, and ends the process where memory is refused.
     fn bitand(self, other: &'b Vob<T>) -> Result<Vob<T>, AllocError> {
         let mut made = self.clone()?;
         made.and(other);
@@ -81,8 +77,7 @@ impl<'a, 'b, T: Block> BitOr<&'b Vob<T>> for &'a Vob<T> {
         (λ made. made.bits ≡ pointwise ◌||◌ vob.now.bits other.now.bits) };
 
     /// The bits that either has, in a new Vob, or a refusal for its memory. vob 4.0.1 panics on
-    /// unequal lengths, and
-    /// ends the process where memory is refused.
+    /// unequal lengths, and ends the process where memory is refused.
     fn bitor(self, other: &'b Vob<T>) -> Result<Vob<T>, AllocError> {
         let mut made = self.clone()?;
         made.or(other);
@@ -99,8 +94,7 @@ impl<'a, 'b, T: Block> BitXor<&'b Vob<T>> for &'a Vob<T> {
         (λ made. made.bits ≡ pointwise differ vob.now.bits other.now.bits) };
 
     /// The bits that one has and the other hasn't, in a new Vob, or a refusal for its memory. vob
-    /// 4.0.1 panics on unequal lengths, and
-    /// ends the process where memory is refused.
+    /// 4.0.1 panics on unequal lengths, and ends the process where memory is refused.
     fn bitxor(self, other: &'b Vob<T>) -> Result<Vob<T>, AllocError> {
         let mut made = self.clone()?;
         made.xor(other);

@@ -4,7 +4,7 @@ ghost use Rattle.vob.specs.Same.{AreSame};
 
 use vob_block::Block;
 
-// How many blocks are read for one test. A test after each block takes several times as long.
+// How many blocks are read for one test. A test after each block takes nearly twice as long.
 const CHUNK: usize = 32;
 
 /// Whether the blocks from `from` to below `to` are the same in both.

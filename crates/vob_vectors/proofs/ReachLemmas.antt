@@ -80,16 +80,6 @@ module _ (rows : List (List Bool)) (starts : List Bool) where
     pub more : changed ≡ true → trues starts < trues bits
     pub none : changed ≡ false → (i : ℕ) → i < k → item bits i ≡ true → IsWithin (get_or rows i []) bits
 
-  pub AreAdded-none : AreAdded starts 0 false
-  AreAdded-none = record {
-    count = refl;
-    kept = λ i e. e;
-    least = λ others within closed. within;
-    grown = omega arith;
-    more = λ e. absurd (false≢true e);
-    none = λ e i less. absurd (omega arith);
-  }
-
   module _ (bits : List Bool) (k : ℕ) (changed : Bool) (h : AreAdded bits k changed) where
     -- a node that isn't reached
     pub AreAdded-skip : item bits k ≡ false → AreAdded bits (k + 1) changed
@@ -173,26 +163,7 @@ module _ (rows : List (List Bool)) (starts : List Bool) where
     pub kept : IsWithin starts bits
     pub least : (others : List Bool) → IsWithin starts others → IsClosed rows others → IsWithin bits others
 
-  pub AreLed-none : AreLed starts
-  AreLed-none = record { count = refl; kept = λ i e. e; least = λ others within closed. within }
-
-  module _ (bits after : List Bool) (changed : Bool) (h : AreLed bits) (round : IsRound rows bits after changed) where
-    pub AreLed-more : AreLed after
-    AreLed-more = record {
-      count = round.count ∙ h.count;
-      kept = λ i e. round.kept i (h.kept i e);
-      least = λ others within closed. round.least others (h.least others within closed) closed;
-    }
-
-    -- a round that adds nothing is the last
-    pub AreReached-last : changed ≡ false → AreReached rows starts after
-    AreReached-last e = record {
-      count = AreLed-more.count;
-      kept = AreLed-more.kept;
-      closed = round.none e;
-      least = AreLed-more.least;
-    }
-
-    -- and one that adds a node leaves fewer to add
-    pub fewer_left : changed ≡ true → length after - trues after < length bits - trues bits
-    fewer_left e = omega (arith, round.more e, round.count, trues_le after, trues_le bits)
+-- a round that adds a node leaves fewer to add
+pub fewer_left : (rows : List (List Bool)) (bits after : List Bool) (changed : Bool) → IsRound rows bits after changed → changed ≡ true
+    → length after - trues after < length bits - trues bits
+fewer_left rows bits after changed round e = omega (arith, round.more e, round.count, trues_le after, trues_le bits)
