@@ -1,8 +1,10 @@
 pub mod AppendLemmas
+pub mod ChangeLemmas
 pub mod CutLemmas
 pub mod EvenLemmas
 pub mod ExtendLemmas
 pub mod ExtendingLemmas
+pub mod FedLemmas
 pub mod FillLemmas
 pub mod GatherLemmas
 pub mod JoinLemmas
@@ -11,6 +13,7 @@ pub mod PointwiseLemmas
 pub mod PushLemmas
 pub mod RestLemmas
 pub mod RoomLemmas
+pub mod SameLemmas
 pub mod StorageLemmas
 pub mod StraddleLemmas
 pub mod TurnLemmas

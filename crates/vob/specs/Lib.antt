@@ -1,6 +1,8 @@
 pub mod Extending
+pub mod Fed
 pub mod Joining
 pub mod Laws
 pub mod Refusal
 pub mod Rest
+pub mod Same
 pub mod Vob

@@ -1,5 +1,5 @@
 //! The laws of the operations on lists of bits. Each function does nothing: its contract is the law.
-ghost use Rattle.vob.specs.Laws.{JoinUndoesCut, JoinIsPushes};
+ghost use Rattle.vob.specs.Laws.{JoinUndoesCut, JoinIsPushes, EqualWhereListsAre, EqualWhereStorageIs, UnequalWherePlacesDiffer, PointwiseChangesBits, SetChangesBit, NegateTwice, XorOfEqual, NegatedAnd};
 
 /// Cutting a list and joining the parts gives it back, so a `split_off` and an `extend_from_vob` of
 /// the part that both succeed leave the old bits.
@@ -10,4 +10,49 @@ pub fn join_undoes_cut()
 /// Joining a list leaves what pushing each of its bits in order leaves.
 pub fn join_is_pushes()
     ensures { JoinIsPushes }
+{}
+
+/// The test of two lists is true exactly where they are equal, so `==` of two Vobs is.
+pub fn equal_where_lists_are()
+    ensures { EqualWhereListsAre }
+{}
+
+/// Lists are equal exactly where their lengths and their blocks are, so two Vobs of one block type
+/// are equal exactly where `len` and `get_storage` are.
+pub fn equal_where_storage_is()
+    ensures { EqualWhereStorageIs }
+{}
+
+/// Lists of one length are unequal exactly where they differ at some place.
+pub fn unequal_where_places_differ()
+    ensures { UnequalWherePlacesDiffer }
+{}
+
+/// A list taken together with another changes exactly where some bit does, so `and`, `or` and `xor`
+/// answer true exactly there.
+pub fn pointwise_changes_bits()
+    ensures { PointwiseChangesBits }
+{}
+
+/// A written bit changes a list exactly where it was another, so `set` answers true exactly where
+/// the list changed.
+pub fn set_changes_bit()
+    ensures { SetChangesBit }
+{}
+
+/// Turning every bit round twice leaves the list.
+pub fn negate_twice()
+    ensures { NegateTwice }
+{}
+
+/// Two equal lists, each bit true where they differ, are all false, so `xor` with an equal Vob
+/// leaves no bit true.
+pub fn xor_of_equal()
+    ensures { XorOfEqual }
+{}
+
+/// What not both have is what either hasn't: the `and` of two lists, turned round, is the `or` of
+/// both turned round.
+pub fn negated_and()
+    ensures { NegatedAnd }
 {}

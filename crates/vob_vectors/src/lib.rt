@@ -2,5 +2,6 @@
 #![tactic(auto)]
 
 pub mod plain;
+pub mod reachable;
 #[cfg(test)]
 mod tests;

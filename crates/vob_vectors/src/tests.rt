@@ -4,5 +4,7 @@ mod constructors;
 mod growing;
 mod joins;
 mod made_and_changed;
+mod pointwise;
+mod reachable;
 mod rows;
 mod single_bits;

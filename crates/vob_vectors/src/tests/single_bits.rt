@@ -6,7 +6,7 @@ use vob::Vob;
 use vob_block::Block;
 
 /// Bit `index` of the pattern with this seed.
-fn pattern_bit(seed: u64, index: u64) -> bool {
+pub fn pattern_bit(seed: u64, index: u64) -> bool {
     let place = index % 5;
     (place * place + seed % 5) % 5 < 2
 }

@@ -1,0 +1,7 @@
+-- Two lists taken together are as long as each.
+use Rattle.vob.proofs.ChangeLemmas.{unequal_decides}
+use Rattle.vob.proofs.PointwiseLemmas.{length-pointwise}
+use Rattle.vob.proofs.laws.pointwise_changes_bits.Goals as goal
+
+pub returns : goal.returns
+returns c = λ f bits others same. unequal_decides _ bits (length-pointwise f bits others same)
