@@ -4,11 +4,11 @@ use Rattle.std.proofs.Common.{◌≡◌, ◌≢◌, ℕ, ◌+◌, ◌-◌, ◌*�
 use Rattle.std.proofs.lemmas.Bool.{cases_lt, cases_eq, lt-ltb, le-ltb, lt-leb, le-leb}
 use Rattle.std.proofs.lemmas.List.{nil_from_length, map-append, take_all, append-nil, append_assoc, take_more, take-append-drop, length-take-le, length-drop, length-map, get_or-map, length-set, length-append, length-replicate, get_or_append_left, get_or-append_right, get_or-append-add, get_or_past, get_or-replicate}
 use Rattle.std.proofs.lemmas.List.Elements.{All-set, All-append, All-replicate}
-use Rattle.std.proofs.lemmas.Nat.{mul-le, mod-mul-add, div-mul-add, le-div}
+use Rattle.std.proofs.lemmas.Nat.{mul-le, mod-mul-add, div-mul-add}
 use Rattle.vob_block.specs.Places.{place, HasPlaces}
 use Rattle.vob_block.specs.Packing.{item, need, packing, stored, spelled, IsCanonical}
 use Rattle.vob_block.proofs.NeedLemmas.{need_is, need-le-need, need-zero, need_enough, need_at_full, need_at_open, div-lt-need}
-use Rattle.vob_block.proofs.PackingLemmas.{stored_at, stored_from, stored_past, stored-set_same, stored-set_other, length-spelled, get_or-spelled, spelled_from_items, stored_is_item, canonical_from_items, length-packing, stored-packing, packing-within}
+use Rattle.vob_block.proofs.PackingLemmas.{stored_at, stored_from, stored-set_same, stored-set_other, length-spelled, get_or-spelled, spelled_from_items, canonical_from_items, length-packing, stored-packing, packing-within}
 use Rattle.vob_block.proofs.PlaceLemmas.{same_from_places, place-ones}
 use Rattle.vob.proofs.EvenLemmas.{place-even, even-lt}
 

@@ -1,7 +1,6 @@
 -- Why an `extend` is refused, by what its calls say.
-use Rattle.std.specs.Prelude.{◌⊎◌, Err, Result, ⊤}
-use Rattle.std.specs.Iterator.{Yields, YieldsThen}
-use Rattle.std.proofs.Common.{◌≡◌, ◌↔◌, ℕ, ◌+◌, ◌-◌, ◌^◌, ◌<◌, ◌≤◌, ◌++◌, Bool, List, length, zero, suc, refl, sym, ap, ◌∙◌, arith}
+use Rattle.std.specs.Prelude.{Err, Result, ⊤}
+use Rattle.std.proofs.Common.{◌≡◌, ◌↔◌, ℕ, ◌+◌, ◌-◌, ◌^◌, ◌<◌, ◌≤◌, length, zero, suc, ap, arith}
 use Rattle.vob_block.specs.Packing.{need}
 use Rattle.vob.specs.declared.error.VobError.{VobError}
 use Rattle.vob.specs.declared.error.VobError.TheVariants.{TooLong, Memory}

@@ -1,6 +1,6 @@
 -- Blocks with room for more bits than they store, at the numbers of some items.
 use Rattle.std.specs.Prelude.{All}
-use Rattle.std.proofs.Common.{◌≡◌, ℕ, ◌+◌, ◌-◌, ◌*◌, ◌/◌, ◌%◌, ◌^◌, ◌<◌, ◌≤◌, List, [], ◌++◌, length, map, take, replicate, Bool, true, false, cond, refl, sym, ap, ◌∙◌, subst, arith}
+use Rattle.std.proofs.Common.{◌≡◌, ℕ, ◌+◌, ◌-◌, ◌/◌, ◌%◌, ◌^◌, ◌<◌, ◌≤◌, List, [], ◌++◌, length, map, take, replicate, Bool, true, false, cond, sym, ap, ◌∙◌, subst, arith}
 use Rattle.std.proofs.lemmas.Bool.{cond-true}
 use Rattle.std.proofs.lemmas.List.{length-append, length-map, length-replicate, map-append, take_all, get_or_append_left}
 use Rattle.std.proofs.lemmas.List.Elements.{All-append, All-map, All-replicate, All-same, All-take, All-nil}

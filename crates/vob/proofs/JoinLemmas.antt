@@ -1,13 +1,13 @@
 -- Blocks stored one after another so that they hold wanted bits, and joining at a plain width.
 use Rattle.std.specs.Prelude.{All, Some, slice_get, map}
 use Rattle.std.proofs.lemmas.Option.{get_or_from_slice_get, slice_get-map}
-use Rattle.std.proofs.Common.{◌≡◌, ◌≢◌, ℕ, ◌+◌, ◌-◌, ◌*◌, ◌/◌, ◌%◌, ◌^◌, ◌<◌, ◌≤◌, Bool, false, true, ◌&&◌, cond, List, ◌++◌, length, get_or, set, ltb, leb, refl, sym, ap, ◌∙◌, subst, arith, inl, inr, mod-lt, div-add-mod', add-mul, suc-mul, add-one, one-mul, add-zero}
+use Rattle.std.proofs.Common.{◌≡◌, ◌≢◌, ℕ, ◌+◌, ◌-◌, ◌*◌, ◌/◌, ◌%◌, ◌^◌, ◌<◌, ◌≤◌, Bool, false, ◌&&◌, cond, List, ◌++◌, length, get_or, set, ltb, leb, refl, sym, ap, ◌∙◌, subst, arith, inl, inr, mod-lt, div-add-mod', add-mul, suc-mul, add-one, one-mul, add-zero}
 use Rattle.std.proofs.lemmas.Bool.{cases_lt, cases_eq, lt-ltb, le-ltb, le-leb, cond-true, cond-false, and_left}
 use Rattle.std.proofs.lemmas.List.{length-set, length-append, get_or_append_left, get_or-append_right, get_or_past}
 use Rattle.std.proofs.lemmas.List.Elements.{All-set}
-use Rattle.std.proofs.lemmas.Nat.{mul-le, div_below, le-div, mod-mul-add, div-mul-add}
+use Rattle.std.proofs.lemmas.Nat.{le-div}
 use Rattle.vob_block.specs.Places.{place, HasPlaces}
-use Rattle.vob_block.specs.Packing.{item, need, stored, spelled, IsCanonical}
+use Rattle.vob_block.specs.Packing.{item, stored, spelled}
 use Rattle.vob_block.proofs.NeedLemmas.{need_enough, need_least, lt-need, mul-lt_from_need, div-lt-need}
 use Rattle.vob_block.proofs.PackingLemmas.{stored_at, stored_past, stored-set_same, stored-set_other, length-spelled, get_or-spelled, stored_is_item, canonical_from_items}
 use Rattle.vob.specs.Joining.{HaveRoom, IsJoined}

@@ -1,11 +1,10 @@
 -- Canonical storage taken together with another, place by place.
 use Rattle.std.specs.Prelude.{All}
-use Rattle.std.specs.List.{zip}
-use Rattle.std.proofs.Common.{◌≡◌, ◌≢◌, ◌↔◌, ℕ, zero, suc, ◌+◌, ◌*◌, ◌/◌, ◌%◌, ◌^◌, ◌<◌, ◌≤◌, Bool, true, false, List, [], ◌∷◌, length, map, get_or, refl, sym, ap, ◌∙◌, subst, arith, inl, inr, mod-lt}
+use Rattle.std.proofs.Common.{◌≡◌, ◌≢◌, ◌↔◌, ℕ, zero, suc, ◌/◌, ◌%◌, ◌^◌, ◌<◌, Bool, true, false, List, [], ◌∷◌, length, map, get_or, refl, sym, ap, ◌∙◌, subst, arith, inl, inr, mod-lt}
 use Rattle.std.proofs.lemmas.Bool.{cases_lt}
 use Rattle.std.proofs.lemmas.List.{length-map}
-use Rattle.vob_block.specs.Places.{place, HasPlaces}
-use Rattle.vob_block.specs.Packing.{item, need, packing, stored, spelled, IsCanonical}
+use Rattle.vob_block.specs.Places.{place}
+use Rattle.vob_block.specs.Packing.{item, packing, stored, spelled, IsCanonical}
 use Rattle.vob_block.specs.Pointwise.{IsPointwise, pointwise}
 use Rattle.vob_block.proofs.PackingLemmas.{IsCanonical-packing, spelled-packing, stored_from, stored_past, length-spelled, stored_is_item, canonical_from_items, packing-spelled}
 

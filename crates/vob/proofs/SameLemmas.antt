@@ -3,9 +3,8 @@ use Rattle.std.specs.Cmp.{booleans_Decides}
 use Rattle.std.specs.Cmp.Lexicographic.{pointwise_decides}
 use Rattle.std.specs.Bool.{Decides, nat_eq, one_answer}
 use Rattle.std.proofs.Common.{◌≡◌, ◌≢◌, ℕ, ◌+◌, ◌^◌, ◌<◌, ◌≤◌, Bool, ◌||◌, List, length, map, get_or, sym, ap, ◌∙◌, subst, arith, inl, inr, eqb-true}
-use Rattle.std.proofs.lemmas.Bool.{cases_lt, cases_eq}
-use Rattle.std.proofs.lemmas.List.{ext_get_or, get_or-map}
-use Rattle.std.proofs.lemmas.Nat.{pow_pos}
+use Rattle.std.proofs.lemmas.Bool.{cases_eq}
+use Rattle.std.proofs.lemmas.List.{get_or-map}
 use Rattle.vob_block.specs.Places.{place, HasPlaces}
 use Rattle.vob_block.specs.Packing.{spelled, IsCanonical}
 use Rattle.vob_block.specs.Pointwise.{differ}

@@ -1,12 +1,12 @@
 -- Blocks that hold the bits of others from an index on, at a plain width.
 use Rattle.std.specs.Prelude.{All}
-use Rattle.std.proofs.Common.{◌≡◌, ◌≢◌, ℕ, ◌+◌, ◌-◌, ◌*◌, ◌/◌, ◌%◌, ◌^◌, ◌<◌, ◌≤◌, Bool, false, ◌&&◌, cond, List, length, get_or, set, drop, ltb, refl, sym, ap, ◌∙◌, subst, arith, inl, inr, mod-lt, div-add-mod', add-mul, one-mul}
+use Rattle.std.proofs.Common.{◌≡◌, ℕ, ◌+◌, ◌-◌, ◌*◌, ◌/◌, ◌%◌, ◌^◌, ◌<◌, ◌≤◌, false, ◌&&◌, cond, List, length, get_or, set, drop, ltb, sym, ap, ◌∙◌, subst, arith, inl, inr, mod-lt, div-add-mod', add-mul, one-mul}
 use Rattle.std.proofs.lemmas.Bool.{cases_lt, lt-ltb, le-ltb, cond-true, cond-false, and_left}
 use Rattle.std.proofs.lemmas.List.{length-set, length-drop, get_or-drop}
 use Rattle.std.proofs.lemmas.List.Elements.{All-set, All-drop}
-use Rattle.std.proofs.lemmas.Nat.{le-div, mul-le}
+use Rattle.std.proofs.lemmas.Nat.{le-div}
 use Rattle.vob_block.specs.Places.{place, HasPlaces}
-use Rattle.vob_block.specs.Packing.{item, need, stored, spelled, IsCanonical}
+use Rattle.vob_block.specs.Packing.{need, stored, spelled, IsCanonical}
 use Rattle.vob_block.proofs.NeedLemmas.{div-lt-need, lt-need, mul-lt_from_need, need_enough, need_is}
 use Rattle.vob_block.proofs.PackingLemmas.{stored_from, stored_at, stored_past, length-spelled, stored_is_item, canonical_from_items}
 use Rattle.vob.specs.Joining.{IsRest}

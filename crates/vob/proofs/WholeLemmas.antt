@@ -1,13 +1,11 @@
 -- All bits of canonical storage made one bit, or turned round, at a plain width.
-use Rattle.std.specs.Prelude.{All}
-use Rattle.std.proofs.Common.{◌≡◌, ◌≢◌, ℕ, ◌+◌, ◌-◌, ◌*◌, ◌/◌, ◌%◌, ◌^◌, ◌<◌, ◌≤◌, Bool, false, not, cond, List, length, map, get_or, set, replicate, refl, sym, ap, ◌∙◌, arith, mod-lt}
-use Rattle.std.proofs.lemmas.List.{get_or-map, map-set, length-map, length-replicate, get_or-replicate, get_or-set_other}
-use Rattle.std.proofs.lemmas.List.Elements.{All-set}
+use Rattle.std.proofs.Common.{◌≡◌, ℕ, ◌+◌, ◌-◌, ◌^◌, ◌<◌, ◌≤◌, Bool, false, not, cond, List, length, map, get_or, set, replicate, sym, ap, ◌∙◌, arith}
+use Rattle.std.proofs.lemmas.List.{get_or-map, length-map, length-replicate, get_or-replicate}
 use Rattle.vob_block.specs.Places.{place, HasPlaces}
-use Rattle.vob_block.specs.Packing.{item, need, stored, spelled, IsCanonical}
+use Rattle.vob_block.specs.Packing.{need, stored, spelled}
 use Rattle.vob_block.proofs.NeedLemmas.{div-lt-need}
 use Rattle.vob_block.proofs.PackingLemmas.{stored_at, length-spelled, get_or-spelled, spelled_from_items}
-use Rattle.vob.proofs.EvenLemmas.{place-even, even-lt}
+use Rattle.vob.proofs.EvenLemmas.{place-even}
 use Rattle.vob.proofs.JoinLemmas.{AreLaid, AreLaid-more}
 
 -- blocks of which none is laid yet

@@ -6,7 +6,7 @@ use crate::edit::cut_to;
 use crate::error::VobError;
 use crate::fill::append_even;
 use crate::gathered::append_slice;
-use crate::joined::{block_count, cut, join};
+use crate::joined::{cut, join};
 use crate::room::reserve_bits;
 use crate::vob::Vob;
 use std::alloc::AllocError;
@@ -92,8 +92,7 @@ impl<T: Block> Vob<T> {
         if usize::MAX - self.len < other.len {
             return Err(VobError::TooLong);
         }
-        let count = block_count::<T>(self.len + other.len);
-        self.vec.reserve(count - self.vec.len())?;
+        reserve_bits(&mut self.vec, self.len + other.len)?;
         self.append_blocks(&mut other.blocks(), other.len);
         Ok(())
     }

@@ -5,6 +5,7 @@ ghost use Rattle.std.specs.Iterator.SizeHint.{IsWithinCount};
 ghost use Rattle.std.specs.Iterator.Runs.{YieldsInOrder, YieldsInReverse};
 ghost use Rattle.vob_block.specs.Packing.{stored};
 
+use crate::packed::block_bit;
 use crate::vob::Vob;
 use std::iter::FusedIterator;
 use std::marker::Model;
@@ -62,15 +63,6 @@ impl<'a, T: Block> IntoIterator for &'a Vob<T> {
     fn into_iter(self) -> Iter<'a, T> {
         self.iter()
     }
-}
-
-/// The place of bit `index` in its block. The bits past the length are places too.
-fn block_bit<T: Block>(blocks: &[T], index: usize) -> bool
-    requires { index < length blocks.now * T.BITS }
-    ensures { result ≡ stored (map T.number blocks.now) T.BITS index }
-{
-    let width = T::BITS;
-    blocks[index / width].bit(index % width)
 }
 
 impl<'a, T: Block> Iterator for Iter<'a, T> {

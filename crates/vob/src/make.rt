@@ -90,13 +90,8 @@ impl Vob<usize> {
 impl<T: Block> fmt::Debug for Vob<T> {
     fn fmt<W: fmt::Write>(&self, f: &mut fmt::Formatter<W>) -> fmt::Result {
         write!(f, "Vob[")?;
-        for index in 0..self.len() {
-            let digit = if self.get(index) == Some(true) {
-                "1"
-            } else {
-                "0"
-            };
-            write!(f, "{digit}")?;
+        for bit in self {
+            f.write_str(if bit { "1" } else { "0" })?;
         }
         write!(f, "]")
     }

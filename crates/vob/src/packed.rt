@@ -5,14 +5,22 @@ ghost use Rattle.vob_block.specs.Packing.{need, stored, spelled, IsCanonical};
 use std::alloc::AllocError;
 use vob_block::Block;
 
-/// Bit `index` of the blocks.
+/// The place of bit `index` in its block. The bits past the length are places too.
+pub(crate) fn block_bit<T: Block>(blocks: &[T], index: usize) -> bool
+    requires { index < length blocks.now * T.BITS }
+    ensures { result ≡ stored (map T.number blocks.now) T.BITS index }
+{
+    let width = T::BITS;
+    blocks[index / width].bit(index % width)
+}
+
+/// Bit `index` of the `len` bits of the blocks.
 pub(crate) fn stored_bit<T: Block>(blocks: &[T], len: usize, index: usize) -> bool
     requires canonical { IsCanonical len (map T.number blocks.now) T.BITS }
     requires in_range { index < len }
     ensures { slice_get (spelled len (map T.number blocks.now) T.BITS) index ≡ Some result }
 {
-    let width = T::BITS;
-    blocks[index / width].bit(index % width)
+    block_bit(blocks, index)
 }
 
 /// A block whose first place is `value`, and whose other places are false.

@@ -1,5 +1,5 @@
 -- Block after block is turned round, and then the unused places are cleared.
-use Rattle.std.proofs.Common.{◌≡◌, ◌<◌, ◌^◌, ◌∙◌, ap, sym, refl, not, map, length, arith}
+use Rattle.std.proofs.Common.{◌<◌, ◌^◌, ◌∙◌, ap, sym, refl, not, map, length, arith}
 use Rattle.std.proofs.lemmas.List.{length-map, map-set, get_or-map, get_or-set_other}
 use Rattle.std.proofs.lemmas.List.Elements.{All-set}
 use Rattle.vob_block.specs.Packing.{stored}

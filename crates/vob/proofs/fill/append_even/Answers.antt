@@ -1,6 +1,6 @@
 -- The last block is filled up, blocks of the one bit follow, and then the unused places are cleared.
-use Rattle.std.specs.Prelude.{is_ok, vec_capacity}
-use Rattle.std.proofs.Common.{◌≡◌, ◌≤◌, ◌+◌, ◌-◌, ◌*◌, ◌++◌, ◌∙◌, ap, sym, map, length, take, drop, replicate, arith}
+use Rattle.std.specs.Prelude.{is_ok}
+use Rattle.std.proofs.Common.{◌∙◌, ap, sym, map, length, drop, arith}
 use Rattle.std.proofs.lemmas.List.{length-map, take_at}
 use Rattle.vob_block.specs.Packing.{need, spelled}
 use Rattle.vob_block.proofs.PlaceLemmas.{width_pos}

@@ -1,5 +1,5 @@
 -- Block after block is of the one bit, and then the unused places are cleared.
-use Rattle.std.proofs.Common.{◌≡◌, ◌<◌, ◌^◌, ◌∙◌, map, length, arith}
+use Rattle.std.proofs.Common.{◌<◌, ◌^◌, ◌∙◌, map, arith}
 use Rattle.std.proofs.lemmas.List.{length-map, map-set}
 use Rattle.std.proofs.lemmas.List.Elements.{All-set}
 use Rattle.vob_block.proofs.PlaceLemmas.{width_pos}

@@ -1,5 +1,5 @@
 -- The last block gets all places from the used ones on, where there are some and they are to be true.
-use Rattle.std.proofs.Common.{◌≡◌, ◌<◌, ◌^◌, ◌/◌, ◌%◌, ◌*◌, ◌-◌, ◌++◌, replicate, ◌∙◌, ap, sym, inl, inr, map, length, true}
+use Rattle.std.proofs.Common.{◌≡◌, ◌<◌, ◌^◌, ◌/◌, ◌%◌, ◌∙◌, ap, sym, inl, inr, map}
 use Rattle.std.proofs.lemmas.List.{length-map, map-set}
 use Rattle.std.proofs.lemmas.List.Elements.{All-set}
 use Rattle.vob_block.proofs.PlaceLemmas.{width_pos}

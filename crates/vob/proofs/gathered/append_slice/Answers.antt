@@ -1,7 +1,7 @@
 -- Whole blocks are followed by the packing of the bits; else the last block takes the first of them.
-use Rattle.std.proofs.Common.{◌≡◌, ◌≢◌, ◌+◌, ◌-◌, ◌%◌, ◌∙◌, ap, sym, inl, arith, map, length, min, drop, mod-lt}
+use Rattle.std.proofs.Common.{◌≡◌, ◌-◌, ◌%◌, ◌∙◌, ap, sym, inl, arith, map, length, min, drop, mod-lt}
 use Rattle.std.proofs.lemmas.List.{length-map, length-append, length-take-le, take_at}
-use Rattle.vob_block.specs.Packing.{need, packing}
+use Rattle.vob_block.specs.Packing.{packing}
 use Rattle.vob_block.proofs.PlaceLemmas.{width_pos}
 use Rattle.vob_block.proofs.PackingLemmas.{length-packing}
 use Rattle.vob.proofs.AppendLemmas.{append_packing, append_parts}

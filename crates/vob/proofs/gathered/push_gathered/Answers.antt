@@ -1,6 +1,6 @@
 -- Each piece is the next block, and pieces are taken until no bits are left.
-use Rattle.std.proofs.Common.{◌≡◌, ◌+◌, ◌-◌, length, map, ap, ◌∙◌, sym, refl, arith, min, take, drop, ◌++◌, [], ◌∷◌, zero-mul, append_assoc, append-nil}
-use Rattle.std.proofs.lemmas.List.{length-map, map_push, length_push, take_all}
+use Rattle.std.proofs.Common.{◌≡◌, ◌+◌, ◌-◌, length, map, ap, ◌∙◌, sym, refl, arith, min, take, ◌++◌, [], ◌∷◌, zero-mul, append_assoc, append-nil}
+use Rattle.std.proofs.lemmas.List.{map_push, length_push, take_all}
 use Rattle.vob_block.specs.Packing.{packing}
 use Rattle.vob_block.proofs.PlaceLemmas.{width_pos}
 use Rattle.vob_block.proofs.PackingLemmas.{length-packing}

@@ -1,5 +1,5 @@
 -- The first m blocks of the packing stand behind the old ones, and the bits of the others are left.
-use Rattle.std.proofs.Common.{◌≡◌, ◌+◌, ◌*◌, ◌≤◌, ◌++◌, length, map, take, drop}
+use Rattle.std.proofs.Common.{◌≡◌, ◌*◌, ◌≤◌, ◌++◌, length, map, take, drop}
 use Rattle.std.specs.Prelude.{vec_capacity, ◌-◌}
 use Rattle.vob_block.specs.Packing.{need, packing}
 use Rattle.vob.proofs.gathered.push_gathered.Given as goal

@@ -1,7 +1,6 @@
 -- The quotient rounded up is enough, and no more than needed.
-use Rattle.std.proofs.Common.{◌≡◌, ◌<◌, sym, subst, ◌∙◌, arith, ℕ}
+use Rattle.std.proofs.Common.{sym, ◌∙◌}
 use Rattle.std.proofs.lemmas.Grind.{div_ceil_times}
-use Rattle.vob_block.specs.Packing.{need}
 use Rattle.vob_block.proofs.PlaceLemmas.{width_pos}
 use Rattle.vob_block.proofs.NeedLemmas.{need_is}
 use Rattle.vob.proofs.joined.block_count.Goals as goal

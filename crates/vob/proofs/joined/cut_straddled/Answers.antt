@@ -1,7 +1,6 @@
 -- By the lemmas on blocks that hold the bits of others from an index on.
-use Rattle.std.specs.Prelude.{All}
-use Rattle.std.proofs.Common.{◌≡◌, ◌<◌, ◌≤◌, ◌+◌, ◌-◌, ◌*◌, ◌/◌, ◌%◌, ◌^◌, ℕ, map, length, get_or, arith, rules, sym, ap, ◌∙◌, subst, le_of_lt, mod-lt, cond}
-use Rattle.std.proofs.lemmas.List.{length-map, map-set, get_or-map, length-set}
+use Rattle.std.proofs.Common.{◌<◌, ◌≤◌, ◌+◌, ◌-◌, ◌/◌, ◌^◌, map, length, arith, sym, ap, ◌∙◌, le_of_lt}
+use Rattle.std.proofs.lemmas.List.{length-map, map-set, get_or-map}
 use Rattle.std.proofs.lemmas.List.Elements.{All-set}
 use Rattle.vob_block.specs.Packing.{need}
 use Rattle.vob_block.proofs.PlaceLemmas.{width_pos}

@@ -1,7 +1,6 @@
 -- The rest is the blocks from that of the index on.
-use Rattle.std.proofs.Common.{◌≡◌, ◌≤◌, ◌<◌, ◌/◌, ◌-◌, ℕ, map, length, take, drop, arith, rules, sym, ap, ◌∙◌, subst}
-use Rattle.std.proofs.lemmas.List.{length-map, length-drop, take_rest, drop-map}
-use Rattle.vob_block.specs.Packing.{need}
+use Rattle.std.proofs.Common.{◌≡◌, ◌≤◌, ◌/◌, map, length, drop, arith, rules, sym, ap, ◌∙◌, subst}
+use Rattle.std.proofs.lemmas.List.{length-map, take_rest, drop-map}
 use Rattle.vob_block.proofs.PlaceLemmas.{width_pos}
 use Rattle.vob.proofs.StraddleLemmas.{IsRest-whole, length-drop_need, start-le}
 use Rattle.vob.specs.Joining.{IsRest}

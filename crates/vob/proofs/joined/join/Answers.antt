@@ -1,6 +1,6 @@
 -- The blocks that are there, filled up with as many empty ones as the bits need.
 use Rattle.std.specs.Prelude.{is_ok}
-use Rattle.std.proofs.Common.{◌≡◌, ◌≤◌, ◌+◌, ℕ, map, length, arith, ◌∙◌, ap}
+use Rattle.std.proofs.Common.{◌+◌, map, arith, ◌∙◌, ap}
 use Rattle.std.proofs.lemmas.List.{with_items_is}
 use Rattle.vob_block.specs.Packing.{need}
 use Rattle.vob_block.proofs.PlaceLemmas.{width_pos}

@@ -1,9 +1,8 @@
 -- By the lemmas on blocks that are joined one after another, each straddling two that were read.
-use Rattle.std.proofs.Common.{◌≡◌, ◌<◌, ◌≤◌, ◌/◌, ◌%◌, ◌+◌, ◌-◌, ℕ, ap, map, length, get_or, arith, rules, sym, ◌∙◌, refl, mod-lt}
+use Rattle.std.proofs.Common.{◌≡◌, ◌<◌, ◌≤◌, ◌/◌, ◌%◌, ◌+◌, ◌-◌, ℕ, ap, map, length, get_or, arith, rules, sym, ◌∙◌, mod-lt}
 use Rattle.std.proofs.lemmas.List.{length-map, map-set, get_or-map}
-use Rattle.std.proofs.lemmas.List.Elements.{All-set}
 use Rattle.vob_block.proofs.PlaceLemmas.{width_pos}
-use Rattle.vob.proofs.JoinLemmas.{AreJoined-none, AreJoined-straddled, IsCarried-first, IsCarried-more, AreLaid-last, IsJoined-laid, IsJoined-last, block_has_room, partial_has_room, blocks_have_room, blocks-le-room, number_read}
+use Rattle.vob.proofs.JoinLemmas.{AreJoined-none, AreJoined-straddled, IsCarried-first, IsCarried-more, IsJoined-laid, IsJoined-last, block_has_room, partial_has_room, blocks_have_room, number_read}
 use Rattle.vob.proofs.joined.join_straddled.Goals as goal
 
 pub bounds-own-at : goal.bounds-own-at

@@ -1,7 +1,6 @@
 -- By the lemmas on blocks that are joined one after another.
-use Rattle.std.proofs.Common.{◌≡◌, ◌<◌, ◌≤◌, ◌/◌, ◌+◌, ℕ, ap, map, length, arith, rules, sym, ◌∙◌, refl, le_refl, lt_of_le_of_lt, lt_trans, lit<}
+use Rattle.std.proofs.Common.{◌<◌, ◌/◌, ◌+◌, map, length, arith, rules, ◌∙◌}
 use Rattle.std.proofs.lemmas.List.{length-map, map-set}
-use Rattle.std.proofs.lemmas.Nat.{mul-le}
 use Rattle.vob_block.proofs.PlaceLemmas.{width_pos}
 use Rattle.vob.proofs.JoinLemmas.{AreJoined-none, AreJoined-whole, IsJoined-laid, block_has_room, blocks-le-room_full, number_read}
 use Rattle.vob.proofs.joined.join_whole.Goals as goal

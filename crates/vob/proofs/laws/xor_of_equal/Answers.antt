@@ -1,6 +1,6 @@
 -- By the bits, one after another.
 use Rattle.std.specs.Prelude.{replicate}
-use Rattle.std.proofs.Common.{◌≡◌, Bool, true, false, List, [], ◌∷◌, length, refl, sym, ap, ◌∙◌, subst}
+use Rattle.std.proofs.Common.{◌≡◌, Bool, true, false, List, [], ◌∷◌, length, refl, sym, ap, ◌∙◌}
 use Rattle.vob_block.specs.Pointwise.{differ, pointwise}
 use Rattle.vob.proofs.laws.xor_of_equal.Goals as goal
 

@@ -1,5 +1,5 @@
 -- The blocks of the bits, behind none.
-use Rattle.std.proofs.Common.{◌≡◌, ◌∙◌, ◌++◌, refl, ap, map, length, arith}
+use Rattle.std.proofs.Common.{◌∙◌, ◌++◌, refl, ap, map, length, arith}
 use Rattle.vob_block.specs.Packing.{packing}
 use Rattle.vob_block.proofs.PlaceLemmas.{width_pos}
 use Rattle.vob.proofs.ExtendLemmas.{packing_is}

@@ -1,17 +1,23 @@
 -- The block is there, since canonical storage has as many as the bits need, and its place is the bit.
-use Rattle.std.proofs.Common.{le_of_lt}
+use Rattle.std.specs.Prelude.{Some}
+use Rattle.std.proofs.Common.{◌≡◌, ◌*◌, ◌∙◌, ap, sym, map, length, false, arith}
+use Rattle.std.proofs.lemmas.List.{length-map}
+use Rattle.std.proofs.lemmas.Option.{slice_get-get_or}
+use Rattle.vob_block.specs.Packing.{need, spelled}
+use Rattle.vob_block.proofs.NeedLemmas.{need_enough}
+use Rattle.vob_block.proofs.PackingLemmas.{length-spelled, get_or-spelled}
 use Rattle.vob_block.proofs.PlaceLemmas.{width_pos}
-use Rattle.vob.proofs.StorageLemmas.{block_in_range, bit_is_place}
 use Rattle.vob.proofs.packed.stored_bit.Goals as goal
 
-pub offset_bounds-blocks-index : goal.offset_bounds-blocks-index
-offset_bounds-blocks-index g c =
-    le_of_lt (block_in_range g.T.Block.number g.T.Block.BITS (width_pos g.T.FixedWidth.width _ g.met.T.Block.width_law) c.args.len c.args.blocks.now c.requires.canonical c.args.index c.BITS-width.result c.BITS-width.ensures c.requires.in_range)
-
-pub bounds-blocks-index : goal.bounds-blocks-index
-bounds-blocks-index g c =
-    block_in_range g.T.Block.number g.T.Block.BITS (width_pos g.T.FixedWidth.width _ g.met.T.Block.width_law) c.args.len c.args.blocks.now c.requires.canonical c.args.index c.BITS-width.result c.BITS-width.ensures c.requires.in_range
+pub block_bit-requires : goal.block_bit-requires
+block_bit-requires g c =
+    let w = g.T.Block.BITS in
+    let enough = need_enough w (width_pos g.T.FixedWidth.width _ g.met.T.Block.width_law) c.args.len in
+    let held : length c.args.blocks.now * w ≡ need c.args.len w * w = ap (λ k. k * w) (sym (length-map c.args.blocks.now g.T.Block.number) ∙ c.requires.canonical.count) in
+    omega (arith, enough, held, c.requires.in_range)
 
 pub returns : goal.returns
 returns g c =
-    bit_is_place g.T.Block.number g.T.Block.BITS (width_pos g.T.FixedWidth.width _ g.met.T.Block.width_law) c.args.len c.args.blocks.now c.requires.canonical c.args.index c.BITS-width.result c.BITS-width.ensures c.requires.in_range c.index-blocks-index.result c.bit.result c.index-blocks-index.is c.bit.ensures
+    let w = g.T.Block.BITS in
+    let xs = map g.T.Block.number c.args.blocks.now in
+    slice_get-get_or (spelled c.args.len xs w) c.args.index false (omega (arith, length-spelled c.args.len xs w, c.requires.in_range)) ∙ ap Some (get_or-spelled c.args.len xs w c.args.index false c.requires.in_range ∙ sym c.block_bit.ensures)

@@ -1,5 +1,5 @@
 -- Room for so many bits is room in the blocks.
-use Rattle.std.proofs.Common.{◌≡◌, ◌+◌, ◌*◌, ◌≤◌, arith, min}
+use Rattle.std.proofs.Common.{arith}
 use Rattle.vob_block.proofs.PackingLemmas.{length-spelled}
 use Rattle.vob.proofs.vob.Vob.append_blocks.Goals as goal
 

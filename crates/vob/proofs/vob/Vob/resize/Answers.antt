@@ -1,5 +1,5 @@
 -- To cut is to take the first bits and add none; to grow is to take all and add the rest.
-use Rattle.std.proofs.Common.{◌≡◌, ◌≤◌, ◌<◌, ◌-◌, ◌++◌, ◌∙◌, sym, ap, length, map, take, replicate, refl, arith, append-nil}
+use Rattle.std.proofs.Common.{◌≡◌, ◌-◌, ◌++◌, ◌∙◌, sym, ap, length, map, take, replicate, refl, arith, append-nil}
 use Rattle.std.proofs.lemmas.List.{take_all, length-map}
 use Rattle.std.proofs.lemmas.Result.{err_from_is_err_and}
 use Rattle.vob_block.specs.Packing.{spelled}

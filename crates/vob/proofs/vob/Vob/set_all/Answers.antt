@@ -1,7 +1,6 @@
 -- As often the value as there were bits.
-use Rattle.std.proofs.Common.{◌≡◌, ◌∙◌, sym, ap, length, map, replicate}
+use Rattle.std.proofs.Common.{◌≡◌, ◌∙◌, sym, ap, length}
 use Rattle.std.proofs.lemmas.List.{take_at}
-use Rattle.vob_block.specs.Packing.{spelled}
 use Rattle.vob_block.proofs.PackingLemmas.{length-spelled}
 use Rattle.vob.proofs.vob.Vob.set_all.Goals as goal
 

@@ -1,5 +1,5 @@
 -- Where one part is empty by the lists alone, else by the clauses of the fields.
-use Rattle.std.proofs.Common.{◌≡◌, ◌≤◌, length, take, drop, arith, sym, ap, ◌∙◌}
+use Rattle.std.proofs.Common.{◌≤◌, length, take, arith, sym, ap, ◌∙◌}
 use Rattle.std.proofs.lemmas.List.{take_all, drop_all}
 use Rattle.vob_block.proofs.PackingLemmas.{length-spelled}
 use Rattle.vob_block.proofs.PlaceLemmas.{width_pos}

@@ -1,5 +1,5 @@
 -- By the lemmas on storage taken together, at the kernel's clauses.
-use Rattle.std.proofs.Common.{◌≡◌, false, ap, sym, length, map, refl, take, drop, ◌++◌, ◌∙◌}
+use Rattle.std.proofs.Common.{ap, sym, length, refl, drop, ◌∙◌}
 use Rattle.std.proofs.lemmas.List.{take_at}
 use Rattle.vob_block.specs.Pointwise.{differ}
 use Rattle.vob_block.proofs.PlaceLemmas.{width_pos}

@@ -1,7 +1,7 @@
 -- The bit's place in its block is what is stored there.
 use Rattle.vob_block.proofs.PlaceLemmas.{width_pos}
 use Rattle.vob.proofs.RestLemmas.{stored_is_place}
-use Rattle.vob.proofs.iter.block_bit.Goals as goal
+use Rattle.vob.proofs.packed.block_bit.Goals as goal
 
 pub returns : goal.returns
 returns g c =
