@@ -86,3 +86,54 @@ fn room_that_is_refused_leaves_all_bits(rt: HostRuntime) -> Result<(), Fail> {
     }
     Ok(())
 }
+
+#[test]
+fn equal_bits_that_are_refused_leave_all_bits(rt: HostRuntime) -> Result<(), Fail> {
+    let Ok(mut vob) = pushed(rt.alloc(), &[true, false, true]) else {
+        return Ok(());
+    };
+    let answer = vob.resize(999, true);
+    if answer.is_ok() {
+        assert_eq!(rt; vob.len(), 999);
+        println!(rt; "answered")?;
+        return Ok(());
+    }
+    assert_eq!(rt; answer, Err(VobError::Memory));
+    check_blocks(&rt, &vob, 3, &[5]);
+    Ok(())
+}
+
+#[test]
+fn a_slice_that_is_refused_leaves_all_bits(rt: HostRuntime) -> Result<(), Fail> {
+    let Ok(mut vob) = pushed(rt.alloc(), &[true, false, true]) else {
+        return Ok(());
+    };
+    let answer = vob.extend_from_slice([true; 99].as_slice());
+    if answer.is_ok() {
+        assert_eq!(rt; vob.len(), 102);
+        println!(rt; "answered")?;
+        return Ok(());
+    }
+    assert_eq!(rt; answer, Err(VobError::Memory));
+    check_blocks(&rt, &vob, 3, &[5]);
+    Ok(())
+}
+
+#[test]
+fn an_item_that_is_refused_leaves_those_before_it(rt: HostRuntime) -> Result<(), Fail> {
+    let Ok(mut vob) = Vob::<u8>::new_with_storage_type(rt.alloc(), 8) else {
+        return Ok(());
+    };
+    for _ in 0..8 {
+        assert_eq!(rt; vob.push(true), Ok(()));
+    }
+    let answer = vob.extend([true, true, false].into_iter().filter(|_| true));
+    if answer.is_ok() {
+        check_blocks(&rt, &vob, 11, &[255, 3]);
+        println!(rt; "answered")?;
+        return Ok(());
+    }
+    assert_eq!(rt; answer, Err(VobError::Memory));
+    check_blocks(&rt, &vob, 8, &[255]);
+    Ok(())
+}

@@ -98,3 +98,23 @@ fn a_cut_that_is_refused_leaves_all_bits(rt: HostRuntime) -> Result<(), Fail> {
     }
     Ok(())
 }
+
+#[test]
+fn operators_make_a_vob_or_are_refused(rt: HostRuntime) -> Result<(), Fail> {
+    let Ok(one) = pushed(rt.alloc(), &[true, false, true]) else {
+        return Ok(());
+    };
+    let Ok(two) = pushed(rt.alloc(), &[true, true, false]) else {
+        return Ok(());
+    };
+    assert_eq!(rt; one.len(), two.len());
+    let both = is_made(&rt, &one & &two, 3, &[1]);
+    let either = is_made(&rt, &one | &two, 3, &[7]);
+    let differing = is_made(&rt, &one ^ &two, 3, &[6]);
+    check_blocks(&rt, &one, 3, &[5]);
+    check_blocks(&rt, &two, 3, &[3]);
+    if both && either && differing {
+        println!(rt; "answered")?;
+    }
+    Ok(())
+}

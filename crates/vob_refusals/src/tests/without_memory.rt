@@ -85,3 +85,42 @@ fn bits_move_in_the_room_that_there_is(rt: HostRuntime) -> Result<(), Fail> {
     println!(rt; "answered")?;
     Ok(())
 }
+
+#[test]
+fn all_bits_change_in_place(rt: HostRuntime) -> Result<(), Fail> {
+    let Ok(mut vob) = pushed(rt.alloc(), &[true, false, true]) else {
+        return Ok(());
+    };
+    vob.negate();
+    check_blocks(&rt, &vob, 3, &[2]);
+    vob.set_all(true);
+    check_blocks(&rt, &vob, 3, &[7]);
+    vob.extend_from_slice(&[])?;
+    vob.extend(None)?;
+    vob.resize(5, true)?;
+    check_blocks(&rt, &vob, 5, &[31]);
+    vob.clear();
+    check_blocks(&rt, &vob, 0, &[]);
+    println!(rt; "answered")?;
+    Ok(())
+}
+
+#[test]
+fn operators_change_their_left_side(rt: HostRuntime) -> Result<(), Fail> {
+    let Ok(mut vob) = pushed(rt.alloc(), &[true, false, true]) else {
+        return Ok(());
+    };
+    let Ok(other) = pushed(rt.alloc(), &[true, true, false]) else {
+        return Ok(());
+    };
+    assert!(rt; vob != other);
+    assert_eq!(rt; vob.len(), other.len());
+    vob |= &other;
+    check_blocks(&rt, &vob, 3, &[7]);
+    assert_eq!(rt; vob.len(), other.len());
+    let both = vob & &other;
+    assert!(rt; both == other);
+    check_blocks(&rt, &both, 3, &[3]);
+    println!(rt; "answered")?;
+    Ok(())
+}

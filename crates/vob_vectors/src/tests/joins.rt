@@ -1,10 +1,11 @@
 //! Joining and cutting: worked rows, and patterns against a push of each bit.
 use super::single_bits::pattern;
 use std::alloc::Global;
+use std::mem::size_of;
 use std::process::Abort;
 use std::test::Fail;
 use vob::{Vob, VobError};
-use vob_block::Block;
+use vob_block::{Block, Blocks};
 
 /// A packed vector of these bits.
 fn pushed<T: Block>(alloc: Global, bits: &[bool]) -> Result<Vob<T>, VobError> {
@@ -114,4 +115,10 @@ fn short_joins_leave_what_pushes_leave(rt: HostRuntime) -> Result<(), Fail> {
         }
     }
     Ok(())
+}
+
+#[test]
+fn counted_blocks_are_as_large_as_a_slice(rt: HostRuntime) {
+    assert_eq!(rt; size_of::<Blocks<'_, u8>>(), size_of::<&[u8]>());
+    assert_eq!(rt; size_of::<Blocks<'_, u128>>(), size_of::<&[u128]>());
 }
