@@ -168,7 +168,8 @@ fn check_resize<T: Block>(
 ) -> Result<(), Fail> {
     let mut plain: Vob<T> = pattern(alloc, 1, first)?;
     let mut resized: Vob<T> = pattern(alloc, 1, first)?;
-    resized.resize(first as usize + more, value)?;
+    let len = resized.len().saturating_add(more);
+    resized.resize(len, value)?;
     for _ in 0..more {
         plain.push(value)?;
     }
