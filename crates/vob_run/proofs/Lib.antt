@@ -1,2 +1,4 @@
+pub mod GrowLemmas
+pub mod MakeLemmas
 pub mod RunLemmas
 pub mod StepLemmas

@@ -2,7 +2,7 @@
 use Rattle.std.specs.Prelude.{◌≢◌, ℕ, ◌+◌, ◌<◌, List, length, slice_get, Bool, IsSomeAnd, ⊤}
 use Rattle.vob_block.specs.Packing.{need}
 use Rattle.vob_run.specs.declared.command.Command.{Command}
-use Rattle.vob_run.specs.declared.command.Command.TheVariants.{New, Push, Pop, GetBit, GetUnchecked, IndexBit, SetBit, SetUnchecked, Length, IsEmpty, Truncate, Bits, Storage}
+use Rattle.vob_run.specs.declared.command.Command.TheVariants.{New, FromElem, Copy, Push, Pop, GetBit, GetUnchecked, IndexBit, SetBit, SetUnchecked, Length, IsEmpty, Truncate, Reserve, Shrink, Bits, Storage}
 use Rattle.vob_run.specs.Answer.{skipped, refused}
 use Rattle.vob_run.specs.Step.{step}
 
@@ -14,6 +14,8 @@ module _ (width : ℕ) (lists : List (List Bool)) where
   -- a command asks for memory: it makes something, or a list would take more blocks
   abbrev pub TakesMemory : Command → Type 0
   TakesMemory (New capacity) = ⊤
+  TakesMemory (FromElem value len) = ⊤
+  TakesMemory (Copy which) = ⊤
   TakesMemory (Push which value) = Grows which (λ bits. length bits + 1)
   TakesMemory (Pop which) = ⊥
   TakesMemory (GetBit which index) = ⊥
@@ -24,6 +26,8 @@ module _ (width : ℕ) (lists : List (List Bool)) where
   TakesMemory (Length which) = ⊥
   TakesMemory (IsEmpty which) = ⊥
   TakesMemory (Truncate which len) = ⊥
+  TakesMemory (Reserve which additional) = Grows which (λ bits. length bits + additional)
+  TakesMemory (Shrink which) = ⊥
   TakesMemory (Bits which) = ⊤
   TakesMemory (Storage which) = ⊤
 

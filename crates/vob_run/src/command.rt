@@ -1,13 +1,22 @@
 //! The commands that `run` takes, and the replies that it gives.
 
 /// A call on numbered Vobs. `which` is the number of a Vob, counted from 0 in the order of the
-/// list; lengths, indices and capacities are in bits.
+/// list; lengths, indices and capacities are in bits. A Vob that is made comes at the end of the
+/// list.
 #[derive(Debug, Drop)]
 pub enum Command {
-    /// Makes an empty Vob with room for `capacity` bits, at the end of the list:
-    /// `Vob::new_with_storage_type`.
+    /// Makes an empty Vob with room for `capacity` bits: `Vob::new_with_storage_type`.
     New {
         capacity: usize,
+    },
+    /// Makes a Vob of `len` times `value`: `Vob::from_elem_with_storage_type`.
+    FromElem {
+        value: bool,
+        len: usize,
+    },
+    /// Makes a Vob with the same bits: `Vob::clone`.
+    Copy {
+        which: usize,
     },
     /// Adds a bit behind the last one: `Vob::push`.
     Push {
@@ -57,6 +66,15 @@ pub enum Command {
     Truncate {
         which: usize,
         len: usize,
+    },
+    /// Makes room for `additional` bits more: `Vob::reserve`.
+    Reserve {
+        which: usize,
+        additional: usize,
+    },
+    /// Gives unused room back: `Vob::shrink_to_fit`.
+    Shrink {
+        which: usize,
     },
     /// Reads all bits: `Vob::iter`.
     Bits {

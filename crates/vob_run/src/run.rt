@@ -3,7 +3,7 @@ ghost use Rattle.std.specs.Prelude.{◌≡◌, [], ◌++◌, map, OnOk, OnErr, I
 ghost use Rattle.vob_run.specs.Answer.{Answer, meaning};
 ghost use Rattle.vob_run.specs.Run.{lists, IsStep, IsRun};
 
-use crate::calls::{make, read, write};
+use crate::calls::{grow, make, read, write};
 use crate::command::{Command, Reply};
 use std::alloc::{AllocError, Global};
 use vob::Vob;
@@ -16,6 +16,8 @@ fn run_one<T: Block>(alloc: Global, vobs: &mut Vec<Vob<T>>, command: &Command) -
 {
     match command {
         Command::New { capacity } => make::new(alloc, vobs, *capacity),
+        Command::FromElem { value, len } => make::from_elem(alloc, vobs, *value, *len),
+        Command::Copy { which } => make::copy(vobs, *which),
         Command::Push { which, value } => write::push(vobs, *which, *value),
         Command::Pop { which } => write::pop(vobs, *which),
         Command::GetBit { which, index } => read::get_bit(vobs, *which, *index),
@@ -34,6 +36,8 @@ fn run_one<T: Block>(alloc: Global, vobs: &mut Vec<Vob<T>>, command: &Command) -
         Command::Length { which } => read::length(vobs, *which),
         Command::IsEmpty { which } => read::is_empty(vobs, *which),
         Command::Truncate { which, len } => write::truncate(vobs, *which, *len),
+        Command::Reserve { which, additional } => grow::reserve(vobs, *which, *additional),
+        Command::Shrink { which } => grow::shrink(vobs, *which),
         Command::Bits { which } => read::bits(alloc, vobs, *which),
         Command::Storage { which } => read::storage(alloc, vobs, *which),
     }

@@ -1,16 +1,17 @@
 -- A run that goes on, and the steps that refuse nothing for want of memory.
 use Rattle.std.proofs.Common.{◌≡◌, ◌≢◌, ℕ, Bool, true, false, List, [], ◌∷◌, ◌++◌, length, map, Some, None, Option, refl, inl, arith, subst}
-use Rattle.std.specs.Prelude.{slice_get, slice_set, nat_lt, take, ◌==◌, if◌then◌else◌}
+use Rattle.std.specs.Prelude.{◌+◌, slice_get, slice_set, nat_lt, take, ◌==◌, if◌then◌else◌}
 use Rattle.std.specs.Option.{option_map_or}
 use Rattle.std.proofs.lemmas.List.{map_push}
 use Rattle.std.proofs.lemmas.List.Elements.{All-push}
 use Rattle.vob_block.specs.Packing.{packing}
 use Rattle.vob_run.specs.declared.command.Command.{Command}
-use Rattle.vob_run.specs.declared.command.Command.TheVariants.{New, Push, Pop, GetBit, GetUnchecked, IndexBit, SetBit, SetUnchecked, Length, IsEmpty, Truncate, Bits, Storage}
+use Rattle.vob_run.specs.declared.command.Command.TheVariants.{New, FromElem, Copy, Push, Pop, GetBit, GetUnchecked, IndexBit, SetBit, SetUnchecked, Length, IsEmpty, Truncate, Reserve, Shrink, Bits, Storage}
 use Rattle.vob_run.specs.declared.command.Reply.{Reply}
 use Rattle.vob_run.specs.Answer.{Answer, Outcome, done, bit, flag, number, made, bit_list, block_list, refused, skipped, outcome}
 use Rattle.vob_block.specs.Pointwise.{differ}
-use Rattle.vob_run.specs.Step.{on, tells, tells_bit, leaves, pushed, popped, written, step, greatest_length}
+use Rattle.vob_run.specs.Outcomes.{on, tells, tells_bit, leaves, makes, unless_long, pushed, popped, written, greatest_length}
+use Rattle.vob_run.specs.Step.{step}
 use Rattle.vob_run.specs.Run.{IsRun, IsStep}
 use Rattle.vob_vectors.specs.Plain.{IsPlainRun, said}
 
@@ -30,6 +31,10 @@ answer-if : (short : Bool) (all after : List (List Bool)) →
 answer-if true all after = λ (e : done ≡ refused 2). cc
 answer-if false all after = λ (e : refused 1 ≡ refused 2). cc
 
+answer-long : (long : Bool) (all : List (List Bool)) (o : Outcome) → o.answer ≢ refused 2 → (if long then tells all (refused 1) else o).answer ≢ refused 2
+answer-long true all o holds = λ (e : refused 1 ≡ refused 2). cc
+answer-long false all o holds = holds
+
 answer-told : (all : List (List Bool)) (value : Option Bool) → (tells_bit all value).answer ≢ refused 2
 answer-told all None e = cc
 answer-told all (Some value) e = cc
@@ -45,6 +50,9 @@ module _ (width : ℕ) where
   answer-pushed : (all : List (List Bool)) (which : ℕ) (value : Bool) (bits : List Bool) →
       (pushed all which value bits).answer ≢ refused 2
   answer-pushed all which value bits = answer-if (nat_lt (length bits) greatest_length) all _
+
+  answer-unless_long : (all : List (List Bool)) (asked : ℕ) (o : Outcome) → o.answer ≢ refused 2 → (unless_long all asked o).answer ≢ refused 2
+  answer-unless_long all asked o holds = answer-long (nat_lt greatest_length asked) all o holds
 
   -- a run goes on by one step
   pub run_more : (before : List (List Bool)) (commands : List Command) (answers : List Answer)
@@ -66,6 +74,8 @@ module _ (width : ℕ) where
   pub answer-step : (all : List (List Bool)) (command : Command) →
       (step width all command).answer ≢ refused 2
   answer-step all (New capacity) = λ (e : made (length all) ≡ refused 2). cc
+  answer-step all (FromElem value len) = λ (e : made (length all) ≡ refused 2). cc
+  answer-step all (Copy which) = answer-on all which (makes all) (λ bits e. cc)
   answer-step all (Push which value) = answer-on all which (pushed all which value)
       (λ bits. answer-pushed all which value bits)
   answer-step all (Pop which) = answer-on all which (popped all which) (λ bits e. cc)
@@ -79,6 +89,9 @@ module _ (width : ℕ) where
       answer-on all which (written all which index value) (answer-written all which index value)
   answer-step all (IsEmpty which) = answer-on all which (λ bits. tells all (flag (length bits == 0))) (λ bits e. cc)
   answer-step all (Truncate which len) = answer-on all which (λ bits. leaves all which done (take len bits)) (λ bits e. cc)
+  answer-step all (Reserve which additional) = answer-on all which (λ bits. unless_long all (length bits + additional) (tells all done))
+      (λ bits. answer-unless_long all (length bits + additional) (tells all done) (λ e. cc))
+  answer-step all (Shrink which) = answer-on all which (λ bits. tells all done) (λ bits e. cc)
   answer-step all (GetBit which index) =
       answer-on all which (λ bits. outcome (bit (slice_get bits index)) all) (λ bits e. cc)
   answer-step all (Length which) = answer-on all which (λ bits. outcome (number (length bits)) all)

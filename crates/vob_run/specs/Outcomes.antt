@@ -1,0 +1,50 @@
+-- What becomes of the numbered lists of bits: the words that the steps are put together from.
+use Rattle.std.specs.Prelude.{ℕ, ◌+◌, ◌-◌, ◌^◌, List, [], ◌∷◌, ◌++◌, length, take, slice_get, slice_set, nat_lt, Bool, if◌then◌else◌, Option, Some, None}
+use Rattle.std.specs.Option.{option_map_or}
+use Rattle.vob_block.specs.Pointwise.{differ}
+use Rattle.vob_run.specs.Answer.{Answer, done, bit, flag, made, skipped, refused, Outcome, outcome}
+
+-- the greatest length of a list of bits
+abbrev pub greatest_length : ℕ
+greatest_length = 2 ^ 64 - 1
+
+module _ (lists : List (List Bool)) where
+  -- what f says of the list with this number, and `skipped` where there is none
+  abbrev pub on : ℕ → (List Bool → Outcome) → Outcome
+  on which f = option_map_or f (slice_get lists which) (outcome skipped lists)
+
+  -- an answer, with all lists as they were
+  abbrev pub tells : Answer → Outcome
+  tells answer = outcome answer lists
+
+  -- an answer, with these bits in the list with this number
+  abbrev pub leaves : ℕ → Answer → List Bool → Outcome
+  leaves which answer bits = outcome answer (slice_set lists which bits)
+
+  -- one list more behind the others, whose number is told
+  abbrev pub makes : List Bool → Outcome
+  makes bits = outcome (made (length lists)) (lists ++ bits ∷ [])
+
+  -- `refused 1` where the length asked for is past the greatest
+  abbrev pub unless_long : ℕ → Outcome → Outcome
+  unless_long asked o = if nat_lt greatest_length asked then tells (refused 1) else o
+
+  -- a bit that is there is told, and `skipped` is said where there is none
+  abbrev pub tells_bit : Option Bool → Outcome
+  tells_bit None = tells skipped
+  tells_bit (Some value) = tells (flag value)
+
+  -- the last bit taken off, and told
+  abbrev pub popped : ℕ → List Bool → Outcome
+  popped which bits = leaves which (bit (slice_get bits (length bits - 1))) (take (length bits - 1) bits)
+
+  -- a bit that is there is written, and whether it changed is told
+  abbrev pub written : ℕ → ℕ → Bool → List Bool → Outcome
+  written which index value bits =
+      option_map_or (λ old. leaves which (flag (differ old value)) (slice_set bits index value)) (slice_get bits index) (tells skipped)
+
+  -- one bit more, unless the length is the greatest
+  abbrev pub pushed : ℕ → Bool → List Bool → Outcome
+  pushed which value bits =
+      if nat_lt (length bits) greatest_length then leaves which done (bits ++ value ∷ [])
+      else tells (refused 1)
