@@ -9,6 +9,7 @@ pub mod PointwiseLemmas
 pub mod PushLemmas
 pub mod RestLemmas
 pub mod RoomLemmas
+pub mod SameLemmas
 pub mod StorageLemmas
 pub mod StraddleLemmas
 pub mod TurnLemmas

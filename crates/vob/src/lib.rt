@@ -15,6 +15,7 @@ mod make;
 pub mod ops;
 mod packed;
 mod room;
+mod same;
 pub mod vob;
 
 pub use error::VobError;
