@@ -1,8 +1,8 @@
 -- Which commands may be refused for want of memory.
-use Rattle.std.specs.Prelude.{◌≢◌, ℕ, ◌+◌, ◌<◌, List, length, slice_get, Bool, IsSomeAnd, ⊤}
+use Rattle.std.specs.Prelude.{◌≢◌, ℕ, ◌+◌, ◌<◌, List, [], length, get_or, slice_get, Bool, IsSomeAnd, ⊤}
 use Rattle.vob_block.specs.Packing.{need}
 use Rattle.vob_run.specs.declared.command.Command.{Command}
-use Rattle.vob_run.specs.declared.command.Command.TheVariants.{New, FromElem, Copy, Push, Pop, GetBit, GetUnchecked, IndexBit, SetBit, SetUnchecked, Length, IsEmpty, Truncate, Reserve, Shrink, Bits, Storage}
+use Rattle.vob_run.specs.declared.command.Command.TheVariants.{New, FromElem, Copy, Push, Pop, GetBit, GetUnchecked, IndexBit, SetBit, SetUnchecked, Length, IsEmpty, Truncate, ExtendVob, SplitOff, Reserve, Shrink, Bits, Storage}
 use Rattle.vob_run.specs.Answer.{skipped, refused}
 use Rattle.vob_run.specs.Step.{step}
 
@@ -26,6 +26,8 @@ module _ (width : ℕ) (lists : List (List Bool)) where
   TakesMemory (Length which) = ⊥
   TakesMemory (IsEmpty which) = ⊥
   TakesMemory (Truncate which len) = ⊥
+  TakesMemory (ExtendVob which other) = Grows which (λ bits. length bits + length (get_or lists other []))
+  TakesMemory (SplitOff which index) = ⊤
   TakesMemory (Reserve which additional) = Grows which (λ bits. length bits + additional)
   TakesMemory (Shrink which) = ⊥
   TakesMemory (Bits which) = ⊤

@@ -1,5 +1,5 @@
 -- What becomes of the numbered lists of bits: the words that the steps are put together from.
-use Rattle.std.specs.Prelude.{ℕ, ◌+◌, ◌-◌, ◌^◌, List, [], ◌∷◌, ◌++◌, length, take, slice_get, slice_set, nat_lt, Bool, if◌then◌else◌, Option, Some, None}
+use Rattle.std.specs.Prelude.{ℕ, ◌+◌, ◌-◌, ◌^◌, List, [], ◌∷◌, ◌++◌, length, take, drop, slice_get, slice_set, nat_lt, ◌==◌, Bool, if◌then◌else◌, Option, Some, None}
 use Rattle.std.specs.Option.{option_map_or}
 use Rattle.vob_block.specs.Pointwise.{differ}
 use Rattle.vob_run.specs.Answer.{Answer, done, bit, flag, made, skipped, refused, Outcome, outcome}
@@ -12,6 +12,11 @@ module _ (lists : List (List Bool)) where
   -- what f says of the list with this number, and `skipped` where there is none
   abbrev pub on : ℕ → (List Bool → Outcome) → Outcome
   on which f = option_map_or f (slice_get lists which) (outcome skipped lists)
+
+  -- what f says of the lists with these numbers, and `skipped` where there aren't two such lists
+  abbrev pub on_two : ℕ → ℕ → (List Bool → List Bool → Outcome) → Outcome
+  on_two which other f =
+      if which == other then outcome skipped lists else on which (λ bits. on other (λ others. f bits others))
 
   -- an answer, with all lists as they were
   abbrev pub tells : Answer → Outcome
@@ -48,3 +53,11 @@ module _ (lists : List (List Bool)) where
   pushed which value bits =
       if nat_lt (length bits) greatest_length then leaves which done (bits ++ value ∷ [])
       else tells (refused 1)
+
+  -- the bits of another list behind those of this one, unless they are too many
+  abbrev pub extended : ℕ → List Bool → List Bool → Outcome
+  extended which more bits = unless_long (length bits + length more) (leaves which done (bits ++ more))
+
+  -- the bits from an index on cut off, into a list behind the others
+  abbrev pub cut : ℕ → ℕ → List Bool → Outcome
+  cut which index bits = outcome (made (length lists)) (slice_set lists which (take index bits) ++ drop index bits ∷ [])

@@ -2,9 +2,9 @@
 use Rattle.std.specs.Prelude.{ℕ, ◌+◌, List, [], length, take, slice_get, replicate, ◌==◌, Bool}
 use Rattle.vob_block.specs.Packing.{packing}
 use Rattle.vob_run.specs.declared.command.Command.{Command}
-use Rattle.vob_run.specs.declared.command.Command.TheVariants.{New, FromElem, Copy, Push, Pop, GetBit, GetUnchecked, IndexBit, SetBit, SetUnchecked, Length, IsEmpty, Truncate, Reserve, Shrink, Bits, Storage}
+use Rattle.vob_run.specs.declared.command.Command.TheVariants.{New, FromElem, Copy, Push, Pop, GetBit, GetUnchecked, IndexBit, SetBit, SetUnchecked, Length, IsEmpty, Truncate, ExtendVob, SplitOff, Reserve, Shrink, Bits, Storage}
 use Rattle.vob_run.specs.Answer.{done, bit, flag, number, bit_list, block_list, Outcome}
-use Rattle.vob_run.specs.Outcomes.{on, tells, leaves, makes, unless_long, tells_bit, pushed, popped, written}
+use Rattle.vob_run.specs.Outcomes.{on, on_two, tells, leaves, makes, unless_long, tells_bit, pushed, popped, written, extended, cut}
 
 -- what a command answers, and the lists after it; the width is read for `Storage` alone
 abbrev pub step : ℕ → List (List Bool) → Command → Outcome
@@ -21,6 +21,8 @@ step width lists (SetUnchecked which index value) = on lists which (written list
 step width lists (Length which) = on lists which (λ bits. tells lists (number (length bits)))
 step width lists (IsEmpty which) = on lists which (λ bits. tells lists (flag (length bits == 0)))
 step width lists (Truncate which len) = on lists which (λ bits. leaves lists which done (take len bits))
+step width lists (ExtendVob which other) = on_two lists which other (λ bits others. extended lists which others bits)
+step width lists (SplitOff which index) = on lists which (cut lists which index)
 step width lists (Reserve which additional) = on lists which (λ bits. unless_long lists (length bits + additional) (tells lists done))
 step width lists (Shrink which) = on lists which (λ bits. tells lists done)
 step width lists (Bits which) = on lists which (λ bits. tells lists (bit_list bits))

@@ -4,6 +4,7 @@ ghost use Rattle.vob.specs.Refusal.{refusal_number};
 
 pub(crate) mod grow;
 pub(crate) mod make;
+pub(crate) mod pair;
 pub(crate) mod read;
 pub(crate) mod write;
 

@@ -1,6 +1,6 @@
 //! The commands that `run` takes, and the replies that it gives.
 
-/// A call on numbered Vobs. `which` is the number of a Vob, counted from 0 in the order of the
+/// A call on numbered Vobs. `which` and `other` are numbers of Vobs, counted from 0 in the order of the
 /// list; lengths, indices and capacities are in bits. A Vob that is made comes at the end of the
 /// list.
 #[derive(Debug, Drop)]
@@ -66,6 +66,17 @@ pub enum Command {
     Truncate {
         which: usize,
         len: usize,
+    },
+    /// Adds the bits of another Vob behind the last bit: `Vob::extend_from_vob`. Skipped where both
+    /// numbers are the same.
+    ExtendVob {
+        which: usize,
+        other: usize,
+    },
+    /// Keeps the bits below `index`, and makes a Vob of the others: `Vob::split_off`.
+    SplitOff {
+        which: usize,
+        index: usize,
     },
     /// Makes room for `additional` bits more: `Vob::reserve`.
     Reserve {

@@ -3,7 +3,7 @@ ghost use Rattle.std.specs.Prelude.{◌≡◌, [], ◌++◌, map, OnOk, OnErr, I
 ghost use Rattle.vob_run.specs.Answer.{Answer, meaning};
 ghost use Rattle.vob_run.specs.Run.{lists, IsStep, IsRun};
 
-use crate::calls::{grow, make, read, write};
+use crate::calls::{grow, make, pair, read, write};
 use crate::command::{Command, Reply};
 use std::alloc::{AllocError, Global};
 use vob::Vob;
@@ -36,6 +36,8 @@ fn run_one<T: Block>(alloc: Global, vobs: &mut Vec<Vob<T>>, command: &Command) -
         Command::Length { which } => read::length(vobs, *which),
         Command::IsEmpty { which } => read::is_empty(vobs, *which),
         Command::Truncate { which, len } => write::truncate(vobs, *which, *len),
+        Command::ExtendVob { which, other } => pair::extend_vob(vobs, *which, *other),
+        Command::SplitOff { which, index } => make::split_off(vobs, *which, *index),
         Command::Reserve { which, additional } => grow::reserve(vobs, *which, *additional),
         Command::Shrink { which } => grow::shrink(vobs, *which),
         Command::Bits { which } => read::bits(alloc, vobs, *which),

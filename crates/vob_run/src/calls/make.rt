@@ -65,3 +65,17 @@ pub(crate) fn copy<T: Block>(vobs: &mut Vec<Vob<T>>, which: usize) -> Reply<T>
     let copy = vobs[which].clone();
     placed(vobs, copy)
 }
+
+pub(crate) fn split_off<T: Block>(vobs: &mut Vec<Vob<T>>, which: usize, index: usize) -> Reply<T>
+    ensures { IsStep T.BITS (lists vobs.old.items) (Command.SplitOff which index)
+        (meaning T.number result) (lists vobs.new.items) }
+{
+    if which >= vobs.len() {
+        return Reply::Skipped;
+    }
+    if vobs.reserve(1).is_err() {
+        return refused(VobError::Memory);
+    }
+    let rest = vobs[which].split_off(index);
+    placed(vobs, rest)
+}
