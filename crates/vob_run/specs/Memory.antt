@@ -2,7 +2,7 @@
 use Rattle.std.specs.Prelude.{◌≢◌, ℕ, ◌+◌, ◌<◌, List, [], length, get_or, slice_get, Bool, IsSomeAnd, ⊤}
 use Rattle.vob_block.specs.Packing.{need}
 use Rattle.vob_run.specs.declared.command.Command.{Command}
-use Rattle.vob_run.specs.declared.command.Command.TheVariants.{New, FromElem, Copy, Push, Pop, GetBit, GetUnchecked, IndexBit, SetBit, SetUnchecked, Length, IsEmpty, Truncate, ExtendVob, SplitOff, Reserve, Shrink, Bits, Storage}
+use Rattle.vob_run.specs.declared.command.Command.TheVariants.{New, FromElem, Copy, Push, Pop, GetBit, GetUnchecked, IndexBit, SetBit, SetUnchecked, Length, IsEmpty, Truncate, ExtendVob, SplitOff, And, Or, Xor, AndNew, OrNew, XorNew, Equal, Reserve, Shrink, Bits, Storage}
 use Rattle.vob_run.specs.Answer.{skipped, refused}
 use Rattle.vob_run.specs.Step.{step}
 
@@ -28,6 +28,13 @@ module _ (width : ℕ) (lists : List (List Bool)) where
   TakesMemory (Truncate which len) = ⊥
   TakesMemory (ExtendVob which other) = Grows which (λ bits. length bits + length (get_or lists other []))
   TakesMemory (SplitOff which index) = ⊤
+  TakesMemory (And which other) = ⊥
+  TakesMemory (Or which other) = ⊥
+  TakesMemory (Xor which other) = ⊥
+  TakesMemory (AndNew which other) = ⊤
+  TakesMemory (OrNew which other) = ⊤
+  TakesMemory (XorNew which other) = ⊤
+  TakesMemory (Equal which other) = ⊥
   TakesMemory (Reserve which additional) = Grows which (λ bits. length bits + additional)
   TakesMemory (Shrink which) = ⊥
   TakesMemory (Bits which) = ⊤

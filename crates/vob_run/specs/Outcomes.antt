@@ -1,7 +1,8 @@
 -- What becomes of the numbered lists of bits: the words that the steps are put together from.
-use Rattle.std.specs.Prelude.{ℕ, ◌+◌, ◌-◌, ◌^◌, List, [], ◌∷◌, ◌++◌, length, take, drop, slice_get, slice_set, nat_lt, ◌==◌, Bool, if◌then◌else◌, Option, Some, None}
+use Rattle.std.specs.Prelude.{◌≡◌, ◌≢◌, ℕ, ◌+◌, ◌-◌, ◌^◌, List, [], ◌∷◌, ◌++◌, length, take, drop, slice_get, slice_set, nat_lt, ◌==◌, Bool, not, IsSomeAnd, if◌then◌else◌, Option, Some, None}
 use Rattle.std.specs.Option.{option_map_or}
-use Rattle.vob_block.specs.Pointwise.{differ}
+use Rattle.vob_block.specs.Pointwise.{differ, pointwise}
+use Rattle.vob.specs.Same.{same_bits}
 use Rattle.vob_run.specs.Answer.{Answer, done, bit, flag, made, skipped, refused, Outcome, outcome}
 
 -- the greatest length of a list of bits
@@ -17,6 +18,17 @@ module _ (lists : List (List Bool)) where
   abbrev pub on_two : ℕ → ℕ → (List Bool → List Bool → Outcome) → Outcome
   on_two which other f =
       if which == other then outcome skipped lists else on which (λ bits. on other (λ others. f bits others))
+
+  -- the same, of two lists of one length
+  abbrev pub on_even : ℕ → ℕ → (List Bool → List Bool → Outcome) → Outcome
+  on_even which other f =
+      on_two which other (λ bits others. if length bits == length others then f bits others else outcome skipped lists)
+
+  -- these are the numbers of two lists, of one length
+  abbrev pub AreEven : ℕ → ℕ → Type 0
+  AreEven which other =
+      (which ≢ other) × IsSomeAnd (slice_get lists which) (λ bits.
+      IsSomeAnd (slice_get lists other) (λ others. length bits ≡ length others))
 
   -- an answer, with all lists as they were
   abbrev pub tells : Answer → Outcome
@@ -61,3 +73,8 @@ module _ (lists : List (List Bool)) where
   -- the bits from an index on cut off, into a list behind the others
   abbrev pub cut : ℕ → ℕ → List Bool → Outcome
   cut which index bits = outcome (made (length lists)) (slice_set lists which (take index bits) ++ drop index bits ∷ [])
+
+  -- two lists taken together by f, bit by bit, in the place of the first; whether a bit changed is told
+  abbrev pub combined : (Bool → Bool → Bool) → ℕ → List Bool → List Bool → Outcome
+  combined f which bits others =
+      leaves which (flag (not (same_bits bits (pointwise f bits others)))) (pointwise f bits others)

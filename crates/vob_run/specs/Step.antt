@@ -1,10 +1,12 @@
 -- What each command means on the lists of bits that the numbered Vobs are.
-use Rattle.std.specs.Prelude.{ℕ, ◌+◌, List, [], length, take, slice_get, replicate, ◌==◌, Bool}
+use Rattle.std.specs.Prelude.{ℕ, ◌+◌, List, [], length, take, slice_get, replicate, ◌==◌, Bool, ◌&&◌, ◌||◌}
 use Rattle.vob_block.specs.Packing.{packing}
+use Rattle.vob_block.specs.Pointwise.{differ, pointwise}
+use Rattle.vob.specs.Same.{same_bits}
 use Rattle.vob_run.specs.declared.command.Command.{Command}
-use Rattle.vob_run.specs.declared.command.Command.TheVariants.{New, FromElem, Copy, Push, Pop, GetBit, GetUnchecked, IndexBit, SetBit, SetUnchecked, Length, IsEmpty, Truncate, ExtendVob, SplitOff, Reserve, Shrink, Bits, Storage}
+use Rattle.vob_run.specs.declared.command.Command.TheVariants.{New, FromElem, Copy, Push, Pop, GetBit, GetUnchecked, IndexBit, SetBit, SetUnchecked, Length, IsEmpty, Truncate, ExtendVob, SplitOff, And, Or, Xor, AndNew, OrNew, XorNew, Equal, Reserve, Shrink, Bits, Storage}
 use Rattle.vob_run.specs.Answer.{done, bit, flag, number, bit_list, block_list, Outcome}
-use Rattle.vob_run.specs.Outcomes.{on, on_two, tells, leaves, makes, unless_long, tells_bit, pushed, popped, written, extended, cut}
+use Rattle.vob_run.specs.Outcomes.{on, on_two, on_even, tells, leaves, makes, unless_long, tells_bit, pushed, popped, written, extended, cut, combined}
 
 -- what a command answers, and the lists after it; the width is read for `Storage` alone
 abbrev pub step : ℕ → List (List Bool) → Command → Outcome
@@ -23,6 +25,13 @@ step width lists (IsEmpty which) = on lists which (λ bits. tells lists (flag (l
 step width lists (Truncate which len) = on lists which (λ bits. leaves lists which done (take len bits))
 step width lists (ExtendVob which other) = on_two lists which other (λ bits others. extended lists which others bits)
 step width lists (SplitOff which index) = on lists which (cut lists which index)
+step width lists (And which other) = on_even lists which other (combined lists ◌&&◌ which)
+step width lists (Or which other) = on_even lists which other (combined lists ◌||◌ which)
+step width lists (Xor which other) = on_even lists which other (combined lists differ which)
+step width lists (AndNew which other) = on_even lists which other (λ bits others. makes lists (pointwise ◌&&◌ bits others))
+step width lists (OrNew which other) = on_even lists which other (λ bits others. makes lists (pointwise ◌||◌ bits others))
+step width lists (XorNew which other) = on_even lists which other (λ bits others. makes lists (pointwise differ bits others))
+step width lists (Equal which other) = on_two lists which other (λ bits others. tells lists (flag (same_bits bits others)))
 step width lists (Reserve which additional) = on lists which (λ bits. unless_long lists (length bits + additional) (tells lists done))
 step width lists (Shrink which) = on lists which (λ bits. tells lists done)
 step width lists (Bits which) = on lists which (λ bits. tells lists (bit_list bits))

@@ -78,6 +78,47 @@ pub enum Command {
         which: usize,
         index: usize,
     },
+    /// Keeps the bits that both have: `Vob::and`. Skipped where the numbers are the same or the
+    /// lengths differ.
+    And {
+        which: usize,
+        other: usize,
+    },
+    /// Gets the bits that either has: `Vob::or`. Skipped where the numbers are the same or the
+    /// lengths differ.
+    Or {
+        which: usize,
+        other: usize,
+    },
+    /// Gets the bits that one has and the other hasn't: `Vob::xor`. Skipped where the numbers are the same or the
+    /// lengths differ.
+    Xor {
+        which: usize,
+        other: usize,
+    },
+    /// Makes a Vob of the bits that both have: `&` on two references. Skipped where
+    /// the numbers are the same or the lengths differ.
+    AndNew {
+        which: usize,
+        other: usize,
+    },
+    /// Makes a Vob of the bits that either has: `|` on two references. Skipped where
+    /// the numbers are the same or the lengths differ.
+    OrNew {
+        which: usize,
+        other: usize,
+    },
+    /// Makes a Vob of the bits that one has and the other hasn't: `^` on two references. Skipped where
+    /// the numbers are the same or the lengths differ.
+    XorNew {
+        which: usize,
+        other: usize,
+    },
+    /// Whether both have the same bits: `==`. Skipped where the numbers are the same.
+    Equal {
+        which: usize,
+        other: usize,
+    },
     /// Makes room for `additional` bits more: `Vob::reserve`.
     Reserve {
         which: usize,

@@ -3,6 +3,7 @@ ghost use Rattle.std.specs.Prelude.{◌≡◌, [], ◌++◌, map, OnOk, OnErr, I
 ghost use Rattle.vob_run.specs.Answer.{Answer, meaning};
 ghost use Rattle.vob_run.specs.Run.{lists, IsStep, IsRun};
 
+use crate::calls::pair::Connective;
 use crate::calls::{grow, make, pair, read, write};
 use crate::command::{Command, Reply};
 use std::alloc::{AllocError, Global};
@@ -38,6 +39,25 @@ fn run_one<T: Block>(alloc: Global, vobs: &mut Vec<Vob<T>>, command: &Command) -
         Command::Truncate { which, len } => write::truncate(vobs, *which, *len),
         Command::ExtendVob { which, other } => pair::extend_vob(vobs, *which, *other),
         Command::SplitOff { which, index } => make::split_off(vobs, *which, *index),
+        Command::And { which, other } => {
+            pair::combine(vobs, Connective::And, *which, *other)
+        }
+        Command::Or { which, other } => {
+            pair::combine(vobs, Connective::Or, *which, *other)
+        }
+        Command::Xor { which, other } => {
+            pair::combine(vobs, Connective::Xor, *which, *other)
+        }
+        Command::AndNew { which, other } => {
+            pair::combine_new(vobs, Connective::And, *which, *other)
+        }
+        Command::OrNew { which, other } => {
+            pair::combine_new(vobs, Connective::Or, *which, *other)
+        }
+        Command::XorNew { which, other } => {
+            pair::combine_new(vobs, Connective::Xor, *which, *other)
+        }
+        Command::Equal { which, other } => pair::equal(vobs, *which, *other),
         Command::Reserve { which, additional } => grow::reserve(vobs, *which, *additional),
         Command::Shrink { which } => grow::shrink(vobs, *which),
         Command::Bits { which } => read::bits(alloc, vobs, *which),

@@ -51,6 +51,15 @@ belongs (command.Bits which) some = record { word = refl; kinds = refl }
 belongs (command.Storage which) some = record { word = refl; kinds = refl }
 belongs (command.FromElem value len) some = absurd (some refl)
 belongs (command.Copy which) some = absurd (some refl)
+belongs (command.ExtendVob which other) some = absurd (some refl)
+belongs (command.SplitOff which index) some = absurd (some refl)
+belongs (command.And which other) some = absurd (some refl)
+belongs (command.Or which other) some = absurd (some refl)
+belongs (command.Xor which other) some = absurd (some refl)
+belongs (command.AndNew which other) some = absurd (some refl)
+belongs (command.OrNew which other) some = absurd (some refl)
+belongs (command.XorNew which other) some = absurd (some refl)
+belongs (command.Equal which other) some = absurd (some refl)
 belongs (command.Reserve which additional) some = absurd (some refl)
 belongs (command.Shrink which) some = absurd (some refl)
 
@@ -89,6 +98,15 @@ again (command.Bits which) some = refl
 again (command.Storage which) some = refl
 again (command.FromElem value len) some = absurd (some refl)
 again (command.Copy which) some = absurd (some refl)
+again (command.ExtendVob which other) some = absurd (some refl)
+again (command.SplitOff which index) some = absurd (some refl)
+again (command.And which other) some = absurd (some refl)
+again (command.Or which other) some = absurd (some refl)
+again (command.Xor which other) some = absurd (some refl)
+again (command.AndNew which other) some = absurd (some refl)
+again (command.OrNew which other) some = absurd (some refl)
+again (command.XorNew which other) some = absurd (some refl)
+again (command.Equal which other) some = absurd (some refl)
 again (command.Reserve which additional) some = absurd (some refl)
 again (command.Shrink which) some = absurd (some refl)
 
