@@ -1,9 +1,8 @@
 -- Two items of a list that is cut between them, and two Vobs of which one changes.
 use Rattle.std.specs.Prelude.{Some, slice_get}
-use Rattle.std.proofs.Common.{◌≡◌, ◌+◌, ◌-◌, ◌<◌, ◌≢◌, ◌↔◌, ◌==◌, if◌then◌else◌, ℕ, zero, suc, List, [], ◌∷◌, ◌++◌, Bool, true, false, not, Decides, Option, None, IsSomeAnd, inl, inr, length, take, drop, set, get_or, ap, sym, refl, ◌∙◌, arith, length-append}
+use Rattle.std.proofs.Common.{◌≡◌, ◌-◌, ◌<◌, ◌≢◌, ◌↔◌, ℕ, List, ◌++◌, Bool, true, false, not, Decides, Option, None, IsSomeAnd, length, take, drop, set, get_or, ap, sym, refl, ◌∙◌, arith, length-append}
 use Rattle.std.proofs.lemmas.List.{set-append_left, set-append_right, set_comm, set-get_or, take_at, length-set, length-map, get_or_append_left, get_or-append_right}
-use Rattle.std.specs.Option.{option_map_or}
-use Rattle.std.proofs.lemmas.Bool.{ne_eqb, eq-eqb, cases_eq}
+use Rattle.std.proofs.lemmas.Bool.{ne_eqb, eq-eqb}
 use Rattle.std.proofs.lemmas.Option.{slice_get-get_or, slice_get_within, get_or_from_slice_get}
 use Rattle.vob.specs.Vob.{BitVector}
 use Rattle.vob.specs.Same.{same_bits}
@@ -11,7 +10,7 @@ use Rattle.vob.proofs.SameLemmas.{same_bits_decides}
 use Rattle.vob_block.specs.Pointwise.{pointwise}
 use Rattle.vob_run.specs.declared.calls.pair.Connective.{Connective}
 use Rattle.vob_run.specs.declared.calls.pair.Connective.TheVariants.{And, Or, Xor}
-use Rattle.vob_run.specs.Answer.{Outcome, outcome, skipped}
+use Rattle.vob_run.specs.Answer.{Outcome}
 use Rattle.vob_run.specs.Memory.{TakesMemory}
 use Rattle.vob_run.specs.Outcomes.{on_two, on_even, AreEven, combined, makes}
 use Rattle.vob_run.specs.Pairs.{operator, combining, combining_new}

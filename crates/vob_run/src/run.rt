@@ -39,15 +39,9 @@ fn run_one<T: Block>(alloc: Global, vobs: &mut Vec<Vob<T>>, command: &Command) -
         Command::Truncate { which, len } => write::truncate(vobs, *which, *len),
         Command::ExtendVob { which, other } => pair::extend_vob(vobs, *which, *other),
         Command::SplitOff { which, index } => make::split_off(vobs, *which, *index),
-        Command::And { which, other } => {
-            pair::combine(vobs, Connective::And, *which, *other)
-        }
-        Command::Or { which, other } => {
-            pair::combine(vobs, Connective::Or, *which, *other)
-        }
-        Command::Xor { which, other } => {
-            pair::combine(vobs, Connective::Xor, *which, *other)
-        }
+        Command::And { which, other } => { pair::combine(vobs, Connective::And, *which, *other) }
+        Command::Or { which, other } => { pair::combine(vobs, Connective::Or, *which, *other) }
+        Command::Xor { which, other } => { pair::combine(vobs, Connective::Xor, *which, *other) }
         Command::AndNew { which, other } => {
             pair::combine_new(vobs, Connective::And, *which, *other)
         }

@@ -10,10 +10,7 @@ use vob::{Vob, VobError};
 use vob_block::Block;
 
 // Puts a Vob that was made at the end of the list, in the room that there is.
-pub(super) fn placed<T: Block>(
-    vobs: &mut Vec<Vob<T>>,
-    vob: Result<Vob<T>, AllocError>,
-) -> Reply<T>
+pub(super) fn placed<T: Block>(vobs: &mut Vec<Vob<T>>, vob: Result<Vob<T>, AllocError>) -> Reply<T>
     requires { vec_len vobs.old < vec_capacity vobs.old }
     ensures ok { IfOk vob (λ v. (meaning T.number result ≡ made (length vobs.old.items))
         × (vobs.new.items ≡ vobs.old.items ++ v ∷ [])) }

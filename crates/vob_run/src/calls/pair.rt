@@ -82,11 +82,7 @@ fn are_even<T: Block>(vobs: &[Vob<T>], which: usize, other: usize) -> bool
     are_two(vobs, which, other) && vobs[which].len() == vobs[other].len()
 }
 
-pub(crate) fn extend_vob<T: Block>(
-    vobs: &mut Vec<Vob<T>>,
-    which: usize,
-    other: usize,
-) -> Reply<T>
+pub(crate) fn extend_vob<T: Block>(vobs: &mut Vec<Vob<T>>, which: usize, other: usize) -> Reply<T>
     ensures { IsStep T.BITS (lists vobs.old.items) (Command.ExtendVob which other)
         (meaning T.number result) (lists vobs.new.items) }
 {

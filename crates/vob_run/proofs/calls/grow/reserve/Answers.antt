@@ -1,5 +1,5 @@
 -- The Vob has the room, or is as it was.
-use Rattle.std.proofs.Common.{◌≡◌, ◌+◌, length, ap, Err, refl, ◌∙◌, sym}
+use Rattle.std.proofs.Common.{◌≡◌, ◌+◌, length, Err, refl}
 use Rattle.std.proofs.lemmas.Option.{slice_get_read}
 use Rattle.vob.specs.declared.error.VobError.TheVariants.{Memory}
 use Rattle.vob_run.specs.declared.command.Command.TheVariants.{Reserve}

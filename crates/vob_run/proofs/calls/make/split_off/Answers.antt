@@ -1,12 +1,6 @@
 -- The Vob with this number has the bits below the index, and the one behind the others has the rest.
-use Rattle.std.proofs.Common.{◌≡◌, ◌<◌, ◌++◌, [], ◌∷◌, get_or, length, take, drop, set, Some, refl, ap, sym, ◌∙◌, arith}
-use Rattle.std.specs.Prelude.{slice_get}
+use Rattle.std.proofs.Common.{◌≡◌, get_or, ap, ◌∙◌}
 use Rattle.std.proofs.lemmas.Option.{slice_get_read}
-use Rattle.vob_run.specs.declared.command.Command.TheVariants.{SplitOff}
-use Rattle.vob_run.specs.Answer.{outcome, made}
-use Rattle.vob_run.specs.Run.{lists}
-use Rattle.vob_run.specs.Step.{step}
-use Rattle.vob_run.proofs.StepLemmas.{list_at}
 use Rattle.vob_run.proofs.MakeLemmas.{split_step}
 use Rattle.vob_run.proofs.calls.make.split_off.Goals as goal
 

@@ -1,10 +1,9 @@
 -- The Vob with the first number has the bits of both, taken together.
-use Rattle.std.proofs.Common.{◌≡◌, length, set, refl, ap, sym, ◌∙◌, inl}
+use Rattle.std.proofs.Common.{◌≡◌, refl, ap, sym, ◌∙◌, inl}
 use Rattle.std.specs.Prelude.{Some, slice_get}
 use Rattle.vob_run.specs.Outcomes.{AreEven, combined}
-use Rattle.vob_run.specs.Pairs.{operator, combining}
+use Rattle.vob_run.specs.Pairs.{operator}
 use Rattle.vob_run.specs.Run.{lists}
-use Rattle.vob_run.specs.Step.{step}
 use Rattle.vob_run.proofs.StepLemmas.{list_at, lists-set}
 use Rattle.vob_run.proofs.PairLemmas.{lent, on_even-found, even_lengths, step-combining, flag-changed}
 use Rattle.vob_run.proofs.calls.pair.combine.Goals as goal

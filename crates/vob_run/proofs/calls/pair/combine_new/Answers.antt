@@ -1,6 +1,5 @@
 -- The Vob behind the others has the bits of both, taken together.
-use Rattle.std.proofs.Common.{◌≡◌, get_or, refl, ap, ◌∙◌, ◌<◌, length, arith}
-use Rattle.std.specs.Prelude.{Some, slice_get}
+use Rattle.std.proofs.Common.{◌≡◌, get_or, refl, ap, ◌∙◌, length}
 use Rattle.std.proofs.lemmas.Option.{slice_get_read}
 use Rattle.vob_block.specs.Pointwise.{pointwise}
 use Rattle.vob_run.specs.Outcomes.{AreEven, makes}

@@ -1,5 +1,5 @@
 -- The Vob with the first number has the other's bits behind its own, or is as it was.
-use Rattle.std.proofs.Common.{◌≡◌, ◌≢◌, ◌+◌, ◌++◌, [], Err, length, get_or, set, refl, ap, sym, ◌∙◌}
+use Rattle.std.proofs.Common.{◌≡◌, ◌≢◌, ◌+◌, ◌++◌, [], Err, length, set, refl, ap, sym, ◌∙◌}
 use Rattle.std.proofs.lemmas.Option.{get_or_from_slice_get}
 use Rattle.std.specs.Prelude.{Some, slice_get}
 use Rattle.vob.specs.declared.error.VobError.TheVariants.{Memory}
