@@ -11,11 +11,11 @@ use Rattle.vob_block.proofs.PackingLemmas.{stored_from, spelled_from_items}
 use Rattle.vob_block.proofs.PlaceLemmas.{place-ones, place-zero}
 
 -- blocks of places that are all v
-place-even : (v : Bool) (w x j : ℕ) → x ≡ cond v (2 ^ w - 1) 0 → j < w → place j x ≡ v
+pub place-even : (v : Bool) (w x j : ℕ) → x ≡ cond v (2 ^ w - 1) 0 → j < w → place j x ≡ v
 place-even true w x j e h = ap (place j) e ∙ place-ones w j h
 place-even false w x j e h = ap (place j) e ∙ place-zero j
 
-even-lt : (v : Bool) (w x : ℕ) → x ≡ cond v (2 ^ w - 1) 0 → x < 2 ^ w
+pub even-lt : (v : Bool) (w x : ℕ) → x ≡ cond v (2 ^ w - 1) 0 → x < 2 ^ w
 even-lt true w x e = omega (arith, pow_pos w)
 even-lt false w x e = omega (arith, pow_pos w)
 

@@ -1,6 +1,8 @@
+pub mod AppendLemmas
 pub mod CutLemmas
 pub mod EvenLemmas
 pub mod ExtendLemmas
+pub mod ExtendingLemmas
 pub mod FillLemmas
 pub mod GatherLemmas
 pub mod JoinLemmas
@@ -13,4 +15,5 @@ pub mod SameLemmas
 pub mod StorageLemmas
 pub mod StraddleLemmas
 pub mod TurnLemmas
+pub mod WholeLemmas
 pub mod WriteLemmas

@@ -1,3 +1,4 @@
+pub mod Extending
 pub mod Joining
 pub mod Laws
 pub mod Refusal

@@ -68,6 +68,14 @@ impl<T: Block> Vob<T> {
         }
     }
 
+    /// Takes off all bits. The room stays.
+    pub fn clear(&mut self)
+        ensures bits { self.new.bits ≡ [] }
+        ensures capacity { self.new.capacity ≡ self.old.capacity }
+    {
+        self.truncate(0);
+    }
+
     /// Takes off the last bit and answers it, or answers `None` where there are no bits.
     pub fn pop(&mut self) -> Option<bool>
         ensures last { result ≡ slice_get self.old.bits (length self.old.bits - 1) }

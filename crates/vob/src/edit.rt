@@ -1,5 +1,6 @@
-//! Changes of the blocks in place: one bit written, and all bits from an index on taken off.
-ghost use Rattle.std.specs.Prelude.{◌≡◌, ◌≢◌, ◌==◌, ◌↔◌, if◌then◌else◌, ◌*◌, ◌^◌, ◌<◌, ◌≤◌, map, length, take, slice_get, slice_set, IsTrue, Some, All, vec_capacity};
+//! Changes of the blocks in place: one bit written, all bits turned round, and all bits from an index
+//! on taken off.
+ghost use Rattle.std.specs.Prelude.{◌≡◌, ◌≢◌, ◌==◌, ◌↔◌, if◌then◌else◌, not, ◌*◌, ◌^◌, ◌<◌, ◌≤◌, map, length, take, slice_get, slice_set, IsTrue, Some, All, vec_capacity};
 ghost use Rattle.vob_block.specs.Places.{place, HasPlaces};
 ghost use Rattle.vob_block.specs.Packing.{need, spelled, IsCanonical};
 
@@ -54,6 +55,20 @@ pub(crate) fn clear_from<T: Block>(blocks: &mut [T], len: usize)
         let block = blocks[last];
         blocks[last] = block.band(T::low_mask(used));
     }
+}
+
+/// Turns each of the `len` bits round.
+pub(crate) fn turn_round<T: Block>(blocks: &mut [T], len: usize)
+    requires { IsCanonical len (map T.number blocks.old) T.BITS }
+    ensures canonical { IsCanonical len (map T.number blocks.new) T.BITS }
+    ensures bits { spelled len (map T.number blocks.new) T.BITS
+        ≡ map not (spelled len (map T.number blocks.old) T.BITS) }
+{
+    for k in 0..blocks.len() {
+        let block = blocks[k];
+        blocks[k] = block.bnot();
+    }
+    clear_from(blocks, len);
 }
 
 /// Takes off the bits from `new_len` on, with the blocks that only they needed.

@@ -1,8 +1,9 @@
-//! The constructor that takes bits from an iterator.
-ghost use Rattle.std.specs.Prelude.{◌≡◌, ℕ, ◌+◌, ◌<◌, [], ◌∷◌, ◌++◌, List, Bool, map, length, IfOk, IfErr, OnOk, Err};
+//! Bits taken from an iterator: by a constructor, and behind others.
+ghost use Rattle.std.specs.Prelude.{◌≡◌, ℕ, ◌+◌, ◌<◌, ◌≤◌, [], ◌∷◌, ◌++◌, List, Bool, map, length, IfOk, IfErr, OnOk, Err};
 ghost use Rattle.std.specs.Iterator.{IsFinite, Yields, Drains};
 ghost use Rattle.std.specs.Iterator.SizeHint.{IsWithinCount};
 ghost use Rattle.vob_block.specs.Packing.{spelled, IsCanonical};
+ghost use Rattle.vob.specs.Extending.{IsExtended};
 ghost use Rattle.vob.specs.Refusal.{MayRefuseItems};
 
 use crate::error::VobError;
@@ -53,6 +54,29 @@ fn gather_items<T: Block, I: Iterator<Item = bool>>(
         push_block(blocks, block)?;
     }
     Ok(len)
+}
+
+impl<T: Block> Vob<T> {
+    /// Appends the items of an iterator that ends. The lower bound of its size hint is reserved
+    /// first; where that is refused nothing is added, and where an item is refused those before it
+    /// stay. vob 4.0.1 ends the process where memory is refused, and panics where the length would
+    /// pass `usize::MAX`.
+    pub fn extend<I: IntoIterator<Item = bool>>(&mut self, iter: I) -> Result<(), VobError>
+        requires { (it : I.IntoIter) → I.into_iter_gives iter it
+            → I.IntoIter.can_next it × IsFinite (I.IntoIter.remaining it) }
+        ensures extended { (it : I.IntoIter) × (hint : ℕ) × I.into_iter_gives iter it
+            × IsWithinCount hint (I.IntoIter.remaining it)
+            × IsExtended I.IntoIter.next_gives it hint self.old self.new result }
+        ensures capacity { self.old.capacity ≤ self.new.capacity }
+    {
+        let items = iter.into_iter();
+        let (hint, _) = items.size_hint();
+        self.reserve(hint)?;
+        for bit in items {
+            self.push(bit)?;
+        }
+        Ok(())
+    }
 }
 
 impl Vob<usize> {

@@ -6,6 +6,8 @@ pub mod bulk;
 mod bytes;
 mod edit;
 mod error;
+mod fill;
+mod gathered;
 mod items;
 pub mod iter;
 mod joined;

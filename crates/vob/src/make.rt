@@ -4,18 +4,12 @@ ghost use Rattle.vob_block.specs.Places.{HasPlaces};
 ghost use Rattle.vob_block.specs.Packing.{item, spelled, IsCanonical};
 
 use crate::edit::clear_from;
-use crate::packed::first_place;
+use crate::fill::even_block;
+use crate::gathered::push_gathered;
 use crate::vob::Vob;
 use std::alloc::{AllocError, Global};
 use std::fmt;
 use vob_block::Block;
-
-/// A block whose places are all `value`.
-fn even_block<T: Block>(value: bool) -> T
-    ensures { T.number result ≡ (if value then 2 ^ T.BITS - 1 else 0) }
-{
-    if value { T::ONES } else { T::ZERO }
-}
 
 /// The blocks of `len` times `value`.
 fn even_blocks<T: Block>(alloc: Global, value: bool, len: usize) -> Result<Vec<T>, AllocError>
@@ -31,20 +25,6 @@ fn even_blocks<T: Block>(alloc: Global, value: bool, len: usize) -> Result<Vec<T
     Ok(blocks)
 }
 
-/// The block whose places are some bits, and false above them.
-pub(crate) fn gather<T: Block>(bits: &[bool]) -> T
-    requires { length bits.now ≤ T.BITS }
-    ensures places { HasPlaces T.BITS (T.number result) (item bits.now) }
-    ensures within { T.number result < 2 ^ T.BITS }
-{
-    let mut block = T::ZERO;
-    for (place, bit) in bits.iter().enumerate() {
-        let mark: T = first_place(*bit);
-        block = block.bor(mark.up(place));
-    }
-    block
-}
-
 /// The blocks of some bits.
 fn gathered_blocks<T: Block>(alloc: Global, bits: &[bool]) -> Result<Vec<T>, AllocError>
     ensures canonical { IfOk result (λ blocks.
@@ -53,14 +33,8 @@ fn gathered_blocks<T: Block>(alloc: Global, bits: &[bool]) -> Result<Vec<T>, All
         spelled (length bits.now) (map T.number blocks.items) T.BITS ≡ bits.now) }
     ensures nothing { bits.now ≡ [] → IsOk result }
 {
-    let width = T::BITS;
-    let mut blocks = Vec::with_capacity(alloc, bits.len().div_ceil(width))?;
-    let mut rest = bits;
-    while !rest.is_empty() {
-        let (first, after) = rest.split_at(rest.len().min(width));
-        blocks.push_reserved(gather(first));
-        rest = after;
-    }
+    let mut blocks = Vec::with_capacity(alloc, bits.len().div_ceil(T::BITS))?;
+    push_gathered(&mut blocks, bits);
     Ok(blocks)
 }
 

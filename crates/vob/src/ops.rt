@@ -1,11 +1,14 @@
-//! Two Vobs taken together, bit by bit.
-ghost use Rattle.std.specs.Prelude.{◌≡◌, ◌≢◌, ◌↔◌, ◌&&◌, ◌||◌, length, IsTrue, IfOk};
+//! Calls on all bits at once: made one value, turned round, taken together with another Vob's, or
+//! compared.
+ghost use Rattle.std.specs.Prelude.{◌≡◌, ◌≢◌, ◌↔◌, ◌&&◌, ◌||◌, not, map, length, replicate, IsTrue, IfOk};
 ghost use Rattle.std.proofs.Common.{rules};
 ghost use Rattle.std.specs.Cmp.Rules.{comparing};
 ghost use Rattle.vob_block.specs.Pointwise.{differ, pointwise};
 ghost use Rattle.vob.specs.Same.{same_bits};
 ghost use Rattle.vob.specs.Vob.{AreAsLong, IsTogether};
 
+use crate::edit::turn_round;
+use crate::fill::fill;
 use crate::same::same_blocks;
 use crate::vob::Vob;
 use std::alloc::AllocError;
@@ -13,6 +16,22 @@ use std::ops::{BitAnd, BitAndAssign, BitOr, BitOrAssign, BitXor, BitXorAssign};
 use vob_block::Block;
 
 impl<T: Block> Vob<T> {
+    /// Makes every bit `value`.
+    pub fn set_all(&mut self, value: bool)
+        ensures bits { self.new.bits ≡ replicate (length self.old.bits) value }
+        ensures capacity { self.new.capacity ≡ self.old.capacity }
+    {
+        fill(&mut self.vec, self.len, value);
+    }
+
+    /// Turns every bit round.
+    pub fn negate(&mut self)
+        ensures bits { self.new.bits ≡ map not self.old.bits }
+        ensures capacity { self.new.capacity ≡ self.old.capacity }
+    {
+        turn_round(&mut self.vec, self.len);
+    }
+
     /// Keeps the bits that both have, and answers whether a bit changed. vob 4.0.1 panics on unequal
     /// lengths.
     pub fn and(&mut self, other: &Vob<T>) -> bool

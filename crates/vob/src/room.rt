@@ -46,6 +46,7 @@ impl<T: Block> Vob<T> {
         // A length that can't be is refused first, and memory only where there is no room.
         ensures too_long { (result ≡ Err VobError.TooLong)
             ↔ (usize.MAX < length self.old.bits + additional) }
+        ensures longest { length self.old.bits ≤ usize.MAX }
         ensures memory { result ≡ Err VobError.Memory
             → (self.old.capacity < length self.old.bits + additional)
             × (need (length self.old.bits) T.BITS

@@ -2,6 +2,7 @@
 mod agreement;
 mod commands;
 mod constructors;
+mod growing;
 mod joins;
 mod made_and_changed;
 mod rows;

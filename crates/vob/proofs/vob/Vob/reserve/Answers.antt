@@ -52,3 +52,12 @@ returns-clause-stays g c =
     let wide = width_pos g.T.FixedWidth.width _ g.met.T.Block.width_law in
     rw (← c.self.view_is, length-spelled)
     (λ h. ap (λ k. min (k * w) (2 ^ 64 - 1)) (c.in_ok-reserve_bits.ensures.stays (need_from_room w wide (c.self.inside.len + c.args.additional) c.self.inside.vec.cap h)))
+
+pub returns-then-additional-self-clause-longest : goal.returns-then-additional-self-clause-longest
+returns-then-additional-self-clause-longest g c = rw (← c.self.view_is, length-spelled) (omega (arith, c.self.ranges))
+
+pub returns-in_err-reserve_bits-clause-longest : goal.returns-in_err-reserve_bits-clause-longest
+returns-in_err-reserve_bits-clause-longest g c = rw (← c.self.view_is, length-spelled) (omega (arith, c.self.ranges))
+
+pub returns-clause-longest : goal.returns-clause-longest
+returns-clause-longest g c = rw (← c.self.view_is, length-spelled) (omega (arith, c.self.ranges))

@@ -1,7 +1,7 @@
 -- The next bit is marked at its place.
 use Rattle.std.proofs.Common.{refl}
 use Rattle.vob.proofs.LaidLemmas.{first_more}
-use Rattle.vob.proofs.make.gather.Goals as goal
+use Rattle.vob.proofs.gathered.gather.Goals as goal
 
 pub loop-place-preserved : goal.loop-place-preserved
 loop-place-preserved g c =

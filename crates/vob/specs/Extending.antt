@@ -1,0 +1,31 @@
+-- What an `extend` by the items of an iterator leaves, which reserves the lower bound of its hint first.
+use Rattle.std.specs.Prelude.{◌≡◌, ◌⊎◌, ℕ, ◌+◌, ◌-◌, ◌^◌, ◌<◌, ◌≤◌, Bool, List, ◌++◌, length, Option, Some, Result, Err, OnOk, IfErr, ⊤}
+use Rattle.std.specs.Iterator.{Drains, YieldsThen}
+use Rattle.vob.specs.declared.error.VobError.{VobError}
+use Rattle.vob.specs.declared.error.VobError.TheVariants.{TooLong, Memory}
+use Rattle.vob.specs.Vob.{BitVector}
+
+-- n bits more may be refused: they pass the greatest length, or have no room
+abbrev pub MayRefuseMore : VobError → BitVector → ℕ → Type 0
+MayRefuseMore TooLong vob n = 2 ^ 64 - 1 < length vob.bits + n
+MayRefuseMore Memory vob n = vob.capacity < length vob.bits + n
+
+module _ {S : Type 0} (steps : S → Option Bool → S → Type 0) (it : S) (hint : ℕ) (before after : BitVector) where
+  -- all items are added
+  abbrev pub AddsAll : Type 0
+  AddsAll = (items : List Bool) × Drains steps it items × (after.bits ≡ before.bits ++ items)
+
+  -- the hint is refused, and nothing is added
+  abbrev pub RefusesHint : VobError → Type 0
+  RefusesHint refusal = (0 < hint) × MayRefuseMore refusal before hint × (after.bits ≡ before.bits)
+
+  -- an item is refused, and those before it are added, no fewer than the hint
+  abbrev pub RefusesItem : VobError → Type 0
+  RefusesItem refusal =
+      (added : List Bool) × (bit : Bool) × (rest : S) × YieldsThen steps it added (Some bit) rest × (hint ≤ length added)
+      × MayRefuseMore refusal before (length added + 1) × (after.bits ≡ before.bits ++ added)
+
+  pub record IsExtended (result : Result ⊤ VobError) : Type 0 where
+    pub ok : OnOk result AddsAll
+    pub err : IfErr result (λ refusal. RefusesHint refusal ⊎ RefusesItem refusal)
+    pub too_long : 2 ^ 64 - 1 < length before.bits + hint → result ≡ Err TooLong
