@@ -10,6 +10,7 @@ use Rattle.vob_run.specs.Memory.{TakesMemory, MayRefuse}
 use Rattle.vob_run.specs.Outcomes.{unless_long}
 use Rattle.vob_run.specs.Step.{step}
 use Rattle.vob_run.specs.Run.{IsStep}
+use Rattle.vob_run.proofs.StepLemmas.{MayRefuse-done}
 
 module _ (width : ℕ) (all : List (List Bool)) (command : Command) (asked : ℕ) (after : List (List Bool))
     (is : step width all command ≡ unless_long all asked (outcome done after)) where
@@ -20,9 +21,7 @@ module _ (width : ℕ) (all : List (List Bool)) (command : Command) (asked : ℕ
   step-long long = is ∙ rw (lt-ltb (2 ^ 64 - 1) asked long) refl
 
   MayRefuse-short : asked ≤ 2 ^ 64 - 1 → TakesMemory width all command → MayRefuse width all command
-  MayRefuse-short short takes =
-      let answers : (step width all command).answer ≡ done = ap (λ o. o.answer) (step-short short) in
-      (takes, (λ e. cc), (λ e. cc))
+  MayRefuse-short short takes = MayRefuse-done width all after command (step-short short) takes
 
   module _ (result : Result Unit VobError) (long : (result ≡ Err TooLong) ↔ (2 ^ 64 - 1 < asked)) where
     -- a call that was made

@@ -1,4 +1,5 @@
 pub mod GrowLemmas
+pub mod ItemsLemmas
 pub mod MakeLemmas
 pub mod PairLemmas
 pub mod RunLemmas

@@ -2,7 +2,7 @@
 use Rattle.std.specs.Prelude.{◌≢◌, ℕ, ◌+◌, ◌<◌, List, [], length, get_or, slice_get, Bool, IsSomeAnd, ⊤}
 use Rattle.vob_block.specs.Packing.{need}
 use Rattle.vob_run.specs.declared.command.Command.{Command}
-use Rattle.vob_run.specs.declared.command.Command.TheVariants.{New, FromElem, Copy, Push, Pop, GetBit, GetUnchecked, IndexBit, SetBit, SetUnchecked, Length, IsEmpty, Truncate, ExtendVob, SplitOff, And, Or, Xor, AndNew, OrNew, XorNew, Equal, Reserve, Shrink, Bits, Storage}
+use Rattle.vob_run.specs.declared.command.Command.TheVariants.{New, FromElem, Copy, Push, Pop, GetBit, GetUnchecked, IndexBit, SetBit, SetUnchecked, Length, IsEmpty, Truncate, Clear, SetAll, Negate, Resize, ExtendSlice, ExtendItems, ExtendVob, SplitOff, And, Or, Xor, AndNew, OrNew, XorNew, Equal, Reserve, Shrink, Bits, Storage}
 use Rattle.vob_run.specs.Answer.{skipped, refused}
 use Rattle.vob_run.specs.Step.{step}
 
@@ -26,6 +26,12 @@ module _ (width : ℕ) (lists : List (List Bool)) where
   TakesMemory (Length which) = ⊥
   TakesMemory (IsEmpty which) = ⊥
   TakesMemory (Truncate which len) = ⊥
+  TakesMemory (Clear which) = ⊥
+  TakesMemory (SetAll which value) = ⊥
+  TakesMemory (Negate which) = ⊥
+  TakesMemory (Resize which len value) = Grows which (λ bits. len)
+  TakesMemory (ExtendSlice which more) = Grows which (λ bits. length bits + length more.items)
+  TakesMemory (ExtendItems which more) = Grows which (λ bits. length bits + length more.items)
   TakesMemory (ExtendVob which other) = Grows which (λ bits. length bits + length (get_or lists other []))
   TakesMemory (SplitOff which index) = ⊤
   TakesMemory (And which other) = ⊥

@@ -1,10 +1,10 @@
 -- What each command means on the lists of bits that the numbered Vobs are.
-use Rattle.std.specs.Prelude.{ℕ, ◌+◌, List, [], length, take, slice_get, replicate, ◌==◌, Bool, ◌&&◌, ◌||◌}
+use Rattle.std.specs.Prelude.{ℕ, ◌+◌, ◌-◌, List, [], ◌++◌, map, length, take, slice_get, replicate, ◌==◌, Bool, not, ◌&&◌, ◌||◌}
 use Rattle.vob_block.specs.Packing.{packing}
 use Rattle.vob_block.specs.Pointwise.{differ, pointwise}
 use Rattle.vob.specs.Same.{same_bits}
 use Rattle.vob_run.specs.declared.command.Command.{Command}
-use Rattle.vob_run.specs.declared.command.Command.TheVariants.{New, FromElem, Copy, Push, Pop, GetBit, GetUnchecked, IndexBit, SetBit, SetUnchecked, Length, IsEmpty, Truncate, ExtendVob, SplitOff, And, Or, Xor, AndNew, OrNew, XorNew, Equal, Reserve, Shrink, Bits, Storage}
+use Rattle.vob_run.specs.declared.command.Command.TheVariants.{New, FromElem, Copy, Push, Pop, GetBit, GetUnchecked, IndexBit, SetBit, SetUnchecked, Length, IsEmpty, Truncate, Clear, SetAll, Negate, Resize, ExtendSlice, ExtendItems, ExtendVob, SplitOff, And, Or, Xor, AndNew, OrNew, XorNew, Equal, Reserve, Shrink, Bits, Storage}
 use Rattle.vob_run.specs.Answer.{done, bit, flag, number, bit_list, block_list, Outcome}
 use Rattle.vob_run.specs.Outcomes.{on, on_two, on_even, tells, leaves, makes, unless_long, tells_bit, pushed, popped, written, extended, cut, combined}
 
@@ -23,6 +23,12 @@ step width lists (SetUnchecked which index value) = on lists which (written list
 step width lists (Length which) = on lists which (λ bits. tells lists (number (length bits)))
 step width lists (IsEmpty which) = on lists which (λ bits. tells lists (flag (length bits == 0)))
 step width lists (Truncate which len) = on lists which (λ bits. leaves lists which done (take len bits))
+step width lists (Clear which) = on lists which (λ bits. leaves lists which done [])
+step width lists (SetAll which value) = on lists which (λ bits. leaves lists which done (replicate (length bits) value))
+step width lists (Negate which) = on lists which (λ bits. leaves lists which done (map not bits))
+step width lists (Resize which len value) = on lists which (λ bits. leaves lists which done (take len bits ++ replicate (len - length bits) value))
+step width lists (ExtendSlice which more) = on lists which (extended lists which more.items)
+step width lists (ExtendItems which more) = on lists which (extended lists which more.items)
 step width lists (ExtendVob which other) = on_two lists which other (λ bits others. extended lists which others bits)
 step width lists (SplitOff which index) = on lists which (cut lists which index)
 step width lists (And which other) = on_even lists which other (combined lists ◌&&◌ which)

@@ -67,6 +67,36 @@ pub enum Command {
         which: usize,
         len: usize,
     },
+    /// Takes off all bits: `Vob::clear`.
+    Clear {
+        which: usize,
+    },
+    /// Makes every bit `value`: `Vob::set_all`.
+    SetAll {
+        which: usize,
+        value: bool,
+    },
+    /// Turns every bit round: `Vob::negate`.
+    Negate {
+        which: usize,
+    },
+    /// Cuts the bits to `len`, or adds bits of `value` up to `len`: `Vob::resize`.
+    Resize {
+        which: usize,
+        len: usize,
+        value: bool,
+    },
+    /// Adds these bits behind the last one: `Vob::extend_from_slice`.
+    ExtendSlice {
+        which: usize,
+        bits: Vec<bool>,
+    },
+    /// Adds these bits behind the last one, one by one, once there is room for all of them:
+    /// `Vob::reserve` and `Vob::extend`.
+    ExtendItems {
+        which: usize,
+        bits: Vec<bool>,
+    },
     /// Adds the bits of another Vob behind the last bit: `Vob::extend_from_vob`. Skipped where both
     /// numbers are the same.
     ExtendVob {

@@ -37,6 +37,12 @@ fn run_one<T: Block>(alloc: Global, vobs: &mut Vec<Vob<T>>, command: &Command) -
         Command::Length { which } => read::length(vobs, *which),
         Command::IsEmpty { which } => read::is_empty(vobs, *which),
         Command::Truncate { which, len } => write::truncate(vobs, *which, *len),
+        Command::Clear { which } => write::clear(vobs, *which),
+        Command::SetAll { which, value } => write::set_all(vobs, *which, *value),
+        Command::Negate { which } => write::negate(vobs, *which),
+        Command::Resize { which, len, value } => grow::resize(vobs, *which, *len, *value),
+        Command::ExtendSlice { which, bits } => grow::extend_slice(vobs, *which, bits),
+        Command::ExtendItems { which, bits } => grow::extend_items(vobs, *which, bits),
         Command::ExtendVob { which, other } => pair::extend_vob(vobs, *which, *other),
         Command::SplitOff { which, index } => make::split_off(vobs, *which, *index),
         Command::And { which, other } => { pair::combine(vobs, Connective::And, *which, *other) }

@@ -1,12 +1,12 @@
 -- A run that goes on, and the steps that refuse nothing for want of memory.
 use Rattle.std.proofs.Common.{◌≡◌, ◌≢◌, ℕ, Bool, true, false, List, [], ◌∷◌, ◌++◌, length, map, Some, None, Option, refl, inl, arith, subst}
-use Rattle.std.specs.Prelude.{◌+◌, ◌&&◌, ◌||◌, slice_get, slice_set, nat_lt, take, ◌==◌, if◌then◌else◌}
+use Rattle.std.specs.Prelude.{◌+◌, ◌-◌, replicate, not, ◌&&◌, ◌||◌, slice_get, slice_set, nat_lt, take, ◌==◌, if◌then◌else◌}
 use Rattle.std.specs.Option.{option_map_or}
 use Rattle.std.proofs.lemmas.List.{map_push}
 use Rattle.std.proofs.lemmas.List.Elements.{All-push}
 use Rattle.vob_block.specs.Packing.{packing}
 use Rattle.vob_run.specs.declared.command.Command.{Command}
-use Rattle.vob_run.specs.declared.command.Command.TheVariants.{New, FromElem, Copy, Push, Pop, GetBit, GetUnchecked, IndexBit, SetBit, SetUnchecked, Length, IsEmpty, Truncate, ExtendVob, SplitOff, And, Or, Xor, AndNew, OrNew, XorNew, Equal, Reserve, Shrink, Bits, Storage}
+use Rattle.vob_run.specs.declared.command.Command.TheVariants.{New, FromElem, Copy, Push, Pop, GetBit, GetUnchecked, IndexBit, SetBit, SetUnchecked, Length, IsEmpty, Truncate, Clear, SetAll, Negate, Resize, ExtendSlice, ExtendItems, ExtendVob, SplitOff, And, Or, Xor, AndNew, OrNew, XorNew, Equal, Reserve, Shrink, Bits, Storage}
 use Rattle.vob_run.specs.declared.command.Reply.{Reply}
 use Rattle.vob_run.specs.Answer.{Answer, Outcome, done, bit, flag, number, made, bit_list, block_list, refused, skipped, outcome}
 use Rattle.vob_block.specs.Pointwise.{differ, pointwise}
@@ -112,6 +112,12 @@ module _ (width : ℕ) where
       answer-on all which (written all which index value) (answer-written all which index value)
   answer-step all (IsEmpty which) = answer-on all which (λ bits. tells all (flag (length bits == 0))) (λ bits e. cc)
   answer-step all (Truncate which len) = answer-on all which (λ bits. leaves all which done (take len bits)) (λ bits e. cc)
+  answer-step all (Clear which) = answer-on all which (λ bits. leaves all which done []) (λ bits e. cc)
+  answer-step all (SetAll which value) = answer-on all which (λ bits. leaves all which done (replicate (length bits) value)) (λ bits e. cc)
+  answer-step all (Negate which) = answer-on all which (λ bits. leaves all which done (map not bits)) (λ bits e. cc)
+  answer-step all (Resize which len value) = answer-on all which (λ bits. leaves all which done (take len bits ++ replicate (len - length bits) value)) (λ bits e. cc)
+  answer-step all (ExtendSlice which more) = answer-on all which (extended all which more.items) (answer-extended all which more.items)
+  answer-step all (ExtendItems which more) = answer-on all which (extended all which more.items) (answer-extended all which more.items)
   answer-step all (ExtendVob which other) = answer-on_two all which other (λ bits others. extended all which others bits) (λ bits others. answer-extended all which others bits)
   answer-step all (SplitOff which index) = answer-on all which (cut all which index) (λ bits e. cc)
   answer-step all (And which other) = answer-on_even all which other (combined all ◌&&◌ which) (λ bits others e. cc)

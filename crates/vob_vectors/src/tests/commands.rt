@@ -8,11 +8,20 @@ use vob_block::Block;
 use vob_run::command::{Command, Reply};
 use vob_run::run;
 
-/// A packed vector of these digits, index 0 first.
+/// The bits of these digits, index 0 first.
+fn bits_of(alloc: Global, digits: &str) -> Result<Vec<bool>, AllocError> {
+    digits
+        .as_bytes()
+        .iter()
+        .map(|digit| *digit == b'1')
+        .collect(alloc)
+}
+
+/// A packed vector of these digits.
 fn vob_of<T: Block>(alloc: Global, digits: &str) -> Result<Vob<T>, VobError> {
     let mut vob = Vob::<T>::new_with_storage_type(alloc, 0)?;
-    for digit in digits.as_bytes() {
-        vob.push(*digit == b'1')?;
+    for bit in &bits_of(alloc, digits)? {
+        vob.push(*bit)?;
     }
     Ok(vob)
 }
@@ -227,4 +236,164 @@ fn lists_are_equal_by_their_bits(rt: HostRuntime) -> Result<(), Fail> {
         &["0100000001", "0100000001", "01000000010", "0100000011"],
         &rows,
     )
+}
+
+#[test]
+fn all_bits_change_at_once(rt: HostRuntime) -> Result<(), Fail> {
+    let rows = [
+        (Command::Negate { which: 0 }, "Done"),
+        (Command::Bits { which: 0 }, "0100111110"),
+        (
+            Command::SetAll {
+                which: 0,
+                value: true,
+            },
+            "Done",
+        ),
+        (Command::Bits { which: 0 }, "1111111111"),
+        (
+            Command::SetAll {
+                which: 0,
+                value: false,
+            },
+            "Done",
+        ),
+        (Command::Bits { which: 0 }, "0000000000"),
+        (Command::Clear { which: 0 }, "Done"),
+        (Command::Bits { which: 0 }, ""),
+        (Command::Negate { which: 0 }, "Done"),
+        (
+            Command::SetAll {
+                which: 0,
+                value: true,
+            },
+            "Done",
+        ),
+        (Command::Bits { which: 0 }, ""),
+        (Command::Bits { which: 1 }, "1"),
+        (Command::Negate { which: 2 }, "Skipped"),
+        (
+            Command::SetAll {
+                which: 2,
+                value: true,
+            },
+            "Skipped",
+        ),
+        (Command::Clear { which: 2 }, "Skipped"),
+    ];
+    check(&rt, rt.alloc(), &["1011000001", "1"], &rows)
+}
+
+#[test]
+fn lists_are_resized(rt: HostRuntime) -> Result<(), Fail> {
+    let rows = [
+        (
+            Command::Resize {
+                which: 0,
+                len: 11,
+                value: true,
+            },
+            "Done",
+        ),
+        (Command::Bits { which: 0 }, "10111111111"),
+        (
+            Command::Resize {
+                which: 0,
+                len: 12,
+                value: false,
+            },
+            "Done",
+        ),
+        (Command::Bits { which: 0 }, "101111111110"),
+        (
+            Command::Resize {
+                which: 0,
+                len: 2,
+                value: true,
+            },
+            "Done",
+        ),
+        (Command::Bits { which: 0 }, "10"),
+        (
+            Command::Resize {
+                which: 0,
+                len: 2,
+                value: true,
+            },
+            "Done",
+        ),
+        (Command::Bits { which: 0 }, "10"),
+        (
+            Command::Resize {
+                which: 0,
+                len: 0,
+                value: true,
+            },
+            "Done",
+        ),
+        (Command::Bits { which: 0 }, ""),
+        (
+            Command::Resize {
+                which: 1,
+                len: 3,
+                value: true,
+            },
+            "Skipped",
+        ),
+    ];
+    check(&rt, rt.alloc(), &["101"], &rows)
+}
+
+#[test]
+fn bits_are_added_behind_the_last_one(rt: HostRuntime) -> Result<(), Fail> {
+    let alloc = rt.alloc();
+    let rows = [
+        (
+            Command::ExtendSlice {
+                which: 0,
+                bits: bits_of(alloc, "01101")?,
+            },
+            "Done",
+        ),
+        (Command::Bits { which: 0 }, "101101101"),
+        (
+            Command::ExtendSlice {
+                which: 0,
+                bits: bits_of(alloc, "")?,
+            },
+            "Done",
+        ),
+        (Command::Bits { which: 0 }, "101101101"),
+        (
+            Command::ExtendItems {
+                which: 0,
+                bits: bits_of(alloc, "1100")?,
+            },
+            "Done",
+        ),
+        (Command::Bits { which: 0 }, "1011011011100"),
+        (
+            Command::ExtendItems {
+                which: 0,
+                bits: bits_of(alloc, "")?,
+            },
+            "Done",
+        ),
+        (Command::Bits { which: 0 }, "1011011011100"),
+        (
+            Command::ExtendSlice {
+                which: 1,
+                bits: bits_of(alloc, "1")?,
+            },
+            "Skipped",
+        ),
+        (
+            Command::ExtendItems {
+                which: 1,
+                bits: bits_of(alloc, "1")?,
+            },
+            "Skipped",
+        ),
+    ];
+    check(&rt, alloc, &["1011"], &rows)
 }
