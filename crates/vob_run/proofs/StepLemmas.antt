@@ -12,7 +12,7 @@ use Rattle.vob.specs.declared.error.VobError.TheVariants.{TooLong, Memory}
 use Rattle.vob_run.specs.declared.command.Command.{Command}
 use Rattle.vob_run.specs.declared.command.Command.TheVariants.{Push}
 use Rattle.vob_run.specs.Answer.{outcome, done, refused}
-use Rattle.vob_run.specs.Memory.{MayRefuse}
+use Rattle.vob_run.specs.Memory.{TakesMemory, MayRefuse}
 use Rattle.vob_block.specs.Pointwise.{differ}
 use Rattle.vob_run.specs.Step.{step}
 use Rattle.vob_run.specs.Run.{lists, IsStep}
@@ -39,6 +39,13 @@ pub refused_step : (width : ℕ) (before after : List (List Bool)) (command : Co
     → IsStep width before command (refused (refusal_number refusal)) after
 refused_step width before after command TooLong same long short = inl (long refl ∙ ap (outcome (refused 1)) (sym same))
 refused_step width before after command Memory same long short = inr (short refl, refl, same)
+
+-- a call that was made wants memory where its command takes some
+pub MayRefuse-done : (width : ℕ) (all after : List (List Bool)) (command : Command) → step width all command ≡ outcome done after
+    → TakesMemory width all command → MayRefuse width all command
+MayRefuse-done width all after command is takes =
+    let answers : (step width all command).answer ≡ done = ap (λ o. o.answer) is in
+    (takes, (λ e. cc), (λ e. cc))
 
 -- one bit more behind the list with this number
 module _ (width : ℕ) (all : List (List Bool)) (which : ℕ) (value : Bool) (bits : List Bool) (at : slice_get all which ≡ Some bits) where

@@ -1,4 +1,6 @@
 pub mod Answer
 pub mod Memory
+pub mod Outcomes
+pub mod Pairs
 pub mod Run
 pub mod Step

@@ -1,8 +1,8 @@
 -- Which commands may be refused for want of memory.
-use Rattle.std.specs.Prelude.{◌≢◌, ℕ, ◌+◌, ◌<◌, List, length, slice_get, Bool, IsSomeAnd, ⊤}
+use Rattle.std.specs.Prelude.{◌≢◌, ℕ, ◌+◌, ◌<◌, List, [], length, get_or, slice_get, Bool, IsSomeAnd, ⊤}
 use Rattle.vob_block.specs.Packing.{need}
 use Rattle.vob_run.specs.declared.command.Command.{Command}
-use Rattle.vob_run.specs.declared.command.Command.TheVariants.{New, Push, Pop, GetBit, GetUnchecked, IndexBit, SetBit, SetUnchecked, Length, IsEmpty, Truncate, Bits, Storage}
+use Rattle.vob_run.specs.declared.command.Command.TheVariants.{New, FromElem, Copy, Push, Pop, GetBit, GetUnchecked, IndexBit, SetBit, SetUnchecked, Length, IsEmpty, Truncate, Clear, SetAll, Negate, Resize, ExtendSlice, ExtendItems, ExtendVob, SplitOff, And, Or, Xor, AndNew, OrNew, XorNew, Equal, Reserve, Shrink, Bits, Storage}
 use Rattle.vob_run.specs.Answer.{skipped, refused}
 use Rattle.vob_run.specs.Step.{step}
 
@@ -14,6 +14,8 @@ module _ (width : ℕ) (lists : List (List Bool)) where
   -- a command asks for memory: it makes something, or a list would take more blocks
   abbrev pub TakesMemory : Command → Type 0
   TakesMemory (New capacity) = ⊤
+  TakesMemory (FromElem value len) = ⊤
+  TakesMemory (Copy which) = ⊤
   TakesMemory (Push which value) = Grows which (λ bits. length bits + 1)
   TakesMemory (Pop which) = ⊥
   TakesMemory (GetBit which index) = ⊥
@@ -24,6 +26,23 @@ module _ (width : ℕ) (lists : List (List Bool)) where
   TakesMemory (Length which) = ⊥
   TakesMemory (IsEmpty which) = ⊥
   TakesMemory (Truncate which len) = ⊥
+  TakesMemory (Clear which) = ⊥
+  TakesMemory (SetAll which value) = ⊥
+  TakesMemory (Negate which) = ⊥
+  TakesMemory (Resize which len value) = Grows which (λ bits. len)
+  TakesMemory (ExtendSlice which more) = Grows which (λ bits. length bits + length more.items)
+  TakesMemory (ExtendItems which more) = Grows which (λ bits. length bits + length more.items)
+  TakesMemory (ExtendVob which other) = Grows which (λ bits. length bits + length (get_or lists other []))
+  TakesMemory (SplitOff which index) = ⊤
+  TakesMemory (And which other) = ⊥
+  TakesMemory (Or which other) = ⊥
+  TakesMemory (Xor which other) = ⊥
+  TakesMemory (AndNew which other) = ⊤
+  TakesMemory (OrNew which other) = ⊤
+  TakesMemory (XorNew which other) = ⊤
+  TakesMemory (Equal which other) = ⊥
+  TakesMemory (Reserve which additional) = Grows which (λ bits. length bits + additional)
+  TakesMemory (Shrink which) = ⊥
   TakesMemory (Bits which) = ⊤
   TakesMemory (Storage which) = ⊤
 

@@ -2,7 +2,9 @@
 ghost use Rattle.std.specs.Prelude.{◌≡◌};
 ghost use Rattle.vob.specs.Refusal.{refusal_number};
 
+pub(crate) mod grow;
 pub(crate) mod make;
+pub(crate) mod pair;
 pub(crate) mod read;
 pub(crate) mod write;
 

@@ -1,13 +1,22 @@
 //! The commands that `run` takes, and the replies that it gives.
 
-/// A call on numbered Vobs. `which` is the number of a Vob, counted from 0 in the order of the
-/// list; lengths, indices and capacities are in bits.
+/// A call on numbered Vobs. `which` and `other` are numbers of Vobs, counted from 0 in the order of the
+/// list; lengths, indices and capacities are in bits. A Vob that is made comes at the end of the
+/// list.
 #[derive(Debug, Drop)]
 pub enum Command {
-    /// Makes an empty Vob with room for `capacity` bits, at the end of the list:
-    /// `Vob::new_with_storage_type`.
+    /// Makes an empty Vob with room for `capacity` bits: `Vob::new_with_storage_type`.
     New {
         capacity: usize,
+    },
+    /// Makes a Vob of `len` times `value`: `Vob::from_elem_with_storage_type`.
+    FromElem {
+        value: bool,
+        len: usize,
+    },
+    /// Makes a Vob with the same bits: `Vob::clone`.
+    Copy {
+        which: usize,
     },
     /// Adds a bit behind the last one: `Vob::push`.
     Push {
@@ -57,6 +66,97 @@ pub enum Command {
     Truncate {
         which: usize,
         len: usize,
+    },
+    /// Takes off all bits: `Vob::clear`.
+    Clear {
+        which: usize,
+    },
+    /// Makes every bit `value`: `Vob::set_all`.
+    SetAll {
+        which: usize,
+        value: bool,
+    },
+    /// Turns every bit round: `Vob::negate`.
+    Negate {
+        which: usize,
+    },
+    /// Cuts the bits to `len`, or adds bits of `value` up to `len`: `Vob::resize`.
+    Resize {
+        which: usize,
+        len: usize,
+        value: bool,
+    },
+    /// Adds these bits behind the last one: `Vob::extend_from_slice`.
+    ExtendSlice {
+        which: usize,
+        bits: Vec<bool>,
+    },
+    /// Adds these bits behind the last one, one by one, once there is room for all of them:
+    /// `Vob::reserve` and `Vob::extend`.
+    ExtendItems {
+        which: usize,
+        bits: Vec<bool>,
+    },
+    /// Adds the bits of another Vob behind the last bit: `Vob::extend_from_vob`. Skipped where both
+    /// numbers are the same.
+    ExtendVob {
+        which: usize,
+        other: usize,
+    },
+    /// Keeps the bits below `index`, and makes a Vob of the others: `Vob::split_off`.
+    SplitOff {
+        which: usize,
+        index: usize,
+    },
+    /// Keeps the bits that both have: `Vob::and`. Skipped where the numbers are the same or the
+    /// lengths differ.
+    And {
+        which: usize,
+        other: usize,
+    },
+    /// Gets the bits that either has: `Vob::or`. Skipped where the numbers are the same or the
+    /// lengths differ.
+    Or {
+        which: usize,
+        other: usize,
+    },
+    /// Gets the bits that one has and the other hasn't: `Vob::xor`. Skipped where the numbers are the same or the
+    /// lengths differ.
+    Xor {
+        which: usize,
+        other: usize,
+    },
+    /// Makes a Vob of the bits that both have: `&` on two references. Skipped where
+    /// the numbers are the same or the lengths differ.
+    AndNew {
+        which: usize,
+        other: usize,
+    },
+    /// Makes a Vob of the bits that either has: `|` on two references. Skipped where
+    /// the numbers are the same or the lengths differ.
+    OrNew {
+        which: usize,
+        other: usize,
+    },
+    /// Makes a Vob of the bits that one has and the other hasn't: `^` on two references. Skipped where
+    /// the numbers are the same or the lengths differ.
+    XorNew {
+        which: usize,
+        other: usize,
+    },
+    /// Whether both have the same bits: `==`. Skipped where the numbers are the same.
+    Equal {
+        which: usize,
+        other: usize,
+    },
+    /// Makes room for `additional` bits more: `Vob::reserve`.
+    Reserve {
+        which: usize,
+        additional: usize,
+    },
+    /// Gives unused room back: `Vob::shrink_to_fit`.
+    Shrink {
+        which: usize,
     },
     /// Reads all bits: `Vob::iter`.
     Bits {

@@ -3,7 +3,8 @@ ghost use Rattle.std.specs.Prelude.{◌≡◌, [], ◌++◌, map, OnOk, OnErr, I
 ghost use Rattle.vob_run.specs.Answer.{Answer, meaning};
 ghost use Rattle.vob_run.specs.Run.{lists, IsStep, IsRun};
 
-use crate::calls::{make, read, write};
+use crate::calls::pair::Connective;
+use crate::calls::{grow, make, pair, read, write};
 use crate::command::{Command, Reply};
 use std::alloc::{AllocError, Global};
 use vob::Vob;
@@ -16,6 +17,8 @@ fn run_one<T: Block>(alloc: Global, vobs: &mut Vec<Vob<T>>, command: &Command) -
 {
     match command {
         Command::New { capacity } => make::new(alloc, vobs, *capacity),
+        Command::FromElem { value, len } => make::from_elem(alloc, vobs, *value, *len),
+        Command::Copy { which } => make::copy(vobs, *which),
         Command::Push { which, value } => write::push(vobs, *which, *value),
         Command::Pop { which } => write::pop(vobs, *which),
         Command::GetBit { which, index } => read::get_bit(vobs, *which, *index),
@@ -34,6 +37,29 @@ fn run_one<T: Block>(alloc: Global, vobs: &mut Vec<Vob<T>>, command: &Command) -
         Command::Length { which } => read::length(vobs, *which),
         Command::IsEmpty { which } => read::is_empty(vobs, *which),
         Command::Truncate { which, len } => write::truncate(vobs, *which, *len),
+        Command::Clear { which } => write::clear(vobs, *which),
+        Command::SetAll { which, value } => write::set_all(vobs, *which, *value),
+        Command::Negate { which } => write::negate(vobs, *which),
+        Command::Resize { which, len, value } => grow::resize(vobs, *which, *len, *value),
+        Command::ExtendSlice { which, bits } => grow::extend_slice(vobs, *which, bits),
+        Command::ExtendItems { which, bits } => grow::extend_items(vobs, *which, bits),
+        Command::ExtendVob { which, other } => pair::extend_vob(vobs, *which, *other),
+        Command::SplitOff { which, index } => make::split_off(vobs, *which, *index),
+        Command::And { which, other } => { pair::combine(vobs, Connective::And, *which, *other) }
+        Command::Or { which, other } => { pair::combine(vobs, Connective::Or, *which, *other) }
+        Command::Xor { which, other } => { pair::combine(vobs, Connective::Xor, *which, *other) }
+        Command::AndNew { which, other } => {
+            pair::combine_new(vobs, Connective::And, *which, *other)
+        }
+        Command::OrNew { which, other } => {
+            pair::combine_new(vobs, Connective::Or, *which, *other)
+        }
+        Command::XorNew { which, other } => {
+            pair::combine_new(vobs, Connective::Xor, *which, *other)
+        }
+        Command::Equal { which, other } => pair::equal(vobs, *which, *other),
+        Command::Reserve { which, additional } => grow::reserve(vobs, *which, *additional),
+        Command::Shrink { which } => grow::shrink(vobs, *which),
         Command::Bits { which } => read::bits(alloc, vobs, *which),
         Command::Storage { which } => read::storage(alloc, vobs, *which),
     }

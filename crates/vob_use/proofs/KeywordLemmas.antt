@@ -1,5 +1,5 @@
 -- The words behind a keyword have its kinds, whichever command they stand for.
-use Rattle.std.proofs.Common.{Option, None, ◌≡◌, ℕ, suc, ◌+◌, Bool, true, false, cond, List, [], ◌∷◌, length, map, Some, refl, subst, ap, sym, ◌∙◌, arith}
+use Rattle.std.proofs.Common.{Option, None, ◌≡◌, ◌≢◌, ℕ, suc, ◌+◌, Bool, true, false, cond, List, [], ◌∷◌, length, map, Some, refl, subst, ap, sym, ◌∙◌, arith}
 use Rattle.std.specs.Prelude.{find}
 use Rattle.std.specs.Str.{bytes_eq}
 use Rattle.std.proofs.lemmas.Option.{none-some, same_Some}
@@ -27,27 +27,47 @@ keyword_of (command.IsEmpty which) = Empty
 keyword_of (command.Truncate which len) = Truncate
 keyword_of (command.Bits which) = Bits
 keyword_of (command.Storage which) = Blocks
+keyword_of _ = New
 
 -- the word of a command is its keyword's, and its arguments are of the keyword's kinds
 record Belongs (c : Command) (k : Keyword) : Type 0 where
   word : (form_of c).word ≡ word_of k
   kinds : map kind_of (form_of c).arguments ≡ kinds_of k
 
-belongs : (c : Command) → Belongs c (keyword_of c)
+belongs : (c : Command) → (form_of c).word ≢ [] → Belongs c (keyword_of c)
 unfolding keyword_of
-belongs (command.New capacity) = record { word = refl; kinds = refl }
-belongs (command.Push which value) = record { word = refl; kinds = refl }
-belongs (command.Pop which) = record { word = refl; kinds = refl }
-belongs (command.GetBit which index) = record { word = refl; kinds = refl }
-belongs (command.GetUnchecked which index) = record { word = refl; kinds = refl }
-belongs (command.IndexBit which index) = record { word = refl; kinds = refl }
-belongs (command.SetBit which index value) = record { word = refl; kinds = refl }
-belongs (command.SetUnchecked which index value) = record { word = refl; kinds = refl }
-belongs (command.Length which) = record { word = refl; kinds = refl }
-belongs (command.IsEmpty which) = record { word = refl; kinds = refl }
-belongs (command.Truncate which len) = record { word = refl; kinds = refl }
-belongs (command.Bits which) = record { word = refl; kinds = refl }
-belongs (command.Storage which) = record { word = refl; kinds = refl }
+belongs (command.New capacity) some = record { word = refl; kinds = refl }
+belongs (command.Push which value) some = record { word = refl; kinds = refl }
+belongs (command.Pop which) some = record { word = refl; kinds = refl }
+belongs (command.GetBit which index) some = record { word = refl; kinds = refl }
+belongs (command.GetUnchecked which index) some = record { word = refl; kinds = refl }
+belongs (command.IndexBit which index) some = record { word = refl; kinds = refl }
+belongs (command.SetBit which index value) some = record { word = refl; kinds = refl }
+belongs (command.SetUnchecked which index value) some = record { word = refl; kinds = refl }
+belongs (command.Length which) some = record { word = refl; kinds = refl }
+belongs (command.IsEmpty which) some = record { word = refl; kinds = refl }
+belongs (command.Truncate which len) some = record { word = refl; kinds = refl }
+belongs (command.Bits which) some = record { word = refl; kinds = refl }
+belongs (command.Storage which) some = record { word = refl; kinds = refl }
+belongs (command.FromElem value len) some = absurd (some refl)
+belongs (command.Copy which) some = absurd (some refl)
+belongs (command.Clear which) some = absurd (some refl)
+belongs (command.SetAll which value) some = absurd (some refl)
+belongs (command.Negate which) some = absurd (some refl)
+belongs (command.Resize which len value) some = absurd (some refl)
+belongs (command.ExtendSlice which bits) some = absurd (some refl)
+belongs (command.ExtendItems which bits) some = absurd (some refl)
+belongs (command.ExtendVob which other) some = absurd (some refl)
+belongs (command.SplitOff which index) some = absurd (some refl)
+belongs (command.And which other) some = absurd (some refl)
+belongs (command.Or which other) some = absurd (some refl)
+belongs (command.Xor which other) some = absurd (some refl)
+belongs (command.AndNew which other) some = absurd (some refl)
+belongs (command.OrNew which other) some = absurd (some refl)
+belongs (command.XorNew which other) some = absurd (some refl)
+belongs (command.Equal which other) some = absurd (some refl)
+belongs (command.Reserve which additional) some = absurd (some refl)
+belongs (command.Shrink which) some = absurd (some refl)
 
 -- the command of a keyword and its arguments
 command_of : Keyword → List Argument → Option Command
@@ -66,21 +86,41 @@ command_of Bits (number which ∷ []) = Some (command.Bits which)
 command_of Blocks (number which ∷ []) = Some (command.Storage which)
 command_of _ _ = None
 
-again : (c : Command) → command_of (keyword_of c) (form_of c).arguments ≡ Some c
+again : (c : Command) → (form_of c).word ≢ [] →
+    command_of (keyword_of c) (form_of c).arguments ≡ Some c
 unfolding keyword_of command_of
-again (command.New capacity) = refl
-again (command.Push which value) = refl
-again (command.Pop which) = refl
-again (command.GetBit which index) = refl
-again (command.GetUnchecked which index) = refl
-again (command.IndexBit which index) = refl
-again (command.SetBit which index value) = refl
-again (command.SetUnchecked which index value) = refl
-again (command.Length which) = refl
-again (command.IsEmpty which) = refl
-again (command.Truncate which len) = refl
-again (command.Bits which) = refl
-again (command.Storage which) = refl
+again (command.New capacity) some = refl
+again (command.Push which value) some = refl
+again (command.Pop which) some = refl
+again (command.GetBit which index) some = refl
+again (command.GetUnchecked which index) some = refl
+again (command.IndexBit which index) some = refl
+again (command.SetBit which index value) some = refl
+again (command.SetUnchecked which index value) some = refl
+again (command.Length which) some = refl
+again (command.IsEmpty which) some = refl
+again (command.Truncate which len) some = refl
+again (command.Bits which) some = refl
+again (command.Storage which) some = refl
+again (command.FromElem value len) some = absurd (some refl)
+again (command.Copy which) some = absurd (some refl)
+again (command.Clear which) some = absurd (some refl)
+again (command.SetAll which value) some = absurd (some refl)
+again (command.Negate which) some = absurd (some refl)
+again (command.Resize which len value) some = absurd (some refl)
+again (command.ExtendSlice which bits) some = absurd (some refl)
+again (command.ExtendItems which bits) some = absurd (some refl)
+again (command.ExtendVob which other) some = absurd (some refl)
+again (command.SplitOff which index) some = absurd (some refl)
+again (command.And which other) some = absurd (some refl)
+again (command.Or which other) some = absurd (some refl)
+again (command.Xor which other) some = absurd (some refl)
+again (command.AndNew which other) some = absurd (some refl)
+again (command.OrNew which other) some = absurd (some refl)
+again (command.XorNew which other) some = absurd (some refl)
+again (command.Equal which other) some = absurd (some refl)
+again (command.Reserve which additional) some = absurd (some refl)
+again (command.Shrink which) some = absurd (some refl)
 
 -- the table of keywords finds each of them
 named-word : (k : Keyword) → keyword_named (word_of k) ≡ Some k
@@ -98,13 +138,18 @@ named-word Truncate = refl
 named-word Bits = refl
 named-word Blocks = refl
 
-named-form : (c : Command) → keyword_named (form_of c).word ≡ Some (keyword_of c)
-named-form c = ap keyword_named (belongs c).word ∙ named-word (keyword_of c)
+named-form : (c : Command) → (form_of c).word ≢ [] →
+    keyword_named (form_of c).word ≡ Some (keyword_of c)
+named-form c some = ap keyword_named (belongs c some).word ∙ named-word (keyword_of c)
+
+-- the text of a keyword isn't empty
+some_word : (word : List ℕ) (k : Keyword) → keyword_named word ≡ Some k → word ≢ []
+some_word word k named = λ e. none-some k (sym (ap keyword_named e) ∙ named)
 
 -- a command whose word names a keyword belongs to it
 belongs_named : (c : Command) (k : Keyword) → keyword_named (form_of c).word ≡ Some k → Belongs c k
 belongs_named c k named =
-    let own = belongs c in
+    let own = belongs c (some_word (form_of c).word k named) in
     let same : Some (keyword_of c) ≡ Some k =
     sym (named-word (keyword_of c)) ∙ ap keyword_named (sym own.word) ∙ named in
     let key : keyword_of c ≡ k = cc in
@@ -189,15 +234,17 @@ all_spell_once (word ∷ words) (x ∷ xs) [] kinds here there = absurd there
 pub reads_once : (line : List (List ℕ)) (c d : Command) → Reads line c → Reads line d → c ≡ d
 reads_once [] c d here there = absurd here
 reads_once (word ∷ words) c d here there =
-    let named = ap keyword_named (sym here.0 ∙ there.0) in
+    let some : (form_of c).word ≢ [] = λ e. here.0.1 (here.0.0 ∙ e) in
+    let others : (form_of d).word ≢ [] = λ e. there.0.1 (there.0.0 ∙ e) in
+    let named = ap keyword_named (sym here.0.0 ∙ there.0.0) in
     let same : Some (keyword_of c) ≡ Some (keyword_of d) =
-    sym (named-form c) ∙ named ∙ named-form d in
+    sym (named-form c some) ∙ named ∙ named-form d others in
     let key : keyword_of c ≡ keyword_of d = cc in
-    let kinds = (belongs c).kinds ∙ ap kinds_of key ∙ sym (belongs d).kinds in
+    let kinds = (belongs c some).kinds ∙ ap kinds_of key ∙ sym (belongs d others).kinds in
     let arguments = all_spell_once words _ _ kinds here.1 there.1 in
     let back : command_of (keyword_of c) (form_of c).arguments
     ≡ command_of (keyword_of d) (form_of d).arguments = cc in
-    same_Some c d (sym (again c) ∙ back ∙ again d)
+    same_Some c d (sym (again c some) ∙ back ∙ again d others)
 
 module _ (k : Keyword) (line : List (List ℕ)) (word : List ℕ) (words : List (List ℕ))
     (cut : line ≡ word ∷ words) (named : keyword_named word ≡ Some k) where
@@ -206,7 +253,7 @@ module _ (k : Keyword) (line : List (List ℕ)) (word : List ℕ) (words : List 
       AllSpell words (form_of c).arguments × (map kind_of (form_of c).arguments ≡ kinds_of k)
   arguments_read c reads =
       let here = subst (λ line. Reads line c) cut reads in
-      (here.1, (belongs_named c k (ap keyword_named (sym here.0) ∙ named)).kinds)
+      (here.1, (belongs_named c k (ap keyword_named (sym here.0.0) ∙ named)).kinds)
 
   -- words of other kinds are no arguments of the keyword
   pub not_read : (BeginWith words (kinds_of k) → ⊥) → (c : Command) → Reads line c → ⊥
@@ -231,7 +278,7 @@ module _ (k : Keyword) (line : List (List ℕ)) (word : List ℕ) (words : List 
       TakesAll words (form_of d).arguments after → after ≡ [] → Reads line d
   read_whole d after same takes none =
       let here : Reads (word ∷ words) d = (
-        word_named word k named ∙ sym same,
+        (word_named word k named ∙ sym same, some_word word k named),
         AllSpell-takes words (form_of d).arguments after takes none,
       ) in
       subst (λ line. Reads line d) (sym cut) here

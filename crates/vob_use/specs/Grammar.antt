@@ -1,5 +1,5 @@
 -- Which words stand for which command.
-use Rattle.std.specs.Prelude.{◌≡◌, ℕ, ◌^◌, ◌<◌, Bool, if◌then◌else◌, List, [], ◌∷◌, codes, ⊤}
+use Rattle.std.specs.Prelude.{◌≡◌, ◌≢◌, ℕ, ◌^◌, ◌<◌, Bool, if◌then◌else◌, List, [], ◌∷◌, codes, ⊤}
 use Rattle.std.specs.Str.Parse.{IsNumeral, digits_value}
 use Rattle.vob_run.specs.declared.command.Command.{Command}
 use Rattle.vob_run.specs.declared.command.Command.TheVariants.{New, Push, Pop, GetBit, GetUnchecked, IndexBit, SetBit, SetUnchecked, Length, IsEmpty, Truncate, Bits, Storage}
@@ -33,7 +33,7 @@ pub record Form : Type 0 where
 abbrev pub form : List ℕ → List Argument → Form
 form word arguments = record { word = word; arguments = arguments }
 
--- the line of each command
+-- the line of each command; one that no line stands for has no word
 abbrev pub form_of : Command → Form
 form_of (New capacity) = form (codes "new") (number capacity ∷ [])
 form_of (Push which value) = form (codes "push") (number which ∷ bit value ∷ [])
@@ -48,9 +48,13 @@ form_of (IsEmpty which) = form (codes "empty") (number which ∷ [])
 form_of (Truncate which len) = form (codes "truncate") (number which ∷ number len ∷ [])
 form_of (Bits which) = form (codes "bits") (number which ∷ [])
 form_of (Storage which) = form (codes "blocks") (number which ∷ [])
+form_of _ = form [] []
+
+-- the word of a command, which isn't empty
+abbrev pub Names : List ℕ → Command → Type 0
+Names word command = (word ≡ (form_of command).word) × (word ≢ [])
 
 -- words read as a command
 abbrev pub Reads : List (List ℕ) → Command → Type 0
 Reads [] command = ⊥
-Reads (word ∷ words) command =
-    (word ≡ (form_of command).word) × AllSpell words (form_of command).arguments
+Reads (word ∷ words) command = Names word command × AllSpell words (form_of command).arguments

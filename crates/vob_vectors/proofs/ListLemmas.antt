@@ -10,7 +10,8 @@ use Rattle.std.proofs.lemmas.Option.{slice_get-get_or, slice_get-map}
 use Rattle.vob_run.specs.declared.command.Command.TheVariants.{Push}
 use Rattle.vob_run.specs.Answer.{Outcome, done, outcome, skipped, refused}
 use Rattle.vob_block.specs.Pointwise.{differ}
-use Rattle.vob_run.specs.Step.{on, pushed, step, greatest_length}
+use Rattle.vob_run.specs.Outcomes.{on, pushed, greatest_length}
+use Rattle.vob_run.specs.Step.{step}
 use Rattle.vob_vectors.specs.Plain.{bits_of_each}
 
 -- what a step says of the list that was found

@@ -1,16 +1,18 @@
 -- A run that goes on, and the steps that refuse nothing for want of memory.
 use Rattle.std.proofs.Common.{◌≡◌, ◌≢◌, ℕ, Bool, true, false, List, [], ◌∷◌, ◌++◌, length, map, Some, None, Option, refl, inl, arith, subst}
-use Rattle.std.specs.Prelude.{slice_get, slice_set, nat_lt, take, ◌==◌, if◌then◌else◌}
+use Rattle.std.specs.Prelude.{◌+◌, ◌-◌, replicate, not, ◌&&◌, ◌||◌, slice_get, slice_set, nat_lt, take, ◌==◌, if◌then◌else◌}
 use Rattle.std.specs.Option.{option_map_or}
 use Rattle.std.proofs.lemmas.List.{map_push}
 use Rattle.std.proofs.lemmas.List.Elements.{All-push}
 use Rattle.vob_block.specs.Packing.{packing}
 use Rattle.vob_run.specs.declared.command.Command.{Command}
-use Rattle.vob_run.specs.declared.command.Command.TheVariants.{New, Push, Pop, GetBit, GetUnchecked, IndexBit, SetBit, SetUnchecked, Length, IsEmpty, Truncate, Bits, Storage}
+use Rattle.vob_run.specs.declared.command.Command.TheVariants.{New, FromElem, Copy, Push, Pop, GetBit, GetUnchecked, IndexBit, SetBit, SetUnchecked, Length, IsEmpty, Truncate, Clear, SetAll, Negate, Resize, ExtendSlice, ExtendItems, ExtendVob, SplitOff, And, Or, Xor, AndNew, OrNew, XorNew, Equal, Reserve, Shrink, Bits, Storage}
 use Rattle.vob_run.specs.declared.command.Reply.{Reply}
 use Rattle.vob_run.specs.Answer.{Answer, Outcome, done, bit, flag, number, made, bit_list, block_list, refused, skipped, outcome}
-use Rattle.vob_block.specs.Pointwise.{differ}
-use Rattle.vob_run.specs.Step.{on, tells, tells_bit, leaves, pushed, popped, written, step, greatest_length}
+use Rattle.vob_block.specs.Pointwise.{differ, pointwise}
+use Rattle.vob.specs.Same.{same_bits}
+use Rattle.vob_run.specs.Outcomes.{on, on_two, on_even, tells, tells_bit, leaves, makes, unless_long, pushed, popped, written, extended, cut, combined, greatest_length}
+use Rattle.vob_run.specs.Step.{step}
 use Rattle.vob_run.specs.Run.{IsRun, IsStep}
 use Rattle.vob_vectors.specs.Plain.{IsPlainRun, said}
 
@@ -30,6 +32,10 @@ answer-if : (short : Bool) (all after : List (List Bool)) →
 answer-if true all after = λ (e : done ≡ refused 2). cc
 answer-if false all after = λ (e : refused 1 ≡ refused 2). cc
 
+answer-long : (long : Bool) (all : List (List Bool)) (o : Outcome) → o.answer ≢ refused 2 → (if long then tells all (refused 1) else o).answer ≢ refused 2
+answer-long true all o holds = λ (e : refused 1 ≡ refused 2). cc
+answer-long false all o holds = holds
+
 answer-told : (all : List (List Bool)) (value : Option Bool) → (tells_bit all value).answer ≢ refused 2
 answer-told all None e = cc
 answer-told all (Some value) e = cc
@@ -45,6 +51,31 @@ module _ (width : ℕ) where
   answer-pushed : (all : List (List Bool)) (which : ℕ) (value : Bool) (bits : List Bool) →
       (pushed all which value bits).answer ≢ refused 2
   answer-pushed all which value bits = answer-if (nat_lt (length bits) greatest_length) all _
+
+  answer-unless_long : (all : List (List Bool)) (asked : ℕ) (o : Outcome) → o.answer ≢ refused 2 → (unless_long all asked o).answer ≢ refused 2
+  answer-unless_long all asked o holds = answer-long (nat_lt greatest_length asked) all o holds
+
+  answer-extended : (all : List (List Bool)) (which : ℕ) (more bits : List Bool) → (extended all which more bits).answer ≢ refused 2
+  answer-extended all which more bits =
+      answer-unless_long all (length bits + length more) (leaves all which done (bits ++ more)) (λ e. cc)
+
+  answer-if_two : (same : Bool) (all : List (List Bool)) (o : Outcome) → o.answer ≢ refused 2 → (if same then outcome skipped all else o).answer ≢ refused 2
+  answer-if_two true all o holds = λ (e : skipped ≡ refused 2). cc
+  answer-if_two false all o holds = holds
+
+  answer-if_even : (even : Bool) (all : List (List Bool)) (o : Outcome) → o.answer ≢ refused 2 → (if even then o else outcome skipped all).answer ≢ refused 2
+  answer-if_even true all o holds = holds
+  answer-if_even false all o holds = λ (e : skipped ≡ refused 2). cc
+
+  answer-on_two : (all : List (List Bool)) (which other : ℕ) (f : List Bool → List Bool → Outcome) →
+      ((bits others : List Bool) → (f bits others).answer ≢ refused 2) → (on_two all which other f).answer ≢ refused 2
+  answer-on_two all which other f holds = answer-if_two (which == other) all _
+      (answer-on all which (λ bits. on all other (λ others. f bits others)) (λ bits. answer-on all other (λ others. f bits others) (holds bits)))
+
+  answer-on_even : (all : List (List Bool)) (which other : ℕ) (f : List Bool → List Bool → Outcome) →
+      ((bits others : List Bool) → (f bits others).answer ≢ refused 2) → (on_even all which other f).answer ≢ refused 2
+  answer-on_even all which other f holds = answer-on_two all which other (λ bits others. if length bits == length others then f bits others else outcome skipped all)
+      (λ bits others. answer-if_even (length bits == length others) all (f bits others) (holds bits others))
 
   -- a run goes on by one step
   pub run_more : (before : List (List Bool)) (commands : List Command) (answers : List Answer)
@@ -66,6 +97,8 @@ module _ (width : ℕ) where
   pub answer-step : (all : List (List Bool)) (command : Command) →
       (step width all command).answer ≢ refused 2
   answer-step all (New capacity) = λ (e : made (length all) ≡ refused 2). cc
+  answer-step all (FromElem value len) = λ (e : made (length all) ≡ refused 2). cc
+  answer-step all (Copy which) = answer-on all which (makes all) (λ bits e. cc)
   answer-step all (Push which value) = answer-on all which (pushed all which value)
       (λ bits. answer-pushed all which value bits)
   answer-step all (Pop which) = answer-on all which (popped all which) (λ bits e. cc)
@@ -79,6 +112,24 @@ module _ (width : ℕ) where
       answer-on all which (written all which index value) (answer-written all which index value)
   answer-step all (IsEmpty which) = answer-on all which (λ bits. tells all (flag (length bits == 0))) (λ bits e. cc)
   answer-step all (Truncate which len) = answer-on all which (λ bits. leaves all which done (take len bits)) (λ bits e. cc)
+  answer-step all (Clear which) = answer-on all which (λ bits. leaves all which done []) (λ bits e. cc)
+  answer-step all (SetAll which value) = answer-on all which (λ bits. leaves all which done (replicate (length bits) value)) (λ bits e. cc)
+  answer-step all (Negate which) = answer-on all which (λ bits. leaves all which done (map not bits)) (λ bits e. cc)
+  answer-step all (Resize which len value) = answer-on all which (λ bits. leaves all which done (take len bits ++ replicate (len - length bits) value)) (λ bits e. cc)
+  answer-step all (ExtendSlice which more) = answer-on all which (extended all which more.items) (answer-extended all which more.items)
+  answer-step all (ExtendItems which more) = answer-on all which (extended all which more.items) (answer-extended all which more.items)
+  answer-step all (ExtendVob which other) = answer-on_two all which other (λ bits others. extended all which others bits) (λ bits others. answer-extended all which others bits)
+  answer-step all (SplitOff which index) = answer-on all which (cut all which index) (λ bits e. cc)
+  answer-step all (And which other) = answer-on_even all which other (combined all ◌&&◌ which) (λ bits others e. cc)
+  answer-step all (Or which other) = answer-on_even all which other (combined all ◌||◌ which) (λ bits others e. cc)
+  answer-step all (Xor which other) = answer-on_even all which other (combined all differ which) (λ bits others e. cc)
+  answer-step all (AndNew which other) = answer-on_even all which other (λ bits others. makes all (pointwise ◌&&◌ bits others)) (λ bits others e. cc)
+  answer-step all (OrNew which other) = answer-on_even all which other (λ bits others. makes all (pointwise ◌||◌ bits others)) (λ bits others e. cc)
+  answer-step all (XorNew which other) = answer-on_even all which other (λ bits others. makes all (pointwise differ bits others)) (λ bits others e. cc)
+  answer-step all (Equal which other) = answer-on_two all which other (λ bits others. tells all (flag (same_bits bits others))) (λ bits others e. cc)
+  answer-step all (Reserve which additional) = answer-on all which (λ bits. unless_long all (length bits + additional) (tells all done))
+      (λ bits. answer-unless_long all (length bits + additional) (tells all done) (λ e. cc))
+  answer-step all (Shrink which) = answer-on all which (λ bits. tells all done) (λ bits e. cc)
   answer-step all (GetBit which index) =
       answer-on all which (λ bits. outcome (bit (slice_get bits index)) all) (λ bits e. cc)
   answer-step all (Length which) = answer-on all which (λ bits. outcome (number (length bits)) all)

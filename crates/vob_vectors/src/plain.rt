@@ -183,7 +183,8 @@ fn list_blocks(
     }
 }
 
-/// Does what a command means on the lists, or answers `Err` and leaves them.
+/// Does what a command means on the lists, or answers `Err` and leaves them. The commands that have
+/// no plain function here are answered `Err`.
 pub fn plain_step(
     alloc: Global,
     width: usize,
@@ -217,6 +218,7 @@ pub fn plain_step(
         Command::Length { which } => Ok(count_bits(lists, which)),
         Command::Bits { which } => list_bits(alloc, lists, which),
         Command::Storage { which } => list_blocks(alloc, width, lists, which),
+        _ => Err(AllocError),
     }
 }
 

@@ -1,5 +1,6 @@
 //! Tests of packed vectors of bits, and of commands on them.
 mod agreement;
+mod commands;
 mod constructors;
 mod growing;
 mod joins;

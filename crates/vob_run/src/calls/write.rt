@@ -76,3 +76,36 @@ pub(crate) fn truncate<T: Block>(vobs: &mut Vec<Vob<T>>, which: usize, len: usiz
     vob.truncate(len);
     Reply::Done
 }
+
+pub(crate) fn clear<T: Block>(vobs: &mut Vec<Vob<T>>, which: usize) -> Reply<T>
+    ensures { IsStep T.BITS (lists vobs.old.items) (Command.Clear which)
+        (meaning T.number result) (lists vobs.new.items) }
+{
+    let Some(vob) = vobs.get_mut(which) else {
+        return Reply::Skipped;
+    };
+    vob.clear();
+    Reply::Done
+}
+
+pub(crate) fn set_all<T: Block>(vobs: &mut Vec<Vob<T>>, which: usize, value: bool) -> Reply<T>
+    ensures { IsStep T.BITS (lists vobs.old.items) (Command.SetAll which value)
+        (meaning T.number result) (lists vobs.new.items) }
+{
+    let Some(vob) = vobs.get_mut(which) else {
+        return Reply::Skipped;
+    };
+    vob.set_all(value);
+    Reply::Done
+}
+
+pub(crate) fn negate<T: Block>(vobs: &mut Vec<Vob<T>>, which: usize) -> Reply<T>
+    ensures { IsStep T.BITS (lists vobs.old.items) (Command.Negate which)
+        (meaning T.number result) (lists vobs.new.items) }
+{
+    let Some(vob) = vobs.get_mut(which) else {
+        return Reply::Skipped;
+    };
+    vob.negate();
+    Reply::Done
+}

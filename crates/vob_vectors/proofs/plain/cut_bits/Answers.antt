@@ -3,7 +3,7 @@ use Rattle.std.proofs.Common.{refl, Vec, Bool, List, take}
 use Rattle.std.specs.declared.alloc.Global.{Global}
 use Rattle.std.proofs.lemmas.List.{map-set}
 use Rattle.vob_run.specs.Answer.{done}
-use Rattle.vob_run.specs.Step.{leaves}
+use Rattle.vob_run.specs.Outcomes.{leaves}
 use Rattle.vob_vectors.proofs.ListLemmas.{on_found}
 use Rattle.vob_vectors.specs.Plain.{bits_of_each}
 use Rattle.vob_vectors.proofs.plain.cut_bits.Goals as goal

@@ -1,8 +1,8 @@
-use Rattle.std.proofs.Common.{◌<◌, length, ℕ, List, [], ◌∷◌, ◌++◌, take, append_assoc, arith, ap, sym, ◌∙◌}
+use Rattle.std.proofs.Common.{◌<◌, length, ℕ, List, [], ◌∷◌, ◌++◌, take, append_assoc, arith, ap, sym, subst, ◌∙◌}
 use Rattle.std.proofs.lemmas.List.{append-nil, take_more}
-use Rattle.vob_run.specs.declared.command.Command.TheVariants.{New}
+use Rattle.vob_run.specs.declared.command.Command.{Command}
 use Rattle.vob_run.specs.declared.command.Reply.{Reply}
-use Rattle.vob_vectors.specs.Plain.{bit_lists}
+use Rattle.vob_vectors.specs.Plain.{bit_lists, IsPlainStep}
 use Rattle.vob_vectors.proofs.RunLemmas.{no_commands, plain_run_more}
 use Rattle.vob_vectors.proofs.plain.plain_run.Goals as goal
 
@@ -23,6 +23,8 @@ loop-command-preserved c =
     ∙ append_assoc c.args.replies.now.items so_far.0 (reply ∷ []) in
     let first = bit_lists c.args.lists.now in
     let before = bit_lists c.loop-command.lists in
-    let taken = c.in_ok-reply.ensures.ok in
+    let after = c.plain_step.new.lists in
+    let item = c.command-item.result in
+    let taken = subst (λ (x : Command). IsPlainStep c.args.width c.loop-command.lists x after reply) c.command-item.is c.in_ok-reply.ensures.ok in
     let longer = plain_run_more c.args.width first (take i commands) so_far.0 before _ reply _ so_far.2 taken in
-    (so_far.0 ++ reply ∷ [], pushed, rw (take_more commands i (New 0) inside) longer)
+    (so_far.0 ++ reply ∷ [], pushed, rw (take_more commands i item inside) longer)

@@ -3,7 +3,7 @@ use Rattle.std.proofs.Common.{refl, Vec, Bool, ap, sym, ◌∙◌}
 use Rattle.std.specs.declared.alloc.Global.{Global}
 use Rattle.std.proofs.lemmas.List.{map-set}
 use Rattle.vob_vectors.proofs.ListLemmas.{on_found, popped-last}
-use Rattle.vob_run.specs.Step.{popped}
+use Rattle.vob_run.specs.Outcomes.{popped}
 use Rattle.vob_vectors.specs.Plain.{bits_of_each}
 use Rattle.vob_vectors.proofs.plain.pop_bit.Goals as goal
 

@@ -3,7 +3,7 @@ use Rattle.std.specs.declared.alloc.Global.{Global}
 use Rattle.std.proofs.lemmas.Result.{err_from_is_err_and}
 use Rattle.std.proofs.lemmas.List.{get_or_read}
 use Rattle.vob_vectors.proofs.ListLemmas.{kept_bits, pushed_bit}
-use Rattle.vob_run.specs.Step.{greatest_length}
+use Rattle.vob_run.specs.Outcomes.{greatest_length}
 use Rattle.vob_vectors.proofs.plain.push_bit.Goals as goal
 
 -- a push that failed left the bits of its list

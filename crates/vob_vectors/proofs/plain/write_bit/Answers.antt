@@ -3,7 +3,7 @@ use Rattle.std.proofs.Common.{◌≡◌, ◌<◌, refl, Vec, Bool, true, length,
 use Rattle.std.specs.declared.alloc.Global.{Global}
 use Rattle.std.proofs.lemmas.List.{map-set, get_or_read}
 use Rattle.std.proofs.lemmas.Option.{slice_get-get_or, slice_get_past}
-use Rattle.vob_run.specs.Step.{written}
+use Rattle.vob_run.specs.Outcomes.{written}
 use Rattle.vob_vectors.proofs.ListLemmas.{on_found, kept_bits, differ-beq}
 use Rattle.vob_vectors.specs.Plain.{bits_of_each}
 use Rattle.vob_vectors.proofs.plain.write_bit.Goals as goal

@@ -1,7 +1,6 @@
 -- The Vob with this number has the bit, and whether it changed is told; or it has no such bit.
-use Rattle.std.proofs.Common.{◌≡◌, ◌<◌, true, length, get_or, Some, arith, refl, inl}
+use Rattle.std.proofs.Common.{◌<◌, true, length, get_or, arith, refl, inl}
 use Rattle.std.proofs.lemmas.Option.{slice_get_read, slice_get-get_or, slice_get_past}
-use Rattle.std.specs.Prelude.{slice_get}
 use Rattle.vob_run.proofs.StepLemmas.{list_at, lists-set, lists-same, flag-differ}
 use Rattle.vob_run.proofs.calls.write.set_bit.Goals as goal
 

@@ -1,0 +1,99 @@
+//! The commands that add bits to a Vob, or change how many it has room for.
+ghost use Rattle.std.specs.Prelude.{◌≡◌, ◌↔◌, ◌+◌, ◌<◌, ◌++◌, length, OnOk, OnErr, Err};
+ghost use Rattle.vob_block.specs.Packing.{need};
+ghost use Rattle.vob_run.specs.Answer.{meaning};
+ghost use Rattle.vob_run.specs.Run.{lists, IsStep};
+
+use crate::calls::refused;
+use crate::command::{Command, Reply};
+use vob::{Vob, VobError};
+use vob_block::Block;
+
+pub(crate) fn reserve<T: Block>(vobs: &mut Vec<Vob<T>>, which: usize, additional: usize) -> Reply<T>
+    ensures { IsStep T.BITS (lists vobs.old.items) (Command.Reserve which additional)
+        (meaning T.number result) (lists vobs.new.items) }
+{
+    let Some(vob) = vobs.get_mut(which) else {
+        return Reply::Skipped;
+    };
+    match vob.reserve(additional) {
+        Ok(()) => Reply::Done,
+        Err(refusal) => refused(refusal),
+    }
+}
+
+pub(crate) fn shrink<T: Block>(vobs: &mut Vec<Vob<T>>, which: usize) -> Reply<T>
+    ensures { IsStep T.BITS (lists vobs.old.items) (Command.Shrink which)
+        (meaning T.number result) (lists vobs.new.items) }
+{
+    let Some(vob) = vobs.get_mut(which) else {
+        return Reply::Skipped;
+    };
+    vob.shrink_to_fit();
+    Reply::Done
+}
+
+pub(crate) fn resize<T: Block>(
+    vobs: &mut Vec<Vob<T>>,
+    which: usize,
+    len: usize,
+    value: bool,
+) -> Reply<T>
+    ensures { IsStep T.BITS (lists vobs.old.items) (Command.Resize which len value)
+        (meaning T.number result) (lists vobs.new.items) }
+{
+    let Some(vob) = vobs.get_mut(which) else {
+        return Reply::Skipped;
+    };
+    match vob.resize(len, value) {
+        Ok(()) => Reply::Done,
+        Err(refusal) => refused(refusal),
+    }
+}
+
+pub(crate) fn extend_slice<T: Block>(
+    vobs: &mut Vec<Vob<T>>,
+    which: usize,
+    bits: &Vec<bool>,
+) -> Reply<T>
+    ensures { IsStep T.BITS (lists vobs.old.items) (Command.ExtendSlice which bits.now)
+        (meaning T.number result) (lists vobs.new.items) }
+{
+    let Some(vob) = vobs.get_mut(which) else {
+        return Reply::Skipped;
+    };
+    match vob.extend_from_slice(bits) {
+        Ok(()) => Reply::Done,
+        Err(refusal) => refused(refusal),
+    }
+}
+
+// Adds the bits one by one, once there is room for all of them.
+fn add_items<T: Block>(vob: &mut Vob<T>, bits: &[bool]) -> Result<(), VobError>
+    ensures ok { OnOk result (vob.new.bits ≡ vob.old.bits ++ bits.now) }
+    ensures err { OnErr result (vob.new.bits ≡ vob.old.bits) }
+    ensures too_long { (result ≡ Err VobError.TooLong)
+        ↔ (usize.MAX < length vob.old.bits + length bits.now) }
+    ensures memory { result ≡ Err VobError.Memory → need (length vob.old.bits) T.BITS
+        < need (length vob.old.bits + length bits.now) T.BITS }
+{
+    vob.reserve(bits.len())?;
+    vob.extend(bits.iter().copied())
+}
+
+pub(crate) fn extend_items<T: Block>(
+    vobs: &mut Vec<Vob<T>>,
+    which: usize,
+    bits: &Vec<bool>,
+) -> Reply<T>
+    ensures { IsStep T.BITS (lists vobs.old.items) (Command.ExtendItems which bits.now)
+        (meaning T.number result) (lists vobs.new.items) }
+{
+    let Some(vob) = vobs.get_mut(which) else {
+        return Reply::Skipped;
+    };
+    match add_items(vob, bits) {
+        Ok(()) => Reply::Done,
+        Err(refusal) => refused(refusal),
+    }
+}
