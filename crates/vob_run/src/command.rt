@@ -1,8 +1,8 @@
 //! The commands that `run` takes, and the replies that it gives.
 
-/// A call on numbered Vobs. `which` and `other` are numbers of Vobs, counted from 0 in the order of the
-/// list; lengths, indices and capacities are in bits. A Vob that is made comes at the end of the
-/// list.
+/// A call on numbered Vobs. `which` and `other` are numbers of Vobs, counted from 0 in the order of
+/// the list; lengths, indices and capacities are in bits. A Vob that is made comes at the end of
+/// the list.
 #[derive(Debug, Drop)]
 pub enum Command {
     /// Makes an empty Vob with room for `capacity` bits: `Vob::new_with_storage_type`.
@@ -120,8 +120,8 @@ pub enum Command {
         which: usize,
         other: usize,
     },
-    /// Gets the bits that one has and the other hasn't: `Vob::xor`. Skipped where the numbers are the same or the
-    /// lengths differ.
+    /// Gets the bits that one has and the other hasn't: `Vob::xor`. Skipped where the numbers are
+    /// the same or the lengths differ.
     Xor {
         which: usize,
         other: usize,
@@ -138,8 +138,8 @@ pub enum Command {
         which: usize,
         other: usize,
     },
-    /// Makes a Vob of the bits that one has and the other hasn't: `^` on two references. Skipped where
-    /// the numbers are the same or the lengths differ.
+    /// Makes a Vob of the bits that one has and the other hasn't: `^` on two references. Skipped
+    /// where the numbers are the same or the lengths differ.
     XorNew {
         which: usize,
         other: usize,

@@ -1,5 +1,5 @@
 -- The list that was found has lost its last bit, which is told.
-use Rattle.std.proofs.Common.{refl, Vec, Bool, ap, sym, ◌∙◌}
+use Rattle.std.proofs.Common.{refl, Vec, Bool}
 use Rattle.std.specs.declared.alloc.Global.{Global}
 use Rattle.std.proofs.lemmas.List.{map-set}
 use Rattle.vob_vectors.proofs.ListLemmas.{on_found, popped-last}

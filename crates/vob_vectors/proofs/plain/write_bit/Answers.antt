@@ -1,5 +1,5 @@
 -- The list that was found has the bit, and whether it changed is told; or it has no such bit.
-use Rattle.std.proofs.Common.{◌≡◌, ◌<◌, refl, Vec, Bool, true, length, get_or, arith, sym, ◌∙◌}
+use Rattle.std.proofs.Common.{◌≡◌, ◌<◌, refl, Vec, Bool, true, length, get_or, arith}
 use Rattle.std.specs.declared.alloc.Global.{Global}
 use Rattle.std.proofs.lemmas.List.{map-set, get_or_read}
 use Rattle.std.proofs.lemmas.Option.{slice_get-get_or, slice_get_past}
