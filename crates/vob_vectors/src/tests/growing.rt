@@ -6,16 +6,17 @@ use std::alloc::Global;
 use std::marker::Model;
 use std::process::Abort;
 use std::test::Fail;
-use vob::Vob;
+use vob::{Vob, VobError};
 use vob_block::Block;
 
-/// The items of a slice, with a hint that says nothing.
+/// The items of a slice, with a lower bound of its own as the hint.
 #[derive(Drop)]
-struct Unhinted<'a> {
+struct Hinted<'a> {
     rest: &'a [bool],
+    lower: usize,
 }
 
-impl<'a> Model for Unhinted<'a> {
+impl<'a> Model for Hinted<'a> {
     ghost use Rattle.std.specs.Prelude.{Bool, List};
 
     ghost Value = { List Bool };
@@ -23,7 +24,7 @@ impl<'a> Model for Unhinted<'a> {
     ghost view = { λ walk. walk.rest.now };
 }
 
-impl<'a> Iterator for Unhinted<'a> {
+impl<'a> Iterator for Hinted<'a> {
     type Item = bool;
 
     ghost next_gives = { YieldsFirst (λ rest. rest) };
@@ -34,6 +35,44 @@ impl<'a> Iterator for Unhinted<'a> {
         let (first, rest) = self.rest.split_first()?;
         self.rest = rest;
         Some(*first)
+    }
+
+    fn size_hint(&self) -> (usize, Option<usize>) {
+        (self.lower.min(self.rest.len()), None)
+    }
+}
+
+/// As many true bits as are left, with their number as the hint.
+#[derive(Drop)]
+struct Countdown {
+    left: usize,
+}
+
+impl Model for Countdown {
+    ghost use Rattle.std.specs.Prelude.{Bool, true, List, replicate};
+
+    ghost Value = { List Bool };
+
+    ghost view = { λ walk. replicate walk.left true };
+}
+
+impl Iterator for Countdown {
+    type Item = bool;
+
+    ghost next_gives = { YieldsFirst (λ rest. rest) };
+
+    ghost remaining = { item_count (λ rest. rest) };
+
+    fn next(&mut self) -> Option<bool> {
+        if self.left == 0 {
+            return None;
+        }
+        self.left -= 1;
+        Some(true)
+    }
+
+    fn size_hint(&self) -> (usize, Option<usize>) {
+        (self.left, Some(self.left))
     }
 }
 
@@ -102,14 +141,49 @@ fn items_come_behind_the_bits(rt: HostRuntime) -> Result<(), Fail> {
     check_blocks(&rt, "three bits", &vob, 3, &[3]);
     let mut bits = vob::vob!(alloc; true, false, true)?;
     let items = [true, true, false];
-    bits.extend(Unhinted {
+    bits.extend(Hinted {
         rest: items.as_slice(),
+        lower: 0,
     })?;
     check_blocks(&rt, "three items more", &bits, 6, &[29]);
     bits.truncate(9);
     check_blocks(&rt, "a cut past the end", &bits, 6, &[29]);
     bits.truncate(4);
     check_blocks(&rt, "four bits", &bits, 4, &[13]);
+    Ok(())
+}
+
+#[test]
+fn more_items_come_than_the_hint_promised(rt: HostRuntime) -> Result<(), Fail> {
+    let items = [true; 5];
+    let mut vob = Vob::new(rt.alloc());
+    vob.extend(Hinted {
+        rest: items.as_slice(),
+        lower: 2,
+    })?;
+    check_blocks(&rt, "five items", &vob, 5, &[31]);
+    Ok(())
+}
+
+#[test]
+fn a_hint_that_cannot_be_met_is_refused_first(rt: HostRuntime) -> Result<(), Fail> {
+    let alloc = rt.alloc();
+    let many = usize::MAX;
+    let mut one = vob::vob!(alloc; true)?;
+    assert_eq!(rt;
+        one.extend(Countdown { left: many }),
+        Err(VobError::TooLong)
+    );
+    check_blocks(&rt, "one bit", &one, 1, &[1]);
+    let mut none = Vob::new(alloc);
+    assert_eq!(rt;
+        none.extend(Countdown { left: many }),
+        Err(VobError::Memory)
+    );
+    check_blocks(&rt, "no bit", &none, 0, &[]);
+    none.extend(Countdown { left: 3 })?;
+    check_blocks(&rt, "three bits", &none, 3, &[7]);
+    assert!(rt; Vob::from_iter(alloc, Countdown { left: many }).is_err());
     Ok(())
 }
 
@@ -147,7 +221,10 @@ fn check_growth<T: Block>(
         plain.get_storage(),
     );
     let mut extended: Vob<T> = pattern(alloc, seed, first)?;
-    extended.extend(Unhinted { rest: items })?;
+    extended.extend(Hinted {
+        rest: items,
+        lower: 0,
+    })?;
     check_blocks(
         rt,
         "items more",
