@@ -44,10 +44,6 @@ eqb-places w i n block = elim (cases_eq (i % w) (n % w)) [
 pub eqb-blocks : (w i n : ℕ) → i / w ≢ n / w → eqb i n ≡ false
 eqb-blocks w i n apart = ne_eqb i n (λ e. apart (ap (λ k. k / w) e))
 
--- `x | m`, where m is the place r alone
-pub marked-places : (w x y m r : ℕ) → HasPlaces w y (λ j. place j x || place j m) → m ≡ 2 ^ r → (j : ℕ) → j < w → place j y ≡ (place j x || eqb j r)
-marked-places w x y m r h alone j k = h.each j k ∙ ap (λ b. place j x || b) (ap (place j) alone ∙ place-pow r j)
-
 -- the bits with one more behind them
 pub item-push : (bits : List Bool) (n : ℕ) (v : Bool) (i : ℕ) → length bits ≡ n → item (bits ++ v ∷ []) i ≡ (item bits i || (v && eqb i n))
 item-push bits n v i e = elim (cases_order i n) [
@@ -96,28 +92,23 @@ module _ (w : ℕ) (wide : 0 < w) (n : ℕ) (xs : List ℕ) (h : IsCanonical n x
             stored-push_other xs w y i (λ e. apart (e ∙ last)) ∙ sym (unchanged v i apart)
       ])
 
-  -- elsewhere the last block has room: a false bit stands there already
-  pub push_false : n % w ≢ 0 → IsCanonical (n + 1) xs w × (spelled (n + 1) xs w ≡ spelled n xs w ++ false ∷ [])
-  push_false partial =
-      let needs = need_at_open w wide n partial in
-      from_stored false xs (h.count ∙ needs.0 ∙ sym needs.1) h.within (λ i. sym (or-false (stored xs w i)))
-
+  -- elsewhere the last block has room
   pub last_in_range : n % w ≢ 0 → n / w < length xs
   last_in_range partial = omega (arith, h.count, (need_at_open w wide n partial).0)
 
-  -- and a true one is set there
-  pub push_true : (y : ℕ) → n % w ≢ 0 → y < 2 ^ w → ((j : ℕ) → j < w → place j y ≡ (place j (get_or xs (n / w) 0) || eqb j (n % w)))
-      → IsCanonical (n + 1) (set xs (n / w) y) w × (spelled (n + 1) (set xs (n / w) y) w ≡ spelled n xs w ++ true ∷ [])
-  push_true y partial small places =
+  -- and the bit is marked there
+  pub push_mark : (v : Bool) (y : ℕ) → n % w ≢ 0 → y < 2 ^ w → ((j : ℕ) → j < w → place j y ≡ (place j (get_or xs (n / w) 0) || (v && eqb j (n % w))))
+      → IsCanonical (n + 1) (set xs (n / w) y) w × (spelled (n + 1) (set xs (n / w) y) w ≡ spelled n xs w ++ v ∷ [])
+  push_mark v y partial small places =
       let needs = need_at_open w wide n partial in
-      from_stored true (set xs (n / w) y) (length-set xs (n / w) y ∙ h.count ∙ needs.0 ∙ sym needs.1)
+      from_stored v (set xs (n / w) y) (length-set xs (n / w) y ∙ h.count ∙ needs.0 ∙ sym needs.1)
       (All-set (λ x. x < 2 ^ w) xs (n / w) y small h.within)
       (λ i. elim (cases_eq (i / w) (n / w)) [
         | inl here ↦
             let old : place (i % w) (get_or xs (n / w) 0) ≡ stored xs w i = ap (λ q. place (i % w) (get_or xs q 0)) (sym here) ∙ sym (stored_from xs w i) in
             stored-set_same xs w (n / w) y i (omega (arith, h.count, needs.0)) here ∙ places (i % w) (mod-lt i wide)
-            ∙ ap (λ b. b || eqb (i % w) (n % w)) old ∙ ap (λ b. stored xs w i || b) (sym (eqb-places w i n here))
-        | inr apart ↦ stored-set_other xs w (n / w) y i apart ∙ sym (unchanged true i apart)
+            ∙ ap (λ b. b || (v && eqb (i % w) (n % w))) old ∙ ap (λ b. stored xs w i || (v && b)) (sym (eqb-places w i n here))
+        | inr apart ↦ stored-set_other xs w (n / w) y i apart ∙ sym (unchanged v i apart)
       ])
 
   -- a vector that is full, and whose last block is, has no room and needs a block
@@ -127,22 +118,22 @@ module _ (w : ℕ) (wide : 0 < w) (n : ℕ) (xs : List ℕ) (h : IsCanonical n x
       let few : capacity * w ≤ n / w * w = mul-le capacity w (n / w) w (omega (arith, h.count, needs.0)) (omega arith) in
       (omega (arith, div-add-mod' n w), omega (arith, needs.0, needs.1))
 
--- a true bit set in the last of some items, with a number each; v is the width as the code read it
+-- a bit marked in the last of some items, with a number each; v is the width as the code read it
 module _ {X : Type 0} (number : X → ℕ) (w : ℕ) (wide : 0 < w) (n : ℕ) (items : List X) (h : IsCanonical n (map number items) w) (partial : n % w ≢ 0) where
-  mark_at_width : (x y : X) (m : ℕ) → x ≡ get_or items (n / w) x → number y < 2 ^ w
-      → HasPlaces w (number y) (λ j. place j (number x) || place j m) → m ≡ 2 ^ (n % w)
+  mark_at_width : (b : Bool) (x y : X) → x ≡ get_or items (n / w) x → number y < 2 ^ w
+      → ((j : ℕ) → j < w → place j (number y) ≡ (place j (number x) || (b && eqb j (n % w))))
       → IsCanonical (n + 1) (map number (set items (n / w) y)) w
-      × (spelled (n + 1) (map number (set items (n / w) y)) w ≡ spelled n (map number items) w ++ true ∷ [])
-  mark_at_width x y m read small places mask =
+      × (spelled (n + 1) (map number (set items (n / w) y)) w ≡ spelled n (map number items) w ++ b ∷ [])
+  mark_at_width b x y read small places =
       let xs = map number items in
       let there : n / w < length items = omega (arith, last_in_range w wide n xs h partial, length-map items number) in
       let block : number x ≡ get_or xs (n / w) 0 = ap number read ∙ sym (get_or-map number items (n / w) x 0 there) in
-      let marked = λ (j : ℕ) (k : j < w). marked-places w (number x) (number y) m (n % w) places mask j k ∙ ap (λ b. place j b || eqb j (n % w)) block in
-      rw map-set (push_true w wide n xs h (number y) partial small marked)
+      let marked = λ (j : ℕ) (k : j < w). places j k ∙ ap (λ t. place j t || (b && eqb j (n % w))) block in
+      rw map-set (push_mark w wide n xs h b (number y) partial small marked)
 
-  pub mark_last : (v : ℕ) → v ≡ w → (x y : X) (m : ℕ) → x ≡ get_or items (n / v) x → number y < 2 ^ w
-      → HasPlaces w (number y) (λ j. place j (number x) || place j m) → m ≡ 2 ^ (n % v)
+  pub mark_last : (v : ℕ) → v ≡ w → (b : Bool) (x y : X) → x ≡ get_or items (n / v) x → number y < 2 ^ w
+      → ((j : ℕ) → j < w → place j (number y) ≡ (place j (number x) || (b && eqb j (n % w))))
       → IsCanonical (n + 1) (map number (set items (n / v) y)) w
-      × (spelled (n + 1) (map number (set items (n / v) y)) w ≡ spelled n (map number items) w ++ true ∷ [])
-  mark_last v same x y m read small places mask =
-      rw same (mark_at_width x y m (rw same at read) small places (rw same at mask))
+      × (spelled (n + 1) (map number (set items (n / v) y)) w ≡ spelled n (map number items) w ++ b ∷ [])
+  mark_last v same b x y read small places =
+      rw same (mark_at_width b x y (rw same at read) small places)

@@ -51,10 +51,12 @@ pub(crate) fn append_bit<T: Block>(
     let place = len % width;
     if place == 0 {
         blocks.push(first_place(value))?;
-    } else if value {
+    } else {
+        // Written for a false bit too: a branch on the value is one that no processor foresees.
         let last = len / width;
         let block = blocks[last];
-        blocks[last] = block.bor(T::ONE.up(place));
+        let mark: T = first_place(value);
+        blocks[last] = block.bor(mark.up(place));
     }
     Ok(())
 }

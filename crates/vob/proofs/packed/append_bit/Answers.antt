@@ -2,8 +2,9 @@
 use Rattle.std.proofs.Common.{rules, arith, ◌≡◌, ◌%◌, ◌<◌, map, mod-lt, sym, ap, ◌∙◌}
 use Rattle.std.proofs.lemmas.List.{length-map, map_push}
 use Rattle.std.proofs.lemmas.Result.{err_from_is_err_and}
-use Rattle.vob_block.proofs.PlaceLemmas.{width_pos, mask-is}
-use Rattle.vob.proofs.PushLemmas.{push_block, push_false, mark_last, full_is_needed, last_in_range}
+use Rattle.vob_block.proofs.PlaceLemmas.{width_pos}
+use Rattle.vob.proofs.GatherLemmas.{mark_at}
+use Rattle.vob.proofs.PushLemmas.{push_block, mark_last, full_is_needed, last_in_range}
 use Rattle.vob.proofs.packed.append_bit.Goals as goal
 
 -- the read of the width is the width, also under `%` and `/`
@@ -37,19 +38,6 @@ returns-in_ok-push g c =
       capacity = search rules;
     }
 
-pub returns-else-value : goal.returns-else-value
-returns-else-value g c =
-    let wide = width_pos g.T.FixedWidth.width _ g.met.T.Block.width_law in
-    let partial = λ (e : c.args.len % g.T.Block.BITS ≡ 0). c.if-place-eq0.false (ap (λ w. c.args.len % w) c.BITS-width.ensures ∙ e) in
-    let both = push_false g.T.Block.BITS wide c.args.len (map g.T.Block.number c.args.blocks.now.items) c.requires partial in
-    record {
-      canonical = both.0;
-      bits = rw c.if-value.false both.1;
-      err = search rules;
-      full = search rules;
-      capacity = search rules;
-    }
-
 pub index_mut-requires : goal.index_mut-requires
 index_mut-requires g c =
     let wide = width_pos g.T.FixedWidth.width _ g.met.T.Block.width_law in
@@ -57,20 +45,18 @@ index_mut-requires g c =
     let there = last_in_range g.T.Block.BITS wide c.args.len (map g.T.Block.number c.args.blocks.now.items) c.requires partial in
     rw c.BITS-width.ensures (omega (arith, there, length-map c.args.blocks.now.items g.T.Block.number, c.args.blocks.now.ok.0))
 
-pub returns-then-value : goal.returns-then-value
-returns-then-value g c =
+pub returns-else-place-eq0 : goal.returns-else-place-eq0
+returns-else-place-eq0 g c =
     let number = g.T.Block.number in
     let w = g.T.Block.BITS in
     let v = c.BITS-width.result in
     let wide = width_pos g.T.FixedWidth.width _ g.met.T.Block.width_law in
     let partial = λ (e : c.args.len % w ≡ 0). c.if-place-eq0.false (ap (λ u. c.args.len % u) c.BITS-width.ensures ∙ e) in
-    let inside : c.args.len % v < w = rw c.BITS-width.ensures (mod-lt c.args.len wide) in
-    let one = ap number c.ONE.ensures ∙ g.met.T.Block.one_number_law in
-    let mask = mask-is w (c.args.len % v) inside (number c.ONE.result) (number c.up.result) one c.up.ensures.within c.up.ensures.places in
-    let both = mark_last number w wide c.args.len c.args.blocks.now.items c.requires partial v c.BITS-width.ensures c.index-block.result.now c.bor.result (number c.up.result) c.index-block.ensures c.bor.ensures.within c.bor.ensures.places mask in
+    let places = mark_at w (number c.index-block.result.now) (number c.bor.result) (number c.up.result) (number c.first_place-mark.result) (c.args.len % v) (c.args.len % w) c.args.value c.first_place-mark.ensures (ap (λ u. c.args.len % u) c.BITS-width.ensures) c.up.ensures.places c.bor.ensures.places in
+    let both = mark_last number w wide c.args.len c.args.blocks.now.items c.requires partial v c.BITS-width.ensures c.args.value c.index-block.result.now c.bor.result c.index-block.ensures c.bor.ensures.within places in
     record {
       canonical = both.0;
-      bits = rw c.if-value.true both.1;
+      bits = both.1;
       err = search rules;
       full = search rules;
       capacity = search rules;

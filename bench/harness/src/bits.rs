@@ -1,0 +1,255 @@
+//! What a peer offers, and the workloads over it: the same as those of the crate `vob_bench`.
+
+use crate::input::Input;
+use crate::rows::Call;
+
+/// Whether a library has a call, and whether it does the same work by it.
+#[derive(Clone, Copy, PartialEq, Eq)]
+pub enum Offer {
+    Same,
+    /// It does less, as with no answer whether a bit changed.
+    Less(&'static str),
+    /// It has no such call, and reaches the same by others.
+    Other(&'static str),
+    None,
+}
+
+/// A vector of bits. A method that its `offer` has `None` for is never called.
+pub trait Bits: Sized {
+    fn offer(call: Call) -> Offer;
+    fn from_bytes(bytes: &[u8]) -> Self;
+    fn len(&self) -> usize;
+    fn get(&self, index: usize) -> bool;
+
+    /// Whether the bit changed. Where the library doesn't say, false.
+    fn set(&mut self, index: usize, value: bool) -> bool;
+
+    fn pushed(_bits: &[bool]) -> Self {
+        unimplemented!()
+    }
+    fn from_slice(_bits: &[bool]) -> Self {
+        unimplemented!()
+    }
+    fn extend_from_slice(&mut self, _bits: &[bool]) {
+        unimplemented!()
+    }
+    fn truncate(&mut self, _len: usize) {
+        unimplemented!()
+    }
+    fn walked(&self) -> u64 {
+        unimplemented!()
+    }
+    fn resize(&mut self, _len: usize, _value: bool) {
+        unimplemented!()
+    }
+    fn set_all(&mut self, _value: bool) {
+        unimplemented!()
+    }
+    fn negate(&mut self) {
+        unimplemented!()
+    }
+    fn copied(&self) -> Self {
+        unimplemented!()
+    }
+    fn hashed(&self) -> u64 {
+        unimplemented!()
+    }
+    fn split_off(&mut self, _at: usize) -> Self {
+        unimplemented!()
+    }
+    fn and(&mut self, _other: &Self) -> bool {
+        unimplemented!()
+    }
+    fn or(&mut self, _other: &Self) -> bool {
+        unimplemented!()
+    }
+    fn xor(&mut self, _other: &Self) -> bool {
+        unimplemented!()
+    }
+    fn same(&self, _other: &Self) -> bool {
+        unimplemented!()
+    }
+    fn join(&mut self, _other: &Self) {
+        unimplemented!()
+    }
+}
+
+const SAMPLES: usize = 1024;
+const STEP: usize = 2_654_435_761;
+
+fn digest<B: Bits>(bits: &B) -> u64 {
+    let len = bits.len();
+    let mut sum = len as u64;
+    if len == 0 {
+        return sum;
+    }
+    for sample in 0..SAMPLES {
+        let bit = bits.get(sample * STEP % len);
+        sum = sum.wrapping_mul(31).wrapping_add(bit as u64);
+    }
+    sum % 0x1_0000_0000
+}
+
+fn checksum<B: Bits>(bits: &B, times: u64) -> u64 {
+    times.wrapping_mul(0x1_0000_0000).wrapping_add(digest(bits))
+}
+
+fn sample<B: Bits>(bits: &B, round: usize) -> u64 {
+    bits.get(round % bits.len()) as u64
+}
+
+fn touch<B: Bits>(bits: &mut B, round: usize) {
+    let index = round % bits.len();
+    bits.set(index, true);
+}
+
+/// Rounds that make a new vector each.
+fn made<B: Bits>(rounds: usize, make: impl Fn() -> B) -> u64 {
+    let mut times = 0;
+    let mut last = B::from_bytes(&[]);
+    for round in 0..rounds {
+        last = make();
+        times += sample(&last, round);
+    }
+    checksum(&last, times)
+}
+
+/// Rounds that change one vector, of which each is asked for a bit behind the change.
+fn changed<B: Bits>(input: &Input, rounds: usize, change: impl Fn(&mut B, usize)) -> u64 {
+    let mut times = 0;
+    let mut bits = B::from_bytes(&input.bytes);
+    for round in 0..rounds {
+        change(&mut bits, round);
+        times += sample(&bits, round);
+    }
+    checksum(&bits, times)
+}
+
+/// Rounds that look at one vector, which changes a little before each.
+fn seen<B: Bits>(input: &Input, rounds: usize, mut look: impl FnMut(&B, usize) -> u64) -> u64 {
+    let mut times = 0u64;
+    let mut bits = B::from_bytes(&input.bytes);
+    for round in 0..rounds {
+        touch(&mut bits, round);
+        times = times.wrapping_add(look(&bits, round));
+    }
+    checksum(&bits, times)
+}
+
+/// Rounds that take a second vector into a first one, and count the answers.
+fn taken<B: Bits>(input: &Input, rounds: usize, take: impl Fn(&mut B, &B) -> bool) -> u64 {
+    let mut times = 0;
+    let mut bits = B::from_bytes(&input.bytes);
+    let other = B::from_bytes(&input.others);
+    for _ in 0..rounds {
+        times += take(&mut bits, &other) as u64;
+    }
+    checksum(&bits, times)
+}
+
+fn joined<B: Bits>(input: &Input, at: usize, rounds: usize) -> u64 {
+    let other = B::from_bytes(&input.others);
+    changed(input, rounds, |bits: &mut B, _| {
+        bits.truncate(at);
+        bits.join(&other);
+    })
+}
+
+fn equal<B: Bits>(input: &Input, rounds: usize) -> u64 {
+    let mut times = 0;
+    let mut bits = B::from_bytes(&input.bytes);
+    let mut other = B::from_bytes(&input.bytes);
+    for round in 0..rounds {
+        touch(&mut bits, round);
+        touch(&mut other, round);
+        times += bits.same(&other) as u64;
+    }
+    checksum(&bits, times)
+}
+
+fn true_at<B: Bits>(bits: &B, indices: &[usize]) -> u64 {
+    indices.iter().map(|index| bits.get(*index) as u64).sum()
+}
+
+fn write_at<B: Bits>(input: &Input, rounds: usize) -> u64 {
+    let mut times = 0u64;
+    let mut bits = B::from_bytes(&input.bytes);
+    for round in 0..rounds {
+        let turn = round % 2;
+        for index in &input.indices {
+            times += bits.set(*index, *index % 2 == turn) as u64;
+        }
+    }
+    checksum(&bits, times)
+}
+
+fn hashed<B: Bits>(input: &Input, rounds: usize) -> u64 {
+    let mut last = 0;
+    seen(input, rounds, |bits: &B, _| {
+        let now = bits.hashed();
+        let same = now == last;
+        last = now;
+        same as u64
+    })
+}
+
+fn close<B: Bits>(rows: &mut [B]) -> u64 {
+    let mut times = 0;
+    for k in 0..rows.len() {
+        let through = rows[k].copied();
+        for row in rows.iter_mut() {
+            if row.get(k) && row.or(&through) {
+                times += 1;
+            }
+        }
+    }
+    times
+}
+
+fn closure<B: Bits>(input: &Input, rounds: usize) -> u64 {
+    let mut times = 0;
+    let mut last = B::from_bytes(&[]);
+    let rows: Vec<B> = input.bytes.chunks(input.row_bytes).map(B::from_bytes).collect();
+    for _ in 0..rounds {
+        let mut closed: Vec<B> = rows.iter().map(B::copied).collect();
+        times += close(&mut closed);
+        last = closed.pop().unwrap();
+    }
+    checksum(&last, times)
+}
+
+pub fn run<B: Bits>(call: Call, input: &Input, rounds: usize) -> u64 {
+    match call {
+        Call::Push => made(rounds, || B::pushed(&input.bits)),
+        Call::FromSlice => made(rounds, || B::from_slice(&input.bits)),
+        Call::FromBytes => made(rounds, || B::from_bytes(&input.bytes)),
+        Call::ExtendFromSlice => changed(input, rounds, |bits: &mut B, _| {
+            bits.truncate(13);
+            bits.extend_from_slice(&input.bits);
+        }),
+        Call::Get => seen(input, rounds, |bits: &B, _| true_at(bits, &input.indices)),
+        Call::Set => write_at::<B>(input, rounds),
+        Call::Iterate => seen(input, rounds, |bits: &B, _| bits.walked()),
+        Call::Resize => changed(input, rounds, |bits: &mut B, _| {
+            bits.truncate(13);
+            bits.resize(8 * input.bytes.len(), true);
+        }),
+        Call::SetAll => changed(input, rounds, |bits: &mut B, round| bits.set_all(round % 2 == 1)),
+        Call::Negate => changed(input, rounds, |bits: &mut B, _| bits.negate()),
+        Call::Clone => seen(input, rounds, |bits: &B, round| sample(&bits.copied(), round)),
+        Call::Hash => hashed::<B>(input, rounds),
+        Call::SplitOff => changed(input, rounds, |bits: &mut B, _| *bits = bits.split_off(13)),
+        Call::And => taken(input, rounds, B::and),
+        Call::Or => taken(input, rounds, B::or),
+        Call::Xor => taken(input, rounds, B::xor),
+        Call::Equal => equal::<B>(input, rounds),
+        Call::ExtendAligned => joined::<B>(input, 64, rounds),
+        Call::ExtendShifted => joined::<B>(input, 64 + 13, rounds),
+        Call::Closure => closure::<B>(input, rounds),
+    }
+}
+
+/// Whether a checksum counts answers that not every library gives.
+pub fn counts_changes(call: Call) -> bool {
+    matches!(call, Call::Set | Call::And | Call::Or | Call::Xor | Call::Closure)
+}

@@ -1,0 +1,67 @@
+//! What a row works on: the same for every library, from a fixed seed.
+
+#[derive(Clone, Copy, PartialEq, Eq)]
+pub enum Shape {
+    Plain,
+    /// So many indices below the number of bits.
+    Indices(usize),
+    /// A square matrix of 1000 nodes, of which each leads to two others.
+    Matrix,
+}
+
+pub struct Input {
+    pub bits: Vec<bool>,
+    /// The bits in bytes, the most significant bit of each first.
+    pub bytes: Vec<u8>,
+    pub others: Vec<u8>,
+    pub indices: Vec<usize>,
+    /// Bytes a row, for a matrix.
+    pub row_bytes: usize,
+}
+
+/// Numbers that look random: splitmix64.
+struct Numbers(u64);
+
+impl Numbers {
+    fn next(&mut self) -> u64 {
+        self.0 = self.0.wrapping_add(0x9e37_79b9_7f4a_7c15);
+        let mut z = self.0;
+        z = (z ^ (z >> 30)).wrapping_mul(0xbf58_476d_1ce4_e5b9);
+        z = (z ^ (z >> 27)).wrapping_mul(0x94d0_49bb_1331_11eb);
+        z ^ (z >> 31)
+    }
+
+    fn below(&mut self, bound: usize) -> usize {
+        (self.next() % bound as u64) as usize
+    }
+
+    fn bytes(&mut self, count: usize) -> Vec<u8> {
+        (0..count).map(|_| (self.next() >> 24) as u8).collect()
+    }
+}
+
+const NODES: usize = 1000;
+
+impl Input {
+    pub fn new(bits: usize, shape: Shape) -> Input {
+        let mut numbers = Numbers(bits as u64);
+        let mut bytes = numbers.bytes(bits / 8);
+        if shape == Shape::Matrix {
+            bytes.fill(0);
+            for edge in 0..2 * NODES {
+                let to = numbers.below(NODES);
+                bytes[edge / 2 * (NODES / 8) + to / 8] |= 0x80 >> (to % 8);
+            }
+        }
+        let others = numbers.bytes(bits / 8);
+        let indices = match shape {
+            Shape::Indices(count) => (0..count).map(|_| numbers.below(bits)).collect(),
+            _ => Vec::new(),
+        };
+        let bits = bytes
+            .iter()
+            .flat_map(|byte| (0..8).map(move |j| byte & (0x80 >> j) != 0))
+            .collect();
+        Input { bits, bytes, others, indices, row_bytes: NODES / 8 }
+    }
+}

@@ -1,0 +1,244 @@
+//! Times Conthiral beside vob 4.0.1 and its peers, all in one process. Checksums are compared before
+//! anything is timed. A library's time is that of 2R rounds less that of R rounds, each the least of
+//! many, in which all libraries take turns: so what is built once and the call across languages
+//! drop out.
+//!
+//! `harness [--check] [--rounds N] [FILTER]` writes lines of tab-separated values.
+
+mod bits;
+mod foreign;
+mod input;
+mod limits;
+mod peers;
+mod rows;
+
+use bits::{counts_changes, Bits, Offer};
+use foreign::Twin;
+use input::Input;
+use rows::{Call, Limit, Row};
+use std::process::ExitCode;
+use std::time::{Duration, Instant};
+
+/// A library that works for so many rounds, and answers a checksum.
+struct Library {
+    name: &'static str,
+    offer: fn(Call) -> Offer,
+    run: fn(Call, &Input, usize) -> u64,
+}
+
+fn rust<B: Bits>(name: &'static str) -> Library {
+    Library { name, offer: B::offer, run: bits::run::<B> }
+}
+
+/// Conthiral first, then vob 4.0.1, then the others.
+fn libraries() -> Vec<Library> {
+    vec![
+        Library { name: "conthiral", offer: |_| Offer::Same, run: foreign::conthiral },
+        rust::<vob::Vob>("vob 4.0.1"),
+        rust::<fixedbitset::FixedBitSet>("fixedbitset"),
+        rust::<bit_vec::BitVec>("bit-vec"),
+        rust::<bit_set::BitSet>("bit-set"),
+        rust::<smallbitvec::SmallBitVec>("smallbitvec"),
+        Library {
+            name: "boost",
+            offer: |call| foreign::twin_offer(Twin::Boost, call),
+            run: |call, input, rounds| foreign::twin(Twin::Boost, call, input, rounds),
+        },
+        Library {
+            name: "vector<bool>",
+            offer: |call| foreign::twin_offer(Twin::VectorBool, call),
+            run: |call, input, rounds| foreign::twin(Twin::VectorBool, call, input, rounds),
+        },
+    ]
+}
+
+/// The low half of a checksum is what every library has to agree on; the high half counts answers,
+/// which a library without a flag doesn't give.
+fn agree(row: &Row, offer: Offer, expected: u64, got: u64) -> bool {
+    let flagless = matches!(offer, Offer::Less(why) if why.contains("no flag"));
+    if counts_changes(row.call) && flagless {
+        expected as u32 == got as u32
+    } else {
+        expected == got
+    }
+}
+
+/// The libraries whose checksums differ from the original crate's.
+fn disagreements(row: &Row, input: &Input, offered: &[&Library]) -> Vec<String> {
+    let mut differing = Vec::new();
+    for rounds in [1, 2, 5] {
+        let rounds = rounds.min(row.most);
+        let expected = bits::run::<vob::Vob>(row.call, input, rounds);
+        for library in offered {
+            let got = (library.run)(row.call, input, rounds);
+            if !agree(row, (library.offer)(row.call), expected, got) {
+                let (name, of) = (row.name, library.name);
+                let at = row.bits;
+                differing.push(format!(
+                    "{name} at {at} bits, {rounds} rounds: {of} {got:#x}, vob 4.0.1 {expected:#x}"
+                ));
+            }
+        }
+    }
+    differing
+}
+
+/// One thing that is timed, with its least times so far.
+struct Timed<'a> {
+    name: String,
+    mark: &'static str,
+    kind: &'static str,
+    run: Box<dyn Fn(usize) -> u64 + 'a>,
+    rounds: usize,
+    once: Duration,
+    twice: Duration,
+}
+
+impl Timed<'_> {
+    fn time(&self, rounds: usize) -> Duration {
+        let start = Instant::now();
+        std::hint::black_box((self.run)(rounds));
+        start.elapsed()
+    }
+
+    /// Finds how many rounds take long enough, and no more than there may be.
+    fn settle(&mut self, most: usize, enough: Duration) {
+        self.rounds = 1;
+        loop {
+            let spent = self.time(2 * self.rounds).saturating_sub(self.time(self.rounds));
+            if spent >= enough || 4 * self.rounds > most {
+                return;
+            }
+            let sought = if spent * 8 < enough { 4 } else { 2 };
+            self.rounds *= sought;
+            if 2 * self.rounds > most {
+                self.rounds = most / 2;
+                return;
+            }
+        }
+    }
+
+    fn take_turn(&mut self) {
+        self.once = self.once.min(self.time(self.rounds));
+        self.twice = self.twice.min(self.time(2 * self.rounds));
+    }
+
+    fn ns_per_round(&self) -> f64 {
+        (self.twice.as_nanos() as f64 - self.once.as_nanos() as f64) / self.rounds as f64
+    }
+}
+
+fn mark_of(offer: Offer) -> (&'static str, &'static str) {
+    match offer {
+        Offer::Same | Offer::None => ("same", ""),
+        Offer::Less(why) => ("less", why),
+        Offer::Other(how) => ("other", how),
+    }
+}
+
+fn timed<'a>(row: &'a Row, input: &'a Input, offered: &[&'a Library]) -> Vec<Timed<'a>> {
+    let new = |name: String, kind, mark, run| Timed {
+        name,
+        mark,
+        kind,
+        run,
+        rounds: 1,
+        once: Duration::MAX,
+        twice: Duration::MAX,
+    };
+    let mut all = Vec::new();
+    for library in offered {
+        let (kind, mark) = mark_of((library.offer)(row.call));
+        let run = library.run;
+        let work = Box::new(move |rounds| run(row.call, input, rounds));
+        all.push(new(library.name.to_string(), kind, mark, work as Box<dyn Fn(usize) -> u64>));
+    }
+    if row.limit != Limit::None {
+        let work = Box::new(move |rounds| limits::run(row.limit, input, rounds));
+        all.push(new(limits::name(row.limit).to_string(), "limit", "", work));
+    }
+    all
+}
+
+fn measure(row: &Row, input: &Input, offered: &[&Library], turns: usize) {
+    let mut all = timed(row, input, offered);
+    for one in &mut all {
+        one.settle(row.most, Duration::from_micros(2000));
+    }
+    for _ in 0..turns {
+        for one in &mut all {
+            one.take_turn();
+        }
+    }
+    for one in &all {
+        let ns = one.ns_per_round() / row.units;
+        println!(
+            "{}\t{}\t{}\t{}\t{}\t{}\t{:.4}",
+            row.name, row.bits, row.unit, one.name, one.kind, one.mark, ns
+        );
+    }
+}
+
+struct Options {
+    check: bool,
+    turns: usize,
+    filter: String,
+}
+
+fn options() -> Options {
+    let mut found = Options { check: false, turns: 11, filter: String::new() };
+    let mut words = std::env::args().skip(1);
+    while let Some(word) = words.next() {
+        match word.as_str() {
+            "--check" => found.check = true,
+            "--turns" => found.turns = words.next().and_then(|n| n.parse().ok()).unwrap_or(11),
+            _ => found.filter = word,
+        }
+    }
+    found
+}
+
+// What is freed stays with the process, for every library alike: else a large block's time is that
+// of the pages which the kernel gives and takes.
+fn keep_freed_memory() {
+    extern "C" {
+        fn mallopt(parameter: i32, value: i32) -> i32;
+    }
+    const TRIM_THRESHOLD: i32 = -1;
+    const MMAP_MAX: i32 = -4;
+    unsafe {
+        mallopt(TRIM_THRESHOLD, i32::MAX);
+        mallopt(MMAP_MAX, 0);
+    }
+}
+
+fn main() -> ExitCode {
+    keep_freed_memory();
+    let options = options();
+    let libraries = libraries();
+    let rows: Vec<Row> =
+        rows::all().into_iter().filter(|row| row.name.contains(&options.filter)).collect();
+    let offered = |row: &Row| -> Vec<&Library> {
+        libraries.iter().filter(|library| (library.offer)(row.call) != Offer::None).collect()
+    };
+    let mut differing = Vec::new();
+    for row in &rows {
+        differing.extend(disagreements(row, &row.input(), &offered(row)));
+    }
+    for line in &differing {
+        eprintln!("checksums differ: {line}");
+    }
+    if !differing.is_empty() {
+        return ExitCode::FAILURE;
+    }
+    eprintln!("{} rows: all checksums agree", rows.len());
+    if options.check {
+        return ExitCode::SUCCESS;
+    }
+    println!("# g++ {}", foreign::twin_compiler_name());
+    for row in &rows {
+        eprintln!("{} {}", row.name, row.bits);
+        measure(row, &row.input(), &offered(row), options.turns.max(1));
+    }
+    ExitCode::SUCCESS
+}

@@ -1,0 +1,374 @@
+//! The peers in Rust, by their own calls. What a peer's call does less, its `offer` says.
+
+use crate::bits::{Bits, Offer};
+use crate::rows::Call;
+use bit_set::BitSet;
+use bit_vec::BitVec;
+use fixedbitset::FixedBitSet;
+use smallbitvec::SmallBitVec;
+use std::collections::hash_map::DefaultHasher;
+use std::hash::{Hash, Hasher};
+use vob::Vob;
+
+fn hash_of<T: Hash>(value: &T) -> u64 {
+    let mut state = DefaultHasher::new();
+    value.hash(&mut state);
+    state.finish()
+}
+
+const NO_FLAG: Offer = Offer::Less("no flag");
+
+impl Bits for Vob {
+    fn offer(_call: Call) -> Offer {
+        Offer::Same
+    }
+    fn from_bytes(bytes: &[u8]) -> Vob {
+        Vob::from_bytes(bytes)
+    }
+    fn len(&self) -> usize {
+        Vob::len(self)
+    }
+    fn get(&self, index: usize) -> bool {
+        Vob::get(self, index) == Some(true)
+    }
+    fn set(&mut self, index: usize, value: bool) -> bool {
+        Vob::set(self, index, value)
+    }
+    fn pushed(bits: &[bool]) -> Vob {
+        let mut vob = Vob::new();
+        for bit in bits {
+            vob.push(*bit);
+        }
+        vob
+    }
+    fn from_slice(bits: &[bool]) -> Vob {
+        // vob 4.0.1 has no `from_slice`: it collects.
+        bits.iter().copied().collect()
+    }
+    fn extend_from_slice(&mut self, bits: &[bool]) {
+        Vob::extend_from_slice(self, bits);
+    }
+    fn truncate(&mut self, len: usize) {
+        Vob::truncate(self, len);
+    }
+    fn walked(&self) -> u64 {
+        let mut times = 0;
+        for bit in self.iter() {
+            times += bit as u64;
+        }
+        times
+    }
+    fn resize(&mut self, len: usize, value: bool) {
+        Vob::resize(self, len, value);
+    }
+    fn set_all(&mut self, value: bool) {
+        Vob::set_all(self, value);
+    }
+    fn negate(&mut self) {
+        Vob::negate(self);
+    }
+    fn copied(&self) -> Vob {
+        self.clone()
+    }
+    fn hashed(&self) -> u64 {
+        hash_of(self)
+    }
+    fn split_off(&mut self, at: usize) -> Vob {
+        Vob::split_off(self, at)
+    }
+    fn and(&mut self, other: &Vob) -> bool {
+        Vob::and(self, other)
+    }
+    fn or(&mut self, other: &Vob) -> bool {
+        Vob::or(self, other)
+    }
+    fn xor(&mut self, other: &Vob) -> bool {
+        Vob::xor(self, other)
+    }
+    fn same(&self, other: &Vob) -> bool {
+        self == other
+    }
+    fn join(&mut self, other: &Vob) {
+        self.extend_from_vob(other);
+    }
+}
+
+impl Bits for FixedBitSet {
+    fn offer(call: Call) -> Offer {
+        match call {
+            Call::Push => Offer::Less("pre-sized"),
+            Call::Set | Call::And | Call::Or | Call::Xor | Call::Closure => NO_FLAG,
+            Call::Iterate => Offer::Other("by index"),
+            Call::SetAll => Offer::Other("insert_range or clear"),
+            Call::Negate => Offer::Other("toggle_range"),
+            Call::Get | Call::Clone | Call::Hash | Call::Equal => Offer::Same,
+            _ => Offer::None,
+        }
+    }
+    fn from_bytes(bytes: &[u8]) -> FixedBitSet {
+        let blocks = bytes.chunks(4).map(|chunk| {
+            let mut four = [0; 4];
+            four[..chunk.len()].copy_from_slice(chunk);
+            u32::from_be_bytes(four).reverse_bits()
+        });
+        FixedBitSet::with_capacity_and_blocks(8 * bytes.len(), blocks)
+    }
+    fn len(&self) -> usize {
+        FixedBitSet::len(self)
+    }
+    fn get(&self, index: usize) -> bool {
+        self.contains(index)
+    }
+    fn set(&mut self, index: usize, value: bool) -> bool {
+        FixedBitSet::set(self, index, value);
+        false
+    }
+    fn pushed(bits: &[bool]) -> FixedBitSet {
+        let mut set = FixedBitSet::with_capacity(bits.len());
+        for (index, bit) in bits.iter().enumerate() {
+            set.set(index, *bit);
+        }
+        set
+    }
+    fn walked(&self) -> u64 {
+        let mut times = 0;
+        for index in 0..FixedBitSet::len(self) {
+            times += self.contains(index) as u64;
+        }
+        times
+    }
+    fn set_all(&mut self, value: bool) {
+        if value {
+            self.insert_range(..);
+        } else {
+            self.clear();
+        }
+    }
+    fn negate(&mut self) {
+        self.toggle_range(..);
+    }
+    fn copied(&self) -> FixedBitSet {
+        self.clone()
+    }
+    fn hashed(&self) -> u64 {
+        hash_of(self)
+    }
+    fn and(&mut self, other: &FixedBitSet) -> bool {
+        self.intersect_with(other);
+        false
+    }
+    fn or(&mut self, other: &FixedBitSet) -> bool {
+        self.union_with(other);
+        false
+    }
+    fn xor(&mut self, other: &FixedBitSet) -> bool {
+        self.symmetric_difference_with(other);
+        false
+    }
+    fn same(&self, other: &FixedBitSet) -> bool {
+        self == other
+    }
+}
+
+impl Bits for BitVec {
+    fn offer(call: Call) -> Offer {
+        match call {
+            Call::Set => NO_FLAG,
+            Call::ExtendAligned | Call::ExtendShifted => Offer::Other("append of a copy"),
+            Call::Resize => Offer::Other("grow"),
+            Call::SetAll => Offer::Other("set_all or clear"),
+            _ => Offer::Same,
+        }
+    }
+    fn from_bytes(bytes: &[u8]) -> BitVec {
+        BitVec::from_bytes(bytes)
+    }
+    fn len(&self) -> usize {
+        BitVec::len(self)
+    }
+    fn get(&self, index: usize) -> bool {
+        BitVec::get(self, index) == Some(true)
+    }
+    fn set(&mut self, index: usize, value: bool) -> bool {
+        BitVec::set(self, index, value);
+        false
+    }
+    fn pushed(bits: &[bool]) -> BitVec {
+        let mut vec = BitVec::new();
+        for bit in bits {
+            vec.push(*bit);
+        }
+        vec
+    }
+    fn from_slice(bits: &[bool]) -> BitVec {
+        bits.iter().copied().collect()
+    }
+    fn extend_from_slice(&mut self, bits: &[bool]) {
+        self.extend(bits.iter().copied());
+    }
+    fn truncate(&mut self, len: usize) {
+        BitVec::truncate(self, len);
+    }
+    fn walked(&self) -> u64 {
+        let mut times = 0;
+        for bit in self.iter() {
+            times += bit as u64;
+        }
+        times
+    }
+    fn resize(&mut self, len: usize, value: bool) {
+        self.grow(len - BitVec::len(self), value);
+    }
+    fn set_all(&mut self, value: bool) {
+        if value {
+            BitVec::set_all(self);
+        } else {
+            self.clear();
+        }
+    }
+    fn negate(&mut self) {
+        BitVec::negate(self);
+    }
+    fn copied(&self) -> BitVec {
+        self.clone()
+    }
+    fn hashed(&self) -> u64 {
+        hash_of(self)
+    }
+    fn split_off(&mut self, at: usize) -> BitVec {
+        BitVec::split_off(self, at)
+    }
+    fn and(&mut self, other: &BitVec) -> bool {
+        BitVec::and(self, other)
+    }
+    fn or(&mut self, other: &BitVec) -> bool {
+        BitVec::or(self, other)
+    }
+    fn xor(&mut self, other: &BitVec) -> bool {
+        BitVec::xor(self, other)
+    }
+    fn same(&self, other: &BitVec) -> bool {
+        self == other
+    }
+    fn join(&mut self, other: &BitVec) {
+        self.append(&mut other.clone());
+    }
+}
+
+impl Bits for BitSet {
+    fn offer(call: Call) -> Offer {
+        match call {
+            Call::And | Call::Or | Call::Xor | Call::Closure => NO_FLAG,
+            Call::Set => Offer::Other("insert or remove"),
+            Call::Get | Call::Clone | Call::Hash | Call::Equal => Offer::Same,
+            _ => Offer::None,
+        }
+    }
+    fn from_bytes(bytes: &[u8]) -> BitSet {
+        BitSet::from_bytes(bytes)
+    }
+    fn len(&self) -> usize {
+        self.get_ref().len()
+    }
+    fn get(&self, index: usize) -> bool {
+        self.contains(index)
+    }
+    fn set(&mut self, index: usize, value: bool) -> bool {
+        if value {
+            self.insert(index)
+        } else {
+            self.remove(index)
+        }
+    }
+    fn copied(&self) -> BitSet {
+        self.clone()
+    }
+    fn hashed(&self) -> u64 {
+        hash_of(self)
+    }
+    fn and(&mut self, other: &BitSet) -> bool {
+        self.intersect_with(other);
+        false
+    }
+    fn or(&mut self, other: &BitSet) -> bool {
+        self.union_with(other);
+        false
+    }
+    fn xor(&mut self, other: &BitSet) -> bool {
+        self.symmetric_difference_with(other);
+        false
+    }
+    fn same(&self, other: &BitSet) -> bool {
+        self == other
+    }
+}
+
+impl Bits for SmallBitVec {
+    fn offer(call: Call) -> Offer {
+        match call {
+            Call::Set => NO_FLAG,
+            Call::Push
+            | Call::Get
+            | Call::Iterate
+            | Call::FromSlice
+            | Call::ExtendFromSlice
+            | Call::Resize
+            | Call::Clone
+            | Call::Hash
+            | Call::Equal => Offer::Same,
+            _ => Offer::None,
+        }
+    }
+    fn from_bytes(bytes: &[u8]) -> SmallBitVec {
+        let places = |byte: &u8| {
+            let byte = *byte;
+            (0..8).map(move |j| byte & (0x80 >> j) != 0)
+        };
+        bytes.iter().flat_map(places).collect()
+    }
+    fn len(&self) -> usize {
+        SmallBitVec::len(self)
+    }
+    fn get(&self, index: usize) -> bool {
+        SmallBitVec::get(self, index) == Some(true)
+    }
+    fn set(&mut self, index: usize, value: bool) -> bool {
+        SmallBitVec::set(self, index, value);
+        false
+    }
+    fn pushed(bits: &[bool]) -> SmallBitVec {
+        let mut vec = SmallBitVec::new();
+        for bit in bits {
+            vec.push(*bit);
+        }
+        vec
+    }
+    fn from_slice(bits: &[bool]) -> SmallBitVec {
+        bits.iter().copied().collect()
+    }
+    fn extend_from_slice(&mut self, bits: &[bool]) {
+        self.extend(bits.iter().copied());
+    }
+    fn truncate(&mut self, len: usize) {
+        SmallBitVec::truncate(self, len);
+    }
+    fn walked(&self) -> u64 {
+        let mut times = 0;
+        for bit in self.iter() {
+            times += bit as u64;
+        }
+        times
+    }
+    fn resize(&mut self, len: usize, value: bool) {
+        SmallBitVec::resize(self, len, value);
+    }
+    fn copied(&self) -> SmallBitVec {
+        self.clone()
+    }
+    fn hashed(&self) -> u64 {
+        hash_of(self)
+    }
+    fn same(&self, other: &SmallBitVec) -> bool {
+        self == other
+    }
+}

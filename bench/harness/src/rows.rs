@@ -1,0 +1,130 @@
+//! The rows of the table: which call, on how many bits, in which unit, against which limit.
+
+use crate::input::{Input, Shape};
+
+/// A call that libraries are compared by. Its number is the one that the C++ twin knows it by.
+#[derive(Clone, Copy, PartialEq, Eq, Debug)]
+#[repr(u32)]
+pub enum Call {
+    Push,
+    FromSlice,
+    ExtendFromSlice,
+    Get,
+    Set,
+    FromBytes,
+    Iterate,
+    Resize,
+    SetAll,
+    Negate,
+    Clone,
+    Hash,
+    SplitOff,
+    And,
+    Or,
+    Xor,
+    Equal,
+    ExtendAligned,
+    ExtendShifted,
+    Closure,
+}
+
+/// What the machine can do at most, measured on the row's own size.
+#[derive(Clone, Copy, PartialEq, Eq, Debug)]
+pub enum Limit {
+    /// As many bytes copied as the bits take.
+    Copy,
+    /// As many bytes as there are bools copied.
+    CopyBools,
+    /// As many bytes as the bits take made one value.
+    Fill,
+    /// True bits counted by words.
+    Count,
+    /// One byte stored a bit, in order.
+    Store,
+    /// One byte stored at each index.
+    StoreAt,
+    /// None: the row is a program and not a call.
+    None,
+}
+
+pub struct Row {
+    pub name: &'static str,
+    pub call: Call,
+    pub bits: usize,
+    pub unit: &'static str,
+    /// How many units a round is.
+    pub units: f64,
+    pub limit: Limit,
+    /// At most so many rounds.
+    pub most: usize,
+}
+
+impl Row {
+    fn over(name: &'static str, call: Call, bits: usize, unit: Unit, limit: Limit) -> Row {
+        let (unit, units) = match unit {
+            Unit::Bit => ("bit", bits as f64),
+            Unit::Word => ("word", (bits as f64 / 64.0).ceil()),
+            Unit::Index => ("index", INDICES as f64),
+            Unit::Round => ("round", 1.0),
+        };
+        // Each round of split_off takes 13 bits away: few enough are left out of what is counted.
+        let most = if call == Call::SplitOff { bits / 13 / 64 } else { usize::MAX };
+        Row { name, call, bits, unit, units, limit, most }
+    }
+
+    pub fn shape(&self) -> Shape {
+        match self.call {
+            Call::Closure => Shape::Matrix,
+            Call::Get | Call::Set => Shape::Indices(INDICES),
+            _ => Shape::Plain,
+        }
+    }
+
+    pub fn input(&self) -> Input {
+        Input::new(self.bits, self.shape())
+    }
+}
+
+enum Unit {
+    Bit,
+    Word,
+    Index,
+    Round,
+}
+
+const INDICES: usize = 1 << 16;
+const MILLION: usize = 1 << 20;
+/// The sizes of the rows on two Vobs of one length.
+const SIZES: [usize; 5] = [64, 1024, 65536, MILLION, 64 * MILLION];
+
+/// All rows, in the order of the table. Later calls are put where they belong.
+pub fn all() -> Vec<Row> {
+    use Unit::{Bit, Index, Round, Word};
+    let mut rows = vec![
+        Row::over("push", Call::Push, 1_000_000, Bit, Limit::Store),
+        Row::over("get at random", Call::Get, MILLION, Index, Limit::StoreAt),
+        Row::over("set at random", Call::Set, MILLION, Index, Limit::StoreAt),
+        Row::over("iterate", Call::Iterate, MILLION, Bit, Limit::Count),
+        Row::over("from_bytes", Call::FromBytes, MILLION, Word, Limit::Copy),
+        Row::over("from_slice", Call::FromSlice, MILLION, Bit, Limit::CopyBools),
+        Row::over("extend_from_slice", Call::ExtendFromSlice, MILLION, Bit, Limit::CopyBools),
+        Row::over("resize true", Call::Resize, MILLION, Word, Limit::Fill),
+        Row::over("set_all", Call::SetAll, MILLION, Word, Limit::Fill),
+        Row::over("negate", Call::Negate, MILLION, Word, Limit::Copy),
+        Row::over("clone", Call::Clone, MILLION, Word, Limit::Copy),
+    ];
+    for (name, call) in [("and", Call::And), ("or", Call::Or), ("xor", Call::Xor)] {
+        for bits in SIZES {
+            rows.push(Row::over(name, call, bits, Word, Limit::Copy));
+        }
+    }
+    rows.extend([
+        Row::over("extend_from_vob aligned", Call::ExtendAligned, MILLION, Word, Limit::Copy),
+        Row::over("extend_from_vob at +13", Call::ExtendShifted, MILLION, Word, Limit::Copy),
+        Row::over("split_off misaligned", Call::SplitOff, MILLION, Word, Limit::Copy),
+        Row::over("equality", Call::Equal, MILLION, Word, Limit::Count),
+        Row::over("hash", Call::Hash, MILLION, Word, Limit::Count),
+        Row::over("closure 1000 x 1000", Call::Closure, 1_000_000, Round, Limit::None),
+    ]);
+    rows
+}

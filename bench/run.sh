@@ -1,0 +1,87 @@
+#!/usr/bin/env bash
+# Times Conthiral beside vob 4.0.1 and its peers: bench/run.sh [CPU] [FILTER]. CPU is x86-64-v2 (the
+# default) or x86-64-v3; FILTER is a part of the names of the rows. Builds everything, compares all
+# checksums, times, writes bench/results/CPU.tsv (with a FILTER, bench/out/CPU.tsv), and prints the
+# table. TURNS (11) is of how many turns the least time is taken; CHECK=1 stops behind the checksums.
+#
+# Wants rt, cargo, g++ and Debian's packages librust-fixedbitset-dev librust-bit-vec-dev
+# librust-bit-set-dev librust-smallbitvec-dev librust-num-traits-dev libboost-dev. Nothing is
+# downloaded. VOB_SOURCE names src/lib.rs of vob 4.0.1, which isn't part of this repository.
+set -eu
+cd "$(dirname "$0")/.."
+cpu=${1:-x86-64-v2}
+filter=${2:-}
+source=$(realpath -m "${VOB_SOURCE:-../shared/crate/lib.rs.txt}")
+registry=${DEBIAN_REGISTRY:-/usr/share/cargo/registry}
+
+case $cpu in
+x86-64-v2 | x86-64-v3) ;;
+*) echo "no such CPU here: $cpu (x86-64-v2 or x86-64-v3)" >&2; exit 2 ;;
+esac
+[ -r "$source" ] || { echo "no source of vob 4.0.1 at $source: set VOB_SOURCE" >&2; exit 2; }
+[ -d "$registry" ] || { echo "no crates at $registry: install Debian's packages" >&2; exit 2; }
+
+cd bench
+out=$PWD/out
+libs=$out/$cpu
+mkdir -p "$libs" "$out/vob/src" results
+
+# Ours: proved, then built by the toolchain's own compiler for this CPU.
+if [ "$cpu" = x86-64-v2 ]; then flag=(); else flag=("--cpu=$cpu"); fi
+(cd ../crates/vob_bench && rt lib "${flag[@]}") | tail -n 1
+cp ../crates/vob_bench/out/libvob_bench.a "$libs/"
+gcc -O2 -march="$cpu" -c heap/heap.c -o "$libs/heap.o"
+ar rs "$libs/libvob_bench.a" "$libs/heap.o"
+
+# The twin.
+g++ -std=c++17 -O3 -DNDEBUG -march="$cpu" -c twin/twin.cpp -o "$libs/twin.o"
+rm -f "$libs/libtwin.a"
+ar rcs "$libs/libtwin.a" "$libs/twin.o"
+
+# The original crate, as its source is given.
+cp "$source" "$out/vob/src/lib.rs"
+cat >"$out/vob/Cargo.toml" <<TOML
+[package]
+name = "vob"
+version = "4.0.1"
+edition = "2021"
+
+[dependencies]
+num-traits = "0.2"
+
+[features]
+unsafe_internals = []
+serde = []
+wincode = []
+
+[workspace]
+TOML
+
+# Debian's crates in the place of crates.io.
+mkdir -p "$out/cargo"
+cat >"$out/cargo/config.toml" <<TOML
+[source.crates-io]
+replace-with = "debian"
+
+[source.debian]
+directory = "$registry"
+TOML
+rm -f harness/Cargo.lock
+RUSTFLAGS="-C target-cpu=$cpu -L native=$libs" \
+    cargo build --quiet --offline --release --config "$out/cargo/config.toml" \
+    --manifest-path harness/Cargo.toml --target-dir "$libs/target"
+
+words=(--turns "${TURNS:-11}")
+if [ -n "${CHECK:-}" ]; then words+=(--check); fi
+if [ -z "${CHECK:-}" ] && [ -z "$filter" ]; then table=results/$cpu.tsv; else table=out/$cpu.tsv; fi
+{
+    echo "# date $(date -u +%F)"
+    echo "# machine $(sed -n 's/^model name[^:]*: //p' /proc/cpuinfo | head -n 1)"
+    echo "# cpu $cpu"
+    echo "# kit $(rt version)"
+    echo "# rustc $(rustc --version)"
+    "$libs/target/release/harness" "${words[@]}" "$filter"
+} >"$out/new.tsv"
+if [ -n "${CHECK:-}" ]; then exit 0; fi
+mv "$out/new.tsv" "$table"
+./report.py "$table"

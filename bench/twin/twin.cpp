@@ -1,0 +1,344 @@
+// The libraries of C++ under the workloads of the harness: boost::dynamic_bitset and
+// std::vector<bool>. Same input, same rounds, same checksums as in the crate vob_bench.
+
+#include <algorithm>
+#include <boost/dynamic_bitset.hpp>
+#include <cstddef>
+#include <cstdint>
+#include <functional>
+#include <vector>
+
+namespace {
+
+// As the harness numbers its calls (src/rows.rs).
+enum class Call : uint32_t {
+    push,
+    from_slice,
+    extend_from_slice,
+    get,
+    set,
+    from_bytes,
+    iterate,
+    resize,
+    set_all,
+    negate,
+    clone,
+    hash,
+    split_off,
+    and_,
+    or_,
+    xor_,
+    equal,
+    extend_aligned,
+    extend_shifted,
+    closure,
+};
+
+struct Input {
+    const bool *bits;
+    size_t bit_count;
+    const uint8_t *bytes;
+    size_t byte_count;
+    const uint8_t *others;
+    size_t other_count;
+    const size_t *indices;
+    size_t index_count;
+    size_t row_bytes;
+};
+
+// What a library doesn't have answers this, and the harness never asks for it.
+constexpr uint64_t missing = 0;
+
+using Dynamic = boost::dynamic_bitset<uint64_t>;
+using Vector = std::vector<bool>;
+
+uint64_t word_of(const uint8_t *bytes, size_t count) {
+    uint64_t word = 0;
+    for (size_t k = 0; k < count; k++)
+        for (size_t j = 0; j < 8; j++)
+            word |= uint64_t(bytes[k] >> (7 - j) & 1) << (8 * k + j);
+    return word;
+}
+
+void build(Dynamic &made, const uint8_t *bytes, size_t count) {
+    std::vector<uint64_t> words;
+    for (size_t at = 0; at < count; at += 8)
+        words.push_back(word_of(bytes + at, std::min<size_t>(8, count - at)));
+    made = Dynamic(words.begin(), words.end());
+    made.resize(8 * count);
+}
+
+void build(Vector &made, const uint8_t *bytes, size_t count) {
+    made.clear();
+    made.reserve(8 * count);
+    for (size_t at = 0; at < count; at++)
+        for (size_t j = 0; j < 8; j++)
+            made.push_back(bytes[at] >> (7 - j) & 1);
+}
+
+template <class B> B made_of(const uint8_t *bytes, size_t count) {
+    B made;
+    build(made, bytes, count);
+    return made;
+}
+
+// Where a library says whether the bit changed, so does this.
+bool set(Dynamic &bits, size_t index, bool value) { return bits.test_set(index, value) != value; }
+
+bool set(Vector &bits, size_t index, bool value) {
+    bits[index] = value;
+    return false;
+}
+
+uint64_t walked(const Dynamic &bits) {
+    uint64_t times = 0;
+    for (size_t index = 0; index < bits.size(); index++)
+        times += bits[index];
+    return times;
+}
+
+uint64_t walked(const Vector &bits) {
+    uint64_t times = 0;
+    for (bool bit : bits)
+        times += bit;
+    return times;
+}
+
+void set_all(Dynamic &bits, bool value) {
+    if (value)
+        bits.set();
+    else
+        bits.reset();
+}
+
+void set_all(Vector &bits, bool value) { std::fill(bits.begin(), bits.end(), value); }
+
+void join(Dynamic &bits, const Dynamic &other) {
+    // Appending blocks adds whole ones alone; these sizes are whole.
+    std::vector<uint64_t> blocks(other.num_blocks());
+    boost::to_block_range(other, blocks.begin());
+    bits.append(blocks.begin(), blocks.end());
+}
+
+void join(Vector &bits, const Vector &other) {
+    bits.insert(bits.end(), other.begin(), other.end());
+}
+
+template <class B> uint64_t checksum(const B &bits, uint64_t times) {
+    uint64_t sum = bits.size();
+    if (bits.size() != 0)
+        for (size_t sample = 0; sample < 1024; sample++)
+            sum = sum * 31 + bits[sample * 2654435761 % bits.size()];
+    return (times << 32) + (sum & 0xffffffff);
+}
+
+template <class B> uint64_t sample(const B &bits, size_t round) {
+    return bits[round % bits.size()];
+}
+
+template <class B> void touch(B &bits, size_t round) { bits[round % bits.size()] = true; }
+
+template <class B> uint64_t push(const Input &in, size_t rounds) {
+    uint64_t times = 0;
+    B last;
+    for (size_t round = 0; round < rounds; round++) {
+        B bits;
+        for (size_t k = 0; k < in.bit_count; k++)
+            bits.push_back(in.bits[k]);
+        times += sample(bits, round);
+        last = std::move(bits);
+    }
+    return checksum(last, times);
+}
+
+template <class B, class Change> uint64_t changed(const Input &in, size_t rounds, Change change) {
+    uint64_t times = 0;
+    B bits = made_of<B>(in.bytes, in.byte_count);
+    for (size_t round = 0; round < rounds; round++) {
+        change(bits, round);
+        times += sample(bits, round);
+    }
+    return checksum(bits, times);
+}
+
+template <class B, class Look> uint64_t seen(const Input &in, size_t rounds, Look look) {
+    uint64_t times = 0;
+    B bits = made_of<B>(in.bytes, in.byte_count);
+    for (size_t round = 0; round < rounds; round++) {
+        touch(bits, round);
+        times += look(bits, round);
+    }
+    return checksum(bits, times);
+}
+
+template <class B> uint64_t get(const Input &in, size_t rounds) {
+    return seen<B>(in, rounds, [&](const B &bits, size_t) {
+        uint64_t times = 0;
+        for (size_t k = 0; k < in.index_count; k++)
+            times += bits[in.indices[k]];
+        return times;
+    });
+}
+
+template <class B> uint64_t write(const Input &in, size_t rounds) {
+    uint64_t times = 0;
+    B bits = made_of<B>(in.bytes, in.byte_count);
+    for (size_t round = 0; round < rounds; round++)
+        for (size_t k = 0; k < in.index_count; k++)
+            times += set(bits, in.indices[k], in.indices[k] % 2 == round % 2);
+    return checksum(bits, times);
+}
+
+template <class B> uint64_t equal(const Input &in, size_t rounds) {
+    uint64_t times = 0;
+    B bits = made_of<B>(in.bytes, in.byte_count);
+    B other = bits;
+    for (size_t round = 0; round < rounds; round++) {
+        touch(bits, round);
+        touch(other, round);
+        times += bits == other;
+    }
+    return checksum(bits, times);
+}
+
+template <class B> uint64_t extend(const Input &in, size_t at, size_t rounds) {
+    B other = made_of<B>(in.others, in.other_count);
+    return changed<B>(in, rounds, [&](B &bits, size_t) {
+        bits.resize(at);
+        join(bits, other);
+    });
+}
+
+template <class B> uint64_t resize(const Input &in, size_t rounds) {
+    return changed<B>(in, rounds, [&](B &bits, size_t) {
+        bits.resize(13);
+        bits.resize(8 * in.byte_count, true);
+    });
+}
+
+// The calls that both have.
+template <class B> uint64_t run(Call call, const Input &in, size_t rounds) {
+    switch (call) {
+    case Call::push:
+        return push<B>(in, rounds);
+    case Call::get:
+        return get<B>(in, rounds);
+    case Call::set:
+        return write<B>(in, rounds);
+    case Call::iterate:
+        return seen<B>(in, rounds, [](const B &bits, size_t) { return walked(bits); });
+    case Call::resize:
+        return resize<B>(in, rounds);
+    case Call::set_all:
+        return changed<B>(in, rounds, [](B &bits, size_t round) { set_all(bits, round % 2 == 1); });
+    case Call::negate:
+        return changed<B>(in, rounds, [](B &bits, size_t) { bits.flip(); });
+    case Call::clone:
+        return seen<B>(in, rounds, [](const B &bits, size_t round) {
+            B copy = bits;
+            return sample(copy, round);
+        });
+    case Call::equal:
+        return equal<B>(in, rounds);
+    case Call::extend_aligned:
+        return extend<B>(in, 64, rounds);
+    case Call::extend_shifted:
+        return extend<B>(in, 64 + 13, rounds);
+    default:
+        return missing;
+    }
+}
+
+template <class Take> uint64_t taken(const Input &in, size_t rounds, Take take) {
+    Dynamic bits = made_of<Dynamic>(in.bytes, in.byte_count);
+    Dynamic other = made_of<Dynamic>(in.others, in.other_count);
+    for (size_t round = 0; round < rounds; round++)
+        take(bits, other);
+    return checksum(bits, 0);
+}
+
+void close(std::vector<Dynamic> &rows) {
+    for (size_t k = 0; k < rows.size(); k++) {
+        Dynamic through = rows[k];
+        for (Dynamic &row : rows)
+            if (row[k])
+                row |= through;
+    }
+}
+
+uint64_t closure(const Input &in, size_t rounds) {
+    std::vector<Dynamic> rows;
+    for (size_t at = 0; at < in.byte_count; at += in.row_bytes)
+        rows.push_back(made_of<Dynamic>(in.bytes + at, in.row_bytes));
+    Dynamic last;
+    for (size_t round = 0; round < rounds; round++) {
+        std::vector<Dynamic> closed = rows;
+        close(closed);
+        last = closed.back();
+    }
+    return checksum(last, 0);
+}
+
+uint64_t run_dynamic(Call call, const Input &in, size_t rounds) {
+    switch (call) {
+    case Call::and_:
+        return taken(in, rounds, [](Dynamic &bits, const Dynamic &other) { bits &= other; });
+    case Call::or_:
+        return taken(in, rounds, [](Dynamic &bits, const Dynamic &other) { bits |= other; });
+    case Call::xor_:
+        return taken(in, rounds, [](Dynamic &bits, const Dynamic &other) { bits ^= other; });
+    case Call::closure:
+        return closure(in, rounds);
+    default:
+        return run<Dynamic>(call, in, rounds);
+    }
+}
+
+uint64_t from_slice(const Input &in, size_t rounds) {
+    uint64_t times = 0;
+    Vector last;
+    for (size_t round = 0; round < rounds; round++) {
+        last = Vector(in.bits, in.bits + in.bit_count);
+        times += sample(last, round);
+    }
+    return checksum(last, times);
+}
+
+uint64_t hash(const Input &in, size_t rounds) {
+    uint64_t last = 0;
+    return seen<Vector>(in, rounds, [&](const Vector &bits, size_t) {
+        uint64_t now = std::hash<Vector>()(bits);
+        bool same = now == last;
+        last = now;
+        return uint64_t(same);
+    });
+}
+
+uint64_t run_vector(Call call, const Input &in, size_t rounds) {
+    switch (call) {
+    case Call::from_slice:
+        return from_slice(in, rounds);
+    case Call::extend_from_slice:
+        return changed<Vector>(in, rounds, [&](Vector &bits, size_t) {
+            bits.resize(13);
+            bits.insert(bits.end(), in.bits, in.bits + in.bit_count);
+        });
+    case Call::hash:
+        return hash(in, rounds);
+    case Call::split_off:
+        return changed<Vector>(in, rounds, [](Vector &bits, size_t) {
+            bits = Vector(bits.begin() + 13, bits.end());
+        });
+    default:
+        return run<Vector>(call, in, rounds);
+    }
+}
+
+} // namespace
+
+extern "C" uint64_t twin_run(uint32_t library, uint32_t call, const Input *in, size_t rounds) {
+    return library == 0 ? run_dynamic(Call(call), *in, rounds)
+                        : run_vector(Call(call), *in, rounds);
+}
+
+extern "C" const char *twin_compiler() { return __VERSION__; }

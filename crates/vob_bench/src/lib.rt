@@ -1,0 +1,96 @@
+//! Workloads for a benchmark, to be called from another language. Each takes its input and a number
+//! of rounds, builds its Vobs once, does one call (or one list of calls) a round, and answers a
+//! checksum, so that nothing that is timed can be left out.
+#![tactic(auto)]
+
+mod checksum;
+mod matrix;
+mod pair;
+mod single;
+mod slice;
+mod whole;
+
+use std::alloc::Global;
+use vob::VobError;
+
+/// The answer where memory was refused. No checksum of a whole run is so large.
+const REFUSED: u64 = u64::MAX;
+
+fn answer(outcome: Result<u64, VobError>) -> u64 {
+    match outcome {
+        Ok(sum) => sum,
+        Err(_) => REFUSED,
+    }
+}
+
+/// Calls that take a slice of bools: 0 `push` one by one, 1 `from_slice`, 2 `extend_from_slice`.
+#[unsafe(no_mangle)]
+pub extern "C" fn vob_bench_slice(alloc: Global, row: u32, bits: &[bool], rounds: usize) -> u64 {
+    answer(match row {
+        0 => slice::push(alloc, bits, rounds),
+        1 => slice::from_slice(alloc, bits, rounds),
+        _ => slice::extend_from_slice(alloc, bits, rounds),
+    })
+}
+
+/// Calls on one bit at each of some indices: 0 `get`, 1 `set`.
+#[unsafe(no_mangle)]
+pub extern "C" fn vob_bench_single(
+    alloc: Global,
+    row: u32,
+    bytes: &[u8],
+    indices: &[usize],
+    rounds: usize,
+) -> u64 {
+    answer(match row {
+        0 => single::get(alloc, bytes, indices, rounds),
+        _ => single::set(alloc, bytes, indices, rounds),
+    })
+}
+
+/// Calls on all bits: 0 `from_bytes`, 1 `iter`, 2 `resize` with true, 3 `set_all`, 4 `negate`,
+/// 5 `clone`, 6 `hash`, 7 `split_off` within a block.
+#[unsafe(no_mangle)]
+pub extern "C" fn vob_bench_whole(alloc: Global, row: u32, bytes: &[u8], rounds: usize) -> u64 {
+    answer(match row {
+        0 => whole::from_bytes(alloc, bytes, rounds),
+        1 => whole::iterate(alloc, bytes, rounds),
+        2 => whole::resize(alloc, bytes, rounds),
+        3 => whole::set_all(alloc, bytes, rounds),
+        4 => whole::negate(alloc, bytes, rounds),
+        5 => whole::clone(alloc, bytes, rounds),
+        6 => whole::hash(alloc, bytes, rounds),
+        _ => whole::split_off(alloc, bytes, rounds),
+    })
+}
+
+/// Calls on two Vobs: 0 `and`, 1 `or`, 2 `xor`, 3 `==`, 4 `extend_from_vob` behind one whole block,
+/// 5 `extend_from_vob` behind 13 bits more.
+#[unsafe(no_mangle)]
+pub extern "C" fn vob_bench_pair(
+    alloc: Global,
+    row: u32,
+    bytes: &[u8],
+    others: &[u8],
+    rounds: usize,
+) -> u64 {
+    answer(match row {
+        0 => pair::and(alloc, bytes, others, rounds),
+        1 => pair::or(alloc, bytes, others, rounds),
+        2 => pair::xor(alloc, bytes, others, rounds),
+        3 => pair::equal(alloc, bytes, rounds),
+        4 => pair::extend(alloc, bytes, others, 64, rounds),
+        _ => pair::extend(alloc, bytes, others, 64 + 13, rounds),
+    })
+}
+
+/// The transitive closure of a bit matrix whose rows have `row_bytes` bytes.
+#[unsafe(no_mangle)]
+pub extern "C" fn vob_bench_closure(
+    alloc: Global,
+    bytes: &[u8],
+    row_bytes: usize,
+    rounds: usize,
+) -> u64 {
+    answer(matrix::closure(alloc, bytes, row_bytes, rounds))
+}

@@ -1,0 +1,73 @@
+//! A workload on a matrix of bits: its transitive closure, by Warshall's way.
+
+use crate::checksum::checksum;
+use std::alloc::{AllocError, Global};
+use vob::{Vob, VobError};
+
+/// Puts a row behind the others.
+fn push_row(rows: &mut Vec<Vob>, row: Vob) -> Result<(), AllocError> {
+    rows.push(row)?;
+    Ok(())
+}
+
+/// The rows of a matrix.
+fn rows_of(alloc: Global, bytes: &[u8], row_bytes: usize) -> Result<Vec<Vob>, VobError> {
+    let mut rows = Vec::new(alloc);
+    if row_bytes != 0 {
+        for row in bytes.chunks(row_bytes) {
+            push_row(&mut rows, Vob::from_bytes(alloc, row)?)?;
+        }
+    }
+    Ok(rows)
+}
+
+/// A copy of a matrix.
+fn copy_of(alloc: Global, rows: &[Vob]) -> Result<Vec<Vob>, VobError> {
+    let mut copies = Vec::new(alloc);
+    for row in rows.iter() {
+        push_row(&mut copies, row.clone()?)?;
+    }
+    Ok(copies)
+}
+
+/// Adds the row of node `k` to each row that leads to it, and answers how many rows changed.
+fn lead_through(rows: &mut [Vob], k: usize, through: &Vob) -> u64 {
+    let mut times: u64 = 0;
+    for row in rows.iter_mut() {
+        let leads = row.get(k) == Some(true);
+        if leads && row.len() == through.len() && row.or(through) {
+            times = times.wrapping_add(1);
+        }
+    }
+    times
+}
+
+/// Makes each row hold all nodes that it leads to, and answers how many times a row changed.
+fn close(rows: &mut [Vob]) -> Result<u64, VobError> {
+    let mut times: u64 = 0;
+    for k in 0..rows.len() {
+        let through = rows[k].clone()?;
+        times = times.wrapping_add(lead_through(rows, k, &through));
+    }
+    Ok(times)
+}
+
+/// The closure of a copy a round, and the checksum of its last row.
+pub(crate) fn closure(
+    alloc: Global,
+    bytes: &[u8],
+    row_bytes: usize,
+    rounds: usize,
+) -> Result<u64, VobError> {
+    let mut times: u64 = 0;
+    let mut last = Vob::new(alloc);
+    let rows = rows_of(alloc, bytes, row_bytes)?;
+    for _ in 0..rounds {
+        let mut closed = copy_of(alloc, &rows)?;
+        times = times.wrapping_add(close(&mut closed)?);
+        if let Some(row) = closed.pop() {
+            last = row;
+        }
+    }
+    Ok(checksum(&last, times))
+}

@@ -1,0 +1,91 @@
+//! Workloads on two Vobs.
+
+use crate::checksum::{checksum, sample, touch};
+use std::alloc::Global;
+use vob::{Vob, VobError};
+
+/// `and` with a Vob that is as long. Where it isn't, nothing is done.
+pub(crate) fn and(
+    alloc: Global,
+    bytes: &[u8],
+    others: &[u8],
+    rounds: usize,
+) -> Result<u64, VobError> {
+    let mut times: u64 = 0;
+    let mut vob = Vob::from_bytes(alloc, bytes)?;
+    let other = Vob::from_bytes(alloc, others)?;
+    for _ in 0..rounds {
+        if vob.len() == other.len() && vob.and(&other) {
+            times = times.wrapping_add(1);
+        }
+    }
+    Ok(checksum(&vob, times))
+}
+
+/// `or` with a Vob that is as long. Where it isn't, nothing is done.
+pub(crate) fn or(
+    alloc: Global,
+    bytes: &[u8],
+    others: &[u8],
+    rounds: usize,
+) -> Result<u64, VobError> {
+    let mut times: u64 = 0;
+    let mut vob = Vob::from_bytes(alloc, bytes)?;
+    let other = Vob::from_bytes(alloc, others)?;
+    for _ in 0..rounds {
+        if vob.len() == other.len() && vob.or(&other) {
+            times = times.wrapping_add(1);
+        }
+    }
+    Ok(checksum(&vob, times))
+}
+
+/// `xor` with a Vob that is as long. Where it isn't, nothing is done.
+pub(crate) fn xor(
+    alloc: Global,
+    bytes: &[u8],
+    others: &[u8],
+    rounds: usize,
+) -> Result<u64, VobError> {
+    let mut times: u64 = 0;
+    let mut vob = Vob::from_bytes(alloc, bytes)?;
+    let other = Vob::from_bytes(alloc, others)?;
+    for _ in 0..rounds {
+        if vob.len() == other.len() && vob.xor(&other) {
+            times = times.wrapping_add(1);
+        }
+    }
+    Ok(checksum(&vob, times))
+}
+
+/// `==` of two Vobs that are equal in each round.
+pub(crate) fn equal(alloc: Global, bytes: &[u8], rounds: usize) -> Result<u64, VobError> {
+    let mut times: u64 = 0;
+    let mut vob = Vob::from_bytes(alloc, bytes)?;
+    let mut other = Vob::from_bytes(alloc, bytes)?;
+    for round in 0..rounds {
+        touch(&mut vob, round);
+        touch(&mut other, round);
+        times = times.wrapping_add((vob == other) as u64);
+    }
+    Ok(checksum(&vob, times))
+}
+
+/// Joins the others behind the first `at` bits, in the room that the first round made.
+pub(crate) fn extend(
+    alloc: Global,
+    bytes: &[u8],
+    others: &[u8],
+    at: usize,
+    rounds: usize,
+) -> Result<u64, VobError> {
+    let mut times: u64 = 0;
+    let mut vob = Vob::from_bytes(alloc, bytes)?;
+    let other = Vob::from_bytes(alloc, others)?;
+    for round in 0..rounds {
+        vob.truncate(at);
+        vob.extend_from_vob(&other)?;
+        times = times.wrapping_add(sample(&vob, round) as u64);
+    }
+    Ok(checksum(&vob, times))
+}
