@@ -7,7 +7,7 @@
 # Wants rt, cargo, g++ and Debian's packages librust-fixedbitset-dev librust-bit-vec-dev
 # librust-bit-set-dev librust-smallbitvec-dev librust-num-traits-dev libboost-dev. Nothing is
 # downloaded. VOB_SOURCE names src/lib.rs of vob 4.0.1, which isn't part of this repository.
-set -eu
+set -euo pipefail
 cd "$(dirname "$0")/.."
 cpu=${1:-x86-64-v2}
 filter=${2:-}

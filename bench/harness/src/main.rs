@@ -101,20 +101,22 @@ impl Timed<'_> {
         start.elapsed()
     }
 
-    /// Finds how many rounds take long enough, and no more than there may be.
+    fn least_of(&self, turns: usize, rounds: usize) -> Duration {
+        (0..turns).map(|_| self.time(rounds)).min().unwrap_or_default()
+    }
+
+    /// Finds how many rounds take long enough, also beside what is built once, and no more than
+    /// there may be.
     fn settle(&mut self, most: usize, enough: Duration) {
+        let built = self.least_of(3, 0);
+        let enough = enough.max(built / 2);
         self.rounds = 1;
         loop {
-            let spent = self.time(2 * self.rounds).saturating_sub(self.time(self.rounds));
+            let spent = self.least_of(2, self.rounds).saturating_sub(built);
             if spent >= enough || 4 * self.rounds > most {
                 return;
             }
-            let sought = if spent * 8 < enough { 4 } else { 2 };
-            self.rounds *= sought;
-            if 2 * self.rounds > most {
-                self.rounds = most / 2;
-                return;
-            }
+            self.rounds *= if spent * 8 < enough { 4 } else { 2 };
         }
     }
 

@@ -4,8 +4,8 @@ ghost use Rattle.vob.specs.Same.{AreSame};
 
 use vob_block::Block;
 
-// How many blocks are read for one test. A test after each block takes nearly twice as long.
-const CHUNK: usize = 32;
+// How many blocks are read for one test. A test after each block takes more than twice as long.
+const CHUNK: usize = 64;
 
 /// Whether the blocks from `from` to below `to` are the same in both.
 fn same_between<T: Block>(blocks: &[T], others: &[T], from: usize, to: usize) -> bool

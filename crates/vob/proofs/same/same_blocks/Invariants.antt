@@ -4,4 +4,4 @@ use Rattle.vob.specs.Same.{AreSame}
 use Rattle.vob.proofs.same.same_blocks.Given as goal
 
 abbrev pub invariant-loop-chunk : goal.invariant-loop-chunk
-invariant-loop-chunk g l = AreSame 0 (l.chunk * 32) (map g.T.Block.number l.fn.blocks) (map g.T.Block.number l.fn.others)
+invariant-loop-chunk g l = AreSame 0 (l.chunk * 64) (map g.T.Block.number l.fn.blocks) (map g.T.Block.number l.fn.others)
