@@ -154,9 +154,9 @@ pub fn twin_offer(library: Twin, call: Call) -> Offer {
             | Call::Resize
             | Call::Negate
             | Call::Clone
-            | Call::Hash
             | Call::Equal,
         ) => Offer::Same,
+        (Twin::VectorBool, Call::Hash) => Offer::Less("another hash function"),
         _ => Offer::None,
     }
 }

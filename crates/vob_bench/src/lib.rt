@@ -1,6 +1,7 @@
 //! Workloads for a benchmark, to be called from another language. Each takes its input and a number
 //! of rounds, builds its Vobs once, does one call (or one list of calls) a round, and answers a
-//! checksum, so that nothing that is timed can be left out.
+//! checksum, so that nothing that is timed can be left out. Workloads and their loops aren't inlined
+//! into one another, as they aren't in a program that has one of them alone.
 #![tactic(auto)]
 
 mod checksum;

@@ -23,7 +23,7 @@ fn rows_of(alloc: Global, bytes: &[u8], row_bytes: usize) -> Result<Vec<Vob>, Vo
 
 /// A copy of a matrix.
 fn copy_of(alloc: Global, rows: &[Vob]) -> Result<Vec<Vob>, VobError> {
-    let mut copies = Vec::new(alloc);
+    let mut copies = Vec::with_capacity(alloc, rows.len())?;
     for row in rows.iter() {
         push_row(&mut copies, row.clone()?)?;
     }
@@ -31,6 +31,7 @@ fn copy_of(alloc: Global, rows: &[Vob]) -> Result<Vec<Vob>, VobError> {
 }
 
 /// Adds the row of node `k` to each row that leads to it, and answers how many rows changed.
+#[inline(never)]
 fn lead_through(rows: &mut [Vob], k: usize, through: &Vob) -> u64 {
     let mut times: u64 = 0;
     for row in rows.iter_mut() {
@@ -53,6 +54,7 @@ fn close(rows: &mut [Vob]) -> Result<u64, VobError> {
 }
 
 /// The closure of a copy a round, and the checksum of its last row.
+#[inline(never)]
 pub(crate) fn closure(
     alloc: Global,
     bytes: &[u8],

@@ -5,6 +5,7 @@ use std::alloc::Global;
 use vob::{Vob, VobError};
 
 /// `and` with a Vob that is as long. Where it isn't, nothing is done.
+#[inline(never)]
 pub(crate) fn and(
     alloc: Global,
     bytes: &[u8],
@@ -23,6 +24,7 @@ pub(crate) fn and(
 }
 
 /// `or` with a Vob that is as long. Where it isn't, nothing is done.
+#[inline(never)]
 pub(crate) fn or(
     alloc: Global,
     bytes: &[u8],
@@ -41,6 +43,7 @@ pub(crate) fn or(
 }
 
 /// `xor` with a Vob that is as long. Where it isn't, nothing is done.
+#[inline(never)]
 pub(crate) fn xor(
     alloc: Global,
     bytes: &[u8],
@@ -59,6 +62,7 @@ pub(crate) fn xor(
 }
 
 /// `==` of two Vobs that are equal in each round.
+#[inline(never)]
 pub(crate) fn equal(alloc: Global, bytes: &[u8], rounds: usize) -> Result<u64, VobError> {
     let mut times: u64 = 0;
     let mut vob = Vob::from_bytes(alloc, bytes)?;
@@ -72,6 +76,7 @@ pub(crate) fn equal(alloc: Global, bytes: &[u8], rounds: usize) -> Result<u64, V
 }
 
 /// Joins the others behind the first `at` bits, in the room that the first round made.
+#[inline(never)]
 pub(crate) fn extend(
     alloc: Global,
     bytes: &[u8],

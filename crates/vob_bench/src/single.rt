@@ -5,6 +5,7 @@ use std::alloc::Global;
 use vob::{Vob, VobError};
 
 /// How many of the bits at these indices are true.
+#[inline(never)]
 fn true_at(vob: &Vob, indices: &[usize]) -> u64 {
     let mut times: u64 = 0;
     for index in indices.iter() {
@@ -15,6 +16,7 @@ fn true_at(vob: &Vob, indices: &[usize]) -> u64 {
 }
 
 /// Writes a bit at each of these indices, and answers how many changed.
+#[inline(never)]
 fn write_at(vob: &mut Vob, indices: &[usize], round: usize) -> u64 {
     let mut times: u64 = 0;
     let turn = round % 2;
@@ -28,6 +30,7 @@ fn write_at(vob: &mut Vob, indices: &[usize], round: usize) -> u64 {
 }
 
 /// Each round reads the bits at all indices.
+#[inline(never)]
 pub(crate) fn get(
     alloc: Global,
     bytes: &[u8],
@@ -44,6 +47,7 @@ pub(crate) fn get(
 }
 
 /// Each round writes the bits at all indices.
+#[inline(never)]
 pub(crate) fn set(
     alloc: Global,
     bytes: &[u8],

@@ -5,6 +5,7 @@ use std::alloc::Global;
 use vob::{Vob, VobError};
 
 /// The bits, pushed one by one.
+#[inline(never)]
 fn pushed(alloc: Global, bits: &[bool]) -> Result<Vob, VobError> {
     let mut vob = Vob::new(alloc);
     for bit in bits.iter() {
@@ -14,6 +15,7 @@ fn pushed(alloc: Global, bits: &[bool]) -> Result<Vob, VobError> {
 }
 
 /// A new Vob a round, to which each bit is pushed.
+#[inline(never)]
 pub(crate) fn push(alloc: Global, bits: &[bool], rounds: usize) -> Result<u64, VobError> {
     let mut times: u64 = 0;
     let mut last = Vob::new(alloc);
@@ -25,6 +27,7 @@ pub(crate) fn push(alloc: Global, bits: &[bool], rounds: usize) -> Result<u64, V
 }
 
 /// A new Vob of all bits a round.
+#[inline(never)]
 pub(crate) fn from_slice(alloc: Global, bits: &[bool], rounds: usize) -> Result<u64, VobError> {
     let mut times: u64 = 0;
     let mut last = Vob::new(alloc);
@@ -36,6 +39,7 @@ pub(crate) fn from_slice(alloc: Global, bits: &[bool], rounds: usize) -> Result<
 }
 
 /// All bits put behind the first 13 of them, in the room that the first round made.
+#[inline(never)]
 pub(crate) fn extend_from_slice(
     alloc: Global,
     bits: &[bool],

@@ -6,6 +6,7 @@ use std::hash::{DefaultHasher, Hash, Hasher};
 use vob::{Vob, VobError};
 
 /// A new Vob of all bytes a round.
+#[inline(never)]
 pub(crate) fn from_bytes(alloc: Global, bytes: &[u8], rounds: usize) -> Result<u64, VobError> {
     let mut times: u64 = 0;
     let mut last = Vob::new(alloc);
@@ -17,6 +18,7 @@ pub(crate) fn from_bytes(alloc: Global, bytes: &[u8], rounds: usize) -> Result<u
 }
 
 /// How many bits are true, counted by the walk over them.
+#[inline(never)]
 fn walked(vob: &Vob) -> u64 {
     let mut times: u64 = 0;
     for bit in vob.iter() {
@@ -26,6 +28,7 @@ fn walked(vob: &Vob) -> u64 {
 }
 
 /// A walk over all bits a round.
+#[inline(never)]
 pub(crate) fn iterate(alloc: Global, bytes: &[u8], rounds: usize) -> Result<u64, VobError> {
     let mut times: u64 = 0;
     let mut vob = Vob::from_bytes(alloc, bytes)?;
@@ -37,6 +40,7 @@ pub(crate) fn iterate(alloc: Global, bytes: &[u8], rounds: usize) -> Result<u64,
 }
 
 /// Cut to 13 bits and grown again by true ones, in the room that there is.
+#[inline(never)]
 pub(crate) fn resize(alloc: Global, bytes: &[u8], rounds: usize) -> Result<u64, VobError> {
     let mut times: u64 = 0;
     let mut vob = Vob::from_bytes(alloc, bytes)?;
@@ -50,6 +54,7 @@ pub(crate) fn resize(alloc: Global, bytes: &[u8], rounds: usize) -> Result<u64, 
 }
 
 /// All bits made false, then true, and so on.
+#[inline(never)]
 pub(crate) fn set_all(alloc: Global, bytes: &[u8], rounds: usize) -> Result<u64, VobError> {
     let mut times: u64 = 0;
     let mut vob = Vob::from_bytes(alloc, bytes)?;
@@ -61,6 +66,7 @@ pub(crate) fn set_all(alloc: Global, bytes: &[u8], rounds: usize) -> Result<u64,
 }
 
 /// All bits turned round.
+#[inline(never)]
 pub(crate) fn negate(alloc: Global, bytes: &[u8], rounds: usize) -> Result<u64, VobError> {
     let mut times: u64 = 0;
     let mut vob = Vob::from_bytes(alloc, bytes)?;
@@ -72,6 +78,7 @@ pub(crate) fn negate(alloc: Global, bytes: &[u8], rounds: usize) -> Result<u64, 
 }
 
 /// A copy a round.
+#[inline(never)]
 pub(crate) fn clone(alloc: Global, bytes: &[u8], rounds: usize) -> Result<u64, VobError> {
     let mut times: u64 = 0;
     let mut vob = Vob::from_bytes(alloc, bytes)?;
@@ -84,6 +91,7 @@ pub(crate) fn clone(alloc: Global, bytes: &[u8], rounds: usize) -> Result<u64, V
 }
 
 /// The hash of a Vob, by the library's own hasher.
+#[inline(never)]
 fn hashed(vob: &Vob) -> u64 {
     let mut state = DefaultHasher::new();
     vob.hash(&mut state);
@@ -91,6 +99,7 @@ fn hashed(vob: &Vob) -> u64 {
 }
 
 /// A hash a round. Hashes differ between libraries, so how often one is as the last is counted.
+#[inline(never)]
 pub(crate) fn hash(alloc: Global, bytes: &[u8], rounds: usize) -> Result<u64, VobError> {
     let mut times: u64 = 0;
     let mut last: u64 = 0;
@@ -105,6 +114,7 @@ pub(crate) fn hash(alloc: Global, bytes: &[u8], rounds: usize) -> Result<u64, Vo
 }
 
 /// The first 13 bits cut off: the others move down, into a new Vob.
+#[inline(never)]
 pub(crate) fn split_off(alloc: Global, bytes: &[u8], rounds: usize) -> Result<u64, VobError> {
     let mut times: u64 = 0;
     let mut vob = Vob::from_bytes(alloc, bytes)?;
