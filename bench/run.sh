@@ -1,8 +1,9 @@
 #!/usr/bin/env bash
 # Times Conthiral beside vob 4.0.1 and its peers: bench/run.sh [CPU] [FILTER]. CPU is x86-64-v2 (the
 # default) or x86-64-v3; FILTER is a part of the names of the rows. Builds everything, compares all
-# checksums, times, writes bench/results/CPU.tsv (with a FILTER, bench/out/CPU.tsv), and prints the
-# table. TURNS (11) is of how many turns the least time is taken; CHECK=1 stops behind the checksums.
+# checksums, times, writes bench/results/CPU.tsv and its table CPU.md (with a FILTER, both into
+# bench/out), and prints the table. TURNS (21) is of how many turns the least time is taken; CHECK=1
+# stops behind the checksums.
 #
 # Wants rt, cargo, g++ and Debian's packages librust-fixedbitset-dev librust-bit-vec-dev
 # librust-bit-set-dev librust-smallbitvec-dev librust-num-traits-dev libboost-dev. Nothing is
@@ -71,7 +72,8 @@ RUSTFLAGS="-C target-cpu=$cpu -L native=$libs" \
     cargo build --quiet --offline --release --config "$out/cargo/config.toml" \
     --manifest-path harness/Cargo.toml --target-dir "$libs/target"
 
-words=(--turns "${TURNS:-11}")
+turns=${TURNS:-21}
+words=(--turns "$turns")
 if [ -n "${CHECK:-}" ]; then words+=(--check); fi
 if [ -z "${CHECK:-}" ] && [ -z "$filter" ]; then table=results/$cpu.tsv; else table=out/$cpu.tsv; fi
 {
@@ -80,8 +82,9 @@ if [ -z "${CHECK:-}" ] && [ -z "$filter" ]; then table=results/$cpu.tsv; else ta
     echo "# cpu $cpu"
     echo "# kit $(rt version)"
     echo "# rustc $(rustc --version)"
+    echo "# least of $turns turns"
     "$libs/target/release/harness" "${words[@]}" "$filter"
 } >"$out/new.tsv"
 if [ -n "${CHECK:-}" ]; then exit 0; fi
 mv "$out/new.tsv" "$table"
-./report.py "$table"
+./report.py "$table" | tee "${table%.tsv}.md"

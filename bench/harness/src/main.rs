@@ -3,7 +3,7 @@
 //! many, in which all libraries take turns: so what is built once and the call across languages
 //! drop out.
 //!
-//! `harness [--check] [--rounds N] [FILTER]` writes lines of tab-separated values.
+//! `harness [--check] [--turns N] [FILTER]` writes lines of tab-separated values.
 
 mod bits;
 mod foreign;
@@ -188,12 +188,12 @@ struct Options {
 }
 
 fn options() -> Options {
-    let mut found = Options { check: false, turns: 11, filter: String::new() };
+    let mut found = Options { check: false, turns: 21, filter: String::new() };
     let mut words = std::env::args().skip(1);
     while let Some(word) = words.next() {
         match word.as_str() {
             "--check" => found.check = true,
-            "--turns" => found.turns = words.next().and_then(|n| n.parse().ok()).unwrap_or(11),
+            "--turns" => found.turns = words.next().and_then(|n| n.parse().ok()).unwrap_or(21),
             _ => found.filter = word,
         }
     }

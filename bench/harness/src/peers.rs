@@ -17,10 +17,15 @@ fn hash_of<T: Hash>(value: &T) -> u64 {
 }
 
 const NO_FLAG: Offer = Offer::Less("no flag");
+const COLLECT: Offer = Offer::Other("collect");
+const EXTEND: Offer = Offer::Other("extend");
 
 impl Bits for Vob {
-    fn offer(_call: Call) -> Offer {
-        Offer::Same
+    fn offer(call: Call) -> Offer {
+        match call {
+            Call::FromSlice => COLLECT,
+            _ => Offer::Same,
+        }
     }
     fn from_bytes(bytes: &[u8]) -> Vob {
         Vob::from_bytes(bytes)
@@ -42,7 +47,6 @@ impl Bits for Vob {
         vob
     }
     fn from_slice(bits: &[bool]) -> Vob {
-        // vob 4.0.1 has no `from_slice`: it collects.
         bits.iter().copied().collect()
     }
     fn extend_from_slice(&mut self, bits: &[bool]) {
@@ -174,6 +178,8 @@ impl Bits for BitVec {
     fn offer(call: Call) -> Offer {
         match call {
             Call::Set => NO_FLAG,
+            Call::FromSlice => COLLECT,
+            Call::ExtendFromSlice => EXTEND,
             Call::ExtendAligned | Call::ExtendShifted => Offer::Other("append of a copy"),
             Call::Resize => Offer::Other("grow"),
             Call::SetAll => Offer::Other("set_all or clear"),
@@ -307,11 +313,11 @@ impl Bits for SmallBitVec {
     fn offer(call: Call) -> Offer {
         match call {
             Call::Set => NO_FLAG,
+            Call::FromSlice => COLLECT,
+            Call::ExtendFromSlice => EXTEND,
             Call::Push
             | Call::Get
             | Call::Iterate
-            | Call::FromSlice
-            | Call::ExtendFromSlice
             | Call::Resize
             | Call::Clone
             | Call::Hash
