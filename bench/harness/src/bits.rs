@@ -209,7 +209,11 @@ fn close<B: Bits>(rows: &mut [B]) -> u64 {
 fn closure<B: Bits>(input: &Input, rounds: usize) -> u64 {
     let mut times = 0;
     let mut last = B::from_bytes(&[]);
-    let rows: Vec<B> = input.bytes.chunks(input.row_bytes).map(B::from_bytes).collect();
+    let rows: Vec<B> = input
+        .bytes
+        .chunks(input.row_bytes)
+        .map(B::from_bytes)
+        .collect();
     for _ in 0..rounds {
         let mut closed: Vec<B> = rows.iter().map(B::copied).collect();
         times += close(&mut closed);
@@ -234,9 +238,13 @@ pub fn run<B: Bits>(call: Call, input: &Input, rounds: usize) -> u64 {
             bits.truncate(13);
             bits.resize(8 * input.bytes.len(), true);
         }),
-        Call::SetAll => changed(input, rounds, |bits: &mut B, round| bits.set_all(round % 2 == 1)),
+        Call::SetAll => changed(input, rounds, |bits: &mut B, round| {
+            bits.set_all(round % 2 == 1)
+        }),
         Call::Negate => changed(input, rounds, |bits: &mut B, _| bits.negate()),
-        Call::Clone => seen(input, rounds, |bits: &B, round| sample(&bits.copied(), round)),
+        Call::Clone => seen(input, rounds, |bits: &B, round| {
+            sample(&bits.copied(), round)
+        }),
         Call::Hash => hashed::<B>(input, rounds),
         Call::SplitOff => changed(input, rounds, |bits: &mut B, _| *bits = bits.split_off(13)),
         Call::And => taken(input, rounds, B::and),
@@ -251,5 +259,8 @@ pub fn run<B: Bits>(call: Call, input: &Input, rounds: usize) -> u64 {
 
 /// Whether a checksum counts answers that not every library gives.
 pub fn counts_changes(call: Call) -> bool {
-    matches!(call, Call::Set | Call::And | Call::Or | Call::Xor | Call::Closure)
+    matches!(
+        call,
+        Call::Set | Call::And | Call::Or | Call::Xor | Call::Closure
+    )
 }

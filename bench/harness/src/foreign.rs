@@ -130,20 +130,16 @@ pub fn twin_offer(library: Twin, call: Call) -> Offer {
         (Twin::VectorBool, Call::Set) => Offer::Less("no flag, no test of the index"),
         (Twin::Boost, Call::Iterate) => Offer::Less("by index, no test of it"),
         (Twin::Boost, Call::And | Call::Or | Call::Xor | Call::Closure) => NO_FLAG,
-        (Twin::Boost, Call::ExtendAligned | Call::ExtendShifted) => Offer::Other("append of blocks"),
+        (Twin::Boost, Call::ExtendAligned | Call::ExtendShifted) => {
+            Offer::Other("append of blocks")
+        }
         (
             Twin::Boost,
-            Call::Push
-            | Call::Resize
-            | Call::SetAll
-            | Call::Negate
-            | Call::Clone
-            | Call::Equal,
+            Call::Push | Call::Resize | Call::SetAll | Call::Negate | Call::Clone | Call::Equal,
         ) => Offer::Same,
-        (
-            Twin::VectorBool,
-            Call::ExtendFromSlice | Call::ExtendAligned | Call::ExtendShifted,
-        ) => Offer::Other("insert"),
+        (Twin::VectorBool, Call::ExtendFromSlice | Call::ExtendAligned | Call::ExtendShifted) => {
+            Offer::Other("insert")
+        }
         (Twin::VectorBool, Call::SetAll) => Offer::Other("std::fill"),
         (Twin::VectorBool, Call::SplitOff) => Offer::Other("a copy of the range"),
         (

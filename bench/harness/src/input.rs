@@ -62,6 +62,12 @@ impl Input {
             .iter()
             .flat_map(|byte| (0..8).map(move |j| byte & (0x80 >> j) != 0))
             .collect();
-        Input { bits, bytes, others, indices, row_bytes: NODES / 8 }
+        Input {
+            bits,
+            bytes,
+            others,
+            indices,
+            row_bytes: NODES / 8,
+        }
     }
 }

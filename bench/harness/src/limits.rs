@@ -45,7 +45,10 @@ fn count(from: &[u8], rounds: usize) -> u64 {
         .collect();
     let mut times = 0;
     for _ in 0..rounds {
-        times += black_box(&words).iter().map(|word| word.count_ones() as u64).sum::<u64>();
+        times += black_box(&words)
+            .iter()
+            .map(|word| word.count_ones() as u64)
+            .sum::<u64>();
     }
     times
 }

@@ -27,13 +27,21 @@ struct Library {
 }
 
 fn rust<B: Bits>(name: &'static str) -> Library {
-    Library { name, offer: B::offer, run: bits::run::<B> }
+    Library {
+        name,
+        offer: B::offer,
+        run: bits::run::<B>,
+    }
 }
 
 /// Conthiral first, then vob 4.0.1, then the others.
 fn libraries() -> Vec<Library> {
     vec![
-        Library { name: "conthiral", offer: |_| Offer::Same, run: foreign::conthiral },
+        Library {
+            name: "conthiral",
+            offer: |_| Offer::Same,
+            run: foreign::conthiral,
+        },
         rust::<vob::Vob>("vob 4.0.1"),
         rust::<fixedbitset::FixedBitSet>("fixedbitset"),
         rust::<bit_vec::BitVec>("bit-vec"),
@@ -102,7 +110,10 @@ impl Timed<'_> {
     }
 
     fn least_of(&self, turns: usize, rounds: usize) -> Duration {
-        (0..turns).map(|_| self.time(rounds)).min().unwrap_or_default()
+        (0..turns)
+            .map(|_| self.time(rounds))
+            .min()
+            .unwrap_or_default()
     }
 
     /// Finds how many rounds take long enough, also beside what is built once, and no more than
@@ -153,7 +164,12 @@ fn timed<'a>(row: &'a Row, input: &'a Input, offered: &[&'a Library]) -> Vec<Tim
         let (kind, mark) = mark_of((library.offer)(row.call));
         let run = library.run;
         let work = Box::new(move |rounds| run(row.call, input, rounds));
-        all.push(new(library.name.to_string(), kind, mark, work as Box<dyn Fn(usize) -> u64>));
+        all.push(new(
+            library.name.to_string(),
+            kind,
+            mark,
+            work as Box<dyn Fn(usize) -> u64>,
+        ));
     }
     if row.limit != Limit::None {
         let work = Box::new(move |rounds| limits::run(row.limit, input, rounds));
@@ -188,7 +204,11 @@ struct Options {
 }
 
 fn options() -> Options {
-    let mut found = Options { check: false, turns: 21, filter: String::new() };
+    let mut found = Options {
+        check: false,
+        turns: 21,
+        filter: String::new(),
+    };
     let mut words = std::env::args().skip(1);
     while let Some(word) = words.next() {
         match word.as_str() {
@@ -218,10 +238,15 @@ fn main() -> ExitCode {
     keep_freed_memory();
     let options = options();
     let libraries = libraries();
-    let rows: Vec<Row> =
-        rows::all().into_iter().filter(|row| row.name.contains(&options.filter)).collect();
+    let rows: Vec<Row> = rows::all()
+        .into_iter()
+        .filter(|row| row.name.contains(&options.filter))
+        .collect();
     let offered = |row: &Row| -> Vec<&Library> {
-        libraries.iter().filter(|library| (library.offer)(row.call) != Offer::None).collect()
+        libraries
+            .iter()
+            .filter(|library| (library.offer)(row.call) != Offer::None)
+            .collect()
     };
     let mut differing = Vec::new();
     for row in &rows {

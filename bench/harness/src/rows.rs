@@ -68,8 +68,20 @@ impl Row {
             Unit::Round => ("round", 1.0),
         };
         // Each round of split_off takes 13 bits away: few enough are left out of what is counted.
-        let most = if call == Call::SplitOff { bits / 13 / 64 } else { usize::MAX };
-        Row { name, call, bits, unit, units, limit, most }
+        let most = if call == Call::SplitOff {
+            bits / 13 / 64
+        } else {
+            usize::MAX
+        };
+        Row {
+            name,
+            call,
+            bits,
+            unit,
+            units,
+            limit,
+            most,
+        }
     }
 
     pub fn shape(&self) -> Shape {
@@ -106,8 +118,20 @@ pub fn all() -> Vec<Row> {
         Row::over("set at random", Call::Set, MILLION, Index, Limit::StoreAt),
         Row::over("iterate", Call::Iterate, MILLION, Bit, Limit::Count),
         Row::over("from_bytes", Call::FromBytes, MILLION, Word, Limit::Copy),
-        Row::over("from_slice", Call::FromSlice, MILLION, Bit, Limit::CopyBools),
-        Row::over("extend_from_slice", Call::ExtendFromSlice, MILLION, Bit, Limit::CopyBools),
+        Row::over(
+            "from_slice",
+            Call::FromSlice,
+            MILLION,
+            Bit,
+            Limit::CopyBools,
+        ),
+        Row::over(
+            "extend_from_slice",
+            Call::ExtendFromSlice,
+            MILLION,
+            Bit,
+            Limit::CopyBools,
+        ),
         Row::over("resize true", Call::Resize, MILLION, Word, Limit::Fill),
         Row::over("set_all", Call::SetAll, MILLION, Word, Limit::Fill),
         Row::over("negate", Call::Negate, MILLION, Word, Limit::Copy),
@@ -119,12 +143,36 @@ pub fn all() -> Vec<Row> {
         }
     }
     rows.extend([
-        Row::over("extend_from_vob aligned", Call::ExtendAligned, MILLION, Word, Limit::Copy),
-        Row::over("extend_from_vob at +13", Call::ExtendShifted, MILLION, Word, Limit::Copy),
-        Row::over("split_off misaligned", Call::SplitOff, MILLION, Word, Limit::Copy),
+        Row::over(
+            "extend_from_vob aligned",
+            Call::ExtendAligned,
+            MILLION,
+            Word,
+            Limit::Copy,
+        ),
+        Row::over(
+            "extend_from_vob at +13",
+            Call::ExtendShifted,
+            MILLION,
+            Word,
+            Limit::Copy,
+        ),
+        Row::over(
+            "split_off misaligned",
+            Call::SplitOff,
+            MILLION,
+            Word,
+            Limit::Copy,
+        ),
         Row::over("equality", Call::Equal, MILLION, Word, Limit::Count),
         Row::over("hash", Call::Hash, MILLION, Word, Limit::Count),
-        Row::over("closure 1000 x 1000", Call::Closure, 1_000_000, Round, Limit::None),
+        Row::over(
+            "closure 1000 x 1000",
+            Call::Closure,
+            1_000_000,
+            Round,
+            Limit::None,
+        ),
     ]);
     rows
 }
