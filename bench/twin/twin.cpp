@@ -124,12 +124,19 @@ void join(Vector &bits, const Vector &other) {
     bits.insert(bits.end(), other.begin(), other.end());
 }
 
-template <class B> uint64_t checksum(const B &bits, uint64_t times) {
+// Every bit of this many is looked at, and every second, third .. one of more.
+constexpr size_t most = 0x100000;
+
+template <class B> uint64_t digest(const B &bits) {
     uint64_t sum = bits.size();
-    if (bits.size() != 0)
-        for (size_t sample = 0; sample < 1024; sample++)
-            sum = sum * 31 + bits[sample * 2654435761 % bits.size()];
-    return (times << 32) + (sum & 0xffffffff);
+    size_t stride = bits.size() / (most + 1) + 1;
+    for (size_t sample = 0; sample < bits.size() / stride; sample++)
+        sum = sum * 31 + bits[sample * stride];
+    return sum & 0xffffffff;
+}
+
+template <class B> uint64_t checksum(const B &bits, uint64_t times) {
+    return (times << 32) + digest(bits);
 }
 
 template <class B> uint64_t sample(const B &bits, size_t round) {
@@ -270,13 +277,16 @@ uint64_t closure(const Input &in, size_t rounds) {
     std::vector<Dynamic> rows;
     for (size_t at = 0; at < in.byte_count; at += in.row_bytes)
         rows.push_back(made_of<Dynamic>(in.bytes + at, in.row_bytes));
-    Dynamic last;
+    std::vector<Dynamic> last;
     for (size_t round = 0; round < rounds; round++) {
         std::vector<Dynamic> closed = rows;
         close(closed);
-        last = closed.back();
+        last = std::move(closed);
     }
-    return checksum(last, 0);
+    uint64_t sum = 0;
+    for (const Dynamic &row : last)
+        sum = sum * 31 + digest(row);
+    return sum & 0xffffffff;
 }
 
 uint64_t run_dynamic(Call call, const Input &in, size_t rounds) {

@@ -74,17 +74,15 @@ pub trait Bits: Sized {
     }
 }
 
-const SAMPLES: usize = 1024;
-const STEP: usize = 2_654_435_761;
+/// A digest looks at every bit of so many, and at every second, third .. one of more.
+const MOST: usize = 0x10_0000;
 
 fn digest<B: Bits>(bits: &B) -> u64 {
     let len = bits.len();
     let mut sum = len as u64;
-    if len == 0 {
-        return sum;
-    }
-    for sample in 0..SAMPLES {
-        let bit = bits.get(sample * STEP % len);
+    let stride = len / (MOST + 1) + 1;
+    for sample in 0..len / stride {
+        let bit = bits.get(sample * stride);
         sum = sum.wrapping_mul(31).wrapping_add(bit as u64);
     }
     sum % 0x1_0000_0000
@@ -92,6 +90,16 @@ fn digest<B: Bits>(bits: &B) -> u64 {
 
 fn checksum<B: Bits>(bits: &B, times: u64) -> u64 {
     times.wrapping_mul(0x1_0000_0000).wrapping_add(digest(bits))
+}
+
+fn checksum_all<B: Bits>(all: &[B], times: u64) -> u64 {
+    let mut sum = 0u64;
+    for bits in all {
+        sum = sum.wrapping_mul(31).wrapping_add(digest(bits));
+    }
+    times
+        .wrapping_mul(0x1_0000_0000)
+        .wrapping_add(sum % 0x1_0000_0000)
 }
 
 fn sample<B: Bits>(bits: &B, round: usize) -> u64 {
@@ -208,7 +216,7 @@ fn close<B: Bits>(rows: &mut [B]) -> u64 {
 
 fn closure<B: Bits>(input: &Input, rounds: usize) -> u64 {
     let mut times = 0;
-    let mut last = B::from_bytes(&[]);
+    let mut last = Vec::new();
     let rows: Vec<B> = input
         .bytes
         .chunks(input.row_bytes)
@@ -217,9 +225,9 @@ fn closure<B: Bits>(input: &Input, rounds: usize) -> u64 {
     for _ in 0..rounds {
         let mut closed: Vec<B> = rows.iter().map(B::copied).collect();
         times += close(&mut closed);
-        last = closed.pop().unwrap();
+        last = closed;
     }
-    checksum(&last, times)
+    checksum_all(&last, times)
 }
 
 pub fn run<B: Bits>(call: Call, input: &Input, rounds: usize) -> u64 {

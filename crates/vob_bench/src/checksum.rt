@@ -2,21 +2,19 @@
 
 use vob::Vob;
 
-// How many bits a digest looks at, and how far apart they are before they are brought into range.
-const SAMPLES: usize = 1024;
+// A digest looks at every bit of so many, and at every second, third .. one of more.
+const MOST: usize = 0x10_0000;
 
-const STEP: usize = 2_654_435_761;
-
-/// A digest of the length and of some bits, below 2^32.
+/// A digest of the length and of the bits, below 2^32. One wrong bit that it looks at changes it.
 fn digest(vob: &Vob) -> u64 {
     let len = vob.len();
     let mut sum = len as u64;
-    if len == 0 {
-        return sum;
-    }
-    for sample in 0..SAMPLES {
-        let bit = vob.get(sample * STEP % len) == Some(true);
+    let stride = len / (MOST + 1) + 1;
+    let mut index: usize = 0;
+    for _ in 0..len / stride {
+        let bit = vob.get(index) == Some(true);
         sum = sum.wrapping_mul(31).wrapping_add(bit as u64);
+        index = index.wrapping_add(stride);
     }
     sum % 0x1_0000_0000
 }
@@ -24,6 +22,17 @@ fn digest(vob: &Vob) -> u64 {
 /// How often something was so, above the digest of what the rounds left.
 pub(crate) fn checksum(vob: &Vob, times: u64) -> u64 {
     times.wrapping_mul(0x1_0000_0000).wrapping_add(digest(vob))
+}
+
+/// The same of several Vobs.
+pub(crate) fn checksum_all(vobs: &[Vob], times: u64) -> u64 {
+    let mut sum: u64 = 0;
+    for vob in vobs.iter() {
+        sum = sum.wrapping_mul(31).wrapping_add(digest(vob));
+    }
+    times
+        .wrapping_mul(0x1_0000_0000)
+        .wrapping_add(sum % 0x1_0000_0000)
 }
 
 /// The index of the bit that a round looks at or changes.

@@ -1,6 +1,6 @@
 //! A workload on a matrix of bits: its transitive closure, by Warshall's way.
 
-use crate::checksum::checksum;
+use crate::checksum::checksum_all;
 use std::alloc::{AllocError, Global};
 use vob::{Vob, VobError};
 
@@ -53,7 +53,7 @@ fn close(rows: &mut [Vob]) -> Result<u64, VobError> {
     Ok(times)
 }
 
-/// The closure of a copy a round, and the checksum of its last row.
+/// The closure of a copy a round, and the checksum of its rows.
 #[inline(never)]
 pub(crate) fn closure(
     alloc: Global,
@@ -62,14 +62,12 @@ pub(crate) fn closure(
     rounds: usize,
 ) -> Result<u64, VobError> {
     let mut times: u64 = 0;
-    let mut last = Vob::new(alloc);
+    let mut last = Vec::new(alloc);
     let rows = rows_of(alloc, bytes, row_bytes)?;
     for _ in 0..rounds {
         let mut closed = copy_of(alloc, &rows)?;
         times = times.wrapping_add(close(&mut closed)?);
-        if let Some(row) = closed.pop() {
-            last = row;
-        }
+        last = closed;
     }
-    Ok(checksum(&last, times))
+    Ok(checksum_all(&last, times))
 }
