@@ -8,8 +8,9 @@ use Rattle.std.proofs.lemmas.Nat.{mul-le, mod-mul-add, div-mul-add}
 use Rattle.vob_block.specs.Places.{place, HasPlaces}
 use Rattle.vob_block.specs.Packing.{item, need, packing, stored, spelled, IsCanonical}
 use Rattle.vob_block.proofs.NeedLemmas.{need_is, need-le-need, need-zero, need_enough, need_at_full, need_at_open, div-lt-need}
-use Rattle.vob_block.proofs.PackingLemmas.{stored_at, stored_from, stored-set_same, stored-set_other, length-spelled, get_or-spelled, spelled_from_items, canonical_from_items, length-packing, stored-packing, packing-within}
+use Rattle.vob_block.proofs.PackingLemmas.{stored_at, stored_from, stored-set_same, stored-set_other, length-spelled, get_or-spelled, spelled_from_items, canonical_from_items, length-packing, stored-packing, packing-within, packing-spelled}
 use Rattle.vob_block.proofs.PlaceLemmas.{same_from_places, place-ones}
+use Rattle.vob.specs.Joining.{IsJoined}
 use Rattle.vob.proofs.EvenLemmas.{place-even, even-lt}
 
 or-false : (b : Bool) → (b || false) ≡ b
@@ -96,6 +97,14 @@ module _ (w : ℕ) (wide : 0 < w) where
     -- the packing of a list behind blocks, where they are whole or the list is empty
     pub append_packing : (bits : List Bool) → (n % w ≡ 0) ⊎ (length bits ≡ 0) → IsCanonical (n + length bits) (xs ++ packing bits w) w × (spelled (n + length bits) (xs ++ packing bits w) w ≡ spelled n xs w ++ bits)
     append_packing bits which = elim which [ inl full ↦ append_whole bits full | inr none ↦ append_nothing bits none ]
+
+    -- so are blocks that store bits behind whole ones
+    pub IsJoined-behind : (m : ℕ) (others : List ℕ) → n % w ≡ 0 → IsCanonical m others w → IsJoined w n m xs others (xs ++ others)
+    IsJoined-behind m others full other =
+        let both = append_whole (spelled m others w) full in
+        let count : n + length (spelled m others w) ≡ n + m = ap (λ k. n + k) (length-spelled m others w) in
+        let blocks : xs ++ packing (spelled m others w) w ≡ xs ++ others = ap (λ ys. xs ++ ys) (packing-spelled w wide m others other) in
+        record { canonical = rw (sym count, sym blocks) both.0; bits = rw (sym count, sym blocks) both.1 }
 
     module _ (partial : n % w ≢ 0) where
       last_there : n / w < length xs

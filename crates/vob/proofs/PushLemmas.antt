@@ -5,7 +5,7 @@ use Rattle.std.proofs.lemmas.Bool.{cases_order, cases_eq, eq-eqb, ne_eqb}
 use Rattle.std.proofs.lemmas.List.{get_or-map, map-set, length-map, get_or_past, get_or_push, get_or_append_left, length-set, length_push}
 use Rattle.std.proofs.lemmas.List.Elements.{All-push, All-set}
 use Rattle.std.proofs.lemmas.Nat.{mul-le, pow_pos, pow_below}
-use Rattle.vob_block.specs.Places.{place, HasPlaces}
+use Rattle.vob_block.specs.Places.{place}
 use Rattle.vob_block.specs.Packing.{item, need, stored, spelled, IsCanonical}
 use Rattle.vob_block.proofs.NeedLemmas.{need_at_full, need_at_open}
 use Rattle.vob_block.proofs.PackingLemmas.{stored_from, stored_past, stored-set_same, stored-set_other, stored-push_same, stored-push_other, length-spelled, stored_is_item, canonical_from_items}

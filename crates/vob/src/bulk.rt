@@ -6,7 +6,7 @@ use crate::edit::cut_to;
 use crate::error::VobError;
 use crate::fill::append_even;
 use crate::gathered::append_slice;
-use crate::joined::{cut, join};
+use crate::joined::{cut, join, join_copied};
 use crate::room::reserve_bits;
 use crate::vob::Vob;
 use std::alloc::AllocError;
@@ -74,6 +74,21 @@ impl<T: Block> Vob<T> {
         self.len += more;
     }
 
+    /// Appends the bits of `other`, in the room that there is. Behind whole blocks its blocks are
+    /// copied all at once.
+    fn append_vob(&mut self, other: &Vob<T>)
+        requires room { length self.old.bits + length other.now.bits ≤ self.old.capacity }
+        ensures bits { self.new.bits ≡ self.old.bits ++ other.now.bits }
+        ensures capacity { self.old.capacity ≤ self.new.capacity }
+    {
+        if self.len % T::BITS != 0 {
+            self.append_blocks(&mut other.blocks(), other.len);
+            return;
+        }
+        join_copied(&mut self.vec, self.len, other.vec.as_slice(), other.len);
+        self.len += other.len;
+    }
+
     /// Appends the bits of `other`. vob 4.0.1 ends the process where memory is refused, and panics
     /// where the length would pass `usize::MAX`.
     pub fn extend_from_vob(&mut self, other: &Vob<T>) -> Result<(), VobError>
@@ -93,7 +108,7 @@ impl<T: Block> Vob<T> {
             return Err(VobError::TooLong);
         }
         reserve_bits(&mut self.vec, self.len + other.len)?;
-        self.append_blocks(&mut other.blocks(), other.len);
+        self.append_vob(other);
         Ok(())
     }
 

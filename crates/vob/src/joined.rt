@@ -94,6 +94,20 @@ pub(crate) fn join<T: Block>(
     join_within(blocks, len, other, more);
 }
 
+/// Copies the blocks of `more` bits behind `len` bits that fill theirs, in the room that is there.
+pub(crate) fn join_copied<T: Block>(blocks: &mut Vec<T>, len: usize, others: &[T], more: usize)
+    requires canonical { IsCanonical len (map T.number blocks.old.items) T.BITS }
+    requires other { IsCanonical more (map T.number others.now) T.BITS }
+    requires room { len + more ≤ vec_capacity blocks.old * T.BITS }
+    requires full { len % T.BITS ≡ 0 }
+    ensures joined { IsJoined T.BITS len more (map T.number blocks.old.items) (map T.number others.now)
+        (map T.number blocks.new.items) }
+    ensures capacity { vec_capacity blocks.old ≤ vec_capacity blocks.new }
+{
+    // There is room, so this isn't refused.
+    let _ = blocks.extend_from_slice(others);
+}
+
 /// Cuts off the bits from index `at` on, of `len` bits: a block of the answer straddles two.
 fn cut_straddled<T: Block>(rest: &mut [T], blocks: &[T], len: usize, at: usize)
     requires canonical { IsCanonical len (map T.number blocks.now) T.BITS }

@@ -1,5 +1,5 @@
 -- By the lemmas on one bit more, at the numbers of the blocks.
-use Rattle.std.proofs.Common.{rules, arith, ◌≡◌, ◌%◌, ◌<◌, map, mod-lt, sym, ap, ◌∙◌}
+use Rattle.std.proofs.Common.{rules, arith, ◌≡◌, ◌%◌, map, sym, ap, ◌∙◌}
 use Rattle.std.proofs.lemmas.List.{length-map, map_push}
 use Rattle.std.proofs.lemmas.Result.{err_from_is_err_and}
 use Rattle.vob_block.proofs.PlaceLemmas.{width_pos}
