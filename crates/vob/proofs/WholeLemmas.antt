@@ -1,11 +1,10 @@
--- All bits of canonical storage made one bit, or turned round, at a plain width.
-use Rattle.std.proofs.Common.{◌≡◌, ℕ, ◌+◌, ◌-◌, ◌^◌, ◌<◌, ◌≤◌, Bool, false, not, cond, List, length, map, get_or, set, replicate, sym, ap, ◌∙◌, arith}
-use Rattle.std.proofs.lemmas.List.{get_or-map, length-map, length-replicate, get_or-replicate}
+-- All bits of canonical storage turned round, at a plain width.
+use Rattle.std.proofs.Common.{◌≡◌, ℕ, ◌+◌, ◌<◌, ◌≤◌, Bool, false, not, List, length, map, get_or, set, sym, ap, ◌∙◌, arith}
+use Rattle.std.proofs.lemmas.List.{get_or-map, length-map}
 use Rattle.vob_block.specs.Places.{place, HasPlaces}
 use Rattle.vob_block.specs.Packing.{need, stored, spelled}
 use Rattle.vob_block.proofs.NeedLemmas.{div-lt-need}
 use Rattle.vob_block.proofs.PackingLemmas.{stored_at, length-spelled, get_or-spelled, spelled_from_items}
-use Rattle.vob.proofs.EvenLemmas.{place-even}
 use Rattle.vob.proofs.JoinLemmas.{AreLaid, AreLaid-more}
 
 -- blocks of which none is laid yet
@@ -13,15 +12,6 @@ pub AreLaid-none : (w : ℕ) (wanted : ℕ → Bool) (xs : List ℕ) → AreLaid
 AreLaid-none w wanted xs = record { each = λ i h. absurd (omega arith) }
 
 module _ (w : ℕ) (wide : 0 < w) where
-  -- one block more of one bit
-  pub AreLaid-even : (v : Bool) (xs : List ℕ) (k y : ℕ) → y ≡ cond v (2 ^ w - 1) 0 → AreLaid w (λ _. v) xs k → k < length xs → AreLaid w (λ _. v) (set xs k y) (k + 1)
-  AreLaid-even v xs k y even h inside = AreLaid-more w wide (λ _. v) xs k y h inside (record { each = λ j below. place-even v w y j even below })
-
-  -- blocks of one bit spell it as often as they are asked
-  pub spelled-laid_even : (n : ℕ) (v : Bool) (xs : List ℕ) (k : ℕ) → need n w ≤ k → AreLaid w (λ _. v) xs k → spelled n xs w ≡ replicate n v
-  spelled-laid_even n v xs k enough h = spelled_from_items (replicate n v) n xs w (length-replicate n v) (λ i below.
-      h.each i (omega (arith, div-lt-need w wide n i below)) ∙ sym (get_or-replicate n i v false below))
-
   -- one block more turned round
   pub AreLaid-turned : (olds xs : List ℕ) (k x y : ℕ) → x ≡ get_or olds k 0 → HasPlaces w y (λ j. not (place j x)) → AreLaid w (λ i. not (stored olds w i)) xs k → k < length xs
       → AreLaid w (λ i. not (stored olds w i)) (set xs k y) (k + 1)

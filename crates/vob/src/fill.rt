@@ -12,16 +12,35 @@ pub(crate) fn even_block<T: Block>(value: bool) -> T
     if value { T::ONES } else { T::ZERO }
 }
 
+/// Stores `block` in the place of every block.
+fn store_all<T: Block>(blocks: &mut [T], block: T)
+    ensures { blocks.new ≡ replicate (length blocks.old) block }
+{
+    for k in 0..blocks.len() {
+        blocks[k] = block;
+    }
+}
+
+/// Makes each place of the blocks `value`.
+fn store_even<T: Block>(blocks: &mut [T], value: bool)
+    ensures { (even : T) × (blocks.new ≡ replicate (length blocks.old) even)
+        × (T.number even ≡ (if value then 2 ^ T.BITS - 1 else 0)) }
+{
+    // A block that the compiler knows is stored by the machine's own fill.
+    if value {
+        store_all(blocks, T::ONES);
+    } else {
+        store_all(blocks, T::ZERO);
+    }
+}
+
 /// Makes each of the `len` bits `value`.
 pub(crate) fn fill<T: Block>(blocks: &mut [T], len: usize, value: bool)
     requires { IsCanonical len (map T.number blocks.old) T.BITS }
     ensures canonical { IsCanonical len (map T.number blocks.new) T.BITS }
     ensures bits { spelled len (map T.number blocks.new) T.BITS ≡ replicate len value }
 {
-    let even = even_block(value);
-    for k in 0..blocks.len() {
-        blocks[k] = even;
-    }
+    store_even(blocks, value);
     clear_from(blocks, len);
 }
 
