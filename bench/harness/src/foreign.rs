@@ -17,6 +17,7 @@ extern "C" {
         rounds: usize,
     ) -> u64;
     fn vob_bench_whole(row: u32, bytes: *const u8, len: usize, rounds: usize) -> u64;
+    fn vob_bench_hash_words(words: *const usize, count: usize, rounds: usize) -> u64;
     fn vob_bench_pair(
         row: u32,
         bytes: *const u8,
@@ -67,6 +68,11 @@ pub fn conthiral(call: Call, input: &Input, rounds: usize) -> u64 {
             vob_bench_closure(bytes.as_ptr(), bytes.len(), input.row_bytes, rounds)
         },
     }
+}
+
+/// Feeds words to the hasher of the toolchain that builds Conthiral.
+pub fn hash_words(words: &[usize], rounds: usize) -> u64 {
+    unsafe { vob_bench_hash_words(words.as_ptr(), words.len(), rounds) }
 }
 
 /// The libraries of the C++ twin, by its numbers.

@@ -1,5 +1,6 @@
 //! What the machine can do at most, by the plainest loops.
 
+use crate::foreign;
 use crate::input::Input;
 use crate::rows::Limit;
 use std::hint::black_box;
@@ -16,6 +17,7 @@ pub fn run(limit: Limit, input: &Input, rounds: usize) -> u64 {
         Limit::Count => count(&input.bytes, rounds),
         Limit::Store => store(&input.bits, rounds),
         Limit::StoreAt => store_at(input, rounds),
+        Limit::Hasher => foreign::hash_words(&words(&input.bytes), rounds),
         Limit::None => 0,
     }
 }
@@ -38,11 +40,14 @@ fn fill(len: usize, rounds: usize) -> u64 {
     to[len / 2] as u64
 }
 
+fn words(from: &[u8]) -> Vec<usize> {
+    from.chunks_exact(8)
+        .map(|chunk| usize::from_le_bytes(chunk.try_into().unwrap()))
+        .collect()
+}
+
 fn count(from: &[u8], rounds: usize) -> u64 {
-    let words: Vec<u64> = from
-        .chunks_exact(8)
-        .map(|chunk| u64::from_le_bytes(chunk.try_into().unwrap()))
-        .collect();
+    let words = words(from);
     let mut times = 0;
     for _ in 0..rounds {
         times += black_box(&words)
@@ -83,6 +88,7 @@ pub fn name(limit: Limit) -> &'static str {
         Limit::Count => "popcount",
         Limit::Store => "store loop",
         Limit::StoreAt => "store loop at random",
+        Limit::Hasher => "its hasher on words",
         Limit::None => "",
     }
 }

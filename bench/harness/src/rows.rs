@@ -43,6 +43,8 @@ pub enum Limit {
     Store,
     /// One byte stored at each index.
     StoreAt,
+    /// Words fed to the hasher of the toolchain that builds Conthiral, with no Vob.
+    Hasher,
     /// None: the row is a program and not a call.
     None,
 }
@@ -165,7 +167,7 @@ pub fn all() -> Vec<Row> {
             Limit::Copy,
         ),
         Row::over("equality", Call::Equal, MILLION, Word, Limit::Count),
-        Row::over("hash", Call::Hash, MILLION, Word, Limit::Count),
+        Row::over("hash", Call::Hash, MILLION, Word, Limit::Hasher),
         Row::over(
             "closure 1000 x 1000",
             Call::Closure,

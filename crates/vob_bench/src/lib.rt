@@ -65,6 +65,12 @@ pub extern "C" fn vob_bench_whole(alloc: Global, row: u32, bytes: &[u8], rounds:
     })
 }
 
+/// The library's own hasher, fed so many words a round: a limit that no `hash` goes below.
+#[unsafe(no_mangle)]
+pub extern "C" fn vob_bench_hash_words(words: &[usize], rounds: usize) -> u64 {
+    whole::hash_words(words, rounds)
+}
+
 /// Calls on two Vobs: 0 `and`, 1 `or`, 2 `xor`, 3 `==`, 4 `extend_from_vob` behind one whole block,
 /// 5 `extend_from_vob` behind 13 bits more.
 #[unsafe(no_mangle)]
