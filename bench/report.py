@@ -54,8 +54,10 @@ def row_of(key, times, notes):
             notes.setdefault((kind, mark), len(notes) + 1)
             sign = f" ({notes[(kind, mark)]})"
         cells.append(f"{ns:.3f}{sign}")
+    again = times.get(f"{OURS} again", (None, None, None))[2]
     limits = [(library, ns) for library, (kind, _, ns) in times.items() if kind == "limit"]
     limit, limit_ns = limits[0] if limits else ("", None)
+    cells.append(ratio(ours, again))
     cells.append(ratio(ours, times.get(ORIGINAL, (None, None, None))[2]))
     cells.append(ratio(ours, best(times, ("same", "other"))))
     cells.append(ratio(ours, best(times, ("same", "other", "less"))))
@@ -69,8 +71,9 @@ def table(path):
     for line in head:
         print(f"- {line}")
     columns = ["call", "bits", "unit", "Conthiral", ORIGINAL] + PEERS
-    columns += ["to vob", "to best peer", "to best, less work too", "to limit"]
-    print("\nTimes are ns a unit; the last four columns are ratios, below 1 where Conthiral is faster.\n")
+    columns += ["to itself", "to vob", "to best peer", "to best, less work too", "to limit"]
+    print("\nTimes are ns a unit. The last five columns are ratios, below 1 where Conthiral is faster; \"to")
+    print("itself\" is to a second time of the same work, so that a row's noise is seen.\n")
     print("| " + " | ".join(columns) + " |")
     print("|" + "---|" * len(columns))
     notes = {}

@@ -30,12 +30,14 @@ mkdir -p "$libs" "$out/vob/src" results
 # Ours: proved, then built by the toolchain's own compiler for this CPU.
 if [ "$cpu" = x86-64-v2 ]; then flag=(); else flag=("--cpu=$cpu"); fi
 (cd ../crates/vob_bench && rt lib "${flag[@]}") | tail -n 1
-cp ../crates/vob_bench/out/libvob_bench.a "$libs/"
+# Each function of each library starts at a cache line: where a short loop lies among them can take
+# half of its time, and a change elsewhere would move it.
+objcopy --set-section-alignment '.text.*=64' ../crates/vob_bench/out/libvob_bench.a "$libs/libvob_bench.a"
 gcc -O2 -march="$cpu" -c heap/heap.c -o "$libs/heap.o"
 ar rs "$libs/libvob_bench.a" "$libs/heap.o"
 
 # The twin.
-g++ -std=c++17 -O3 -DNDEBUG -march="$cpu" -c twin/twin.cpp -o "$libs/twin.o"
+g++ -std=c++17 -O3 -DNDEBUG -falign-functions=64 -march="$cpu" -c twin/twin.cpp -o "$libs/twin.o"
 rm -f "$libs/libtwin.a"
 ar rcs "$libs/libtwin.a" "$libs/twin.o"
 
@@ -68,7 +70,7 @@ replace-with = "debian"
 directory = "$registry"
 TOML
 rm -f harness/Cargo.lock
-RUSTFLAGS="-C target-cpu=$cpu -L native=$libs" \
+RUSTFLAGS="-C target-cpu=$cpu -C llvm-args=-align-all-functions=6 -L native=$libs" \
     cargo build --quiet --offline --release --config "$out/cargo/config.toml" \
     --manifest-path harness/Cargo.toml --target-dir "$libs/target"
 

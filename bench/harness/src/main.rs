@@ -171,6 +171,12 @@ fn timed<'a>(row: &'a Row, input: &'a Input, offered: &[&'a Library]) -> Vec<Tim
             work as Box<dyn Fn(usize) -> u64>,
         ));
     }
+    // The same work once more: how far its two times lie apart is the noise of the row.
+    if let Some(ours) = offered.first() {
+        let run = ours.run;
+        let work = Box::new(move |rounds| run(row.call, input, rounds));
+        all.push(new(format!("{} again", ours.name), "again", "", work));
+    }
     if row.limit != Limit::None {
         let work = Box::new(move |rounds| limits::run(row.limit, input, rounds));
         all.push(new(limits::name(row.limit).to_string(), "limit", "", work));
