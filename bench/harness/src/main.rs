@@ -120,7 +120,7 @@ impl Timed<'_> {
     /// there may be.
     fn settle(&mut self, most: usize, enough: Duration) {
         let built = self.least_of(3, 0);
-        let enough = enough.max(built / 2);
+        let enough = enough.max(2 * built);
         self.rounds = 1;
         loop {
             let spent = self.least_of(2, self.rounds).saturating_sub(built);
@@ -187,7 +187,7 @@ fn timed<'a>(row: &'a Row, input: &'a Input, offered: &[&'a Library]) -> Vec<Tim
 fn measure(row: &Row, input: &Input, offered: &[&Library], turns: usize) {
     let mut all = timed(row, input, offered);
     for one in &mut all {
-        one.settle(row.most, Duration::from_micros(2000));
+        one.settle(row.most, Duration::from_millis(4));
     }
     for _ in 0..turns {
         for one in &mut all {
