@@ -2,6 +2,8 @@ pub mod ByteLemmas
 pub mod KernelLemmas
 pub mod NeedLemmas
 pub mod NumberLemmas
+pub mod OnesLemmas
 pub mod PackingLemmas
 pub mod PlaceLemmas
 pub mod ValueLemmas
+pub mod ZeroLemmas

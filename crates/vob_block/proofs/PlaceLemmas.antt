@@ -95,7 +95,7 @@ HasPlaces-at w x y f e h = subst (λ (n : ℕ). HasPlaces w n f) e h
 
 -- ---- at a type of num_traits, whose `bit_len` is the number of bits
 
-bits_is : (w : Width) → bits w ≡ bit_len w
+pub bits_is : (w : Width) → bits w ≡ bit_len w
 bits_is w8 = refl
 bits_is w16 = refl
 bits_is w32 = refl

@@ -1,7 +1,7 @@
 //! The trait of the types that store bits, by their places.
 ghost use Rattle.std.specs.Prelude.{◌≡◌, ◌≢◌, ◌==◌, ℕ, ◌+◌, ◌-◌, ◌%◌, ◌^◌, ◌<◌, if◌then◌else◌, ◌≤◌, ◌&&◌, ◌||◌, ◌↔◌, not, true, false, nat_le, nat_lt, pos, IsTrue, length, All, map};
 ghost use Rattle.num_traits.specs.Laws.{bit_len};
-ghost use Rattle.vob_block.specs.Places.{place, HasPlaces};
+ghost use Rattle.vob_block.specs.Places.{place, HasPlaces, HasZerosLow, HasZerosHigh, true_places};
 ghost use Rattle.vob_block.specs.Pointwise.{IsPointwise, differ};
 
 use crate::blocks::Blocks;
@@ -123,6 +123,30 @@ pub trait Block: PrimInt + Hash + Debug {
         ensures within { number result < 2 ^ BITS }
     {
         self.down(from).bor(high.up(Self::BITS - from))
+    }
+
+    /// How many places are true.
+    final fn ones_in(self) -> usize
+        ensures { result ≡ true_places BITS (number self) }
+    {
+        self.known();
+        self.count_ones() as usize
+    }
+
+    /// The first true place, or `BITS` where no place is true.
+    final fn zeros_low(self) -> usize
+        ensures { HasZerosLow BITS (number self) result }
+    {
+        self.known();
+        self.trailing_zeros() as usize
+    }
+
+    /// `BITS - 1` minus the last true place, or `BITS` where no place is true.
+    final fn zeros_high(self) -> usize
+        ensures { HasZerosHigh BITS (number self) result }
+    {
+        self.known();
+        self.leading_zeros() as usize
     }
 
     /// The places below `n`, and no others.

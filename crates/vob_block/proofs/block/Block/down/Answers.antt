@@ -1,5 +1,5 @@
 -- The number of the result is the number shifted.
-use Rattle.std.proofs.Common.{◌≡◌, ℕ, ◌/◌, ◌^◌, ◌<◌, ap, subst, sym}
+use Rattle.std.proofs.Common.{ℕ, ◌/◌, ◌^◌, ◌<◌, ap, subst, sym}
 use Rattle.vob_block.proofs.NumberLemmas.{number_from_bits}
 use Rattle.vob_block.proofs.PlaceLemmas.{HasPlaces-at, HasPlaces-shift_down, shift_down-lt}
 use Rattle.vob_block.proofs.block.Block.down.Goals as goal

@@ -1,5 +1,5 @@
 -- No place, or every place moved down to the lowest ones.
-use Rattle.std.proofs.Common.{◌≡◌, ℕ, ◌+◌, ◌-◌, ◌<◌, ◌&&◌, ltb, ap, subst, ◌∙◌}
+use Rattle.std.proofs.Common.{ℕ, ◌+◌, ◌-◌, ◌&&◌, ltb, ap, subst, ◌∙◌}
 use Rattle.vob_block.specs.Places.{place, HasPlaces}
 use Rattle.vob_block.proofs.PlaceLemmas.{HasPlaces-mask_none, HasPlaces-mask}
 use Rattle.vob_block.proofs.block.Block.low_mask.Goals as goal
