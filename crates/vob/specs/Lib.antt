@@ -1,8 +1,12 @@
+pub mod BothValues
+pub mod Cursor
 pub mod Extending
 pub mod Fed
 pub mod Joining
 pub mod Laws
+pub mod Matches
 pub mod Refusal
 pub mod Rest
 pub mod Same
 pub mod Vob
+pub mod Walk

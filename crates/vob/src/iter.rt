@@ -65,6 +65,20 @@ impl<'a, T: Block> IntoIterator for &'a Vob<T> {
     }
 }
 
+impl<'a, T: Block> Iter<'a, T> {
+    /// A second walk over the bits that are left. It takes no memory, so it is no method of the trait
+    /// `Clone`, whose answer is a `Result`.
+    pub fn clone(&self) -> Iter<'a, T>
+        ensures { result ≡ self.now }
+    {
+        Iter {
+            blocks: self.blocks,
+            next: self.next,
+            end: self.end,
+        }
+    }
+}
+
 impl<'a, T: Block> Iterator for Iter<'a, T> {
     type Item = bool;
 
@@ -125,6 +139,16 @@ impl<'a, T: Block> Model for StorageIter<'a, T> {
     ghost Value = { List T };
 
     ghost view = { λ walk. walk.rest.now };
+}
+
+impl<'a, T: Block> StorageIter<'a, T> {
+    /// A second walk over the blocks that are left. It takes no memory, so it is no method of the
+    /// trait `Clone`, whose answer is a `Result`.
+    pub fn clone(&self) -> StorageIter<'a, T>
+        ensures { result ≡ self.now }
+    {
+        StorageIter { rest: self.rest }
+    }
 }
 
 impl<'a, T: Block> Iterator for StorageIter<'a, T> {

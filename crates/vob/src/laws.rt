@@ -1,5 +1,6 @@
 //! The laws of the operations on lists of bits. Each function does nothing: its contract is the law.
 ghost use Rattle.vob.specs.Laws.{JoinUndoesCut, JoinIsPushes, EqualWhereListsAre, EqualWhereStorageIs, UnequalWherePlacesDiffer, PointwiseChangesBits, SetChangesBit, NegateTwice, XorOfEqual, NegatedAnd};
+ghost use Rattle.vob.specs.BothValues.{MatchesShareNoIndex, MatchesFillTheRange, MatchesAddUp};
 
 /// Cutting a list and joining the parts gives it back, so a `split_off` and an `extend_from_vob` of
 /// the part that both succeed leave the old bits.
@@ -55,4 +56,20 @@ pub fn xor_of_equal()
 /// both turned round.
 pub fn negated_and()
     ensures { NegatedAnd }
+{}
+
+/// No index matches both values, so walks over the set and the unset bits of one range give no index
+/// both.
+pub fn matches_share_no_index()
+    ensures { MatchesShareNoIndex }
+{}
+
+/// Each index of a bit within a range matches one of the two values, and nothing else matches.
+pub fn matches_fill_the_range()
+    ensures { MatchesFillTheRange }
+{}
+
+/// So the indices that match either value are as many as those within the range.
+pub fn matches_add_up()
+    ensures { MatchesAddUp }
 {}

@@ -1,0 +1,150 @@
+-- The numbers of a stretch that a test holds of.
+use Rattle.std.specs.List.{list_any, range_with_len}
+use Rattle.std.proofs.Common.{◌≡◌, ℕ, zero, suc, ◌+◌, ◌-◌, ◌<◌, ◌≤◌, Bool, true, false, cond, List, [], ◌∷◌, ◌++◌, length, filter, Contains, refl, sym, ap, ◌∙◌, subst, arith, inl, inr, ◌⊎◌, append-nil, length-append, get_or}
+use Rattle.std.proofs.lemmas.Bool.{cases_Bool, cond-true, cond-false, cases_lt, cases_eq, false_from_ne_true, or_left, or_right, or_from}
+use Rattle.std.proofs.lemmas.List.Elements.{filter-append, Contains-append_right, Contains-append_cases}
+use Rattle.std.proofs.lemmas.List.Sums.{length-filter, count_by-le-length}
+use Rattle.std.proofs.lemmas.List.FromFn.{length-range_with_len}
+use Rattle.vob.specs.Cursor.{found}
+
+range_with_len-split : (a n m : ℕ) → range_with_len a (n + m) ≡ range_with_len a n ++ range_with_len (a + n) m
+range_with_len-split a zero m =
+    let all : 0 + m ≡ m = omega arith in
+    let here : a ≡ a + 0 = omega arith in
+    ap (range_with_len a) all ∙ ap (λ k. range_with_len k m) here
+range_with_len-split a (suc n) m =
+    let more : suc n + m ≡ suc (n + m) = omega arith in
+    let there : a + 1 + n ≡ a + suc n = omega arith in
+    ap (range_with_len a) more ∙ ap (λ l. a ∷ l) (range_with_len-split (a + 1) n m ∙ ap (λ k. range_with_len (a + 1) n ++ range_with_len k m) there)
+
+-- the only element of a list
+only_one : {x i : ℕ} → Contains (x ∷ []) i → x ≡ i
+only_one {x} {i} h =
+    let inside = h.1 in
+    let first : h.0 ≡ 0 = omega arith in
+    sym (ap (λ k. get_or (x ∷ []) k i) first) ∙ h.2
+
+module _ (p : ℕ → Bool) where
+  -- a stretch split at a number within it
+  pub found-split : (a n m : ℕ) → found p a (n + m) ≡ found p a n ++ found p (a + n) m
+  found-split a n m = ap (filter p) (range_with_len-split a n m) ∙ filter-append p (range_with_len a n) (range_with_len (a + n) m)
+
+  -- tests that agree there find the same
+  pub found-same : (q : ℕ → Bool) (a n : ℕ) → ((i : ℕ) → a ≤ i → i < a + n → p i ≡ q i) → found p a n ≡ found q a n
+  found-same q a zero h = refl
+  found-same q a (suc n) h =
+      ap (λ b. cond b (a ∷ found p (a + 1) n) (found p (a + 1) n)) (h a (omega arith) (omega arith))
+      ∙ ap (λ l. cond (q a) (a ∷ l) l) (found-same q (a + 1) n (λ i from to. h i (omega arith) (omega arith)))
+
+  pub found-nothing : (a n : ℕ) → ((i : ℕ) → a ≤ i → i < a + n → p i ≡ false) → found p a n ≡ []
+  found-nothing a zero h = refl
+  found-nothing a (suc n) h =
+      ap (λ b. cond b (a ∷ found p (a + 1) n) (found p (a + 1) n)) (h a (omega arith) (omega arith))
+      ∙ found-nothing (a + 1) n (λ i from to. h i (omega arith) (omega arith))
+
+  pub found-all : (a n : ℕ) → ((i : ℕ) → a ≤ i → i < a + n → p i ≡ true) → found p a n ≡ range_with_len a n
+  found-all a zero h = refl
+  found-all a (suc n) h =
+      ap (λ b. cond b (a ∷ found p (a + 1) n) (found p (a + 1) n)) (h a (omega arith) (omega arith))
+      ∙ ap (λ l. a ∷ l) (found-all (a + 1) n (λ i from to. h i (omega arith) (omega arith)))
+
+  -- a part where nothing is found can be left out, at either end
+  pub found-skip : (a n m : ℕ) → ((i : ℕ) → a ≤ i → i < a + n → p i ≡ false) → found p a (n + m) ≡ found p (a + n) m
+  found-skip a n m none = found-split a n m ∙ ap (λ l. l ++ found p (a + n) m) (found-nothing a n none)
+
+  pub found-stop : (a n m : ℕ) → ((i : ℕ) → a + n ≤ i → i < a + n + m → p i ≡ false) → found p a (n + m) ≡ found p a n
+  found-stop a n m none = found-split a n m ∙ ap (λ l. found p a n ++ l) (found-nothing (a + n) m none) ∙ append-nil (found p a n)
+
+  found-from_zero : (a n : ℕ) → ((i : ℕ) → p i ≡ true → a ≤ i) → found p a n ≡ found p 0 (a + n)
+  found-from_zero a n above =
+      let here : a ≡ 0 + a = omega arith in
+      ap (λ k. found p k n) here ∙ sym (found-skip 0 a n (λ i from to. false_from_ne_true (p i) (λ holds. absurd (omega (arith, above i holds)))))
+
+  found-up_to : (n m : ℕ) → n ≤ m → ((i : ℕ) → p i ≡ true → i < n) → found p 0 m ≡ found p 0 n
+  found-up_to n m h below =
+      let whole : m ≡ n + (m - n) = omega arith in
+      ap (found p 0) whole ∙ found-stop 0 n (m - n) (λ i from to. false_from_ne_true (p i) (λ holds. absurd (omega (arith, below i holds))))
+
+  -- two stretches that have all that the test holds of have the same
+  pub found-both : (a n b m : ℕ) → ((i : ℕ) → p i ≡ true → (a ≤ i) × (i < a + n)) → ((i : ℕ) → p i ≡ true → (b ≤ i) × (i < b + m)) → found p a n ≡ found p b m
+  found-both a n b m one other =
+      let first = found-from_zero a n (λ i holds. (one i holds).0) in
+      let second = found-from_zero b m (λ i holds. (other i holds).0) in
+      let middle : found p 0 (a + n) ≡ found p 0 (b + m) = elim (cases_lt (a + n) (b + m)) [
+        | inl less ↦ sym (found-up_to (a + n) (b + m) (omega arith) (λ i holds. (one i holds).1))
+        | inr more ↦ found-up_to (b + m) (a + n) (omega arith) (λ i holds. (other i holds).1)
+      ] in
+      first ∙ middle ∙ sym second
+
+  pub length-found_all : (a n : ℕ) → ((i : ℕ) → a ≤ i → i < a + n → p i ≡ true) → length (found p a n) ≡ n
+  length-found_all a n h = ap length (found-all a n h) ∙ length-range_with_len a n
+
+  pub length-found-le : (a n : ℕ) → length (found p a n) ≤ n
+  length-found-le a n = omega (arith, length-filter p (range_with_len a n), count_by-le-length p (range_with_len a n), length-range_with_len a n)
+
+  pub length-found_below : (a n m : ℕ) → ((i : ℕ) → p i ≡ true → i < m) → length (found p a n) ≤ m
+  length-found_below a n m below =
+      let here : a ≡ 0 + a = omega arith in
+      let front = ap length (found-split 0 a n) ∙ length-append (found p 0 a) (found p (0 + a) n) in
+      let same = ap (λ k. length (found p k n)) here in
+      elim (cases_lt m (a + n)) [
+        | inl cut ↦ omega (arith, ap length (found-up_to m (a + n) (omega arith) below), length-found-le 0 m)
+        | inr whole ↦ omega (arith, length-found-le 0 (a + n))
+      ]
+
+  -- what is found is in the stretch, and the test holds of it
+  pub found-has : (a n i : ℕ) → a ≤ i → i < a + n → p i ≡ true → Contains (found p a n) i
+  found-has a zero i from to holds = absurd (omega arith)
+  found-has a (suc n) i from to holds = elim (cases_eq a i) [
+    | inl here ↦
+        let kept : found p a (suc n) ≡ a ∷ found p (a + 1) n = ap (λ b. cond b (a ∷ found p (a + 1) n) (found p (a + 1) n)) (ap p here ∙ holds) in
+        subst (λ (l : List ℕ). Contains l i) (sym kept) (0, omega arith, here)
+    | inr later ↦ either (p a) (found-has (a + 1) n i (omega arith) (omega arith) holds)
+  ]
+    where
+      either : (b : Bool) → Contains (found p (a + 1) n) i → Contains (cond b (a ∷ found p (a + 1) n) (found p (a + 1) n)) i
+      either true h = Contains-append_right (a ∷ []) (found p (a + 1) n) i h
+      either false h = h
+
+  pub found-only : (a n i : ℕ) → Contains (found p a n) i → (a ≤ i) × (i < a + n) × (p i ≡ true)
+  found-only a zero i h = absurd (not_in_nothing h)
+    where
+      not_in_nothing : Contains {X = ℕ} [] i → ⊥
+      not_in_nothing h = let inside = h.1 in omega arith
+  found-only a (suc n) i h = elim (split (p a) refl h) [
+    | inl here ↦ (omega (arith, here.0), omega (arith, here.0), here.1)
+    | inr later ↦ let rest = found-only (a + 1) n i later in (omega arith, omega arith, rest.2)
+  ]
+    where
+      split : (b : Bool) → p a ≡ b → Contains (cond b (a ∷ found p (a + 1) n) (found p (a + 1) n)) i → ((a ≡ i) × (p i ≡ true)) ⊎ Contains (found p (a + 1) n) i
+      split true holds h = elim (Contains-append_cases (a ∷ []) (found p (a + 1) n) i h) [
+        | inl first ↦ let same = only_one first in inl (same, ap p (sym same) ∙ holds)
+        | inr rest ↦ inr rest
+      ]
+      split false fails h = inr h
+
+  -- ---- whether the test holds of some number there
+
+  pub any-found : (a n i : ℕ) → a ≤ i → i < a + n → p i ≡ true → list_any p (range_with_len a n) ≡ true
+  any-found a zero i from to holds = absurd (omega arith)
+  any-found a (suc n) i from to holds = elim (cases_eq i a) [
+    | inl here ↦ or_left (p a) (list_any p (range_with_len (a + 1) n)) (ap p (sym here) ∙ holds)
+    | inr later ↦ or_right (p a) (list_any p (range_with_len (a + 1) n)) (any-found (a + 1) n i (omega arith) (omega arith) holds)
+  ]
+
+  pub any-nothing : (a n : ℕ) → ((i : ℕ) → a ≤ i → i < a + n → p i ≡ false) → list_any p (range_with_len a n) ≡ false
+  any-nothing a zero h = refl
+  any-nothing a (suc n) h = or_from (p a) (list_any p (range_with_len (a + 1) n)) (h a (omega arith) (omega arith)) (any-nothing (a + 1) n (λ i from to. h i (omega arith) (omega arith)))
+
+-- where nothing is found the test holds nowhere
+pub nothing_found : (p : ℕ → Bool) (a n : ℕ) → found p a n ≡ [] → (i : ℕ) → a ≤ i → i < a + n → p i ≡ false
+nothing_found p a zero none i low high = absurd (omega arith)
+nothing_found p a (suc n) none i low high =
+    let rest = found p (a + 1) n in
+    elim (cases_Bool (p a)) [
+      | inl t ↦ absurd (omega (arith, ap length (sym (cond-true (p a) (a ∷ rest) rest t) ∙ none)))
+      | inr f ↦ elim (cases_eq i a) [
+        | inl here ↦ ap p here ∙ f
+        | inr on ↦ nothing_found p (a + 1) n (sym (cond-false (p a) (a ∷ rest) rest f) ∙ none) i (omega arith) (omega arith)
+      ]
+    ]

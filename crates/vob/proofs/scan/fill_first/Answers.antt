@@ -1,0 +1,50 @@
+-- The front hand keeps what it has, or takes what is found first, or else what the back hand has.
+use Rattle.std.proofs.Common.{map, arith}
+use Rattle.vob.specs.Cursor.{in_hand, unread}
+use Rattle.vob.proofs.HandLemmas.{in_hand-zero, zero_in_hand}
+use Rattle.vob.proofs.ScanLemmas.{zero_from_test, unread-none, filled_first, swapped_first, empty_first}
+use Rattle.vob.proofs.scan.fill_first.Goals as goal
+
+pub returns-then-has_place-clause-empty : goal.returns-then-has_place-clause-empty
+returns-then-has_place-clause-empty g c =
+    let number = g.T.Block.number in
+    λ empty. absurd (c.has_place.ensures.0 c.if-has_place.true (zero_in_hand g.T.Block.BITS c.args.front.now.at (number c.args.front.now.word) c.requires.front.within empty))
+
+pub returns-then-not-has_place-clause-rest : goal.returns-then-not-has_place-clause-rest
+returns-then-not-has_place-clause-rest g c =
+    let w = g.T.Block.BITS in
+    let number = g.T.Block.number in
+    let xs = map number c.args.blocks.now.items in
+    let ys = map number c.find_first.new.blocks.items in
+    let none = in_hand-zero w c.args.front.now.at (number c.args.front.now.word) (zero_from_test c.has_place.result (number c.args.front.now.word) c.has_place.ensures c.if-has_place.false) in
+    let zero = zero_from_test c.has_place-2.result (number c.find_first.result.word) c.has_place-2.ensures c.if-not-has_place.true in
+    let no_more = unread-none w ys c.args.wanted c.args.start c.args.stop c.find_first.new.next c.args.end (omega (arith, c.find_first.ensures.none zero)) in
+    rw (c.swap.ensures.x_after, c.swap.ensures.y_after) (swapped_first (in_hand w c.args.front.now.at (number c.args.front.now.word)) (unread w xs c.args.wanted c.args.start c.args.stop c.args.next.now c.args.end) (unread w ys c.args.wanted c.args.start c.args.stop c.find_first.new.next c.args.end) (in_hand w c.find_first.result.at (number c.find_first.result.word)) (in_hand w c.args.back.now.at (number c.args.back.now.word))
+    none c.find_first.ensures.rest (in_hand-zero w c.find_first.result.at (number c.find_first.result.word) zero) no_more)
+
+pub returns-then-not-has_place-clause-empty : goal.returns-then-not-has_place-clause-empty
+returns-then-not-has_place-clause-empty g c =
+    let w = g.T.Block.BITS in
+    let number = g.T.Block.number in
+    let xs = map number c.args.blocks.now.items in
+    let ys = map number c.find_first.new.blocks.items in
+    let none = in_hand-zero w c.args.front.now.at (number c.args.front.now.word) (zero_from_test c.has_place.result (number c.args.front.now.word) c.has_place.ensures c.if-has_place.false) in
+    let zero = zero_from_test c.has_place-2.result (number c.find_first.result.word) c.has_place-2.ensures c.if-not-has_place.true in
+    let no_more = unread-none w ys c.args.wanted c.args.start c.args.stop c.find_first.new.next c.args.end (omega (arith, c.find_first.ensures.none zero)) in
+    λ empty. empty_first (in_hand w c.args.front.now.at (number c.args.front.now.word)) (unread w xs c.args.wanted c.args.start c.args.stop c.args.next.now c.args.end) (unread w ys c.args.wanted c.args.start c.args.stop c.find_first.new.next c.args.end) (in_hand w c.find_first.result.at (number c.find_first.result.word)) (in_hand w c.args.back.now.at (number c.args.back.now.word))
+    none c.find_first.ensures.rest (in_hand-zero w c.find_first.result.at (number c.find_first.result.word) zero) no_more (rw c.swap.ensures.x_after at empty)
+
+pub returns-else-not-has_place-clause-rest : goal.returns-else-not-has_place-clause-rest
+returns-else-not-has_place-clause-rest g c =
+    let w = g.T.Block.BITS in
+    let number = g.T.Block.number in
+    let xs = map number c.args.blocks.now.items in
+    let ys = map number c.find_first.new.blocks.items in
+    let none = in_hand-zero w c.args.front.now.at (number c.args.front.now.word) (zero_from_test c.has_place.result (number c.args.front.now.word) c.has_place.ensures c.if-has_place.false) in
+    filled_first (in_hand w c.args.front.now.at (number c.args.front.now.word)) (unread w xs c.args.wanted c.args.start c.args.stop c.args.next.now c.args.end) (unread w ys c.args.wanted c.args.start c.args.stop c.find_first.new.next c.args.end) (in_hand w c.find_first.result.at (number c.find_first.result.word)) (in_hand w c.args.back.now.at (number c.args.back.now.word))
+    none c.find_first.ensures.rest
+
+pub returns-else-not-has_place-clause-empty : goal.returns-else-not-has_place-clause-empty
+returns-else-not-has_place-clause-empty g c =
+    let number = g.T.Block.number in
+    λ empty. absurd (c.has_place-2.ensures.0 c.if-not-has_place.false (zero_in_hand g.T.Block.BITS c.find_first.result.at (number c.find_first.result.word) c.find_first.ensures.hand.within empty))

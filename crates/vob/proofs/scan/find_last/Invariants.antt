@@ -1,0 +1,12 @@
+-- The blocks so far were read once each, and had nothing to give.
+use Rattle.std.proofs.Common.{◌≡◌, ◌+◌, ◌≤◌, map}
+use Rattle.vob.specs.Cursor.{unread}
+use Rattle.vob.proofs.scan.find_last.Given as goal
+
+abbrev pub invariant-loop-k : goal.invariant-loop-k
+invariant-loop-k g l = record {
+  order : l.fn.next ≤ l.k;
+  rest : unread g.T.Block.BITS (map g.T.Block.number l.fn.blocks.items) l.fn.wanted l.fn.start l.fn.stop l.fn.next l.k ≡ unread g.T.Block.BITS (map g.T.Block.number l.fn.blocks.items) l.fn.wanted l.fn.start l.fn.stop l.fn.next l.fn.end;
+  items : l.blocks.items ≡ l.fn.blocks.items;
+  reads : l.blocks.reads + l.k ≡ l.fn.blocks.reads + l.fn.end;
+}

@@ -1,0 +1,198 @@
+//! The walks over the indices of set bits and of unset bits within a range, from both ends.
+ghost use Rattle.std.specs.Prelude.{◌≡◌, ◌≤◌, ◌+◌, ◌∷◌, [], ⊤, true, false, length, map};
+ghost use Rattle.std.specs.Iterator.{YieldsFirst, YieldsLast, MakesProgress, item_count};
+ghost use Rattle.vob_block.specs.Packing.{need, spelled};
+ghost use Rattle.vob.specs.Matches.{matches, met};
+ghost use Rattle.vob.specs.Walk.{IsPulled};
+
+use crate::cursor::Cursor;
+use crate::vob::Vob;
+use crate::walk::{End, IndexWalk};
+use std::iter::FusedIterator;
+use std::marker::Model;
+use std::ops::RangeBounds;
+use vob_block::{Block, Blocks};
+
+/// The rising indices of the set bits within a range. Each block that holds an index of the range is
+/// read once at most.
+#[derive(Drop)]
+pub struct IterSetBits<'a, T: Block> {
+    cursor: Cursor<'a, T>,
+}
+
+impl<'a, T: Block> Model for IterSetBits<'a, T> {
+    ghost use Rattle.vob.specs.Walk.{Walk};
+
+    ghost Value = { Walk };
+
+    ghost view = { λ walk. walk.cursor };
+}
+
+impl<'a, T: Block> IterSetBits<'a, T> {
+    /// A walk over the first `len` bits of some blocks. Every pair of bounds is accepted; an index
+    /// belongs to the range where it is below `len` and meets both as whole numbers.
+    pub fn over<R: RangeBounds<usize>>(
+        blocks: Blocks<'a, T>,
+        len: usize,
+        range: R,
+    ) -> IterSetBits<'a, T>
+        requires { length blocks.items ≡ need len T.BITS }
+        ensures rest { R.has_bounds range
+            → result.rest ≡ matches (spelled len (map T.number blocks.entry.items) T.BITS) true
+            (R.start_bound range) (R.end_bound range) }
+        ensures reads { result.reads ≡ blocks.entry.reads }
+        ensures left { R.has_bounds range
+            → result.left ≡ met (R.start_bound range) (R.end_bound range) len T.BITS }
+        ensures credit { R.has_bounds range
+            → result.credit ≤ met (R.start_bound range) (R.end_bound range) len T.BITS + 1 }
+    {
+        IterSetBits {
+            cursor: Cursor::over(blocks, true, len, range),
+        }
+    }
+}
+
+impl<'a, T: Block> Iterator for IterSetBits<'a, T> {
+    type Item = usize;
+
+    ghost next_gives = { YieldsFirst (λ walk. walk.rest) };
+
+    ghost remaining = { item_count (λ walk. walk.rest) };
+
+    fn next(&mut self) -> Option<usize>
+        ensures steps { YieldsFirst (λ walk. walk.rest) self.old result self.new }
+        ensures goes { MakesProgress (λ walk. ⊤) (item_count (λ walk. walk.rest)) self.old result self.new }
+        ensures reads { IsPulled self.old (result ∷ []) self.new }
+    {
+        self.cursor.first()
+    }
+}
+
+impl<'a, T: Block> DoubleEndedIterator for IterSetBits<'a, T> {
+    ghost next_back_gives = { YieldsLast (λ walk. walk.rest) };
+
+    fn next_back(&mut self) -> Option<usize>
+        ensures steps { YieldsLast (λ walk. walk.rest) self.old result self.new }
+        ensures goes { MakesProgress (λ walk. ⊤) (item_count (λ walk. walk.rest)) self.old result self.new }
+        ensures reads { IsPulled self.old (result ∷ []) self.new }
+    {
+        self.cursor.last()
+    }
+}
+
+impl<'a, T: Block> FusedIterator for IterSetBits<'a, T> {}
+
+impl<'a, T: Block> IndexWalk for IterSetBits<'a, T> {
+    ghost walk = { λ walk. walk };
+
+    fn pull(&mut self, side: End) -> Option<usize> {
+        self.cursor.pull(side)
+    }
+}
+
+/// The rising indices of the unset bits within a range. Each block that holds an index of the range
+/// is read once at most.
+#[derive(Drop)]
+pub struct IterUnsetBits<'a, T: Block> {
+    cursor: Cursor<'a, T>,
+}
+
+impl<'a, T: Block> Model for IterUnsetBits<'a, T> {
+    ghost use Rattle.vob.specs.Walk.{Walk};
+
+    ghost Value = { Walk };
+
+    ghost view = { λ walk. walk.cursor };
+}
+
+impl<'a, T: Block> IterUnsetBits<'a, T> {
+    /// A walk over the first `len` bits of some blocks. Every pair of bounds is accepted; an index
+    /// belongs to the range where it is below `len` and meets both as whole numbers.
+    pub fn over<R: RangeBounds<usize>>(
+        blocks: Blocks<'a, T>,
+        len: usize,
+        range: R,
+    ) -> IterUnsetBits<'a, T>
+        requires { length blocks.items ≡ need len T.BITS }
+        ensures rest { R.has_bounds range
+            → result.rest ≡ matches (spelled len (map T.number blocks.entry.items) T.BITS) false
+            (R.start_bound range) (R.end_bound range) }
+        ensures reads { result.reads ≡ blocks.entry.reads }
+        ensures left { R.has_bounds range
+            → result.left ≡ met (R.start_bound range) (R.end_bound range) len T.BITS }
+        ensures credit { R.has_bounds range
+            → result.credit ≤ met (R.start_bound range) (R.end_bound range) len T.BITS + 1 }
+    {
+        IterUnsetBits {
+            cursor: Cursor::over(blocks, false, len, range),
+        }
+    }
+}
+
+impl<'a, T: Block> Iterator for IterUnsetBits<'a, T> {
+    type Item = usize;
+
+    ghost next_gives = { YieldsFirst (λ walk. walk.rest) };
+
+    ghost remaining = { item_count (λ walk. walk.rest) };
+
+    fn next(&mut self) -> Option<usize>
+        ensures steps { YieldsFirst (λ walk. walk.rest) self.old result self.new }
+        ensures goes { MakesProgress (λ walk. ⊤) (item_count (λ walk. walk.rest)) self.old result self.new }
+        ensures reads { IsPulled self.old (result ∷ []) self.new }
+    {
+        self.cursor.first()
+    }
+}
+
+impl<'a, T: Block> DoubleEndedIterator for IterUnsetBits<'a, T> {
+    ghost next_back_gives = { YieldsLast (λ walk. walk.rest) };
+
+    fn next_back(&mut self) -> Option<usize>
+        ensures steps { YieldsLast (λ walk. walk.rest) self.old result self.new }
+        ensures goes { MakesProgress (λ walk. ⊤) (item_count (λ walk. walk.rest)) self.old result self.new }
+        ensures reads { IsPulled self.old (result ∷ []) self.new }
+    {
+        self.cursor.last()
+    }
+}
+
+impl<'a, T: Block> FusedIterator for IterUnsetBits<'a, T> {}
+
+impl<'a, T: Block> IndexWalk for IterUnsetBits<'a, T> {
+    ghost walk = { λ walk. walk };
+
+    fn pull(&mut self, side: End) -> Option<usize> {
+        self.cursor.pull(side)
+    }
+}
+
+impl<T: Block> Vob<T> {
+    /// The indices of the set bits within a range, the least first. vob 4.0.1 panics where the start
+    /// lies past the end.
+    pub fn iter_set_bits<R: RangeBounds<usize>>(&self, range: R) -> IterSetBits<'_, T>
+        ensures rest { R.has_bounds range
+            → result.rest ≡ matches self.now.bits true (R.start_bound range) (R.end_bound range) }
+        ensures reads { result.reads ≡ 0 }
+        ensures left { R.has_bounds range
+            → result.left ≡ met (R.start_bound range) (R.end_bound range) (length self.now.bits) T.BITS }
+        ensures credit { R.has_bounds range
+            → result.credit ≤ met (R.start_bound range) (R.end_bound range) (length self.now.bits) T.BITS + 1 }
+    {
+        IterSetBits::over(self.blocks(), self.len(), range)
+    }
+
+    /// The indices of the unset bits within a range, the least first. vob 4.0.1 panics where the
+    /// start lies past the end.
+    pub fn iter_unset_bits<R: RangeBounds<usize>>(&self, range: R) -> IterUnsetBits<'_, T>
+        ensures rest { R.has_bounds range
+            → result.rest ≡ matches self.now.bits false (R.start_bound range) (R.end_bound range) }
+        ensures reads { result.reads ≡ 0 }
+        ensures left { R.has_bounds range
+            → result.left ≡ met (R.start_bound range) (R.end_bound range) (length self.now.bits) T.BITS }
+        ensures credit { R.has_bounds range
+            → result.credit ≤ met (R.start_bound range) (R.end_bound range) (length self.now.bits) T.BITS + 1 }
+    {
+        IterUnsetBits::over(self.blocks(), self.len(), range)
+    }
+}
