@@ -3,6 +3,8 @@ mod agreement;
 mod commands;
 mod constructors;
 mod growing;
+mod index_patterns;
+mod index_walks;
 mod joins;
 mod made_and_changed;
 mod pointwise;

@@ -189,3 +189,27 @@ fn the_walk_gives_the_bits_from_both_ends(rt: HostRuntime) -> Result<(), Fail> {
     assert_eq!(rt; bits.len(), 19);
     Ok(())
 }
+
+#[test]
+fn a_cloned_walk_goes_on_from_the_same_place(rt: HostRuntime) -> Result<(), Fail> {
+    let alloc = rt.alloc();
+    let vob: Vob<u8> = pattern(alloc, 1, 19)?;
+    let mut walk = vob.iter();
+    assert_eq!(rt; walk.next(), vob.get(0));
+    assert_eq!(rt; walk.next_back(), vob.get(18));
+    let mut other = walk.clone();
+    assert_eq!(rt; other.next(), vob.get(1));
+    assert_eq!(rt; other.next_back(), vob.get(17));
+    assert_eq!(rt; other.len(), 15);
+    assert_eq!(rt; walk.len(), 17, "the first walk stays");
+    assert_eq!(rt; walk.next(), vob.get(1));
+    let mut blocks = vob.iter_storage();
+    let first = blocks.next();
+    let others = blocks.clone();
+    assert_eq!(rt; first, vob.get_storage().first().copied());
+    assert_eq!(rt; others.size_hint(), (2, Some(2)));
+    let rest: Vec<u8> = others.collect(alloc)?;
+    let left: Vec<u8> = blocks.collect(alloc)?;
+    assert_eq!(rt; rest.as_slice(), left.as_slice());
+    Ok(())
+}
