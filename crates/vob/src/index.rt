@@ -168,8 +168,8 @@ impl<'a, T: Block> IndexWalk for IterUnsetBits<'a, T> {
 }
 
 impl<T: Block> Vob<T> {
-    /// The indices of the set bits within a range, the least first. vob 4.0.1 panics where the start
-    /// lies past the end.
+    /// The indices of the set bits within a range, the least first. vob 4.0.1 adds 1 to an included
+    /// end and to an excluded start unchecked, so `usize::MAX` there panics or wraps.
     pub fn iter_set_bits<R: RangeBounds<usize>>(&self, range: R) -> IterSetBits<'_, T>
         ensures rest { R.has_bounds range
             → result.rest ≡ matches self.now.bits true (R.start_bound range) (R.end_bound range) }
@@ -182,8 +182,8 @@ impl<T: Block> Vob<T> {
         IterSetBits::over(self.blocks(), self.len(), range)
     }
 
-    /// The indices of the unset bits within a range, the least first. vob 4.0.1 panics where the
-    /// start lies past the end.
+    /// The indices of the unset bits within a range, the least first. vob 4.0.1 adds 1 to an included
+    /// end and to an excluded start unchecked, so `usize::MAX` there panics or wraps.
     pub fn iter_unset_bits<R: RangeBounds<usize>>(&self, range: R) -> IterUnsetBits<'_, T>
         ensures rest { R.has_bounds range
             → result.rest ≡ matches self.now.bits false (R.start_bound range) (R.end_bound range) }
