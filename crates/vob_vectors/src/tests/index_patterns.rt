@@ -1,4 +1,6 @@
 //! Walks over indices by patterns, from both ends, against one `get` after another.
+ghost use Rattle.std.specs.Prelude.{◌<◌};
+
 use super::single_bits::pattern;
 use std::alloc::Global;
 use std::ops::Bound;
@@ -78,7 +80,7 @@ fn check_pulls<W: IndexWalk>(
     order: &[End],
     indices: &[usize],
 ) -> Result<(), Fail> {
-    let pulls = rounds(alloc, order, indices.len() + 1)?;
+    let pulls = rounds(alloc, order, indices.len().saturating_add(1))?;
     let wanted = plain_answers(alloc, indices, pulls.as_slice())?;
     let mut answers = Vec::new(alloc);
     deal(walk, pulls.as_slice(), &mut answers)?;
@@ -138,11 +140,14 @@ fn check_ranges<T: Block>(
     alloc: Global,
     count: u64,
     step: usize,
-) -> Result<(), Fail> {
+) -> Result<(), Fail>
+    requires { 0 < step }
+{
     for seed in 0..3 {
         let vob: Vob<T> = pattern(alloc, seed, count)?;
-        for from in (0..vob.len() + 1).step_by(step) {
-            for to in (from..vob.len() + 1).step_by(step) {
+        let end = vob.len().saturating_add(1);
+        for from in (0..end).step_by(step) {
+            for to in (from..end).step_by(step) {
                 check_range(rt, alloc, &vob, from, to)?;
             }
             check_range(rt, alloc, &vob, from, vob.len())?;
@@ -188,9 +193,12 @@ fn walks_over_other_blocks_give_what_reads_give(rt: HostRuntime) -> Result<(), F
 fn check_resumed<T: Block>(rt: &impl Abort, alloc: Global, count: u64) -> Result<(), Fail> {
     let vob: Vob<T> = pattern(alloc, 0, count)?;
     let mut walk = vob.iter_set_bits(..);
-    while let (Some(first), Some(last)) = (walk.next(), walk.next_back()) {
+    for _ in 0..count {
+        let (Some(first), Some(last)) = (walk.next(), walk.next_back()) else {
+            return Ok(());
+        };
         let between = (Bound::Excluded(first), Bound::Excluded(last));
-        let wanted = plain_indices(alloc, &vob, true, first + 1, last)?;
+        let wanted = plain_indices(alloc, &vob, true, first.saturating_add(1), last)?;
         let rest: Vec<usize> = vob.iter_set_bits(between).collect(alloc)?;
         assert_eq!(rt;
             rest.as_slice(),
