@@ -1,8 +1,9 @@
 -- Pulls at a walk, one after another.
 use Rattle.std.proofs.Common.{◌≡◌, ℕ, ◌+◌, ◌-◌, ◌<◌, List, [], ◌∷◌, ◌++◌, length, take, drop, get_or, Option, Some, None, refl, sym, ap, ◌∙◌, arith}
-use Rattle.std.specs.Prelude.{slice_get}
+use Rattle.std.specs.Prelude.{slice_get, replicate}
 use Rattle.std.specs.Option.{MatchOption}
 use Rattle.std.proofs.lemmas.List.{take_more, length-append}
+use Rattle.std.proofs.lemmas.Option.{slice_get-get_or}
 use Rattle.vob.specs.declared.walk.End.TheVariants.{Front, Back}
 use Rattle.std.proofs.Math.Seq.{take-append_seam}
 use Rattle.vob.specs.declared.walk.End.{End}
@@ -74,3 +75,31 @@ given-last None old new taken = (ap (λ xs. slice_get xs (length xs - 1)) (sym t
 given-last (Some i) old new taken =
     let long : length (new ++ i ∷ []) - 1 ≡ length new = omega (arith, length-append new (i ∷ [])) in
     (sym (ap (λ xs. slice_get xs (length xs - 1)) taken ∙ ap (slice_get (new ++ i ∷ [])) long ∙ get-behind new i), sym (ap (λ xs. take (length xs - 1) xs) taken ∙ ap (λ k. take k (new ++ i ∷ [])) long ∙ take-append_seam new (i ∷ [])))
+
+-- ---- a pull that gave nothing
+
+-- was at an empty list
+given-none : (xs : List ℕ) (side : End) → given side xs ≡ None → xs ≡ []
+unfolding given
+given-none [] side none = refl
+given-none (x ∷ xs) Front none = absurd (cc)
+given-none (x ∷ xs) Back none =
+    let last = slice_get-get_or (x ∷ xs) (length xs) x (omega arith) in
+    let here : slice_get (x ∷ xs) (length (x ∷ xs) - 1) ≡ slice_get (x ∷ xs) (length xs) = ap (slice_get (x ∷ xs)) (omega arith) in
+    absurd (cc)
+
+answers-nil : (pulls : List End) → answers [] pulls ≡ replicate (length pulls) None
+unfolding given kept answers
+answers-nil [] = refl
+answers-nil (Front ∷ pulls) = ap (λ others. None ∷ others) (answers-nil pulls)
+answers-nil (Back ∷ pulls) = ap (λ others. None ∷ others) (answers-nil pulls)
+
+kept-nil : (side : End) → kept side [] ≡ []
+unfolding kept
+kept-nil Front = refl
+kept-nil Back = refl
+
+-- and so is each pull after it
+pub none_for_good : (xs : List ℕ) (side : End) (pulls : List End) → given side xs ≡ None → answers (kept side xs) pulls ≡ replicate (length pulls) None
+none_for_good xs side pulls none =
+    ap (λ ys. answers (kept side ys) pulls) (given-none xs side none) ∙ ap (λ ys. answers ys pulls) (kept-nil side) ∙ answers-nil pulls

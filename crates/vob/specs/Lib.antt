@@ -1,5 +1,6 @@
 pub mod BothValues
 pub mod Cursor
+pub mod Ends
 pub mod Extending
 pub mod Fed
 pub mod Joining

@@ -1,6 +1,7 @@
 //! The laws of the operations on lists of bits. Each function does nothing: its contract is the law.
 ghost use Rattle.vob.specs.Laws.{JoinUndoesCut, JoinIsPushes, EqualWhereListsAre, EqualWhereStorageIs, UnequalWherePlacesDiffer, PointwiseChangesBits, SetChangesBit, NegateTwice, XorOfEqual, NegatedAnd};
 ghost use Rattle.vob.specs.BothValues.{MatchesShareNoIndex, MatchesFillTheRange, MatchesAddUp};
+ghost use Rattle.vob.specs.Ends.{NoneIsForGood};
 
 /// Cutting a list and joining the parts gives it back, so a `split_off` and an `extend_from_vob` of
 /// the part that both succeed leave the old bits.
@@ -72,4 +73,10 @@ pub fn matches_fill_the_range()
 /// So the indices that match either value are as many as those within the range.
 pub fn matches_add_up()
     ensures { MatchesAddUp }
+{}
+
+/// A walk over indices that answered None at either end answers None at both, for good: no pull gives
+/// an index after one that gave none.
+pub fn none_is_for_good()
+    ensures { NoneIsForGood }
 {}
