@@ -3,6 +3,7 @@
 //! all answered Ok prints `answered`.
 mod growth;
 mod made;
+mod walks;
 mod without_memory;
 
 use std::alloc::Global;

@@ -1,7 +1,7 @@
 //! Calls that take no memory: no refusal reaches them.
 use super::{check_blocks, pushed};
 use std::test::Fail;
-use vob::Vob;
+use vob::{End, IndexWalk, IterSetBits, IterUnsetBits, Vob, deal};
 
 #[test]
 fn no_bits_take_no_memory(rt: HostRuntime) -> Result<(), Fail> {
@@ -121,6 +121,29 @@ fn operators_change_their_left_side(rt: HostRuntime) -> Result<(), Fail> {
     let both = vob & &other;
     assert!(rt; both == other);
     check_blocks(&rt, &both, 3, &[3]);
+    println!(rt; "answered")?;
+    Ok(())
+}
+
+#[test]
+fn indices_are_walked_in_place(rt: HostRuntime) -> Result<(), Fail> {
+    let Ok(vob) = pushed(rt.alloc(), &[true, false, true]) else {
+        return Ok(());
+    };
+    let mut set = vob.iter_set_bits(..);
+    assert_eq!(rt; set.next(), Some(0));
+    assert_eq!(rt; set.pull(End::Back), Some(2));
+    assert_eq!(rt; set.next_back(), None);
+    let mut unset = vob.iter_unset_bits(..);
+    let mut answers = Vec::new(rt.alloc());
+    deal(&mut unset, &[], &mut answers)?;
+    assert_eq!(rt; answers.len(), 0);
+    assert_eq!(rt; unset.next_back(), Some(1));
+    assert_eq!(rt; unset.pull(End::Front), None);
+    let mut set = IterSetBits::over(vob.blocks(), vob.len(), 1..);
+    assert_eq!(rt; set.next(), Some(2));
+    let mut unset = IterUnsetBits::over(vob.blocks(), vob.len(), ..2);
+    assert_eq!(rt; unset.next(), Some(1));
     println!(rt; "answered")?;
     Ok(())
 }
