@@ -1,8 +1,8 @@
 -- Blocks that hold the bits of others from an index on, at a plain width.
 use Rattle.std.specs.Prelude.{All}
-use Rattle.std.proofs.Common.{◌≡◌, ℕ, ◌+◌, ◌-◌, ◌*◌, ◌/◌, ◌%◌, ◌^◌, ◌<◌, ◌≤◌, false, ◌&&◌, cond, List, length, get_or, set, drop, ltb, sym, ap, ◌∙◌, subst, arith, inl, inr, mod-lt, div-add-mod', add-mul, one-mul}
+use Rattle.std.proofs.Common.{◌≡◌, ℕ, ◌+◌, ◌-◌, ◌*◌, ◌/◌, ◌%◌, ◌^◌, ◌<◌, ◌≤◌, false, ◌&&◌, cond, List, length, get_or, set, drop, map, ltb, sym, ap, ◌∙◌, subst, arith, inl, inr, mod-lt, div-add-mod', add-mul, one-mul}
 use Rattle.std.proofs.lemmas.Bool.{cases_lt, lt-ltb, le-ltb, cond-true, cond-false, and_left}
-use Rattle.std.proofs.lemmas.List.{length-set, length-drop, get_or-drop}
+use Rattle.std.proofs.lemmas.List.{length-set, length-drop, length-map, get_or-drop}
 use Rattle.std.proofs.lemmas.List.Elements.{All-set, All-drop}
 use Rattle.std.proofs.lemmas.Nat.{le-div}
 use Rattle.vob_block.specs.Places.{place, HasPlaces}
@@ -133,3 +133,12 @@ module _ (w : ℕ) (wide : 0 < w) (n at : ℕ) (xs : List ℕ) (h : IsCanonical 
   start-le inside =
       let start : at / w * w < n = omega (arith, div-add-mod' at w) in
       omega (arith, lt-need w wide n (at / w) start, h.count)
+
+-- the items whose blocks hold the rest are there; u is the width as the code read it
+module _ {X : Type 0} (number : X → ℕ) {w n : ℕ} (wide : 0 < w) (at : ℕ) (items : List X) (h : IsCanonical n (map number items) w) (inside : at < n)
+    {count u : ℕ} (are : count ≡ need (n - at) w) (same : u ≡ w) where
+  pub item_in_range : (k : ℕ) → k < count → at / u + k < length items
+  item_in_range k below = rw same (omega (arith, cut_in_range w wide n at (map number items) h k inside (omega arith), length-map items number))
+
+  pub last_in_range : at / u + (count - 1) < length items
+  last_in_range = item_in_range (count - 1) (omega (arith, are, lt-need w wide (n - at) 0 (omega arith)))

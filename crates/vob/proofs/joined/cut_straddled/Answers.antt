@@ -5,7 +5,7 @@ use Rattle.std.proofs.lemmas.List.Elements.{All-set}
 use Rattle.vob_block.specs.Packing.{need}
 use Rattle.vob_block.proofs.PlaceLemmas.{width_pos}
 use Rattle.vob_block.proofs.NeedLemmas.{lt-need}
-use Rattle.vob.proofs.StraddleLemmas.{AreCut-none, AreCut-more, HasPlaces-cut, HasPlaces-cut_last, IsRest-last, cut_in_range}
+use Rattle.vob.proofs.StraddleLemmas.{AreCut-none, AreCut-more, HasPlaces-cut, HasPlaces-cut_last, IsRest-last, cut_in_range, item_in_range, last_in_range}
 use Rattle.vob.proofs.joined.cut_straddled.Goals as goal
 
 pub overflow_sub-last : goal.overflow_sub-last
@@ -19,17 +19,14 @@ loop-k-init g c = record { cut = AreCut-none _ _ _ _; within = c.requires.within
 
 pub bounds-blocks-first-in-loop-k : goal.bounds-blocks-first-in-loop-k
 bounds-blocks-first-in-loop-k g c =
-    let w = g.T.Block.BITS in
     let wide = width_pos g.T.FixedWidth.width _ g.met.T.Block.width_law in
-    let there = cut_in_range w wide c.args.len c.args.at (map g.T.Block.number c.args.blocks.now) c.requires.canonical (c.loop-k.k + 1) c.requires.inside (omega (arith, c.block_count-last.ensures)) in
-    rw c.BITS-width.ensures (omega (arith, there, length-map c.args.blocks.now g.T.Block.number))
+    let there = item_in_range g.T.Block.number wide c.args.at c.args.blocks.now c.requires.canonical c.requires.inside c.block_count-last.ensures c.BITS-width.ensures (c.loop-k.k + 1) (omega arith) in
+    omega (arith, there)
 
 pub bounds-blocks-first : goal.bounds-blocks-first
 bounds-blocks-first g c =
-    let w = g.T.Block.BITS in
     let wide = width_pos g.T.FixedWidth.width _ g.met.T.Block.width_law in
-    let there = cut_in_range w wide c.args.len c.args.at (map g.T.Block.number c.args.blocks.now) c.requires.canonical c.loop-k.k c.requires.inside (omega (arith, c.block_count-last.ensures)) in
-    rw c.BITS-width.ensures (omega (arith, there, length-map c.args.blocks.now g.T.Block.number))
+    item_in_range g.T.Block.number wide c.args.at c.args.blocks.now c.requires.canonical c.requires.inside c.block_count-last.ensures c.BITS-width.ensures c.loop-k.k (omega arith)
 
 pub overflow_add-first : goal.overflow_add-first
 overflow_add-first g c = let there = bounds-blocks-first g c in omega (arith, there, c.well_formed.1.0.0)
@@ -39,10 +36,9 @@ offset_bounds-blocks-first g c = le_of_lt (bounds-blocks-first g c)
 
 pub overflow_add-first-in-loop-k : goal.overflow_add-first-in-loop-k
 overflow_add-first-in-loop-k g c =
-    let w = g.T.Block.BITS in
     let wide = width_pos g.T.FixedWidth.width _ g.met.T.Block.width_law in
-    let there = cut_in_range w wide c.args.len c.args.at (map g.T.Block.number c.args.blocks.now) c.requires.canonical c.loop-k.k c.requires.inside (omega (arith, c.block_count-last.ensures)) in
-    rw c.BITS-width.ensures (omega (arith, there, length-map c.args.blocks.now g.T.Block.number, c.well_formed.1.0.0))
+    let there = item_in_range g.T.Block.number wide c.args.at c.args.blocks.now c.requires.canonical c.requires.inside c.block_count-last.ensures c.BITS-width.ensures c.loop-k.k (omega arith) in
+    omega (arith, there, c.well_formed.1.0.0)
 
 pub overflow_add-first-in-loop-k-2 : goal.overflow_add-first-in-loop-k-2
 overflow_add-first-in-loop-k-2 g c = let there = bounds-blocks-first-in-loop-k g c in omega (arith, there, c.well_formed.1.0.0)
@@ -74,38 +70,26 @@ loop-k-preserved g c =
 
 pub bounds-blocks-first-2 : goal.bounds-blocks-first-2
 bounds-blocks-first-2 g c =
-    let w = g.T.Block.BITS in
     let wide = width_pos g.T.FixedWidth.width _ g.met.T.Block.width_law in
-    let some = lt-need w wide (c.args.len - c.args.at) 0 (omega (arith, c.requires.inside)) in
-    let there = cut_in_range w wide c.args.len c.args.at (map g.T.Block.number c.args.blocks.now) c.requires.canonical (c.block_count-last.result - 1) c.requires.inside (omega (arith, some, c.block_count-last.ensures)) in
-    rw c.BITS-width.ensures (omega (arith, there, length-map c.args.blocks.now g.T.Block.number))
+    last_in_range g.T.Block.number wide c.args.at c.args.blocks.now c.requires.canonical c.requires.inside c.block_count-last.ensures c.BITS-width.ensures
 
 pub overflow_add-low : goal.overflow_add-low
-overflow_add-low g c =
-    let w = g.T.Block.BITS in
-    let wide = width_pos g.T.FixedWidth.width _ g.met.T.Block.width_law in
-    let some = lt-need w wide (c.args.len - c.args.at) 0 (omega (arith, c.requires.inside)) in
-    let there = cut_in_range w wide c.args.len c.args.at (map g.T.Block.number c.args.blocks.now) c.requires.canonical (c.block_count-last.result - 1) c.requires.inside (omega (arith, some, c.block_count-last.ensures)) in
-    rw c.BITS-width.ensures (omega (arith, there, length-map c.args.blocks.now g.T.Block.number, c.well_formed.1.0.0))
+overflow_add-low g c = let there = bounds-blocks-first-2 g c in omega (arith, there, c.well_formed.1.0.0)
 
 pub offset_bounds-blocks-first-2 : goal.offset_bounds-blocks-first-2
 offset_bounds-blocks-first-2 g c = le_of_lt (bounds-blocks-first-2 g c)
 
 pub overflow_add-first-2 : goal.overflow_add-first-2
 overflow_add-first-2 g c =
-    let w = g.T.Block.BITS in
     let wide = width_pos g.T.FixedWidth.width _ g.met.T.Block.width_law in
-    let some = lt-need w wide (c.args.len - c.args.at) 0 (omega (arith, c.requires.inside)) in
-    let there = cut_in_range w wide c.args.len c.args.at (map g.T.Block.number c.args.blocks.now) c.requires.canonical (c.block_count-last.result - 1) c.requires.inside (omega (arith, some, c.block_count-last.ensures)) in
-    rw c.BITS-width.ensures (omega (arith, there, length-map c.args.blocks.now g.T.Block.number, c.well_formed.1.0.0))
+    let there = last_in_range g.T.Block.number wide c.args.at c.args.blocks.now c.requires.canonical c.requires.inside c.block_count-last.ensures c.BITS-width.ensures in
+    omega (arith, there, c.well_formed.1.0.0)
 
 pub overflow_add-first-3 : goal.overflow_add-first-3
 overflow_add-first-3 g c =
-    let w = g.T.Block.BITS in
     let wide = width_pos g.T.FixedWidth.width _ g.met.T.Block.width_law in
-    let some = lt-need w wide (c.args.len - c.args.at) 0 (omega (arith, c.requires.inside)) in
-    let there = cut_in_range w wide c.args.len c.args.at (map g.T.Block.number c.args.blocks.now) c.requires.canonical (c.block_count-last.result - 1) c.requires.inside (omega (arith, some, c.block_count-last.ensures)) in
-    rw c.BITS-width.ensures (omega (arith, there, length-map c.args.blocks.now g.T.Block.number, c.well_formed.1.0.0))
+    let there = last_in_range g.T.Block.number wide c.args.at c.args.blocks.now c.requires.canonical c.requires.inside c.block_count-last.ensures c.BITS-width.ensures in
+    omega (arith, there, c.well_formed.1.0.0)
 
 pub bounds-rest-last : goal.bounds-rest-last
 bounds-rest-last g c =
