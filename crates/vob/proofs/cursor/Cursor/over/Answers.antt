@@ -48,10 +48,4 @@ returns-clause-left g c = λ known.
 
 pub returns-clause-credit : goal.returns-clause-credit
 unfolding walk_of
-returns-clause-credit g c = λ known.
-    let w = g.T.Block.BITS in
-    let wide = width_pos g.T.FixedWidth.width _ g.met.T.Block.width_law in
-    let stop = c.past_last_index-stop in
-    let start = c.first_index-start in
-    let window = IsWindow-cut (g.R.RangeBounds.start_bound c.args.range) (g.R.RangeBounds.end_bound c.args.range) c.args.len start.result stop.result stop.ensures.within start.ensures.within (stop.ensures.meets known) (start.ensures.meets known) in
-    omega (arith, met-blocks w wide window c.blocks_of-next.ensures)
+returns-clause-credit g c = λ known. let all = returns-clause-left g c known in omega (arith, all)
