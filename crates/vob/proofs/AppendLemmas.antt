@@ -2,7 +2,7 @@
 use Rattle.std.specs.Prelude.{All, ◌⊎◌}
 use Rattle.std.proofs.Common.{◌≡◌, ◌≢◌, ℕ, ◌+◌, ◌-◌, ◌*◌, ◌/◌, ◌%◌, ◌^◌, ◌<◌, ◌≤◌, Bool, true, false, ◌&&◌, ◌||◌, cond, List, [], ◌∷◌, ◌++◌, length, map, get_or, set, take, drop, min, zero, suc, replicate, leb, ltb, refl, sym, ap, ◌∙◌, subst, arith, inl, inr, mod-lt, div-add-mod', add-mul, add-one, suc-mul}
 use Rattle.std.proofs.lemmas.Bool.{cases_lt, cases_eq, lt-ltb, le-ltb, lt-leb, le-leb}
-use Rattle.std.proofs.lemmas.List.{nil_from_length, map-append, take_all, append-nil, append_assoc, take_more, take-append-drop, length-take-le, length-drop, length-map, get_or-map, length-set, length-append, length-replicate, get_or_append_left, get_or-append_right, get_or-append-add, get_or_past, get_or-replicate}
+use Rattle.std.proofs.lemmas.List.{nil_from_length, map-append, take_all, take_at, append-nil, append_assoc, take_more, take-append-drop, length-take-le, length-drop, length-map, get_or-map, length-set, length-append, length-replicate, get_or_append_left, get_or-append_right, get_or-append-add, get_or_past, get_or-replicate}
 use Rattle.std.proofs.lemmas.List.Elements.{All-set, All-append, All-replicate}
 use Rattle.std.proofs.lemmas.Nat.{mul-le, mod-mul-add, div-mul-add}
 use Rattle.vob_block.specs.Places.{place, HasPlaces}
@@ -12,6 +12,7 @@ use Rattle.vob_block.proofs.PackingLemmas.{stored_at, stored_from, stored-set_sa
 use Rattle.vob_block.proofs.PlaceLemmas.{same_from_places, place-ones}
 use Rattle.vob.specs.Joining.{IsJoined}
 use Rattle.vob.proofs.EvenLemmas.{place-even, even-lt}
+use Rattle.vob.proofs.FillLemmas.{resized_is}
 
 or-false : (b : Bool) → (b || false) ≡ b
 or-false true = refl
@@ -274,12 +275,31 @@ module _ {X : Type 0} (number : X → ℕ) (w : ℕ) (wide : 0 < w) (n : ℕ) (i
             ∙ ap (λ b. place j (get_or (map number items) (n / w) 0) || b) (up.each j below ∙ ap (λ v. leb (n % v) j && place (j - n % v) x) same);
       }
 
--- items after a resize by items of one bit
-module _ {X : Type 0} (number : X → ℕ) (w : ℕ) (wide : 0 < w) (n m : ℕ) (xs ys : List X) (even : X) (count : length xs ≡ need n w) (longer : n ≤ m) (is : ys ≡ take (need m w) xs ++ replicate (need m w - length xs) even) where
+-- items that hold some bits, after a resize by items of one bit to as many as more bits need
+pub record IsResized {X : Type 0} (w n m : ℕ) (xs ys : List X) (even : X) : Type 0 where
+  pub longer : n ≤ m
+  pub count : length xs ≡ need n w
+  pub is : ys ≡ take (need m w) xs ++ replicate (need m w - length xs) even
+
+-- those of a vector, changed before in a slice that stands for them; t and len are the counts that the code has
+pub IsResized-changed : {X : Type 0} (number : X → ℕ) {w n m : ℕ} (old slice changed ys : List X) (even : X) {t len : ℕ} (done : Bool) → IsCanonical n (map number old) w → n ≤ m
+    → slice ≡ old → length slice ≡ len → length changed ≡ length slice → t ≡ need m w → done ≡ true
+    → ys ≡ cond done (take t (take len (changed ++ drop (length changed) old)) ++ replicate (t - len) even) (take len (changed ++ drop (length changed) old)) → IsResized w n m changed ys even
+IsResized-changed number old slice changed ys even done h longer same long kept wanted ok is =
+    let all = take_at changed (drop (length changed) old) _ (kept ∙ long) in
+    record {
+      longer = longer;
+      count = kept ∙ ap length same ∙ sym (length-map old number) ∙ h.count;
+      is = resized_is changed ys even _ _ _ done (rw all at is) ok wanted (sym (kept ∙ long));
+    }
+
+module _ {X : Type 0} (number : X → ℕ) {w : ℕ} (wide : 0 < w) {n m : ℕ} {xs ys : List X} {even : X} (r : IsResized w n m xs ys even) where
+  short : length xs ≤ need m w
+  short = omega (arith, need-le-need w wide n m r.longer, r.count)
+
   numbers-resized : map number ys ≡ map number xs ++ replicate (need m w - length xs) (number even)
   numbers-resized =
-      let short : length xs ≤ need m w = omega (arith, need-le-need w wide n m longer, count) in
-      ap (map number) (is ∙ ap (λ zs. zs ++ replicate (need m w - length xs) even) (take_all (need m w) xs short)) ∙ map-append number xs (replicate (need m w - length xs) even)
+      ap (map number) (r.is ∙ ap (λ zs. zs ++ replicate (need m w - length xs) even) (take_all (need m w) xs short)) ∙ map-append number xs (replicate (need m w - length xs) even)
       ∙ ap (λ zs. map number xs ++ zs) (map-replicate (need m w - length xs))
     where
       map-replicate : (k : ℕ) → map number (replicate k even) ≡ replicate k (number even)
@@ -288,9 +308,8 @@ module _ {X : Type 0} (number : X → ℕ) (w : ℕ) (wide : 0 < w) (n m : ℕ) 
 
   pub length-resized : length ys ≡ need m w
   length-resized =
-      let short : length xs ≤ need m w = omega (arith, need-le-need w wide n m longer, count) in
-      ap length is ∙ length-append (take (need m w) xs) (replicate (need m w - length xs) even)
-      ∙ omega (arith, ap length (take_all (need m w) xs short), length-replicate (need m w - length xs) even)
+      ap length r.is ∙ length-append (take (need m w) xs) (replicate (need m w - length xs) even)
+      ∙ omega (arith, short, ap length (take_all (need m w) xs short), length-replicate (need m w - length xs) even)
 
   module _ (v : Bool) (its : number even ≡ cond v (2 ^ w - 1) 0) where
     pub resized-within : All (λ x. x < 2 ^ w) (map number xs) → All (λ x. x < 2 ^ w) (map number ys)
@@ -298,8 +317,7 @@ module _ {X : Type 0} (number : X → ℕ) (w : ℕ) (wide : 0 < w) (n m : ℕ) 
 
     pub spelled-resized : (bits : List Bool) → length bits ≡ n → spelled (length xs * w) (map number xs) w ≡ bits ++ replicate (length xs * w - n) v → spelled m (map number ys) w ≡ bits ++ replicate (m - n) v
     spelled-resized bits are filled =
-        let short : length xs ≤ need m w = omega (arith, need-le-need w wide n m longer, count) in
         let same = length-map xs number in
-        let held : n ≤ length xs * w = subst (λ (q : ℕ). n ≤ q * w) (sym count) (need_enough w wide n) in
+        let held : n ≤ length xs * w = subst (λ (q : ℕ). n ≤ q * w) (sym r.count) (need_enough w wide n) in
         ap (λ zs. spelled m zs w) numbers-resized
-        ∙ spelled-append_even w wide bits n m (need m w - length xs) (map number xs) v (number even) its are (rw same held) (rw same filled) longer (omega (arith, same, short))
+        ∙ spelled-append_even w wide bits n m (need m w - length xs) (map number xs) v (number even) its are (rw same held) (rw same filled) r.longer (omega (arith, same, short))
