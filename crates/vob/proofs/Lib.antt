@@ -16,6 +16,7 @@ pub mod MatchesLemmas
 pub mod PointwiseLemmas
 pub mod PullLemmas
 pub mod PushLemmas
+pub mod RawLemmas
 pub mod RestLemmas
 pub mod RoomLemmas
 pub mod SameLemmas

@@ -6,6 +6,8 @@ pub mod Fed
 pub mod Joining
 pub mod Laws
 pub mod Matches
+pub mod Raw
+pub mod RawLends
 pub mod Refusal
 pub mod Rest
 pub mod Same

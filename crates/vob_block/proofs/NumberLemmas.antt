@@ -1,8 +1,14 @@
 -- From the laws of a block type to the number of a result, at any type S with these members.
-use Rattle.std.proofs.Common.{◌≡◌, ℕ, ◌^◌, ◌<◌, ap, ◌∙◌}
+use Rattle.std.specs.Prelude.{All}
+use Rattle.std.proofs.Common.{◌≡◌, ℕ, ◌^◌, ◌<◌, List, map, get_or, ap, ◌∙◌}
+use Rattle.std.proofs.lemmas.List.Elements.{All-map, All-from_get_or}
 
 module _ {S : Type 0} (number : S → ℕ) (of_bits : ℕ → S) (width : ℕ)
     (of_bits_number : (n : ℕ) → n < 2 ^ width → number (of_bits n) ≡ n) where
   -- a result that is made of some bits, which are n, has the number n
   pub number_from_bits : (x : S) (bits n : ℕ) → x ≡ of_bits bits → bits ≡ n → n < 2 ^ width → number x ≡ n
   number_from_bits x bits n made same h = ap number (made ∙ ap of_bits same) ∙ of_bits_number n h
+
+-- blocks that are their own numbers, each below a bound
+pub all_own_numbers : (bound : ℕ) (xs : List ℕ) → ((k : ℕ) → get_or xs k 0 < bound) → All (λ n. n < bound) (map (λ x. x) xs)
+all_own_numbers bound xs h = All-map (λ n. n < bound) (λ x. x) xs (All-from_get_or (λ n. n < bound) xs 0 (λ k _. h k))

@@ -41,6 +41,10 @@ pub trait Block: PrimInt + Hash + Debug {
     fn known(self)
         ensures { number self < 2 ^ BITS };
 
+    /// Does nothing: blocks at hand are in the range of their type, which generic code can't see.
+    fn known_all(blocks: &[Self])
+        ensures { All (λ n. n < 2 ^ BITS) (map number blocks.now) };
+
     /// The places that both blocks have.
     fn band(self, other: Self) -> Self
         ensures places { HasPlaces BITS (number result) (λ j. place j (number self) && place j (number other)) }

@@ -26,6 +26,8 @@ impl Block for u8 {
 
     fn known(self) {}
 
+    fn known_all(blocks: &[Self]) {}
+
     ghost number_law = { λ x. refl };
 
     ghost equal_law = { λ x y. (eqb-true x y, eq-eqb x y) };
@@ -65,6 +67,8 @@ impl Block for u16 {
     ghost number = { λ x. x };
 
     fn known(self) {}
+
+    fn known_all(blocks: &[Self]) {}
 
     ghost number_law = { λ x. refl };
 
@@ -106,6 +110,8 @@ impl Block for u32 {
 
     fn known(self) {}
 
+    fn known_all(blocks: &[Self]) {}
+
     ghost number_law = { λ x. refl };
 
     ghost equal_law = { λ x y. (eqb-true x y, eq-eqb x y) };
@@ -145,6 +151,8 @@ impl Block for u64 {
     ghost number = { λ x. x };
 
     fn known(self) {}
+
+    fn known_all(blocks: &[Self]) {}
 
     ghost number_law = { λ x. refl };
 
@@ -186,6 +194,8 @@ impl Block for u128 {
 
     fn known(self) {}
 
+    fn known_all(blocks: &[Self]) {}
+
     ghost number_law = { λ x. refl };
 
     ghost equal_law = { λ x y. (eqb-true x y, eq-eqb x y) };
@@ -225,6 +235,8 @@ impl Block for usize {
     ghost number = { λ x. x };
 
     fn known(self) {}
+
+    fn known_all(blocks: &[Self]) {}
 
     ghost number_law = { λ x. refl };
 

@@ -1,0 +1,191 @@
+//! Raw storage: a length and blocks without a promise, and the tested way back to a Vob.
+ghost use Rattle.std.specs.Prelude.{◌≡◌, ◌↔◌, map, length, IsTrue, IsOk, IfOk, IfErr};
+ghost use Rattle.vob_block.specs.Packing.{need, packing, spelled, IsCanonical};
+
+use crate::edit::clear_from;
+use crate::vob::Vob;
+use serde::{Deserialize, Serialize};
+use std::marker::Model;
+use vob_block::Block;
+
+/// Whether the blocks are as many as `len` bits need, and false from bit `len` on. Only the last of
+/// so many blocks can be otherwise, so no other one is read.
+fn is_canonical<T: Block>(blocks: &[T], len: usize) -> bool
+    ensures { IsTrue result ↔ IsCanonical len (map T.number blocks.now) T.BITS }
+{
+    T::known_all(blocks);
+    let width = T::BITS;
+    if blocks.len() != len.div_ceil(width) {
+        return false;
+    }
+    let used = len % width;
+    if used == 0 {
+        return true;
+    }
+    let last = blocks[len / width];
+    last.band(T::low_mask(used)) == last
+}
+
+/// The Vob of `len` bits in these blocks, where they are canonical; otherwise the blocks again.
+fn vob_of_parts<T: Block>(len: usize, vec: Vec<T>) -> Result<Vob<T>, Vec<T>>
+    ensures taken { IsOk result ↔ IsCanonical len (map T.number vec.items) T.BITS }
+    ensures bits { IfOk result (λ vob. vob.bits ≡ spelled len (map T.number vec.items) T.BITS) }
+    ensures back { IfErr result (λ returned. returned ≡ vec) }
+{
+    if !is_canonical(vec.as_slice(), len) {
+        return Err(vec);
+    }
+    Ok(Vob { len, vec })
+}
+
+/// Makes every bit from `len` on false, of as many blocks as `len` bits need.
+fn mask<T: Block>(blocks: &mut [T], len: usize)
+    requires { length blocks.old ≡ need len T.BITS }
+    ensures { map T.number blocks.new
+        ≡ packing (spelled len (map T.number blocks.old) T.BITS) T.BITS }
+{
+    T::known_all(blocks);
+    clear_from(blocks, len);
+}
+
+/// A length in bits and some blocks, which needn't fit one another. vob 4.0.1 changes these in the
+/// Vob itself, and tests nothing.
+#[derive(Debug, Drop)]
+pub struct RawVob<T> {
+    len: usize,
+    vec: Vec<T>,
+}
+
+impl<T> Model for RawVob<T> {
+    ghost use Rattle.vob.specs.Raw.{RawStorage};
+
+    ghost Value = { RawStorage T };
+
+    ghost view = { λ raw. record { len = raw.len; blocks = raw.vec.items } };
+}
+
+impl<T: Block> RawVob<T> {
+    ghost use Rattle.std.specs.Borrow.{Lends, sem};
+    ghost use Rattle.vob.specs.contracts.raw.RawVob.{the_row};
+    ghost use Rattle.vob.specs.RawLends.{blocks_row};
+
+    /// A length and some blocks, as they are.
+    pub fn from_parts(len: usize, vec: Vec<T>) -> RawVob<T>
+        ensures len { result.len ≡ len }
+        ensures blocks { result.blocks ≡ vec.items }
+    {
+        RawVob { len, vec }
+    }
+
+    /// The length in bits.
+    pub fn len(&self) -> usize
+        ensures { result ≡ self.now.len }
+    {
+        self.len
+    }
+
+    /// The blocks.
+    pub fn get_storage(&self) -> &[T]
+        ensures { result.now ≡ self.now.blocks }
+    {
+        self.vec.as_slice()
+    }
+
+    /// The blocks, to be changed. The length stays. vob 4.0.1 has this as an unsafe call on the Vob.
+    pub fn get_storage_mut(&mut self) -> &mut Vec<T>
+        ensures blocks { result.now.items ≡ self.old.blocks }
+        ensures* lends { sem 𝓛 (Lends (the_row T.row) (blocks_row T.row) self.entry result
+            (λ w. record { len = self.old.len; blocks = w.items })) }
+    {
+        &mut self.vec
+    }
+
+    /// Sets the length, and leaves the blocks. vob 4.0.1 has this as an unsafe call on the Vob.
+    pub fn set_len(&mut self, len: usize)
+        ensures len { self.new.len ≡ len }
+        ensures blocks { self.new.blocks ≡ self.old.blocks }
+    {
+        self.len = len;
+    }
+
+    /// Whether there are as many blocks as the length needs.
+    pub fn fits(&self) -> bool
+        ensures { IsTrue result ↔ (length self.now.blocks ≡ need self.now.len T.BITS) }
+    {
+        self.vec.len() == self.len.div_ceil(T::BITS)
+    }
+
+    /// Makes the unused bits of the last block 0. vob 4.0.1 panics where the blocks don't fit, or
+    /// masks another one.
+    pub fn mask_last_block(&mut self)
+        requires fits { length self.old.blocks ≡ need self.old.len T.BITS }
+        ensures len { self.new.len ≡ self.old.len }
+        ensures blocks { map T.number self.new.blocks
+            ≡ packing (spelled self.old.len (map T.number self.old.blocks) T.BITS) T.BITS }
+    {
+        mask(&mut self.vec, self.len);
+    }
+
+    /// The Vob with these bits, where the blocks fit and their unused bits are 0; otherwise this
+    /// value again. Looks at the last block alone, and takes no memory.
+    pub fn into_vob(self) -> Result<Vob<T>, RawVob<T>>
+        ensures taken { IsOk result ↔ IsCanonical self.len (map T.number self.blocks) T.BITS }
+        ensures bits { IfOk result (λ vob.
+            vob.bits ≡ spelled self.len (map T.number self.blocks) T.BITS) }
+        ensures back { IfErr result (λ returned. returned ≡ self) }
+    {
+        match vob_of_parts(self.len, self.vec) {
+            Ok(vob) => Ok(vob),
+            Err(vec) => Err(RawVob { len: self.len, vec }),
+        }
+    }
+}
+
+impl<T: Block> Vob<T> {
+    /// The length and the blocks, without a promise from here on. Takes no memory.
+    pub fn into_raw(self) -> RawVob<T>
+        ensures len { result.len ≡ length self.bits }
+        ensures blocks { map T.number result.blocks ≡ packing self.bits T.BITS }
+    {
+        RawVob {
+            len: self.len,
+            vec: self.vec,
+        }
+    }
+}
+
+/// What is written and read in place of a Vob: its length in bits and its blocks. One that was read
+/// promises nothing before `into_vob`; vob 4.0.1 reads a Vob with any length and any blocks.
+#[derive(Debug, Drop, Serialize, Deserialize)]
+pub struct VobRecord {
+    pub len: usize,
+    pub vec: Vec<usize>,
+}
+
+impl VobRecord {
+    /// The Vob with these bits, where the blocks fit and their unused bits are 0; otherwise this
+    /// record again. Looks at the last block alone, and takes no memory.
+    pub fn into_vob(self) -> Result<Vob<usize>, VobRecord>
+        ensures taken { IsOk result ↔ IsCanonical self.len self.vec.items 64 }
+        ensures bits { IfOk result (λ vob. vob.bits ≡ spelled self.len self.vec.items 64) }
+        ensures back { IfErr result (λ returned. returned ≡ self) }
+    {
+        match vob_of_parts(self.len, self.vec) {
+            Ok(vob) => Ok(vob),
+            Err(vec) => Err(VobRecord { len: self.len, vec }),
+        }
+    }
+}
+
+impl Vob<usize> {
+    /// The length and the blocks, to be written. Takes no memory.
+    pub fn into_record(self) -> VobRecord
+        ensures len { result.len ≡ length self.bits }
+        ensures blocks { result.vec.items ≡ packing self.bits 64 }
+    {
+        VobRecord {
+            len: self.len,
+            vec: self.vec,
+        }
+    }
+}
