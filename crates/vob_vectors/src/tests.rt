@@ -8,6 +8,7 @@ mod index_walks;
 mod joins;
 mod made_and_changed;
 mod pointwise;
+mod raw;
 mod reachable;
 mod rows;
 mod single_bits;
