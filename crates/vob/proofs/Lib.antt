@@ -1,5 +1,6 @@
 pub mod AppendLemmas
 pub mod ChangeLemmas
+pub mod CountLemmas
 pub mod CursorLemmas
 pub mod CutLemmas
 pub mod EvenLemmas

@@ -49,7 +49,7 @@ HasPlaces-from_part w a start n x y ones mask far within all p q = record {
 
 -- ---- the blocks that are not read yet
 
-product-more : (w q : ℕ) → (q + 1) * w ≡ q * w + w
+pub product-more : (w q : ℕ) → (q + 1) * w ≡ q * w + w
 product-more w q = ap (λ k. k * w) (add-one q) ∙ suc-mul q w
 
 module _ (w : ℕ) (xs : List ℕ) (value : Bool) (start stop : ℕ) where

@@ -31,22 +31,29 @@ pub record IsHand (width at block : ℕ) : Type 0 where
 abbrev pub held : ℕ → ℕ
 held block = min 1 block
 
--- what two hands and the unread blocks between them have left
+-- the indices that two hands and the unread blocks between them have left
+abbrev pub indices_left : ℕ → List ℕ → Bool → ℕ → ℕ → ℕ → ℕ → ℕ → ℕ → ℕ → ℕ → List ℕ
+indices_left width blocks value start stop next end front_at front back_at back =
+    in_hand width front_at front ++ (unread width blocks value start stop next end ++ in_hand width back_at back)
+
+-- the walk that they make
 unfoldable pub walk_of : ℕ → List ℕ → ℕ → Bool → ℕ → ℕ → ℕ → ℕ → ℕ → ℕ → ℕ → ℕ → Walk
 walk_of width blocks reads value start stop next end front_at front back_at back = record {
-  rest = in_hand width front_at front ++ (unread width blocks value start stop next end ++ in_hand width back_at back);
+  rest = indices_left width blocks value start stop next end front_at front back_at back;
   reads = reads;
   left = end - next + held front + held back;
   credit = end - next;
 }
 
--- both hands hold indices that fit, and each unread block is there and begins below the end of the range
-pub record IsCursor (width : ℕ) (blocks : List ℕ) (stop next end front_at front back_at back : ℕ) : Type 0 where
+-- both hands hold indices that fit, each unread block is there and begins below the end of the range,
+-- and the number of indices left fits too
+pub record IsCursor (width : ℕ) (blocks : List ℕ) (value : Bool) (start stop next end front_at front back_at back : ℕ) : Type 0 where
   pub order : next ≤ end
   pub count : end ≤ length blocks
   pub below : (k : ℕ) → k < end → k * width < stop
   pub at_front : IsHand width front_at front
   pub at_back : IsHand width back_at back
+  pub countable : length (indices_left width blocks value start stop next end front_at front back_at back) < 2 ^ 64
 
 -- the blocks from next to below end are those that hold an index from start to below stop
 pub record AreBlocksOf (width start stop next end : ℕ) : Type 0 where

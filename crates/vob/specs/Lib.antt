@@ -1,4 +1,5 @@
 pub mod BothValues
+pub mod Count
 pub mod Cursor
 pub mod Ends
 pub mod Extending

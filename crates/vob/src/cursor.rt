@@ -7,6 +7,7 @@ ghost use Rattle.vob.specs.Matches.{matches, met};
 ghost use Rattle.vob.specs.Cursor.{AreBlocksOf};
 ghost use Rattle.vob.specs.Walk.{Walk, IsPulled, given, kept};
 
+use crate::count::count_unread;
 use crate::fill::even_block;
 use crate::hand::{Hand, take_first, take_last};
 use crate::range::{first_index, past_last_index};
@@ -41,12 +42,12 @@ impl<'a, T: Block> Model for Cursor<'a, T> {
     ghost view = { λ c. walk_of T.BITS (map T.number c.blocks.items) c.blocks.reads c.wanted c.start c.stop
         c.next c.end c.front.at (T.number c.front.word) c.back.at (T.number c.back.word) };
 
-    ghost invariant = { λ c. IsCursor T.BITS (map T.number c.blocks.items) c.stop c.next c.end
+    ghost invariant = { λ c. IsCursor T.BITS (map T.number c.blocks.items) c.wanted c.start c.stop c.next c.end
         c.front.at (T.number c.front.word) c.back.at (T.number c.back.word) };
 }
 
 /// The blocks that hold an index from `start` to below `stop`: the first one, and where they end.
-fn blocks_of<T: Block>(start: usize, stop: usize) -> (usize, usize)
+pub(crate) fn blocks_of<T: Block>(start: usize, stop: usize) -> (usize, usize)
     requires { start ≤ stop }
     ensures { AreBlocksOf T.BITS start stop result.0 result.1 }
 {
@@ -132,6 +133,22 @@ impl<'a, T: Block> Cursor<'a, T> {
             &mut self.back,
         );
         take_last(&mut self.back)
+    }
+
+    /// How many indices are left.
+    pub(crate) fn count(self) -> usize
+        ensures { result ≡ length self.entry.rest }
+    {
+        let mut blocks = self.blocks;
+        let unread = count_unread(
+            &mut blocks,
+            self.wanted,
+            self.start,
+            self.stop,
+            self.next,
+            self.end,
+        );
+        self.front.word.ones_in() + unread + self.back.word.ones_in()
     }
 
     /// The first or the last index that is left, taken.

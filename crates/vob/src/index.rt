@@ -50,6 +50,13 @@ impl<'a, T: Block> IterSetBits<'a, T> {
             cursor: Cursor::over(blocks, true, len, range),
         }
     }
+
+    /// How many indices are still to come. vob 4.0.1 overrides `Iterator::count` by this number.
+    pub fn count(self) -> usize
+        ensures { result ≡ length self.entry.rest }
+    {
+        self.cursor.count()
+    }
 }
 
 impl<'a, T: Block> Iterator for IterSetBits<'a, T> {
@@ -126,6 +133,15 @@ impl<'a, T: Block> IterUnsetBits<'a, T> {
         IterUnsetBits {
             cursor: Cursor::over(blocks, false, len, range),
         }
+    }
+
+    /// How many indices are still to come. vob 4.0.1 overrides `Iterator::count` by the indices of the
+    /// range less its set bits: of a range whose end is before its start, and after an answer None that
+    /// left the start past the end, that panics or wraps.
+    pub fn count(self) -> usize
+        ensures { result ≡ length self.entry.rest }
+    {
+        self.cursor.count()
     }
 }
 

@@ -77,6 +77,13 @@ impl<'a, T: Block> Iter<'a, T> {
             end: self.end,
         }
     }
+
+    /// How many bits are still to come. vob 4.0.1 overrides `Iterator::count` by this number.
+    pub fn count(self) -> usize
+        ensures { result ≡ length self.entry }
+    {
+        self.len()
+    }
 }
 
 impl<'a, T: Block> Iterator for Iter<'a, T> {
@@ -148,6 +155,13 @@ impl<'a, T: Block> StorageIter<'a, T> {
         ensures { result ≡ self.now }
     {
         StorageIter { rest: self.rest }
+    }
+
+    /// How many blocks are still to come. vob 4.0.1 overrides `Iterator::count` by this number.
+    pub fn count(self) -> usize
+        ensures { result ≡ length self.entry }
+    {
+        self.rest.len()
     }
 }
 

@@ -4,6 +4,7 @@
 mod bits;
 pub mod bulk;
 mod bytes;
+mod count;
 mod cursor;
 mod edit;
 mod error;
@@ -27,6 +28,7 @@ mod scan;
 pub mod vob;
 mod walk;
 
+pub use count::count_ones_in;
 pub use error::VobError;
 pub use index::{IterSetBits, IterUnsetBits};
 pub use iter::{Iter, StorageIter};

@@ -1,10 +1,10 @@
 -- The window of the range, and the blocks that it meets.
-use Rattle.std.proofs.Common.{◌∙◌, map, refl, ap, arith}
+use Rattle.std.proofs.Common.{◌∙◌, map, length, refl, ap, arith}
 use Rattle.std.proofs.lemmas.List.{length-map}
 use Rattle.vob_block.proofs.NeedLemmas.{need-le-need}
 use Rattle.vob_block.proofs.PlaceLemmas.{width_pos}
-use Rattle.vob.specs.Cursor.{held, walk_of}
-use Rattle.vob.proofs.WindowLemmas.{IsWindow-cut}
+use Rattle.vob.specs.Cursor.{held, unread, walk_of}
+use Rattle.vob.proofs.WindowLemmas.{IsWindow-cut, length-unread-le}
 use Rattle.vob.proofs.HandLemmas.{IsHand-zero}
 use Rattle.vob.proofs.CursorLemmas.{rest-fresh, unread-window, met-blocks}
 use Rattle.vob.proofs.cursor.Cursor.over.Goals as goal
@@ -20,6 +20,10 @@ invariant_of-result g c =
       below = blocks.below;
       at_front = IsHand-zero w 0 _ c.even_block.ensures;
       at_back = IsHand-zero w 0 _ c.even_block-2.ensures;
+      countable =
+          let number = g.T.Block.number in
+          let fresh = rest-fresh w 0 0 (number c.even_block.result) (number c.even_block-2.result) (unread w (map number c.args.blocks.items) c.args.wanted c.first_index-start.result c.past_last_index-stop.result c.blocks_of-next.result.0 c.blocks_of-next.result.1) c.even_block.ensures c.even_block-2.ensures in
+          omega (arith, ap length fresh, length-unread-le w (map number c.args.blocks.items) c.args.wanted c.first_index-start.result c.past_last_index-stop.result c.blocks_of-next.result.0 c.blocks_of-next.result.1);
     }
 
 pub returns-clause-rest : goal.returns-clause-rest
