@@ -2,6 +2,7 @@
 mod agreement;
 mod commands;
 mod constructors;
+mod counts;
 mod growing;
 mod index_patterns;
 mod index_walks;
