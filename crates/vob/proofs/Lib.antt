@@ -25,6 +25,7 @@ pub mod ScanLemmas
 pub mod StorageLemmas
 pub mod StraddleLemmas
 pub mod TurnLemmas
+pub mod WalkLemmas
 pub mod WholeLemmas
 pub mod WindowLemmas
 pub mod WriteLemmas

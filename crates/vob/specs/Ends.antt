@@ -1,5 +1,5 @@
 -- What pulls at the two ends of a walk obey.
-use Rattle.std.specs.Prelude.{◌≡◌, ℕ, List, length, replicate, Option, None}
+use Rattle.std.specs.Prelude.{◌≡◌, ℕ, List, length, replicate, None}
 use Rattle.vob.specs.declared.walk.End.{End}
 use Rattle.vob.specs.Walk.{given, kept, answers}
 

@@ -1,5 +1,6 @@
 -- A walk over indices, pulled at from both ends.
 use Rattle.std.specs.Prelude.{ℕ, ◌+◌, ◌-◌, ◌≤◌, List, [], ◌∷◌, length, take, drop, slice_get, Option, Some, None}
+use Rattle.std.specs.Iterator.{YieldsFirst, YieldsLast}
 use Rattle.vob.specs.declared.walk.End.{End}
 use Rattle.vob.specs.declared.walk.End.TheVariants.{Front, Back}
 
@@ -41,3 +42,12 @@ pub record IsPulled (walk : Walk) (given : List (Option ℕ)) (after : Walk) : T
   pub bound : after.reads + after.left ≤ walk.reads + walk.left + dealt given
   pub rises : walk.reads ≤ after.reads
   pub credit : after.reads + after.credit ≤ walk.reads + walk.credit
+
+-- what a call of `next` does, and one of `next_back`: an end's index is given where one is left
+pub record GivesFirst (walk : Walk) (index : Option ℕ) (after : Walk) : Type 0 where
+  pub gives : YieldsFirst (λ (w : Walk). w.rest) walk index after
+  pub reads : IsPulled walk (index ∷ []) after
+
+pub record GivesLast (walk : Walk) (index : Option ℕ) (after : Walk) : Type 0 where
+  pub gives : YieldsLast (λ (w : Walk). w.rest) walk index after
+  pub reads : IsPulled walk (index ∷ []) after

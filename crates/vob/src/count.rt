@@ -6,7 +6,7 @@ ghost use Rattle.vob.specs.Matches.{met};
 ghost use Rattle.vob.specs.Count.{ones_between};
 ghost use Rattle.vob.specs.Cursor.{unread};
 
-use crate::cursor::blocks_of;
+use crate::range::blocks_of;
 use crate::scan::masked;
 use vob_block::{Block, Blocks};
 

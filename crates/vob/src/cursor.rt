@@ -4,13 +4,12 @@ ghost use Rattle.std.specs.Prelude.{◌≡◌, ◌≤◌, ◌∷◌, [], ⊤, �
 ghost use Rattle.std.specs.Iterator.{YieldsFirst, YieldsLast, MakesProgress, item_count};
 ghost use Rattle.vob_block.specs.Packing.{need, spelled};
 ghost use Rattle.vob.specs.Matches.{matches, met};
-ghost use Rattle.vob.specs.Cursor.{AreBlocksOf};
 ghost use Rattle.vob.specs.Walk.{Walk, IsPulled, given, kept};
 
 use crate::count::count_unread;
 use crate::fill::even_block;
 use crate::hand::{Hand, take_first, take_last};
-use crate::range::{first_index, past_last_index};
+use crate::range::{blocks_of, first_index, past_last_index};
 use crate::scan::{fill_first, fill_last};
 use crate::walk::End;
 use std::marker::Model;
@@ -44,17 +43,6 @@ impl<'a, T: Block> Model for Cursor<'a, T> {
 
     ghost invariant = { λ c. IsCursor T.BITS (map T.number c.blocks.items) c.wanted c.start c.stop c.next c.end
         c.front.at (T.number c.front.word) c.back.at (T.number c.back.word) };
-}
-
-/// The blocks that hold an index from `start` to below `stop`: the first one, and where they end.
-pub(crate) fn blocks_of<T: Block>(start: usize, stop: usize) -> (usize, usize)
-    requires { start ≤ stop }
-    ensures { AreBlocksOf T.BITS start stop result.0 result.1 }
-{
-    if start == stop {
-        return (0, 0);
-    }
-    (start / T::BITS, stop.div_ceil(T::BITS))
 }
 
 impl<'a, T: Block> Cursor<'a, T> {

@@ -1,9 +1,10 @@
 //! The walks over the indices of set bits and of unset bits within a range, from both ends.
-ghost use Rattle.std.specs.Prelude.{◌≡◌, ◌≤◌, ◌+◌, ◌∷◌, [], ⊤, true, false, length, map};
-ghost use Rattle.std.specs.Iterator.{YieldsFirst, YieldsLast, MakesProgress, item_count};
+ghost use Rattle.std.specs.Prelude.{◌≡◌, ◌≤◌, ◌+◌, true, false, length, map};
+ghost use Rattle.std.specs.Iterator.{item_count};
+ghost use Rattle.std.specs.Iterator.Runs.{YieldsInOrder, YieldsInReverse};
 ghost use Rattle.vob_block.specs.Packing.{need, spelled};
 ghost use Rattle.vob.specs.Matches.{matches, met};
-ghost use Rattle.vob.specs.Walk.{IsPulled};
+ghost use Rattle.vob.specs.Walk.{GivesFirst, GivesLast};
 
 use crate::cursor::Cursor;
 use crate::vob::Vob;
@@ -45,6 +46,8 @@ impl<'a, T: Block> IterSetBits<'a, T> {
             → result.left ≡ met (R.start_bound range) (R.end_bound range) len T.BITS }
         ensures credit { R.has_bounds range
             → result.credit ≤ met (R.start_bound range) (R.end_bound range) len T.BITS + 1 }
+        ensures runs { YieldsInOrder GivesFirst (λ walk. walk.rest) }
+        ensures runs_back { YieldsInReverse GivesLast (λ walk. walk.rest) }
     {
         IterSetBits {
             cursor: Cursor::over(blocks, true, len, range),
@@ -62,27 +65,19 @@ impl<'a, T: Block> IterSetBits<'a, T> {
 impl<'a, T: Block> Iterator for IterSetBits<'a, T> {
     type Item = usize;
 
-    ghost next_gives = { YieldsFirst (λ walk. walk.rest) };
+    ghost next_gives = { GivesFirst };
 
     ghost remaining = { item_count (λ walk. walk.rest) };
 
-    fn next(&mut self) -> Option<usize>
-        ensures steps { YieldsFirst (λ walk. walk.rest) self.old result self.new }
-        ensures goes { MakesProgress (λ walk. ⊤) (item_count (λ walk. walk.rest)) self.old result self.new }
-        ensures reads { IsPulled self.old (result ∷ []) self.new }
-    {
+    fn next(&mut self) -> Option<usize> {
         self.cursor.first()
     }
 }
 
 impl<'a, T: Block> DoubleEndedIterator for IterSetBits<'a, T> {
-    ghost next_back_gives = { YieldsLast (λ walk. walk.rest) };
+    ghost next_back_gives = { GivesLast };
 
-    fn next_back(&mut self) -> Option<usize>
-        ensures steps { YieldsLast (λ walk. walk.rest) self.old result self.new }
-        ensures goes { MakesProgress (λ walk. ⊤) (item_count (λ walk. walk.rest)) self.old result self.new }
-        ensures reads { IsPulled self.old (result ∷ []) self.new }
-    {
+    fn next_back(&mut self) -> Option<usize> {
         self.cursor.last()
     }
 }
@@ -129,6 +124,8 @@ impl<'a, T: Block> IterUnsetBits<'a, T> {
             → result.left ≡ met (R.start_bound range) (R.end_bound range) len T.BITS }
         ensures credit { R.has_bounds range
             → result.credit ≤ met (R.start_bound range) (R.end_bound range) len T.BITS + 1 }
+        ensures runs { YieldsInOrder GivesFirst (λ walk. walk.rest) }
+        ensures runs_back { YieldsInReverse GivesLast (λ walk. walk.rest) }
     {
         IterUnsetBits {
             cursor: Cursor::over(blocks, false, len, range),
@@ -148,27 +145,19 @@ impl<'a, T: Block> IterUnsetBits<'a, T> {
 impl<'a, T: Block> Iterator for IterUnsetBits<'a, T> {
     type Item = usize;
 
-    ghost next_gives = { YieldsFirst (λ walk. walk.rest) };
+    ghost next_gives = { GivesFirst };
 
     ghost remaining = { item_count (λ walk. walk.rest) };
 
-    fn next(&mut self) -> Option<usize>
-        ensures steps { YieldsFirst (λ walk. walk.rest) self.old result self.new }
-        ensures goes { MakesProgress (λ walk. ⊤) (item_count (λ walk. walk.rest)) self.old result self.new }
-        ensures reads { IsPulled self.old (result ∷ []) self.new }
-    {
+    fn next(&mut self) -> Option<usize> {
         self.cursor.first()
     }
 }
 
 impl<'a, T: Block> DoubleEndedIterator for IterUnsetBits<'a, T> {
-    ghost next_back_gives = { YieldsLast (λ walk. walk.rest) };
+    ghost next_back_gives = { GivesLast };
 
-    fn next_back(&mut self) -> Option<usize>
-        ensures steps { YieldsLast (λ walk. walk.rest) self.old result self.new }
-        ensures goes { MakesProgress (λ walk. ⊤) (item_count (λ walk. walk.rest)) self.old result self.new }
-        ensures reads { IsPulled self.old (result ∷ []) self.new }
-    {
+    fn next_back(&mut self) -> Option<usize> {
         self.cursor.last()
     }
 }
@@ -194,6 +183,8 @@ impl<T: Block> Vob<T> {
             → result.left ≡ met (R.start_bound range) (R.end_bound range) (length self.now.bits) T.BITS }
         ensures credit { R.has_bounds range
             → result.credit ≤ met (R.start_bound range) (R.end_bound range) (length self.now.bits) T.BITS + 1 }
+        ensures runs { YieldsInOrder GivesFirst (λ walk. walk.rest) }
+        ensures runs_back { YieldsInReverse GivesLast (λ walk. walk.rest) }
     {
         IterSetBits::over(self.blocks(), self.len(), range)
     }
@@ -208,6 +199,8 @@ impl<T: Block> Vob<T> {
             → result.left ≡ met (R.start_bound range) (R.end_bound range) (length self.now.bits) T.BITS }
         ensures credit { R.has_bounds range
             → result.credit ≤ met (R.start_bound range) (R.end_bound range) (length self.now.bits) T.BITS + 1 }
+        ensures runs { YieldsInOrder GivesFirst (λ walk. walk.rest) }
+        ensures runs_back { YieldsInReverse GivesLast (λ walk. walk.rest) }
     {
         IterUnsetBits::over(self.blocks(), self.len(), range)
     }

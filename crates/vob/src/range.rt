@@ -1,8 +1,11 @@
-//! A range cut to the indices below a length: a window from one index to below another.
+//! A range cut to the indices below a length: a window from one index to below another, and the
+//! blocks that it meets.
 ghost use Rattle.std.specs.Prelude.{◌≡◌, ℕ, ◌<◌, ◌≤◌, ◌&&◌, nat_le, nat_lt};
 ghost use Rattle.vob.specs.Matches.{from_start, up_to_end};
+ghost use Rattle.vob.specs.Cursor.{AreBlocksOf};
 
 use std::ops::{Bound, RangeBounds};
+use vob_block::Block;
 
 /// Where the indices below `len` end that meet the end of the range.
 pub(crate) fn past_last_index<R: RangeBounds<usize>>(range: &R, len: usize) -> usize
@@ -30,4 +33,15 @@ pub(crate) fn first_index<R: RangeBounds<usize>>(range: &R, stop: usize) -> usiz
         Bound::Excluded(&before) => if before < stop { before + 1 } else { stop },
         Bound::Unbounded => 0,
     }
+}
+
+/// The blocks that hold an index from `start` to below `stop`: the first one, and where they end.
+pub(crate) fn blocks_of<T: Block>(start: usize, stop: usize) -> (usize, usize)
+    requires { start ≤ stop }
+    ensures { AreBlocksOf T.BITS start stop result.0 result.1 }
+{
+    if start == stop {
+        return (0, 0);
+    }
+    (start / T::BITS, stop.div_ceil(T::BITS))
 }

@@ -3,7 +3,7 @@ use Rattle.std.proofs.Common.{◌/◌, ◌∙◌, ap, arith}
 use Rattle.vob_block.proofs.PlaceLemmas.{width_pos}
 use Rattle.vob.proofs.RoomLemmas.{need-is-div_ceil}
 use Rattle.vob.proofs.CursorLemmas.{AreBlocksOf-window}
-use Rattle.vob.proofs.cursor.blocks_of.Goals as goal
+use Rattle.vob.proofs.range.blocks_of.Goals as goal
 
 pub returns : goal.returns
 returns g c =
