@@ -3,5 +3,6 @@
 
 pub mod plain;
 pub mod reachable;
+pub mod slots;
 #[cfg(test)]
 mod tests;

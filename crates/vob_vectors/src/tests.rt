@@ -13,3 +13,4 @@ mod raw;
 mod reachable;
 mod rows;
 mod single_bits;
+mod slots;
