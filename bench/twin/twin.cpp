@@ -32,6 +32,11 @@ enum class Call : uint32_t {
     extend_aligned,
     extend_shifted,
     closure,
+    set_bits,
+    set_bits_back,
+    unset_bits,
+    count,
+    first_free,
 };
 
 struct Input {
@@ -264,6 +269,24 @@ template <class Take> uint64_t taken(const Input &in, size_t rounds, Take take) 
     return checksum(bits, 0);
 }
 
+uint64_t set_bits(const Dynamic &bits) {
+    uint64_t sum = 0;
+    for (size_t index = bits.find_first(); index != Dynamic::npos; index = bits.find_next(index))
+        sum += index;
+    return sum;
+}
+
+// Rounds that look at a vector of which a bit changes in one, and back in the next.
+template <class Look> uint64_t walk(const Input &in, size_t rounds, Look look) {
+    uint64_t times = 0;
+    Dynamic bits = made_of<Dynamic>(in.bytes, in.byte_count);
+    for (size_t round = 0; round < rounds; round++) {
+        bits[round / 2 % bits.size()] = round % 2 == 0;
+        times += look(bits);
+    }
+    return checksum(bits, times);
+}
+
 void close(std::vector<Dynamic> &rows) {
     for (size_t k = 0; k < rows.size(); k++) {
         Dynamic through = rows[k];
@@ -299,6 +322,10 @@ uint64_t run_dynamic(Call call, const Input &in, size_t rounds) {
         return taken(in, rounds, [](Dynamic &bits, const Dynamic &other) { bits ^= other; });
     case Call::closure:
         return closure(in, rounds);
+    case Call::set_bits:
+        return walk(in, rounds, set_bits);
+    case Call::count:
+        return walk(in, rounds, [](const Dynamic &bits) { return bits.count(); });
     default:
         return run<Dynamic>(call, in, rounds);
     }

@@ -39,6 +39,21 @@ pub trait Bits: Sized {
     fn walked(&self) -> u64 {
         unimplemented!()
     }
+    fn set_bits(&self) -> u64 {
+        unimplemented!()
+    }
+    fn set_bits_back(&self) -> u64 {
+        unimplemented!()
+    }
+    fn unset_bits(&self) -> u64 {
+        unimplemented!()
+    }
+    fn counted(&self) -> u64 {
+        unimplemented!()
+    }
+    fn first_unset(&self) -> u64 {
+        unimplemented!()
+    }
     fn resize(&mut self, _len: usize, _value: bool) {
         unimplemented!()
     }
@@ -111,6 +126,11 @@ fn touch<B: Bits>(bits: &mut B, round: usize) {
     bits.set(index, true);
 }
 
+fn flip<B: Bits>(bits: &mut B, round: usize) {
+    let index = round / 2 % bits.len();
+    bits.set(index, round % 2 == 0);
+}
+
 /// Rounds that make a new vector each.
 fn made<B: Bits>(rounds: usize, make: impl Fn() -> B) -> u64 {
     let mut times = 0;
@@ -140,6 +160,17 @@ fn seen<B: Bits>(input: &Input, rounds: usize, mut look: impl FnMut(&B, usize) -
     for round in 0..rounds {
         touch(&mut bits, round);
         times = times.wrapping_add(look(&bits, round));
+    }
+    checksum(&bits, times)
+}
+
+/// The same, where the bit that changes changes back.
+fn walked<B: Bits>(input: &Input, rounds: usize, look: impl Fn(&B) -> u64) -> u64 {
+    let mut times = 0u64;
+    let mut bits = B::from_bytes(&input.bytes);
+    for round in 0..rounds {
+        flip(&mut bits, round);
+        times = times.wrapping_add(look(&bits));
     }
     checksum(&bits, times)
 }
@@ -262,6 +293,11 @@ pub fn run<B: Bits>(call: Call, input: &Input, rounds: usize) -> u64 {
         Call::ExtendAligned => joined::<B>(input, 64, rounds),
         Call::ExtendShifted => joined::<B>(input, 64 + 13, rounds),
         Call::Closure => closure::<B>(input, rounds),
+        Call::SetBits => walked(input, rounds, B::set_bits),
+        Call::SetBitsBack => walked(input, rounds, B::set_bits_back),
+        Call::UnsetBits => walked(input, rounds, B::unset_bits),
+        Call::Count => walked(input, rounds, B::counted),
+        Call::FirstFree => seen(input, rounds, |bits: &B, _| bits.first_unset()),
     }
 }
 

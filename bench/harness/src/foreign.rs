@@ -17,6 +17,7 @@ extern "C" {
         rounds: usize,
     ) -> u64;
     fn vob_bench_whole(row: u32, bytes: *const u8, len: usize, rounds: usize) -> u64;
+    fn vob_bench_walk(row: u32, bytes: *const u8, len: usize, rounds: usize) -> u64;
     fn vob_bench_hash_words(words: *const usize, count: usize, rounds: usize) -> u64;
     fn vob_bench_pair(
         row: u32,
@@ -40,6 +41,7 @@ pub fn conthiral(call: Call, input: &Input, rounds: usize) -> u64 {
         vob_bench_single(row, bytes, len, indices.as_ptr(), indices.len(), rounds)
     };
     let whole = |row| unsafe { vob_bench_whole(row, bytes.as_ptr(), bytes.len(), rounds) };
+    let walk = |row| unsafe { vob_bench_walk(row, bytes.as_ptr(), bytes.len(), rounds) };
     let pair = |row| unsafe {
         let (bytes, len) = (bytes.as_ptr(), bytes.len());
         vob_bench_pair(row, bytes, len, others.as_ptr(), others.len(), rounds)
@@ -64,6 +66,11 @@ pub fn conthiral(call: Call, input: &Input, rounds: usize) -> u64 {
         Call::Equal => pair(3),
         Call::ExtendAligned => pair(4),
         Call::ExtendShifted => pair(5),
+        Call::SetBits => walk(0),
+        Call::SetBitsBack => walk(1),
+        Call::UnsetBits => walk(2),
+        Call::Count => walk(3),
+        Call::FirstFree => walk(4),
         Call::Closure => unsafe {
             vob_bench_closure(bytes.as_ptr(), bytes.len(), input.row_bytes, rounds)
         },
@@ -141,7 +148,14 @@ pub fn twin_offer(library: Twin, call: Call) -> Offer {
         }
         (
             Twin::Boost,
-            Call::Push | Call::Resize | Call::SetAll | Call::Negate | Call::Clone | Call::Equal,
+            Call::Push
+            | Call::Resize
+            | Call::SetAll
+            | Call::Negate
+            | Call::Clone
+            | Call::Equal
+            | Call::SetBits
+            | Call::Count,
         ) => Offer::Same,
         (Twin::VectorBool, Call::ExtendFromSlice | Call::ExtendAligned | Call::ExtendShifted) => {
             Offer::Other("insert")

@@ -7,6 +7,10 @@ pub enum Shape {
     Indices(usize),
     /// A square matrix of 1000 nodes, of which each leads to two others.
     Matrix,
+    /// Of the bits about so many in 65536 true.
+    Density(u32),
+    /// All bits true but the last.
+    FreeAtTheEnd,
 }
 
 pub struct Input {
@@ -38,6 +42,12 @@ impl Numbers {
     fn bytes(&mut self, count: usize) -> Vec<u8> {
         (0..count).map(|_| (self.next() >> 24) as u8).collect()
     }
+
+    /// A byte of which each bit is true so many times in 65536.
+    fn sparse(&mut self, set: u32) -> u8 {
+        let bit = |numbers: &mut Numbers| (numbers.next() as u16 as u32) < set;
+        (0..8).fold(0, |byte, _| byte << 1 | bit(self) as u8)
+    }
 }
 
 const NODES: usize = 1000;
@@ -52,6 +62,14 @@ impl Input {
                 let to = numbers.below(NODES);
                 bytes[edge / 2 * (NODES / 8) + to / 8] |= 0x80 >> (to % 8);
             }
+        }
+        match shape {
+            Shape::Density(set) => bytes.fill_with(|| numbers.sparse(set)),
+            Shape::FreeAtTheEnd => {
+                bytes.fill(0xff);
+                bytes[bits / 8 - 1] = 0xfe;
+            }
+            _ => {}
         }
         let others = numbers.bytes(bits / 8);
         let indices = match shape {

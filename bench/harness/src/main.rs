@@ -80,7 +80,7 @@ fn disagreements(row: &Row, input: &Input, offered: &[&Library]) -> Vec<String> 
         for library in offered {
             let got = (library.run)(row.call, input, rounds);
             if !agree(row, (library.offer)(row.call), expected, got) {
-                let (name, of) = (row.name, library.name);
+                let (name, of) = (&row.name, library.name);
                 let at = row.bits;
                 differing.push(format!(
                     "{name} at {at} bits, {rounds} rounds: {of} {got:#x}, vob 4.0.1 {expected:#x}"

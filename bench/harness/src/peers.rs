@@ -16,6 +16,14 @@ fn hash_of<T: Hash>(value: &T) -> u64 {
     state.finish()
 }
 
+fn sum_of(indices: impl Iterator<Item = usize>) -> u64 {
+    let mut sum = 0u64;
+    for index in indices {
+        sum = sum.wrapping_add(index as u64);
+    }
+    sum
+}
+
 const NO_FLAG: Offer = Offer::Less("no flag");
 const COLLECT: Offer = Offer::Other("collect");
 const EXTEND: Offer = Offer::Other("extend");
@@ -62,6 +70,21 @@ impl Bits for Vob {
         }
         times
     }
+    fn set_bits(&self) -> u64 {
+        sum_of(self.iter_set_bits(..))
+    }
+    fn set_bits_back(&self) -> u64 {
+        sum_of(self.iter_set_bits(..).rev())
+    }
+    fn unset_bits(&self) -> u64 {
+        sum_of(self.iter_unset_bits(..))
+    }
+    fn counted(&self) -> u64 {
+        self.iter_set_bits(..).count() as u64
+    }
+    fn first_unset(&self) -> u64 {
+        self.iter_unset_bits(..).next().unwrap_or(Vob::len(self)) as u64
+    }
     fn resize(&mut self, len: usize, value: bool) {
         Vob::resize(self, len, value);
     }
@@ -105,9 +128,20 @@ impl Bits for FixedBitSet {
             Call::Iterate => Offer::Other("by index"),
             Call::SetAll => Offer::Other("insert_range or clear"),
             Call::Negate => Offer::Other("toggle_range"),
-            Call::Get | Call::Clone | Call::Hash | Call::Equal => Offer::Same,
+            Call::Get
+            | Call::Clone
+            | Call::Hash
+            | Call::Equal
+            | Call::SetBits
+            | Call::Count => Offer::Same,
             _ => Offer::None,
         }
+    }
+    fn set_bits(&self) -> u64 {
+        sum_of(self.ones())
+    }
+    fn counted(&self) -> u64 {
+        self.count_ones(..) as u64
     }
     fn from_bytes(bytes: &[u8]) -> FixedBitSet {
         let blocks = bytes.chunks(4).map(|chunk| {
@@ -183,6 +217,11 @@ impl Bits for BitVec {
             Call::ExtendAligned | Call::ExtendShifted => Offer::Other("append of a copy"),
             Call::Resize => Offer::Other("grow"),
             Call::SetAll => Offer::Other("set_all or clear"),
+            Call::SetBits
+            | Call::SetBitsBack
+            | Call::UnsetBits
+            | Call::Count
+            | Call::FirstFree => Offer::None,
             _ => Offer::Same,
         }
     }
@@ -266,9 +305,20 @@ impl Bits for BitSet {
         match call {
             Call::And | Call::Or | Call::Xor | Call::Closure => NO_FLAG,
             Call::Set => Offer::Other("insert or remove"),
-            Call::Get | Call::Clone | Call::Hash | Call::Equal => Offer::Same,
+            Call::Get
+            | Call::Clone
+            | Call::Hash
+            | Call::Equal
+            | Call::SetBits
+            | Call::Count => Offer::Same,
             _ => Offer::None,
         }
+    }
+    fn set_bits(&self) -> u64 {
+        sum_of(self.iter())
+    }
+    fn counted(&self) -> u64 {
+        BitSet::len(self) as u64
     }
     fn from_bytes(bytes: &[u8]) -> BitSet {
         BitSet::from_bytes(bytes)

@@ -26,6 +26,11 @@ pub enum Call {
     ExtendAligned,
     ExtendShifted,
     Closure,
+    SetBits,
+    SetBitsBack,
+    UnsetBits,
+    Count,
+    FirstFree,
 }
 
 /// What the machine can do at most, measured on the row's own size.
@@ -50,7 +55,7 @@ pub enum Limit {
 }
 
 pub struct Row {
-    pub name: &'static str,
+    pub name: String,
     pub call: Call,
     pub bits: usize,
     pub unit: &'static str,
@@ -59,10 +64,11 @@ pub struct Row {
     pub limit: Limit,
     /// At most so many rounds.
     pub most: usize,
+    shape: Shape,
 }
 
 impl Row {
-    fn over(name: &'static str, call: Call, bits: usize, unit: Unit, limit: Limit) -> Row {
+    fn over(name: &str, call: Call, bits: usize, unit: Unit, limit: Limit) -> Row {
         let (unit, units) = match unit {
             Unit::Bit => ("bit", bits as f64),
             Unit::Word => ("word", (bits as f64 / 64.0).ceil()),
@@ -75,27 +81,35 @@ impl Row {
         } else {
             usize::MAX
         };
+        let shape = match call {
+            Call::Closure => Shape::Matrix,
+            Call::Get | Call::Set => Shape::Indices(INDICES),
+            Call::FirstFree => Shape::FreeAtTheEnd,
+            _ => Shape::Plain,
+        };
         Row {
-            name,
+            name: name.to_string(),
             call,
             bits,
             unit,
             units,
             limit,
             most,
+            shape,
         }
     }
 
-    pub fn shape(&self) -> Shape {
-        match self.call {
-            Call::Closure => Shape::Matrix,
-            Call::Get | Call::Set => Shape::Indices(INDICES),
-            _ => Shape::Plain,
+    /// A walk over the indices of bits, of which so many in 65536 are set.
+    fn walk(name: &str, call: Call, density: &str, set: u32) -> Row {
+        let name = format!("{name}, {density}");
+        Row {
+            shape: Shape::Density(set),
+            ..Row::over(&name, call, MILLION, Unit::Word, Limit::Count)
         }
     }
 
     pub fn input(&self) -> Input {
-        Input::new(self.bits, self.shape())
+        Input::new(self.bits, self.shape)
     }
 }
 
@@ -110,6 +124,17 @@ const INDICES: usize = 1 << 16;
 const MILLION: usize = 1 << 20;
 /// The sizes of the rows on two Vobs of one length.
 const SIZES: [usize; 5] = [64, 1024, 65536, MILLION, 64 * MILLION];
+
+/// How many bits in 65536 are set for a walk over indices.
+const DENSITIES: [(&str, u32); 7] = [
+    ("none set", 0),
+    ("1 in 4096 set", 16),
+    ("1 in 256 set", 256),
+    ("1 in 64 set", 1024),
+    ("1 in 8 set", 8192),
+    ("half set", 32768),
+    ("all set", 65536),
+];
 
 /// All rows, in the order of the table. Later calls are put where they belong.
 pub fn all() -> Vec<Row> {
@@ -168,6 +193,25 @@ pub fn all() -> Vec<Row> {
         ),
         Row::over("equality", Call::Equal, MILLION, Word, Limit::Count),
         Row::over("hash", Call::Hash, MILLION, Word, Limit::Hasher),
+    ]);
+    for (name, call) in [
+        ("iter_set_bits", Call::SetBits),
+        ("iter_set_bits from the back", Call::SetBitsBack),
+        ("iter_unset_bits", Call::UnsetBits),
+    ] {
+        for (density, set) in DENSITIES {
+            rows.push(Row::walk(name, call, density, set));
+        }
+    }
+    rows.extend([
+        Row::over("count of set bits", Call::Count, MILLION, Word, Limit::Count),
+        Row::over(
+            "first unset bit, the last one",
+            Call::FirstFree,
+            MILLION,
+            Word,
+            Limit::Count,
+        ),
         Row::over(
             "closure 1000 x 1000",
             Call::Closure,

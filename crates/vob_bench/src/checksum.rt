@@ -53,3 +53,11 @@ pub(crate) fn touch(vob: &mut Vob, round: usize) {
         vob.set(index, true);
     }
 }
+
+/// Makes the bit that a round changes true in one round, and false in the next.
+pub(crate) fn flip(vob: &mut Vob, round: usize) {
+    let index = index_of(vob, round / 2);
+    if index < vob.len() {
+        vob.set(index, round % 2 == 0);
+    }
+}

@@ -9,6 +9,7 @@ mod matrix;
 mod pair;
 mod single;
 mod slice;
+mod walk;
 mod whole;
 
 use std::alloc::Global;
@@ -88,6 +89,16 @@ pub extern "C" fn vob_bench_pair(
         3 => pair::equal(alloc, bytes, rounds),
         4 => pair::extend(alloc, bytes, others, 64, rounds),
         _ => pair::extend(alloc, bytes, others, 64 + 13, rounds),
+    })
+}
+
+/// Calls on indices: 0 `iter_set_bits`, 1 the same from the back, 2 `iter_unset_bits`, 3 `count`, 4 the
+/// first unset bit.
+#[unsafe(no_mangle)]
+pub extern "C" fn vob_bench_walk(alloc: Global, row: u32, bytes: &[u8], rounds: usize) -> u64 {
+    answer(match row {
+        0..=3 => walk::walk(alloc, row, bytes, rounds),
+        _ => walk::first_free(alloc, bytes, rounds),
     })
 }
 

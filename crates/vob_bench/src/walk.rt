@@ -1,0 +1,81 @@
+//! Workloads on the indices of set bits and of unset bits.
+
+use crate::checksum::{checksum, flip, touch};
+use std::alloc::Global;
+use vob::{Vob, VobError};
+
+/// The sum of the indices of the set bits, the first one first.
+#[inline(never)]
+fn set_bits(vob: &Vob) -> u64 {
+    let mut sum: u64 = 0;
+    for index in vob.iter_set_bits(..) {
+        sum = sum.wrapping_add(index as u64);
+    }
+    sum
+}
+
+/// The same, the last one first.
+#[inline(never)]
+fn set_bits_back(vob: &Vob) -> u64 {
+    let mut sum: u64 = 0;
+    for index in vob.iter_set_bits(..).rev() {
+        sum = sum.wrapping_add(index as u64);
+    }
+    sum
+}
+
+/// The sum of the indices of the unset bits.
+#[inline(never)]
+fn unset_bits(vob: &Vob) -> u64 {
+    let mut sum: u64 = 0;
+    for index in vob.iter_unset_bits(..) {
+        sum = sum.wrapping_add(index as u64);
+    }
+    sum
+}
+
+/// How many bits are set.
+#[inline(never)]
+fn counted(vob: &Vob) -> u64 {
+    vob.iter_set_bits(..).count() as u64
+}
+
+/// A walk a round: 0 over the set bits, 1 over those from the back, 2 over the unset bits; or 3 a
+/// count.
+#[inline(never)]
+pub(crate) fn walk(alloc: Global, row: u32, bytes: &[u8], rounds: usize) -> Result<u64, VobError> {
+    let mut times: u64 = 0;
+    let mut vob = Vob::from_bytes(alloc, bytes)?;
+    for round in 0..rounds {
+        flip(&mut vob, round);
+        let sum = match row {
+            0 => set_bits(&vob),
+            1 => set_bits_back(&vob),
+            2 => unset_bits(&vob),
+            _ => counted(&vob),
+        };
+        times = times.wrapping_add(sum);
+    }
+    Ok(checksum(&vob, times))
+}
+
+/// The index of the first unset bit, or the length.
+#[inline(never)]
+fn first_unset(vob: &Vob) -> usize {
+    match vob.iter_unset_bits(..).next() {
+        Some(index) => index,
+        None => vob.len(),
+    }
+}
+
+/// The first unset bit, once a round.
+#[inline(never)]
+pub(crate) fn first_free(alloc: Global, bytes: &[u8], rounds: usize) -> Result<u64, VobError> {
+    let mut times: u64 = 0;
+    let mut vob = Vob::from_bytes(alloc, bytes)?;
+    for round in 0..rounds {
+        touch(&mut vob, round);
+        times = times.wrapping_add(first_unset(&vob) as u64);
+    }
+    Ok(checksum(&vob, times))
+}
