@@ -2,6 +2,7 @@
 use super::{check_blocks, pushed};
 use std::test::Fail;
 use vob::{End, IndexWalk, IterSetBits, IterUnsetBits, Vob, deal};
+use vob_block::Blocks;
 
 #[test]
 fn no_bits_take_no_memory(rt: HostRuntime) -> Result<(), Fail> {
@@ -140,9 +141,10 @@ fn indices_are_walked_in_place(rt: HostRuntime) -> Result<(), Fail> {
     assert_eq!(rt; answers.len(), 0);
     assert_eq!(rt; unset.next_back(), Some(1));
     assert_eq!(rt; unset.pull(End::Front), None);
-    let mut set = IterSetBits::over(vob.blocks(), vob.len(), 1..);
+    let stored = [5u8];
+    let mut set = IterSetBits::over(Blocks::new(&stored), 3, 1..);
     assert_eq!(rt; set.next(), Some(2));
-    let mut unset = IterUnsetBits::over(vob.blocks(), vob.len(), ..2);
+    let mut unset = IterUnsetBits::over(Blocks::new(&stored), 3, ..2);
     assert_eq!(rt; unset.next(), Some(1));
     println!(rt; "answered")?;
     Ok(())

@@ -1,0 +1,12 @@
+-- Three bits need one block of eight.
+use Rattle.std.proofs.Common.{length, ap}
+use Rattle.vob_block.specs.Packing.{need}
+use Rattle.vob_refusals.proofs.tests.without_memory.indices_are_walked_in_place.Goals as goal
+
+pub over-set-requires : goal.over-set-requires
+unfolding need
+over-set-requires g c = ap length c.new.ensures.items
+
+pub over-unset-requires : goal.over-unset-requires
+unfolding need
+over-unset-requires g c = ap length c.new-2.ensures.items
