@@ -1,9 +1,10 @@
 -- An `extend` by known items, for all of which there is room.
-use Rattle.std.specs.Prelude.{Option, Some, None, Result, Ok, Err, ⊤, ◌⊎◌}
-use Rattle.std.proofs.Common.{◌≡◌, ℕ, ◌+◌, ◌-◌, ◌^◌, ◌≤◌, ◌++◌, Bool, List, length, refl, sym, ap, ◌∙◌, inl, inr, arith}
+use Rattle.std.specs.Prelude.{Option, Some, None, Result, Ok, Err, IfOk, ⊤, ◌⊎◌}
+use Rattle.std.specs.Iterator.{Drains, Yields}
+use Rattle.std.proofs.Common.{◌≡◌, ℕ, ◌+◌, ◌-◌, ◌^◌, ◌≤◌, ◌++◌, Bool, List, length, length-take, take, refl, sym, ap, ◌∙◌, inl, inr, arith}
 use Rattle.std.proofs.lemmas.List.{map-id}
 use Rattle.std.proofs.lemmas.Iterator.{YieldsList}
-use Rattle.std.proofs.lemmas.Iterator.Consumers.{YieldsList-turn, YieldsList-end}
+use Rattle.std.proofs.lemmas.Iterator.Consumers.{YieldsList-so_far, YieldsList-turn, YieldsList-end}
 use Rattle.vob.specs.declared.error.VobError.{VobError}
 use Rattle.vob.specs.declared.error.VobError.TheVariants.{TooLong, Memory}
 use Rattle.vob.specs.Extending.{IsExtended, RefusesHint, RefusesItem}
@@ -29,3 +30,22 @@ module _ {S : Type 0} (steps : S → Option Bool → S → Type 0) (it : S) (hin
       let end = YieldsList-end road added drained.1.0 drained.1.1 None drained.0 refl drained.1.2 in
       (refl, did.ok.2 ∙ ap (λ l. before.bits ++ l) (sym (map-id added) ∙ end.0))
   all_added (Err refusal) did = absurd (not_refused refusal did.err)
+
+-- a constructor that takes known items
+module _ {S : Type 0} (steps : S → Option Bool → S → Type 0) (it : S) (items : List Bool) (road : YieldsList steps (λ (x : Bool). x) it items) where
+  -- they are its bits where it took all of them
+  pub all_taken : (added : List Bool) → Drains steps it added → added ≡ items
+  all_taken added drained = sym (map-id added) ∙ (YieldsList-end road added drained.1.0 drained.1.1 None drained.0 refl drained.1.2).0
+
+  -- and it took no more of them than there are
+  pub none_more : (xs : List Bool) (rest : S) → Yields steps it xs rest → length xs ≤ length items
+  none_more xs rest yields =
+      let first : xs ≡ take (length xs) items = sym (map-id xs) ∙ YieldsList-so_far road xs rest yields in
+      let count = ap length first ∙ length-take (length xs) items in
+      omega (arith, count)
+
+-- the same of a result, whose iterator is one that another call gave
+pub all_taken_if : {S E : Type 0} (steps : S → Option Bool → S → Type 0) (Gives : S → Type 0) (items : List Bool) → ((it : S) → Gives it → YieldsList steps (λ (x : Bool). x) it items)
+    → (result : Result BitVector E) → IfOk result (λ v. (it : S) × Gives it × Drains steps it v.bits) → IfOk result (λ v. v.bits ≡ items)
+all_taken_if steps Gives items road (Ok v) made = all_taken steps made.0 items (road made.0 made.1) v.bits made.2
+all_taken_if steps Gives items road (Err e) made = tt

@@ -1,10 +1,13 @@
 -- What a Vob that was made, and put behind the others, is as a step.
-use Rattle.std.proofs.Common.{◌≡◌, ℕ, List, [], ◌∷◌, ◌++◌, Bool, length, take, drop, set, Result, Ok, Err, IfOk, OnOk, OnErr, ap, refl, ◌∙◌, inl, inr}
-use Rattle.std.specs.Prelude.{Some, slice_get}
+use Rattle.std.proofs.Common.{◌≡◌, ℕ, List, [], ◌∷◌, ◌++◌, Bool, length, take, drop, set, Result, Ok, Err, IfOk, IfErr, OnOk, OnErr, ap, refl, ◌∙◌, inl, inr}
+use Rattle.std.specs.Prelude.{Some, slice_get, ◌⊎◌}
 use Rattle.std.proofs.lemmas.List.{map_push, length-map, length-set}
+use Rattle.vob.specs.Refusal.{refusal_number}
+use Rattle.vob.specs.declared.error.VobError.{VobError}
+use Rattle.vob.specs.declared.error.VobError.TheVariants.{TooLong, Memory}
 use Rattle.vob.specs.Vob.{BitVector}
-use Rattle.vob_run.specs.declared.command.Command.{Command}
-use Rattle.vob_run.specs.declared.command.Command.TheVariants.{SplitOff}
+use Rattle.vob_run.specs.Call.{Call}
+use Rattle.vob_run.specs.Call.{SplitOff}
 use Rattle.vob_run.specs.Answer.{Answer, outcome, made, refused}
 use Rattle.vob_run.specs.Memory.{TakesMemory, MayRefuse}
 use Rattle.vob_run.specs.Outcomes.{makes}
@@ -12,11 +15,11 @@ use Rattle.vob_run.specs.Step.{step}
 use Rattle.vob_run.specs.Run.{lists, IsStep}
 use Rattle.vob_run.proofs.StepLemmas.{list_at, lists-set, lists-same}
 
-module _ (width : ℕ) (before : List BitVector) (command : Command) (bits : List Bool)
-    (is : step width (lists before) command ≡ makes (lists before) bits) (takes : TakesMemory width (lists before) command) where
-  MayRefuse-made : MayRefuse width (lists before) command
+module _ (width : ℕ) (before : List BitVector) (call : Call) (bits : List Bool)
+    (is : step width (lists before) call ≡ makes (lists before) bits) (takes : TakesMemory width (lists before) call) where
+  MayRefuse-made : MayRefuse width (lists before) call
   MayRefuse-made =
-      let answers : (step width (lists before) command).answer ≡ made (length (lists before)) = ap (λ o. o.answer) is in
+      let answers : (step width (lists before) call).answer ≡ made (length (lists before)) = ap (λ o. o.answer) is in
       (takes, (λ e. cc), (λ e. cc))
 
   -- a Vob with these bits, or a refusal, once there is room for it
@@ -24,13 +27,24 @@ module _ (width : ℕ) (before : List BitVector) (command : Command) (bits : Lis
       → IfOk result (λ v. v.bits ≡ bits)
       → IfOk result (λ v. (answer ≡ made (length between)) × (after ≡ between ++ v ∷ []))
       → OnErr result ((answer ≡ refused 2) × (after ≡ between))
-      → IsStep width (lists before) command answer (lists after)
+      → IsStep width (lists before) call answer (lists after)
   made_step between room (Ok v) answer after same placed err = inl (is ∙ rw (placed.0, placed.1, room, map_push, length-map, same) refl)
   made_step between room (Err e) answer after same placed err = inr (MayRefuse-made, err.0, ap lists (err.1 ∙ room))
 
   -- no room for it in the list
-  pub no_room : (after : List BitVector) → after ≡ before → IsStep width (lists before) command (refused 2) (lists after)
+  pub no_room : (after : List BitVector) → after ≡ before → IsStep width (lists before) call (refused 2) (lists after)
   no_room after same = inr (MayRefuse-made, refl, ap lists same)
+
+  -- a Vob that was made first, and put behind the others where there was room for it
+  pub added_step : (result : Result BitVector VobError) (answer : Answer) (after : List BitVector) → (result ≡ Err TooLong → ⊥)
+      → IfOk result (λ v. v.bits ≡ bits)
+      → IfOk result (λ v. ((answer ≡ made (length before)) × (after ≡ before ++ v ∷ [])) ⊎ ((answer ≡ refused 2) × (after ≡ before)))
+      → IfErr result (λ refusal. (answer ≡ refused (refusal_number refusal)) × (after ≡ before))
+      → IsStep width (lists before) call answer (lists after)
+  added_step (Ok v) answer after short same (inl placed) err = inl (is ∙ rw (placed.0, placed.1, map_push, length-map, same) refl)
+  added_step (Ok v) answer after short same (inr full) err = inr (MayRefuse-made, full.0, ap lists full.1)
+  added_step (Err TooLong) answer after short same placed err = absurd (short refl)
+  added_step (Err Memory) answer after short same placed err = inr (MayRefuse-made, err.0, ap lists err.1)
 
 -- a Vob that was cut in two, of which one part is put behind the others, or a refusal
 module _ (width : ℕ) (before : List BitVector) (which index : ℕ) (old : BitVector) (there : slice_get before which ≡ Some old) where

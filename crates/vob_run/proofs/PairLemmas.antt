@@ -45,12 +45,12 @@ lent items slice len which other new old same long different there =
     let count : length ws ≡ len = length-set (set slice which new) other old ∙ length-set slice which new ∙ ap length same ∙ sym long in
     take_at ws (drop (length ws) items) len count ∙ set_comm slice which other new old different ∙ ap (λ l. set l which new) (kept ∙ same)
 
--- what a command says of two lists that are there
+-- what a call says of two lists that are there
 pub on_two-found : (all : List (List Bool)) (which other : ℕ) (bits others : List Bool) (f : List Bool → List Bool → Outcome) → which ≢ other
     → slice_get all which ≡ Some bits → slice_get all other ≡ Some others → on_two all which other f ≡ f bits others
 on_two-found all which other bits others f different at its = rw (ne_eqb which other different, at, its) refl
 
--- what a command says of two lists of one length
+-- what a call says of two lists of one length
 pub on_even-found : (all : List (List Bool)) (which other : ℕ) (bits others : List Bool) (f : List Bool → List Bool → Outcome) → which ≢ other
     → slice_get all which ≡ Some bits → slice_get all other ≡ Some others → length bits ≡ length others → on_even all which other f ≡ f bits others
 on_even-found all which other bits others f different at its same =

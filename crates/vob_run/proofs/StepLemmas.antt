@@ -9,8 +9,8 @@ use Rattle.vob.specs.Vob.{BitVector}
 use Rattle.vob.specs.Refusal.{refusal_number}
 use Rattle.vob.specs.declared.error.VobError.{VobError}
 use Rattle.vob.specs.declared.error.VobError.TheVariants.{TooLong, Memory}
-use Rattle.vob_run.specs.declared.command.Command.{Command}
-use Rattle.vob_run.specs.declared.command.Command.TheVariants.{Push}
+use Rattle.vob_run.specs.Call.{Call}
+use Rattle.vob_run.specs.Call.{Push}
 use Rattle.vob_run.specs.Answer.{outcome, done, refused}
 use Rattle.vob_run.specs.Memory.{TakesMemory, MayRefuse}
 use Rattle.vob_block.specs.Pointwise.{differ}
@@ -32,19 +32,19 @@ module _ (items : List BitVector) (which : ℕ) (old : BitVector) (there : slice
       lists-set new ∙ ap (set (lists items) which) (same ∙ sym (get_or_from_slice_get (lists items) which old.bits old.bits list_at))
       ∙ set-get_or (lists items) which old.bits
 
--- a refusal, where the step is `refused 1` or the command may want memory
-pub refused_step : (width : ℕ) (before after : List (List Bool)) (command : Command) (refusal : VobError) → after ≡ before
-    → (refusal ≡ TooLong → step width before command ≡ outcome (refused 1) before)
-    → (refusal ≡ Memory → MayRefuse width before command)
-    → IsStep width before command (refused (refusal_number refusal)) after
-refused_step width before after command TooLong same long short = inl (long refl ∙ ap (outcome (refused 1)) (sym same))
-refused_step width before after command Memory same long short = inr (short refl, refl, same)
+-- a refusal, where the step is `refused 1` or the call may want memory
+pub refused_step : (width : ℕ) (before after : List (List Bool)) (call : Call) (refusal : VobError) → after ≡ before
+    → (refusal ≡ TooLong → step width before call ≡ outcome (refused 1) before)
+    → (refusal ≡ Memory → MayRefuse width before call)
+    → IsStep width before call (refused (refusal_number refusal)) after
+refused_step width before after call TooLong same long short = inl (long refl ∙ ap (outcome (refused 1)) (sym same))
+refused_step width before after call Memory same long short = inr (short refl, refl, same)
 
--- a call that was made wants memory where its command takes some
-pub MayRefuse-done : (width : ℕ) (all after : List (List Bool)) (command : Command) → step width all command ≡ outcome done after
-    → TakesMemory width all command → MayRefuse width all command
-MayRefuse-done width all after command is takes =
-    let answers : (step width all command).answer ≡ done = ap (λ o. o.answer) is in
+-- a call that was made wants memory where its call takes some
+pub MayRefuse-done : (width : ℕ) (all after : List (List Bool)) (call : Call) → step width all call ≡ outcome done after
+    → TakesMemory width all call → MayRefuse width all call
+MayRefuse-done width all after call is takes =
+    let answers : (step width all call).answer ≡ done = ap (λ o. o.answer) is in
     (takes, (λ e. cc), (λ e. cc))
 
 -- one bit more behind the list with this number

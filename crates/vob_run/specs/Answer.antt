@@ -1,7 +1,7 @@
--- What a reply says, and what a command leaves.
+-- What a reply says, and what a call leaves.
 use Rattle.std.specs.Prelude.{ℕ, List, Bool, Option, map}
 use Rattle.vob_run.specs.declared.command.Reply.{Reply}
-use Rattle.vob_run.specs.declared.command.Reply.TheVariants.{Done, Bit, Flag, Number, Made, BitList, BlockList, Skipped, Refused}
+use Rattle.vob_run.specs.declared.command.Reply.TheVariants.{Done, Bit, Flag, Number, Made, BitList, BlockList, Dealt, Skipped, Refused}
 
 -- what a reply says: as the reply, with lists for vectors and numbers for blocks
 pub data Answer : Type 0 where
@@ -12,6 +12,7 @@ pub data Answer : Type 0 where
   made : ℕ → Answer
   bit_list : List Bool → Answer
   block_list : List ℕ → Answer
+  dealt : List (Option ℕ) → Answer
   skipped : Answer
   refused : ℕ → Answer
 
@@ -24,6 +25,7 @@ meaning block_number (Number n) = number n
 meaning block_number (Made which) = made which
 meaning block_number (BitList bits) = bit_list bits.items
 meaning block_number (BlockList blocks) = block_list (map block_number blocks.items)
+meaning block_number (Dealt indices) = dealt indices.items
 meaning block_number Skipped = skipped
 meaning block_number (Refused reason) = refused reason
 

@@ -1,6 +1,9 @@
 -- What becomes of the numbered lists of bits: the words that the steps are put together from.
-use Rattle.std.specs.Prelude.{◌≡◌, ◌≢◌, ℕ, ◌+◌, ◌-◌, ◌^◌, List, [], ◌∷◌, ◌++◌, length, take, drop, slice_get, slice_set, nat_lt, ◌==◌, Bool, not, IsSomeAnd, if◌then◌else◌, Option, Some, None}
+use Rattle.std.specs.Prelude.{◌≡◌, ◌≢◌, ℕ, ◌+◌, ◌-◌, ◌^◌, List, [], ◌∷◌, ◌++◌, length, take, drop, slice_get, slice_set, nat_lt, ◌==◌, ◌&&◌, Bool, true, false, not, IsSomeAnd, if◌then◌else◌, Option, Some, None}
+use Rattle.std.specs.Bool.{nat_eq}
 use Rattle.std.specs.Option.{option_map_or}
+use Rattle.std.specs.Cmp.Lexicographic.{pointwise as same_items}
+use Rattle.vob_block.specs.Packing.{need, packing, spelled}
 use Rattle.vob_block.specs.Pointwise.{differ, pointwise}
 use Rattle.vob.specs.Same.{same_bits}
 use Rattle.vob_run.specs.Answer.{Answer, done, bit, flag, made, skipped, refused, Outcome, outcome}
@@ -8,6 +11,15 @@ use Rattle.vob_run.specs.Answer.{Answer, done, bit, flag, made, skipped, refused
 -- the greatest length of a list of bits
 abbrev pub greatest_length : ℕ
 greatest_length = 2 ^ 64 - 1
+
+-- whether two lists of blocks are the same
+abbrev pub same_blocks : List ℕ → List ℕ → Bool
+same_blocks = same_items nat_eq
+
+-- blocks with their unused bits made 0, where that is asked for
+abbrev pub masked : ℕ → ℕ → Bool → List ℕ → List ℕ
+masked width len false blocks = blocks
+masked width len true blocks = packing (spelled len blocks width) width
 
 module _ (lists : List (List Bool)) where
   -- what f says of the list with this number, and `skipped` where there is none
@@ -78,3 +90,17 @@ module _ (lists : List (List Bool)) where
   abbrev pub combined : (Bool → Bool → Bool) → ℕ → List Bool → List Bool → Outcome
   combined f which bits others =
       leaves which (flag (not (same_bits bits (pointwise f bits others)))) (pointwise f bits others)
+
+  -- blocks that are the packing of a list of so many bits are taken as that list, and other ones are
+  -- refused
+  abbrev pub taken : ℕ → ℕ → List ℕ → Outcome
+  taken width len blocks =
+      if same_blocks blocks (packing (spelled len blocks width) width) then makes (spelled len blocks width)
+      else tells (refused 3)
+
+  -- the same, once they are masked where that is asked for, which is skipped where they aren't as many
+  -- as the bits need
+  abbrev pub taken_raw : ℕ → ℕ → Bool → List ℕ → Outcome
+  taken_raw width len mask blocks =
+      if mask && not (length blocks == need len width) then tells skipped
+      else taken width len (masked width len mask blocks)

@@ -1,18 +1,21 @@
--- What each command means on the lists of bits that the numbered Vobs are.
-use Rattle.std.specs.Prelude.{ℕ, ◌+◌, ◌-◌, List, [], ◌++◌, map, length, take, slice_get, replicate, ◌==◌, Bool, not, ◌&&◌, ◌||◌}
+-- What each call means on the lists of bits that the numbered Vobs are.
+use Rattle.std.specs.Prelude.{ℕ, ◌+◌, ◌-◌, ◌*◌, List, [], ◌++◌, map, length, take, slice_get, replicate, ◌==◌, Bool, not, ◌&&◌, ◌||◌}
+use Rattle.vob_block.specs.Bytes.{bytes_list}
 use Rattle.vob_block.specs.Packing.{packing}
 use Rattle.vob_block.specs.Pointwise.{differ, pointwise}
+use Rattle.vob.specs.Matches.{matches}
 use Rattle.vob.specs.Same.{same_bits}
-use Rattle.vob_run.specs.declared.command.Command.{Command}
-use Rattle.vob_run.specs.declared.command.Command.TheVariants.{New, FromElem, Copy, Push, Pop, GetBit, GetUnchecked, IndexBit, SetBit, SetUnchecked, Length, IsEmpty, Truncate, Clear, SetAll, Negate, Resize, ExtendSlice, ExtendItems, ExtendVob, SplitOff, And, Or, Xor, AndNew, OrNew, XorNew, Equal, Reserve, Shrink, Bits, Storage}
-use Rattle.vob_run.specs.Answer.{done, bit, flag, number, bit_list, block_list, Outcome}
-use Rattle.vob_run.specs.Outcomes.{on, on_two, on_even, tells, leaves, makes, unless_long, tells_bit, pushed, popped, written, extended, cut, combined}
+use Rattle.vob.specs.Walk.{answers}
+use Rattle.vob_run.specs.Call.{Call, New, FromElem, Copy, FromRaw, Push, Pop, GetBit, GetUnchecked, IndexBit, SetBit, SetUnchecked, Length, IsEmpty, Truncate, Clear, SetAll, Negate, Resize, ExtendSlice, ExtendItems, ExtendVob, SplitOff, And, Or, Xor, AndNew, OrNew, XorNew, Equal, Reserve, Shrink, Bits, Storage, Walk, Count, Fresh, WithCapacity, Fill, FromBytes, FromSlice, FromItems, FromRecord}
+use Rattle.vob_run.specs.Answer.{done, bit, flag, number, bit_list, block_list, dealt, Outcome}
+use Rattle.vob_run.specs.Outcomes.{on, on_two, on_even, tells, leaves, makes, unless_long, tells_bit, pushed, popped, written, extended, cut, combined, taken, taken_raw}
 
--- what a command answers, and the lists after it; the width is read for `Storage` alone
-abbrev pub step : ℕ → List (List Bool) → Command → Outcome
+-- what a call answers, and the lists after it; the width is read for calls that speak of blocks alone
+abbrev pub step : ℕ → List (List Bool) → Call → Outcome
 step width lists (New capacity) = makes lists []
 step width lists (FromElem value len) = makes lists (replicate len value)
 step width lists (Copy which) = on lists which (makes lists)
+step width lists (FromRaw len mask blocks) = taken_raw lists width len mask blocks
 step width lists (Push which value) = on lists which (pushed lists which value)
 step width lists (Pop which) = on lists which (popped lists which)
 step width lists (GetBit which index) = on lists which (λ bits. tells lists (bit (slice_get bits index)))
@@ -27,8 +30,8 @@ step width lists (Clear which) = on lists which (λ bits. leaves lists which don
 step width lists (SetAll which value) = on lists which (λ bits. leaves lists which done (replicate (length bits) value))
 step width lists (Negate which) = on lists which (λ bits. leaves lists which done (map not bits))
 step width lists (Resize which len value) = on lists which (λ bits. leaves lists which done (take len bits ++ replicate (len - length bits) value))
-step width lists (ExtendSlice which more) = on lists which (extended lists which more.items)
-step width lists (ExtendItems which more) = on lists which (extended lists which more.items)
+step width lists (ExtendSlice which more) = on lists which (extended lists which more)
+step width lists (ExtendItems which more) = on lists which (extended lists which more)
 step width lists (ExtendVob which other) = on_two lists which other (λ bits others. extended lists which others bits)
 step width lists (SplitOff which index) = on lists which (cut lists which index)
 step width lists (And which other) = on_even lists which other (combined lists ◌&&◌ which)
@@ -42,3 +45,12 @@ step width lists (Reserve which additional) = on lists which (λ bits. unless_lo
 step width lists (Shrink which) = on lists which (λ bits. tells lists done)
 step width lists (Bits which) = on lists which (λ bits. tells lists (bit_list bits))
 step width lists (Storage which) = on lists which (λ bits. tells lists (block_list (packing bits width)))
+step width lists (Walk which value start end pulls) = on lists which (λ bits. tells lists (dealt (answers (matches bits value start end) pulls)))
+step width lists (Count which value start end) = on lists which (λ bits. tells lists (number (length (matches bits value start end))))
+step width lists Fresh = makes lists []
+step width lists (WithCapacity capacity) = makes lists []
+step width lists (Fill value len) = makes lists (replicate len value)
+step width lists (FromBytes bytes) = unless_long lists (8 * length bytes) (makes lists (bytes_list bytes))
+step width lists (FromSlice bits) = makes lists bits
+step width lists (FromItems bits) = unless_long lists (length bits) (makes lists bits)
+step width lists (FromRecord len blocks) = taken lists width len blocks

@@ -4,8 +4,11 @@ ghost use Rattle.vob.specs.Refusal.{refusal_number};
 
 pub(crate) mod grow;
 pub(crate) mod make;
+pub(crate) mod make_usize;
 pub(crate) mod pair;
+pub(crate) mod raw;
 pub(crate) mod read;
+pub(crate) mod walk;
 pub(crate) mod write;
 
 use crate::command::Reply;

@@ -1,10 +1,12 @@
-//! The commands that `run` takes, and the replies that it gives.
+//! The commands that `run` and `run_usize` take, and the replies that they give.
+use std::ops::Bound;
+use vob::End;
 
 /// A call on numbered Vobs. `which` and `other` are numbers of Vobs, counted from 0 in the order of
 /// the list; lengths, indices and capacities are in bits. A Vob that is made comes at the end of
 /// the list.
 #[derive(Debug, Drop)]
-pub enum Command {
+pub enum Command<T> {
     /// Makes an empty Vob with room for `capacity` bits: `Vob::new_with_storage_type`.
     New {
         capacity: usize,
@@ -17,6 +19,14 @@ pub enum Command {
     /// Makes a Vob with the same bits: `Vob::clone`.
     Copy {
         which: usize,
+    },
+    /// Makes a Vob of `len` bits in a copy of these blocks: `RawVob::from_parts` and `into_vob`, and
+    /// where `mask`, `mask_last_block` between them, which is skipped where the blocks are not as many
+    /// as the length needs. `Refused(3)` where the blocks are not the length's canonical ones.
+    FromRaw {
+        len: usize,
+        mask: bool,
+        blocks: Vec<T>,
     },
     /// Adds a bit behind the last one: `Vob::push`.
     Push {
@@ -166,6 +176,43 @@ pub enum Command {
     Storage {
         which: usize,
     },
+    /// Pulls at a walk over the indices within a range whose bits are `value`, at one end after
+    /// another: `Vob::iter_set_bits` or `Vob::iter_unset_bits`, and `deal`.
+    Walk {
+        which: usize,
+        value: bool,
+        bounds: (Bound<usize>, Bound<usize>),
+        pulls: Vec<End>,
+    },
+    /// Counts the indices that the same walk gives: its `count`.
+    Count {
+        which: usize,
+        value: bool,
+        bounds: (Bound<usize>, Bound<usize>),
+    },
+}
+
+/// A call on numbered Vobs of the default block type, also by the calls that only these have.
+#[derive(Debug, Drop)]
+pub enum UsizeCommand {
+    /// A call that Vobs of every block type have.
+    Common(Command<usize>),
+    /// Makes an empty Vob: `Vob::new`.
+    Fresh,
+    /// Makes an empty Vob with room for `capacity` bits: `Vob::with_capacity`.
+    WithCapacity { capacity: usize },
+    /// Makes a Vob of `len` times `value`: `Vob::from_elem`.
+    Fill { value: bool, len: usize },
+    /// Makes a Vob of the bits of these bytes, the most significant bit of each byte first:
+    /// `Vob::from_bytes`.
+    FromBytes { bytes: Vec<u8> },
+    /// Makes a Vob of these bits: `Vob::from_slice`.
+    FromSlice { bits: Vec<bool> },
+    /// Makes a Vob of these bits, taken one by one: `Vob::from_iter`.
+    FromItems { bits: Vec<bool> },
+    /// Makes a Vob of `len` bits in a copy of these blocks: `VobRecord::into_vob`. `Refused(3)` where
+    /// the blocks are not the length's canonical ones.
+    FromRecord { len: usize, blocks: Vec<usize> },
 }
 
 /// What a command answers.
@@ -185,6 +232,8 @@ pub enum Reply<T> {
     BitList(Vec<bool>),
     /// All blocks, the one with bit 0 first.
     BlockList(Vec<T>),
+    /// An index for each pull, or `None` where no index was left.
+    Dealt(Vec<Option<usize>>),
     /// No Vob has that number, or the call's condition doesn't hold; nothing was done.
     Skipped,
     /// The call was refused, for the reason with this number (see `VobError::number`), and all Vobs

@@ -3,6 +3,7 @@
 
 mod calls;
 pub mod command;
+pub mod laws;
 pub mod run;
 
-pub use command::{Command, Reply};
+pub use command::{Command, Reply, UsizeCommand};

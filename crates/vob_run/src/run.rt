@@ -1,24 +1,26 @@
 //! A list of commands, run in order.
 ghost use Rattle.std.specs.Prelude.{◌≡◌, [], ◌++◌, map, OnOk, OnErr, IsOk};
 ghost use Rattle.vob_run.specs.Answer.{Answer, meaning};
+ghost use Rattle.vob_run.specs.Call.{call_of, usize_call_of};
 ghost use Rattle.vob_run.specs.Run.{lists, IsStep, IsRun};
 
 use crate::calls::pair::Connective;
-use crate::calls::{grow, make, pair, read, write};
-use crate::command::{Command, Reply};
+use crate::calls::{grow, make, make_usize, pair, raw, read, walk, write};
+use crate::command::{Command, Reply, UsizeCommand};
 use std::alloc::{AllocError, Global};
 use vob::Vob;
 use vob_block::Block;
 
 // Runs one command.
-fn run_one<T: Block>(alloc: Global, vobs: &mut Vec<Vob<T>>, command: &Command) -> Reply<T>
-    ensures { IsStep T.BITS (lists vobs.old.items) command.now
+fn run_one<T: Block>(alloc: Global, vobs: &mut Vec<Vob<T>>, command: &Command<T>) -> Reply<T>
+    ensures { IsStep T.BITS (lists vobs.old.items) (call_of T.number command.now)
         (meaning T.number result) (lists vobs.new.items) }
 {
     match command {
         Command::New { capacity } => make::new(alloc, vobs, *capacity),
         Command::FromElem { value, len } => make::from_elem(alloc, vobs, *value, *len),
         Command::Copy { which } => make::copy(vobs, *which),
+        Command::FromRaw { len, mask, blocks } => raw::from_raw(alloc, vobs, *len, *mask, blocks),
         Command::Push { which, value } => write::push(vobs, *which, *value),
         Command::Pop { which } => write::pop(vobs, *which),
         Command::GetBit { which, index } => read::get_bit(vobs, *which, *index),
@@ -62,6 +64,17 @@ fn run_one<T: Block>(alloc: Global, vobs: &mut Vec<Vob<T>>, command: &Command) -
         Command::Shrink { which } => grow::shrink(vobs, *which),
         Command::Bits { which } => read::bits(alloc, vobs, *which),
         Command::Storage { which } => read::storage(alloc, vobs, *which),
+        Command::Walk {
+            which,
+            value,
+            bounds,
+            pulls,
+        } => walk::walk(alloc, vobs, *which, *value, *bounds, pulls),
+        Command::Count {
+            which,
+            value,
+            bounds,
+        } => walk::count(vobs, *which, *value, *bounds),
     }
 }
 
@@ -70,13 +83,13 @@ fn run_one<T: Block>(alloc: Global, vobs: &mut Vec<Vob<T>>, command: &Command) -
 /// that names no Vob, changes nothing and has its own reply.
 pub fn run<T: Block>(
     alloc: Global,
-    commands: &[Command],
+    commands: &[Command<T>],
     vobs: &mut Vec<Vob<T>>,
     replies: &mut Vec<Reply<T>>,
 ) -> Result<(), AllocError>
     ensures ok { OnOk result ((added : _) × (replies.new.items ≡ replies.old.items ++ added)
-        × IsRun T.BITS (lists vobs.old.items) commands.now (map (meaning T.number) added)
-        (lists vobs.new.items)) }
+        × IsRun T.BITS (lists vobs.old.items) (map (call_of T.number) commands.now)
+        (map (meaning T.number) added) (lists vobs.new.items)) }
     ensures vobs_stay { OnErr result (vobs.new.items ≡ vobs.old.items) }
     ensures replies_stay { OnErr result (replies.new.items ≡ replies.old.items) }
     ensures nothing { commands.now ≡ [] → IsOk result }
@@ -84,6 +97,50 @@ pub fn run<T: Block>(
     replies.reserve(commands.len())?;
     for command in commands {
         let reply = run_one(alloc, vobs, command);
+        replies.push_reserved(reply);
+    }
+    Ok(())
+}
+
+// Runs one command on Vobs of the default block type.
+fn run_one_usize(alloc: Global, vobs: &mut Vec<Vob<usize>>, command: &UsizeCommand) -> Reply<usize>
+    ensures { IsStep 64 (lists vobs.old.items) (usize_call_of command.now)
+        (meaning (λ block. block) result) (lists vobs.new.items) }
+{
+    match command {
+        UsizeCommand::Common(command) => run_one(alloc, vobs, command),
+        UsizeCommand::Fresh => make_usize::fresh(alloc, vobs),
+        UsizeCommand::WithCapacity { capacity } => make_usize::with_capacity(
+            alloc, vobs, *capacity,
+        ),
+        UsizeCommand::Fill { value, len } => make_usize::fill(alloc, vobs, *value, *len),
+        UsizeCommand::FromBytes { bytes } => make_usize::from_bytes(alloc, vobs, bytes),
+        UsizeCommand::FromSlice { bits } => make_usize::from_slice(alloc, vobs, bits),
+        UsizeCommand::FromItems { bits } => make_usize::from_items(alloc, vobs, bits),
+        UsizeCommand::FromRecord { len, blocks } => make_usize::from_record(
+            alloc, vobs, *len, blocks,
+        ),
+    }
+}
+
+/// Runs the commands in order on the numbered Vobs of the default block type, and appends one reply
+/// for each, as `run` does.
+pub fn run_usize(
+    alloc: Global,
+    commands: &[UsizeCommand],
+    vobs: &mut Vec<Vob<usize>>,
+    replies: &mut Vec<Reply<usize>>,
+) -> Result<(), AllocError>
+    ensures ok { OnOk result ((added : _) × (replies.new.items ≡ replies.old.items ++ added)
+        × IsRun 64 (lists vobs.old.items) (map usize_call_of commands.now)
+        (map (meaning (λ block. block)) added) (lists vobs.new.items)) }
+    ensures vobs_stay { OnErr result (vobs.new.items ≡ vobs.old.items) }
+    ensures replies_stay { OnErr result (replies.new.items ≡ replies.old.items) }
+    ensures nothing { commands.now ≡ [] → IsOk result }
+{
+    replies.reserve(commands.len())?;
+    for command in commands {
+        let reply = run_one_usize(alloc, vobs, command);
         replies.push_reserved(reply);
     }
     Ok(())

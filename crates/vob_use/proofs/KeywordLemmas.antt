@@ -13,7 +13,7 @@ use Rattle.vob_use.specs.declared.line.Keyword.{Keyword}
 use Rattle.vob_use.specs.declared.line.Keyword.TheVariants.{New, Push, Pop, Get, GetUnchecked, Index, Set, SetUnchecked, Len, Empty, Truncate, Bits, Blocks}
 
 -- the keyword of a command
-keyword_of : Command → Keyword
+keyword_of : Command ℕ → Keyword
 keyword_of (command.New capacity) = New
 keyword_of (command.Push which value) = Push
 keyword_of (command.Pop which) = Pop
@@ -30,11 +30,11 @@ keyword_of (command.Storage which) = Blocks
 keyword_of _ = New
 
 -- the word of a command is its keyword's, and its arguments are of the keyword's kinds
-record Belongs (c : Command) (k : Keyword) : Type 0 where
+record Belongs (c : Command ℕ) (k : Keyword) : Type 0 where
   word : (form_of c).word ≡ word_of k
   kinds : map kind_of (form_of c).arguments ≡ kinds_of k
 
-belongs : (c : Command) → (form_of c).word ≢ [] → Belongs c (keyword_of c)
+belongs : (c : Command ℕ) → (form_of c).word ≢ [] → Belongs c (keyword_of c)
 unfolding keyword_of
 belongs (command.New capacity) some = record { word = refl; kinds = refl }
 belongs (command.Push which value) some = record { word = refl; kinds = refl }
@@ -50,6 +50,9 @@ belongs (command.Truncate which len) some = record { word = refl; kinds = refl }
 belongs (command.Bits which) some = record { word = refl; kinds = refl }
 belongs (command.Storage which) some = record { word = refl; kinds = refl }
 belongs (command.FromElem value len) some = absurd (some refl)
+belongs (command.FromRaw len mask blocks) some = absurd (some refl)
+belongs (command.Walk which value bounds pulls) some = absurd (some refl)
+belongs (command.Count which value bounds) some = absurd (some refl)
 belongs (command.Copy which) some = absurd (some refl)
 belongs (command.Clear which) some = absurd (some refl)
 belongs (command.SetAll which value) some = absurd (some refl)
@@ -70,7 +73,7 @@ belongs (command.Reserve which additional) some = absurd (some refl)
 belongs (command.Shrink which) some = absurd (some refl)
 
 -- the command of a keyword and its arguments
-command_of : Keyword → List Argument → Option Command
+command_of : Keyword → List Argument → Option (Command ℕ)
 command_of New (number capacity ∷ []) = Some (command.New capacity)
 command_of Push (number which ∷ bit value ∷ []) = Some (command.Push which value)
 command_of Pop (number which ∷ []) = Some (command.Pop which)
@@ -86,7 +89,7 @@ command_of Bits (number which ∷ []) = Some (command.Bits which)
 command_of Blocks (number which ∷ []) = Some (command.Storage which)
 command_of _ _ = None
 
-again : (c : Command) → (form_of c).word ≢ [] →
+again : (c : Command ℕ) → (form_of c).word ≢ [] →
     command_of (keyword_of c) (form_of c).arguments ≡ Some c
 unfolding keyword_of command_of
 again (command.New capacity) some = refl
@@ -103,6 +106,9 @@ again (command.Truncate which len) some = refl
 again (command.Bits which) some = refl
 again (command.Storage which) some = refl
 again (command.FromElem value len) some = absurd (some refl)
+again (command.FromRaw len mask blocks) some = absurd (some refl)
+again (command.Walk which value bounds pulls) some = absurd (some refl)
+again (command.Count which value bounds) some = absurd (some refl)
 again (command.Copy which) some = absurd (some refl)
 again (command.Clear which) some = absurd (some refl)
 again (command.SetAll which value) some = absurd (some refl)
@@ -138,7 +144,7 @@ named-word Truncate = refl
 named-word Bits = refl
 named-word Blocks = refl
 
-named-form : (c : Command) → (form_of c).word ≢ [] →
+named-form : (c : Command ℕ) → (form_of c).word ≢ [] →
     keyword_named (form_of c).word ≡ Some (keyword_of c)
 named-form c some = ap keyword_named (belongs c some).word ∙ named-word (keyword_of c)
 
@@ -147,7 +153,7 @@ some_word : (word : List ℕ) (k : Keyword) → keyword_named word ≡ Some k �
 some_word word k named = λ e. none-some k (sym (ap keyword_named e) ∙ named)
 
 -- a command whose word names a keyword belongs to it
-belongs_named : (c : Command) (k : Keyword) → keyword_named (form_of c).word ≡ Some k → Belongs c k
+belongs_named : (c : Command ℕ) (k : Keyword) → keyword_named (form_of c).word ≡ Some k → Belongs c k
 belongs_named c k named =
     let own = belongs c (some_word (form_of c).word k named) in
     let same : Some (keyword_of c) ≡ Some k =
@@ -231,7 +237,7 @@ all_spell_once (word ∷ words) [] ys kinds here there = absurd here
 all_spell_once (word ∷ words) (x ∷ xs) [] kinds here there = absurd there
 
 -- words read as one command at most
-pub reads_once : (line : List (List ℕ)) (c d : Command) → Reads line c → Reads line d → c ≡ d
+pub reads_once : (line : List (List ℕ)) (c d : Command ℕ) → Reads line c → Reads line d → c ≡ d
 reads_once [] c d here there = absurd here
 reads_once (word ∷ words) c d here there =
     let some : (form_of c).word ≢ [] = λ e. here.0.1 (here.0.0 ∙ e) in
@@ -249,22 +255,22 @@ reads_once (word ∷ words) c d here there =
 module _ (k : Keyword) (line : List (List ℕ)) (word : List ℕ) (words : List (List ℕ))
     (cut : line ≡ word ∷ words) (named : keyword_named word ≡ Some k) where
   -- the line reads as commands of the keyword alone
-  arguments_read : (c : Command) → Reads line c →
+  arguments_read : (c : Command ℕ) → Reads line c →
       AllSpell words (form_of c).arguments × (map kind_of (form_of c).arguments ≡ kinds_of k)
   arguments_read c reads =
       let here = subst (λ line. Reads line c) cut reads in
       (here.1, (belongs_named c k (ap keyword_named (sym here.0.0) ∙ named)).kinds)
 
   -- words of other kinds are no arguments of the keyword
-  pub not_read : (BeginWith words (kinds_of k) → ⊥) → (c : Command) → Reads line c → ⊥
+  pub not_read : (BeginWith words (kinds_of k) → ⊥) → (c : Command ℕ) → Reads line c → ⊥
   not_read others c reads =
       let read = arguments_read c reads in
       others (subst (BeginWith words) read.1 (BeginWith-spelled words (form_of c).arguments read.0))
 
   -- a word behind the arguments is too much
-  pub too_long : (d : Command) (after : List (List ℕ)) → (form_of d).word ≡ word_of k →
+  pub too_long : (d : Command ℕ) (after : List (List ℕ)) → (form_of d).word ≡ word_of k →
       TakesAll words (form_of d).arguments after → (after ≡ [] → ⊥) →
-      (c : Command) → Reads line c → ⊥
+      (c : Command ℕ) → Reads line c → ⊥
   too_long d after same takes more c reads =
       let read = arguments_read c reads in
       let other = belongs_named d k (ap keyword_named same ∙ named-word k) in
@@ -274,7 +280,7 @@ module _ (k : Keyword) (line : List (List ℕ)) (word : List ℕ) (words : List 
       more (nil_from_length after (omega (arith, counts, all, taken)))
 
   -- the keyword and its arguments, with nothing behind them
-  pub read_whole : (d : Command) (after : List (List ℕ)) → (form_of d).word ≡ word_of k →
+  pub read_whole : (d : Command ℕ) (after : List (List ℕ)) → (form_of d).word ≡ word_of k →
       TakesAll words (form_of d).arguments after → after ≡ [] → Reads line d
   read_whole d after same takes none =
       let here : Reads (word ∷ words) d = (

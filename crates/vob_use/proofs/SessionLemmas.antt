@@ -10,7 +10,7 @@ use Rattle.vob_use.specs.Grammar.{Reads}
 use Rattle.vob_use.specs.Conversation.{sentences, AllRead, IsFirstBad}
 
 -- the first lines, of which there are so many, read as these commands
-pub record ReadsSoFar (lines rest : List (List ℕ)) (n : ℕ) (commands : List Command) : Type 0 where
+pub record ReadsSoFar (lines rest : List (List ℕ)) (n : ℕ) (commands : List (Command ℕ)) : Type 0 where
   pub before : List (List ℕ)
   pub cut : lines ≡ before ++ rest
   pub count : n ≡ length before
@@ -35,7 +35,7 @@ sentences-blank before line none =
 
 -- a blank line is passed over, and counted
 pub reads_blank : (lines rest after : List (List ℕ)) (line : List ℕ) (n : ℕ)
-    (commands : List Command) → ReadsSoFar lines rest n commands → rest ≡ line ∷ after →
+    (commands : List (Command ℕ)) → ReadsSoFar lines rest n commands → rest ≡ line ∷ after →
     words_of line ≡ [] → ReadsSoFar lines after (n + 1) commands
 reads_blank lines rest after line n commands so_far e none = record {
   before = so_far.before ++ line ∷ [];
@@ -46,8 +46,8 @@ reads_blank lines rest after line n commands so_far e none = record {
   read = rw (sentences-blank so_far.before line none) so_far.read;
 }
 
-AllRead_push : (read : List (List (List ℕ))) (commands : List Command) (words : List (List ℕ))
-    (command : Command) → AllRead read commands → Reads words command →
+AllRead_push : (read : List (List (List ℕ))) (commands : List (Command ℕ)) (words : List (List ℕ))
+    (command : Command ℕ) → AllRead read commands → Reads words command →
     AllRead (read ++ words ∷ []) (commands ++ command ∷ [])
 AllRead_push [] [] words command all reads = (reads, tt)
 AllRead_push (x ∷ xs) (c ∷ cs) words command all reads =
@@ -55,7 +55,7 @@ AllRead_push (x ∷ xs) (c ∷ cs) words command all reads =
 AllRead_push [] (c ∷ cs) words command all reads = absurd all
 AllRead_push (x ∷ xs) [] words command all reads = absurd all
 
-some_words : (words : List (List ℕ)) (command : Command) → Reads words command →
+some_words : (words : List (List ℕ)) (command : Command ℕ) → Reads words command →
     is_sentence words ≡ true
 some_words [] command reads = absurd reads
 some_words (word ∷ words) command reads = lt-ltb 0 (length (word ∷ words)) (omega arith)
@@ -66,7 +66,7 @@ sentences-some before line some = sentences_push before line ∙ rw some refl
 
 -- a line that has words gives a command
 pub reads_more : (lines rest after : List (List ℕ)) (line : List ℕ) (n : ℕ)
-    (commands : List Command) (command : Command) → ReadsSoFar lines rest n commands →
+    (commands : List (Command ℕ)) (command : Command ℕ) → ReadsSoFar lines rest n commands →
     rest ≡ line ∷ after → Reads (words_of line) command →
     ReadsSoFar lines after (n + 1) (commands ++ command ∷ [])
 reads_more lines rest after line n commands command so_far e reads = record {
@@ -82,8 +82,8 @@ reads_more lines rest after line n commands command so_far e reads = record {
 
 -- a line that reads as no command is the first bad one
 pub reads_bad : (lines rest after : List (List ℕ)) (line : List ℕ) (n : ℕ)
-    (commands : List Command) → ReadsSoFar lines rest n commands → rest ≡ line ∷ after →
-    words_of line ≢ [] → ((command : Command) → Reads (words_of line) command → ⊥) →
+    (commands : List (Command ℕ)) → ReadsSoFar lines rest n commands → rest ≡ line ∷ after →
+    words_of line ≢ [] → ((command : Command ℕ) → Reads (words_of line) command → ⊥) →
     IsFirstBad lines (n + 1)
 reads_bad lines rest after line n commands so_far e some bad = record {
   before = so_far.before;
@@ -98,7 +98,7 @@ reads_bad lines rest after line n commands so_far e some bad = record {
 }
 
 -- at the end all lines are read
-pub reads_all : (lines : List (List ℕ)) (n : ℕ) (commands : List Command) →
+pub reads_all : (lines : List (List ℕ)) (n : ℕ) (commands : List (Command ℕ)) →
     ReadsSoFar lines [] n commands → AllRead (sentences lines) commands
 reads_all lines n commands so_far = rw (so_far.cut ∙ append-nil so_far.before) so_far.read
 

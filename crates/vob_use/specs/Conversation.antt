@@ -3,6 +3,7 @@ use Rattle.std.specs.Prelude.{◌≡◌, ◌≢◌, ◌⊎◌, ℕ, ◌+◌, Boo
 use Rattle.std.specs.List.{flat_map}
 use Rattle.std.specs.Fmt.{decimal}
 use Rattle.vob_run.specs.declared.command.Command.{Command}
+use Rattle.vob_run.specs.Call.{call_of}
 use Rattle.vob_run.specs.Answer.{Answer}
 use Rattle.vob_run.specs.Run.{IsRun}
 use Rattle.vob_use.specs.Cuts.{lines_of, words_of}
@@ -14,7 +15,7 @@ abbrev pub sentences : List (List ℕ) → List (List (List ℕ))
 sentences lines = filter (λ words. nat_lt 0 (length words)) (map words_of lines)
 
 -- each of these sentences reads as its command
-abbrev pub AllRead : List (List (List ℕ)) → List Command → Type 0
+abbrev pub AllRead : List (List (List ℕ)) → List (Command ℕ) → Type 0
 AllRead [] [] = ⊤
 AllRead (words ∷ sentences) (command ∷ commands) = Reads words command × AllRead sentences commands
 AllRead [] (command ∷ commands) = ⊥
@@ -26,11 +27,11 @@ lines_for answers = flat_map (λ answer. line_of (text_of answer)) answers
 
 -- the sentences read as commands, these run from no Vobs at all, and their answers are written
 pub record Answers (input written : List ℕ) : Type 0 where
-  pub commands : List Command
+  pub commands : List (Command ℕ)
   pub read : AllRead (sentences (lines_of input)) commands
   pub answers : List Answer
   pub after : List (List Bool)
-  pub run : IsRun 64 [] commands answers after
+  pub run : IsRun 64 [] (map (call_of (λ (block : ℕ). block)) commands) answers after
   pub text : written ≡ lines_for answers
 
 -- a line that has words and reads as no command, after lines that do; its number counts from 1
@@ -40,10 +41,10 @@ pub record IsFirstBad (lines : List (List ℕ)) (n : ℕ) : Type 0 where
   pub others : List (List ℕ)
   pub cut : lines ≡ before ++ line ∷ others
   pub place : n ≡ length before + 1
-  pub commands : List Command
+  pub commands : List (Command ℕ)
   pub read : AllRead (sentences before) commands
   pub words : words_of line ≢ []
-  pub bad : (command : Command) → Reads (words_of line) command → ⊥
+  pub bad : (command : Command ℕ) → Reads (words_of line) command → ⊥
 
 -- the number of the first bad line is written, and nothing else
 abbrev pub Refuses : List ℕ → List ℕ → Type 0

@@ -34,7 +34,7 @@ abbrev pub form : List ℕ → List Argument → Form
 form word arguments = record { word = word; arguments = arguments }
 
 -- the line of each command; one that no line stands for has no word
-abbrev pub form_of : Command → Form
+abbrev pub form_of : Command ℕ → Form
 form_of (New capacity) = form (codes "new") (number capacity ∷ [])
 form_of (Push which value) = form (codes "push") (number which ∷ bit value ∷ [])
 form_of (Pop which) = form (codes "pop") (number which ∷ [])
@@ -51,10 +51,10 @@ form_of (Storage which) = form (codes "blocks") (number which ∷ [])
 form_of _ = form [] []
 
 -- the word of a command, which isn't empty
-abbrev pub Names : List ℕ → Command → Type 0
+abbrev pub Names : List ℕ → Command ℕ → Type 0
 Names word command = (word ≡ (form_of command).word) × (word ≢ [])
 
 -- words read as a command
-abbrev pub Reads : List (List ℕ) → Command → Type 0
+abbrev pub Reads : List (List ℕ) → Command ℕ → Type 0
 Reads [] command = ⊥
 Reads (word ∷ words) command = Names word command × AllSpell words (form_of command).arguments

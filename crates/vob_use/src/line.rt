@@ -138,7 +138,7 @@ impl<'a> Words<'a> {
     }
 
     /// The command of a keyword, with the first words as its arguments.
-    fn arguments(&mut self, keyword: Keyword) -> Result<Command, Unreadable>
+    fn arguments(&mut self, keyword: Keyword) -> Result<Command<usize>, Unreadable>
         ensures word { IfOk result (λ command. (form_of command).word ≡ word_of keyword) }
         ensures ok { IfOk result (λ command.
             TakesAll self.old (form_of command).arguments self.new) }
@@ -279,11 +279,11 @@ fn without_return(line: &[u8]) -> &[u8]
 }
 
 /// The command that a line reads as.
-pub fn read_command(line: &[u8]) -> Result<Command, Unreadable>
+pub fn read_command(line: &[u8]) -> Result<Command<usize>, Unreadable>
     ensures found { IfOk result (λ command. Reads (words_of line.now) command) }
     ensures one { IfOk result (λ command.
-        (other : Command) → Reads (words_of line.now) other → other ≡ command) }
-    ensures only { OnErr result ((command : Command) → Reads (words_of line.now) command → ⊥) }
+        (other : Command ℕ) → Reads (words_of line.now) other → other ≡ command) }
+    ensures only { OnErr result ((command : Command ℕ) → Reads (words_of line.now) command → ⊥) }
 {
     let mut words = Words { rest: line };
     let keyword = Keyword::named(words.word()?).ok_or(Unreadable)?;

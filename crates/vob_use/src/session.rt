@@ -3,6 +3,7 @@
 
 ghost use Rattle.std.specs.Prelude.{◌≡◌, ◌≢◌, ℕ, List, [], ◌++◌, map, IfOk, IfErr, OnOk, OnErr, IfSome, IsOkUnless, IsErrOf};
 ghost use Rattle.std.specs.Io.KnownBytes.{Appends};
+ghost use Rattle.vob_run.specs.Call.{call_of};
 ghost use Rattle.vob_run.specs.Run.{IsRun};
 ghost use Rattle.vob_run.specs.declared.command.Command.{Command};
 ghost use Rattle.vob_use.specs.Cuts.{lines_of};
@@ -70,7 +71,7 @@ fn read_all<R: Read>(alloc: Global, input: &mut R) -> Result<Vec<u8>, Ending>
 }
 
 /// Reads all lines as commands, up to the first that no command reads as.
-fn read_commands(alloc: Global, text: &[u8]) -> Result<Vec<Command>, Ending>
+fn read_commands(alloc: Global, text: &[u8]) -> Result<Vec<Command<usize>>, Ending>
     ensures ok { IfOk result (λ commands. AllRead (sentences (lines_of text.now)) commands.items) }
     ensures err { IfErr result (λ ending. Ends (lines_of text.now) ending) }
     ensures failed { ¬ (IsErrOf result Ending.Failed) }
@@ -91,9 +92,9 @@ fn read_commands(alloc: Global, text: &[u8]) -> Result<Vec<Command>, Ending>
 }
 
 /// Runs commands, from no Vobs at all.
-fn answer(alloc: Global, commands: &[Command]) -> Result<Vec<Reply<usize>>, Ending>
+fn answer(alloc: Global, commands: &[Command<usize>]) -> Result<Vec<Reply<usize>>, Ending>
     ensures ok { IfOk result (λ replies.
-        (after : _) × IsRun 64 [] commands.now (map answer_of replies.items) after) }
+        (after : _) × IsRun 64 [] (map (call_of (λ block. block)) commands.now) (map answer_of replies.items) after) }
     ensures err { IsOkUnless result Ending.Memory }
 {
     let mut vobs = Vec::new(alloc);
@@ -105,8 +106,8 @@ fn answer(alloc: Global, commands: &[Command]) -> Result<Vec<Reply<usize>>, Endi
 /// Reads the whole input and runs its lines.
 fn replies_to<R: Read>(alloc: Global, input: &mut R) -> Result<Vec<Reply<usize>>, Ending>
     ensures ok { IfOk result (λ replies. IfSome (R.remaining input.old) (λ text.
-        (commands : List Command) × AllRead (sentences (lines_of text)) commands
-        × ((after : _) × IsRun 64 [] commands (map answer_of replies.items) after))) }
+        (commands : List (Command ℕ)) × AllRead (sentences (lines_of text)) commands
+        × ((after : _) × IsRun 64 [] (map (call_of (λ block. block)) commands) (map answer_of replies.items) after))) }
     ensures err { IfErr result (λ ending. IfSome (R.remaining input.old) (λ text.
         Ends (lines_of text) ending)) }
 {

@@ -3,7 +3,7 @@
 ghost use Rattle.std.specs.Prelude.{◌≡◌, map, Some};
 ghost use Rattle.std.specs.Fmt.{decimal};
 ghost use Rattle.vob_use.specs.Grammar.{digit};
-ghost use Rattle.vob_use.specs.Texts.{answer_of, digits, listed, text_of};
+ghost use Rattle.vob_use.specs.Texts.{answer_of, digits, index_text, listed, text_of};
 
 use std::fmt;
 use vob_run::Reply;
@@ -25,6 +25,7 @@ impl fmt::Display for ReplyText<'_> {
             Reply::Made(which) => write!(f, "vob {which}"),
             Reply::BitList(bits) => write!(f, "bits {}", Digits(bits)),
             Reply::BlockList(blocks) => write!(f, "blocks {}", Blocks(blocks)),
+            Reply::Dealt(indices) => write!(f, "dealt {}", Indices(indices)),
             Reply::Skipped => write!(f, "skipped"),
             Reply::Refused(reason) => write!(f, "refused {reason}"),
         }
@@ -72,5 +73,39 @@ impl fmt::Display for Blocks<'_> {
             write!(f, " {block}")?;
         }
         Ok(())
+    }
+}
+
+/// What a walk gave, the first pull first.
+#[derive(Clone, Copy)]
+struct Indices<'a>(&'a [Option<usize>]);
+
+impl fmt::Display for Indices<'_> {
+    ghost output = { λ indices. Some (listed (map index_text indices.0.now)) };
+
+    fn fmt<W: fmt::Write>(&self, f: &mut fmt::Formatter<W>) -> fmt::Result {
+        let Some((first, others)) = self.0.split_first() else {
+            return write!(f, "-");
+        };
+        write!(f, "{}", Index(*first))?;
+        for index in others {
+            write!(f, " {}", Index(*index))?;
+        }
+        Ok(())
+    }
+}
+
+/// An index, or that none was left.
+#[derive(Clone, Copy)]
+struct Index(Option<usize>);
+
+impl fmt::Display for Index {
+    ghost output = { λ index. Some (index_text index.0) };
+
+    fn fmt<W: fmt::Write>(&self, f: &mut fmt::Formatter<W>) -> fmt::Result {
+        match self.0 {
+            Some(index) => write!(f, "{index}"),
+            None => write!(f, "none"),
+        }
     }
 }

@@ -7,7 +7,7 @@ use Rattle.std.proofs.lemmas.Bool.{lt-ltb}
 use mathlib.Core.Bool.{beq}
 use Rattle.std.proofs.lemmas.List.{map-set, set-get_or, get_or-map}
 use Rattle.std.proofs.lemmas.Option.{slice_get-get_or, slice_get-map}
-use Rattle.vob_run.specs.declared.command.Command.TheVariants.{Push}
+use Rattle.vob_run.specs.Call.{Push}
 use Rattle.vob_run.specs.Answer.{Outcome, done, outcome, skipped, refused}
 use Rattle.vob_block.specs.Pointwise.{differ}
 use Rattle.vob_run.specs.Outcomes.{on, pushed, greatest_length}

@@ -1,7 +1,8 @@
 //! The commands on lists of bits, bit by bit: slow, and plainly what the definitions say.
-ghost use Rattle.std.specs.Prelude.{◌≡◌, ℕ, ◌+◌, ◌<◌, ◌≤◌, length, IfOk, OnOk, OnErr};
+ghost use Rattle.std.specs.Prelude.{◌≡◌, ℕ, ◌+◌, ◌<◌, ◌≤◌, map, length, IfOk, OnOk, OnErr};
 ghost use Rattle.vob_block.specs.Places.{value};
 ghost use Rattle.vob_block.specs.Packing.{item, packing};
+ghost use Rattle.vob_run.specs.Call.{call_of, Bits, GetBit, IndexBit, IsEmpty, Length, New, Pop, Push, SetBit, Storage, Truncate};
 ghost use Rattle.vob_vectors.specs.Plain.{AddsRun, IsPlainStep, bit_lists};
 
 use std::alloc::{AllocError, Global};
@@ -52,7 +53,7 @@ fn bits_of(alloc: Global, bits: &[bool]) -> Result<Vec<bool>, AllocError>
 
 /// A new empty list, behind the others.
 fn new_list(alloc: Global, lists: &mut Vec<Vec<bool>>) -> Result<Reply<u128>, AllocError>
-    ensures ok { (w n : ℕ) → IfOk result (IsPlainStep w lists.old (Command.New n) lists.new) }
+    ensures ok { (w n : ℕ) → IfOk result (IsPlainStep w lists.old (New n) lists.new) }
     ensures err { OnErr result (bit_lists lists.new ≡ bit_lists lists.old) }
 {
     let made = lists.len();
@@ -66,7 +67,7 @@ fn push_bit(
     which: usize,
     value: bool,
 ) -> Result<Reply<u128>, AllocError>
-    ensures ok { (w : ℕ) → IfOk result (IsPlainStep w lists.old (Command.Push which value) lists.new) }
+    ensures ok { (w : ℕ) → IfOk result (IsPlainStep w lists.old (Push which value) lists.new) }
     ensures err { OnErr result (bit_lists lists.new ≡ bit_lists lists.old) }
 {
     if which >= lists.len() {
@@ -81,7 +82,7 @@ fn push_bit(
 
 /// The last bit of a list, taken off.
 fn pop_bit(lists: &mut Vec<Vec<bool>>, which: usize) -> Reply<u128>
-    ensures { (w : ℕ) → IsPlainStep w lists.old (Command.Pop which) lists.new result }
+    ensures { (w : ℕ) → IsPlainStep w lists.old (Pop which) lists.new result }
 {
     let Some(bits) = lists.get_mut(which) else {
         return Reply::Skipped;
@@ -91,7 +92,7 @@ fn pop_bit(lists: &mut Vec<Vec<bool>>, which: usize) -> Reply<u128>
 
 /// The first `len` bits of a list, alone.
 fn cut_bits(lists: &mut Vec<Vec<bool>>, which: usize, len: usize) -> Reply<u128>
-    ensures { (w : ℕ) → IsPlainStep w lists.old (Command.Truncate which len) lists.new result }
+    ensures { (w : ℕ) → IsPlainStep w lists.old (Truncate which len) lists.new result }
 {
     let Some(bits) = lists.get_mut(which) else {
         return Reply::Skipped;
@@ -102,7 +103,7 @@ fn cut_bits(lists: &mut Vec<Vec<bool>>, which: usize, len: usize) -> Reply<u128>
 
 /// One bit of a list, written.
 fn write_bit(lists: &mut Vec<Vec<bool>>, which: usize, index: usize, value: bool) -> Reply<u128>
-    ensures { (w : ℕ) → IsPlainStep w lists.old (Command.SetBit which index value) lists.new
+    ensures { (w : ℕ) → IsPlainStep w lists.old (SetBit which index value) lists.new
         result }
 {
     let Some(bits) = lists.get_mut(which) else {
@@ -118,7 +119,7 @@ fn write_bit(lists: &mut Vec<Vec<bool>>, which: usize, index: usize, value: bool
 
 /// One bit of a list, which is there.
 fn tell_bit(lists: &Vec<Vec<bool>>, which: usize, index: usize) -> Reply<u128>
-    ensures { (w : ℕ) → IsPlainStep w lists.now (Command.IndexBit which index) lists.now result }
+    ensures { (w : ℕ) → IsPlainStep w lists.now (IndexBit which index) lists.now result }
 {
     match lists.get(which).and_then(|bits| bits.get(index)) {
         None => Reply::Skipped,
@@ -128,7 +129,7 @@ fn tell_bit(lists: &Vec<Vec<bool>>, which: usize, index: usize) -> Reply<u128>
 
 /// Whether a list has no bits.
 fn has_none(lists: &Vec<Vec<bool>>, which: usize) -> Reply<u128>
-    ensures { (w : ℕ) → IsPlainStep w lists.now (Command.IsEmpty which) lists.now result }
+    ensures { (w : ℕ) → IsPlainStep w lists.now (IsEmpty which) lists.now result }
 {
     match lists.get(which) {
         None => Reply::Skipped,
@@ -138,7 +139,7 @@ fn has_none(lists: &Vec<Vec<bool>>, which: usize) -> Reply<u128>
 
 /// One bit of a list.
 fn get_bit(lists: &Vec<Vec<bool>>, which: usize, index: usize) -> Reply<u128>
-    ensures { (w : ℕ) → IsPlainStep w lists.now (Command.GetBit which index) lists.now result }
+    ensures { (w : ℕ) → IsPlainStep w lists.now (GetBit which index) lists.now result }
 {
     match lists.get(which) {
         None => Reply::Skipped,
@@ -148,7 +149,7 @@ fn get_bit(lists: &Vec<Vec<bool>>, which: usize, index: usize) -> Reply<u128>
 
 /// How many bits a list has.
 fn count_bits(lists: &Vec<Vec<bool>>, which: usize) -> Reply<u128>
-    ensures { (w : ℕ) → IsPlainStep w lists.now (Command.Length which) lists.now result }
+    ensures { (w : ℕ) → IsPlainStep w lists.now (Length which) lists.now result }
 {
     match lists.get(which) {
         None => Reply::Skipped,
@@ -158,7 +159,7 @@ fn count_bits(lists: &Vec<Vec<bool>>, which: usize) -> Reply<u128>
 
 /// All bits of a list.
 fn list_bits(alloc: Global, lists: &Vec<Vec<bool>>, which: usize) -> Result<Reply<u128>, AllocError>
-    ensures { (w : ℕ) → IfOk result (IsPlainStep w lists.now (Command.Bits which) lists.now) }
+    ensures { (w : ℕ) → IfOk result (IsPlainStep w lists.now (Bits which) lists.now) }
 {
     match lists.get(which) {
         None => Ok(Reply::Skipped),
@@ -175,7 +176,7 @@ fn list_blocks(
 ) -> Result<Reply<u128>, AllocError>
     requires positive { 0 < width }
     requires width_in { width ≤ 128 }
-    ensures { IfOk result (IsPlainStep width lists.now (Command.Storage which) lists.now) }
+    ensures { IfOk result (IsPlainStep width lists.now (Storage which) lists.now) }
 {
     match lists.get(which) {
         None => Ok(Reply::Skipped),
@@ -189,11 +190,11 @@ pub fn plain_step(
     alloc: Global,
     width: usize,
     lists: &mut Vec<Vec<bool>>,
-    command: &Command,
+    command: &Command<u8>,
 ) -> Result<Reply<u128>, AllocError>
     requires positive { 0 < width }
     requires width_in { width ≤ 128 }
-    ensures ok { IfOk result (IsPlainStep width lists.old command.now lists.new) }
+    ensures ok { IfOk result (IsPlainStep width lists.old (call_of (λ block. block) command.now) lists.new) }
     ensures err { OnErr result (bit_lists lists.new ≡ bit_lists lists.old) }
 {
     match *command {
@@ -226,13 +227,14 @@ pub fn plain_step(
 pub fn plain_run(
     alloc: Global,
     width: usize,
-    commands: &[Command],
+    commands: &[Command<u8>],
     lists: &mut Vec<Vec<bool>>,
     replies: &mut Vec<Reply<u128>>,
 ) -> Result<(), AllocError>
     requires positive { 0 < width }
     requires width_in { width ≤ 128 }
-    ensures { OnOk result (AddsRun width commands.now lists.old lists.new replies.old replies.new) }
+    ensures { OnOk result (AddsRun width (map (call_of (λ block. block)) commands.now) lists.old lists.new
+        replies.old replies.new) }
 {
     for command in commands {
         let reply = plain_step(alloc, width, lists, command)?;

@@ -14,3 +14,4 @@ mod reachable;
 mod rows;
 mod single_bits;
 mod slots;
+mod walk_commands;

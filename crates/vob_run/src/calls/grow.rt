@@ -2,15 +2,16 @@
 ghost use Rattle.std.specs.Prelude.{◌≡◌, ◌↔◌, ◌+◌, ◌<◌, ◌++◌, length, OnOk, OnErr, Err};
 ghost use Rattle.vob_block.specs.Packing.{need};
 ghost use Rattle.vob_run.specs.Answer.{meaning};
+ghost use Rattle.vob_run.specs.Call.{Resize, ExtendSlice, ExtendItems, Reserve, Shrink};
 ghost use Rattle.vob_run.specs.Run.{lists, IsStep};
 
 use crate::calls::refused;
-use crate::command::{Command, Reply};
+use crate::command::Reply;
 use vob::{Vob, VobError};
 use vob_block::Block;
 
 pub(crate) fn reserve<T: Block>(vobs: &mut Vec<Vob<T>>, which: usize, additional: usize) -> Reply<T>
-    ensures { IsStep T.BITS (lists vobs.old.items) (Command.Reserve which additional)
+    ensures { IsStep T.BITS (lists vobs.old.items) (Reserve which additional)
         (meaning T.number result) (lists vobs.new.items) }
 {
     let Some(vob) = vobs.get_mut(which) else {
@@ -23,7 +24,7 @@ pub(crate) fn reserve<T: Block>(vobs: &mut Vec<Vob<T>>, which: usize, additional
 }
 
 pub(crate) fn shrink<T: Block>(vobs: &mut Vec<Vob<T>>, which: usize) -> Reply<T>
-    ensures { IsStep T.BITS (lists vobs.old.items) (Command.Shrink which)
+    ensures { IsStep T.BITS (lists vobs.old.items) (Shrink which)
         (meaning T.number result) (lists vobs.new.items) }
 {
     let Some(vob) = vobs.get_mut(which) else {
@@ -39,7 +40,7 @@ pub(crate) fn resize<T: Block>(
     len: usize,
     value: bool,
 ) -> Reply<T>
-    ensures { IsStep T.BITS (lists vobs.old.items) (Command.Resize which len value)
+    ensures { IsStep T.BITS (lists vobs.old.items) (Resize which len value)
         (meaning T.number result) (lists vobs.new.items) }
 {
     let Some(vob) = vobs.get_mut(which) else {
@@ -56,7 +57,7 @@ pub(crate) fn extend_slice<T: Block>(
     which: usize,
     bits: &Vec<bool>,
 ) -> Reply<T>
-    ensures { IsStep T.BITS (lists vobs.old.items) (Command.ExtendSlice which bits.now)
+    ensures { IsStep T.BITS (lists vobs.old.items) (ExtendSlice which bits.now.items)
         (meaning T.number result) (lists vobs.new.items) }
 {
     let Some(vob) = vobs.get_mut(which) else {
@@ -86,7 +87,7 @@ pub(crate) fn extend_items<T: Block>(
     which: usize,
     bits: &Vec<bool>,
 ) -> Reply<T>
-    ensures { IsStep T.BITS (lists vobs.old.items) (Command.ExtendItems which bits.now)
+    ensures { IsStep T.BITS (lists vobs.old.items) (ExtendItems which bits.now.items)
         (meaning T.number result) (lists vobs.new.items) }
 {
     let Some(vob) = vobs.get_mut(which) else {

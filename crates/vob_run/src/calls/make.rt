@@ -1,10 +1,11 @@
 //! The commands that make a Vob, at the end of the list.
 ghost use Rattle.std.specs.Prelude.{◌≡◌, ◌<◌, ◌++◌, [], ◌∷◌, length, IfOk, OnErr, vec_len, vec_capacity};
 ghost use Rattle.vob_run.specs.Answer.{meaning, made, refused};
+ghost use Rattle.vob_run.specs.Call.{New, FromElem, Copy, SplitOff};
 ghost use Rattle.vob_run.specs.Run.{lists, IsStep};
 
 use crate::calls::refused;
-use crate::command::{Command, Reply};
+use crate::command::Reply;
 use std::alloc::{AllocError, Global};
 use vob::{Vob, VobError};
 use vob_block::Block;
@@ -28,7 +29,7 @@ pub(super) fn placed<T: Block>(vobs: &mut Vec<Vob<T>>, vob: Result<Vob<T>, Alloc
 }
 
 pub(crate) fn new<T: Block>(alloc: Global, vobs: &mut Vec<Vob<T>>, capacity: usize) -> Reply<T>
-    ensures { IsStep T.BITS (lists vobs.old.items) (Command.New capacity)
+    ensures { IsStep T.BITS (lists vobs.old.items) (New capacity)
         (meaning T.number result) (lists vobs.new.items) }
 {
     if vobs.reserve(1).is_err() {
@@ -43,7 +44,7 @@ pub(crate) fn from_elem<T: Block>(
     value: bool,
     len: usize,
 ) -> Reply<T>
-    ensures { IsStep T.BITS (lists vobs.old.items) (Command.FromElem value len)
+    ensures { IsStep T.BITS (lists vobs.old.items) (FromElem value len)
         (meaning T.number result) (lists vobs.new.items) }
 {
     if vobs.reserve(1).is_err() {
@@ -53,7 +54,7 @@ pub(crate) fn from_elem<T: Block>(
 }
 
 pub(crate) fn copy<T: Block>(vobs: &mut Vec<Vob<T>>, which: usize) -> Reply<T>
-    ensures { IsStep T.BITS (lists vobs.old.items) (Command.Copy which)
+    ensures { IsStep T.BITS (lists vobs.old.items) (Copy which)
         (meaning T.number result) (lists vobs.new.items) }
 {
     if which >= vobs.len() {
@@ -67,7 +68,7 @@ pub(crate) fn copy<T: Block>(vobs: &mut Vec<Vob<T>>, which: usize) -> Reply<T>
 }
 
 pub(crate) fn split_off<T: Block>(vobs: &mut Vec<Vob<T>>, which: usize, index: usize) -> Reply<T>
-    ensures { IsStep T.BITS (lists vobs.old.items) (Command.SplitOff which index)
+    ensures { IsStep T.BITS (lists vobs.old.items) (SplitOff which index)
         (meaning T.number result) (lists vobs.new.items) }
 {
     if which >= vobs.len() {

@@ -5,11 +5,12 @@ ghost use Rattle.vob_block.specs.Pointwise.{pointwise};
 ghost use Rattle.vob_run.specs.Answer.{meaning};
 ghost use Rattle.vob_run.specs.Outcomes.{AreEven};
 ghost use Rattle.vob_run.specs.Pairs.{operator, combining, combining_new};
+ghost use Rattle.vob_run.specs.Call.{ExtendVob, Equal};
 ghost use Rattle.vob_run.specs.Run.{lists, IsStep};
 
 use crate::calls::make::placed;
 use crate::calls::refused;
-use crate::command::{Command, Reply};
+use crate::command::Reply;
 use std::alloc::AllocError;
 use vob::{Vob, VobError};
 use vob_block::Block;
@@ -83,7 +84,7 @@ fn are_even<T: Block>(vobs: &[Vob<T>], which: usize, other: usize) -> bool
 }
 
 pub(crate) fn extend_vob<T: Block>(vobs: &mut Vec<Vob<T>>, which: usize, other: usize) -> Reply<T>
-    ensures { IsStep T.BITS (lists vobs.old.items) (Command.ExtendVob which other)
+    ensures { IsStep T.BITS (lists vobs.old.items) (ExtendVob which other)
         (meaning T.number result) (lists vobs.new.items) }
 {
     if !are_two(vobs, which, other) {
@@ -132,7 +133,7 @@ pub(crate) fn combine_new<T: Block>(
 }
 
 pub(crate) fn equal<T: Block>(vobs: &Vec<Vob<T>>, which: usize, other: usize) -> Reply<T>
-    ensures { IsStep T.BITS (lists vobs.now.items) (Command.Equal which other)
+    ensures { IsStep T.BITS (lists vobs.now.items) (Equal which other)
         (meaning T.number result) (lists vobs.now.items) }
 {
     if !are_two(vobs, which, other) {

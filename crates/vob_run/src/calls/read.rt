@@ -2,16 +2,17 @@
 ghost use Rattle.std.specs.Prelude.{◌≡◌, IfOk, map};
 ghost use Rattle.vob_block.specs.Packing.{packing};
 ghost use Rattle.vob_run.specs.Answer.{meaning};
+ghost use Rattle.vob_run.specs.Call.{GetBit, GetUnchecked, IndexBit, Length, IsEmpty, Bits, Storage};
 ghost use Rattle.vob_run.specs.Run.{lists, IsStep};
 
 use crate::calls::refused;
-use crate::command::{Command, Reply};
+use crate::command::Reply;
 use std::alloc::{AllocError, Global};
 use vob::{Vob, VobError};
 use vob_block::Block;
 
 pub(crate) fn get_bit<T: Block>(vobs: &Vec<Vob<T>>, which: usize, index: usize) -> Reply<T>
-    ensures { IsStep T.BITS (lists vobs.now.items) (Command.GetBit which index)
+    ensures { IsStep T.BITS (lists vobs.now.items) (GetBit which index)
         (meaning T.number result) (lists vobs.now.items) }
 {
     match vobs.get(which) {
@@ -21,7 +22,7 @@ pub(crate) fn get_bit<T: Block>(vobs: &Vec<Vob<T>>, which: usize, index: usize) 
 }
 
 pub(crate) fn get_unchecked<T: Block>(vobs: &Vec<Vob<T>>, which: usize, index: usize) -> Reply<T>
-    ensures { IsStep T.BITS (lists vobs.now.items) (Command.GetUnchecked which index)
+    ensures { IsStep T.BITS (lists vobs.now.items) (GetUnchecked which index)
         (meaning T.number result) (lists vobs.now.items) }
 {
     match vobs.get(which) {
@@ -31,7 +32,7 @@ pub(crate) fn get_unchecked<T: Block>(vobs: &Vec<Vob<T>>, which: usize, index: u
 }
 
 pub(crate) fn index_bit<T: Block>(vobs: &Vec<Vob<T>>, which: usize, index: usize) -> Reply<T>
-    ensures { IsStep T.BITS (lists vobs.now.items) (Command.IndexBit which index)
+    ensures { IsStep T.BITS (lists vobs.now.items) (IndexBit which index)
         (meaning T.number result) (lists vobs.now.items) }
 {
     match vobs.get(which) {
@@ -41,7 +42,7 @@ pub(crate) fn index_bit<T: Block>(vobs: &Vec<Vob<T>>, which: usize, index: usize
 }
 
 pub(crate) fn length<T: Block>(vobs: &Vec<Vob<T>>, which: usize) -> Reply<T>
-    ensures { IsStep T.BITS (lists vobs.now.items) (Command.Length which)
+    ensures { IsStep T.BITS (lists vobs.now.items) (Length which)
         (meaning T.number result) (lists vobs.now.items) }
 {
     match vobs.get(which) {
@@ -51,7 +52,7 @@ pub(crate) fn length<T: Block>(vobs: &Vec<Vob<T>>, which: usize) -> Reply<T>
 }
 
 pub(crate) fn is_empty<T: Block>(vobs: &Vec<Vob<T>>, which: usize) -> Reply<T>
-    ensures { IsStep T.BITS (lists vobs.now.items) (Command.IsEmpty which)
+    ensures { IsStep T.BITS (lists vobs.now.items) (IsEmpty which)
         (meaning T.number result) (lists vobs.now.items) }
 {
     match vobs.get(which) {
@@ -68,7 +69,7 @@ fn bits_of<T: Block>(alloc: Global, vob: &Vob<T>) -> Result<Vec<bool>, AllocErro
 }
 
 pub(crate) fn bits<T: Block>(alloc: Global, vobs: &Vec<Vob<T>>, which: usize) -> Reply<T>
-    ensures { IsStep T.BITS (lists vobs.now.items) (Command.Bits which)
+    ensures { IsStep T.BITS (lists vobs.now.items) (Bits which)
         (meaning T.number result) (lists vobs.now.items) }
 {
     let Some(vob) = vobs.get(which) else {
@@ -88,7 +89,7 @@ fn blocks_of<T: Block>(alloc: Global, vob: &Vob<T>) -> Result<Vec<T>, AllocError
 }
 
 pub(crate) fn storage<T: Block>(alloc: Global, vobs: &Vec<Vob<T>>, which: usize) -> Reply<T>
-    ensures { IsStep T.BITS (lists vobs.now.items) (Command.Storage which)
+    ensures { IsStep T.BITS (lists vobs.now.items) (Storage which)
         (meaning T.number result) (lists vobs.now.items) }
 {
     let Some(vob) = vobs.get(which) else {

@@ -1,14 +1,15 @@
 //! The commands that change a Vob in its place.
 ghost use Rattle.vob_run.specs.Answer.{meaning};
+ghost use Rattle.vob_run.specs.Call.{Push, Pop, SetBit, SetUnchecked, Truncate, Clear, SetAll, Negate};
 ghost use Rattle.vob_run.specs.Run.{lists, IsStep};
 
 use crate::calls::refused;
-use crate::command::{Command, Reply};
+use crate::command::Reply;
 use vob::Vob;
 use vob_block::Block;
 
 pub(crate) fn push<T: Block>(vobs: &mut Vec<Vob<T>>, which: usize, value: bool) -> Reply<T>
-    ensures { IsStep T.BITS (lists vobs.old.items) (Command.Push which value)
+    ensures { IsStep T.BITS (lists vobs.old.items) (Push which value)
         (meaning T.number result) (lists vobs.new.items) }
 {
     let Some(vob) = vobs.get_mut(which) else {
@@ -21,7 +22,7 @@ pub(crate) fn push<T: Block>(vobs: &mut Vec<Vob<T>>, which: usize, value: bool) 
 }
 
 pub(crate) fn pop<T: Block>(vobs: &mut Vec<Vob<T>>, which: usize) -> Reply<T>
-    ensures { IsStep T.BITS (lists vobs.old.items) (Command.Pop which)
+    ensures { IsStep T.BITS (lists vobs.old.items) (Pop which)
         (meaning T.number result) (lists vobs.new.items) }
 {
     let Some(vob) = vobs.get_mut(which) else {
@@ -36,7 +37,7 @@ pub(crate) fn set_bit<T: Block>(
     index: usize,
     value: bool,
 ) -> Reply<T>
-    ensures { IsStep T.BITS (lists vobs.old.items) (Command.SetBit which index value)
+    ensures { IsStep T.BITS (lists vobs.old.items) (SetBit which index value)
         (meaning T.number result) (lists vobs.new.items) }
 {
     let Some(vob) = vobs.get_mut(which) else {
@@ -54,7 +55,7 @@ pub(crate) fn set_unchecked<T: Block>(
     index: usize,
     value: bool,
 ) -> Reply<T>
-    ensures { IsStep T.BITS (lists vobs.old.items) (Command.SetUnchecked which index value)
+    ensures { IsStep T.BITS (lists vobs.old.items) (SetUnchecked which index value)
         (meaning T.number result) (lists vobs.new.items) }
 {
     let Some(vob) = vobs.get_mut(which) else {
@@ -67,7 +68,7 @@ pub(crate) fn set_unchecked<T: Block>(
 }
 
 pub(crate) fn truncate<T: Block>(vobs: &mut Vec<Vob<T>>, which: usize, len: usize) -> Reply<T>
-    ensures { IsStep T.BITS (lists vobs.old.items) (Command.Truncate which len)
+    ensures { IsStep T.BITS (lists vobs.old.items) (Truncate which len)
         (meaning T.number result) (lists vobs.new.items) }
 {
     let Some(vob) = vobs.get_mut(which) else {
@@ -78,7 +79,7 @@ pub(crate) fn truncate<T: Block>(vobs: &mut Vec<Vob<T>>, which: usize, len: usiz
 }
 
 pub(crate) fn clear<T: Block>(vobs: &mut Vec<Vob<T>>, which: usize) -> Reply<T>
-    ensures { IsStep T.BITS (lists vobs.old.items) (Command.Clear which)
+    ensures { IsStep T.BITS (lists vobs.old.items) (Clear which)
         (meaning T.number result) (lists vobs.new.items) }
 {
     let Some(vob) = vobs.get_mut(which) else {
@@ -89,7 +90,7 @@ pub(crate) fn clear<T: Block>(vobs: &mut Vec<Vob<T>>, which: usize) -> Reply<T>
 }
 
 pub(crate) fn set_all<T: Block>(vobs: &mut Vec<Vob<T>>, which: usize, value: bool) -> Reply<T>
-    ensures { IsStep T.BITS (lists vobs.old.items) (Command.SetAll which value)
+    ensures { IsStep T.BITS (lists vobs.old.items) (SetAll which value)
         (meaning T.number result) (lists vobs.new.items) }
 {
     let Some(vob) = vobs.get_mut(which) else {
@@ -100,7 +101,7 @@ pub(crate) fn set_all<T: Block>(vobs: &mut Vec<Vob<T>>, which: usize, value: boo
 }
 
 pub(crate) fn negate<T: Block>(vobs: &mut Vec<Vob<T>>, which: usize) -> Reply<T>
-    ensures { IsStep T.BITS (lists vobs.old.items) (Command.Negate which)
+    ensures { IsStep T.BITS (lists vobs.old.items) (Negate which)
         (meaning T.number result) (lists vobs.new.items) }
 {
     let Some(vob) = vobs.get_mut(which) else {

@@ -11,7 +11,7 @@ const UNKNOWN: usize = 5;
 
 /// Makes a list with these bits and reads all of it, also past its end; then names a list that
 /// isn't there.
-fn commands_of(alloc: Global, bits: &[bool]) -> Result<Vec<Command>, AllocError> {
+fn commands_of(alloc: Global, bits: &[bool]) -> Result<Vec<Command<u8>>, AllocError> {
     let mut commands = Vec::new(alloc);
     commands.push(Command::New { capacity: 0 })?;
     for value in bits {
@@ -49,7 +49,7 @@ fn bits_of(alloc: Global, len: usize, pattern: u32) -> Result<Vec<bool>, AllocEr
 }
 
 /// Makes a list with these bits, changes and reads each of them and one past the end, and cuts it.
-fn changes_of(alloc: Global, bits: &[bool]) -> Result<Vec<Command>, AllocError> {
+fn changes_of(alloc: Global, bits: &[bool]) -> Result<Vec<Command<u8>>, AllocError> {
     let which = 0;
     let mut commands = Vec::new(alloc);
     commands.push(Command::New { capacity: 0 })?;
@@ -87,7 +87,7 @@ fn changes_of(alloc: Global, bits: &[bool]) -> Result<Vec<Command>, AllocError> 
 
 /// Runs the commands packed and plain, and compares the replies by their text: a block prints as
 /// its number, whatever its type.
-fn check_agreement(rt: &impl Abort, alloc: Global, commands: &[Command]) -> Result<(), Fail> {
+fn check_agreement(rt: &impl Abort, alloc: Global, commands: &[Command<u8>]) -> Result<(), Fail> {
     let mut vobs = Vec::new(alloc);
     let mut packed: Vec<Reply<u8>> = Vec::new(alloc);
     run::run(alloc, commands, &mut vobs, &mut packed)?;

@@ -4,12 +4,11 @@ use std::process::Abort;
 use std::slice;
 use std::test::Fail;
 use vob::{Vob, VobError};
-use vob_block::Block;
 use vob_run::command::{Command, Reply};
 use vob_run::run;
 
 /// The bits of these digits, index 0 first.
-fn bits_of(alloc: Global, digits: &str) -> Result<Vec<bool>, AllocError> {
+pub fn bits_of(alloc: Global, digits: &str) -> Result<Vec<bool>, AllocError> {
     digits
         .as_bytes()
         .iter()
@@ -18,39 +17,50 @@ fn bits_of(alloc: Global, digits: &str) -> Result<Vec<bool>, AllocError> {
 }
 
 /// A packed vector of these digits.
-fn vob_of<T: Block>(alloc: Global, digits: &str) -> Result<Vob<T>, VobError> {
-    let mut vob = Vob::<T>::new_with_storage_type(alloc, 0)?;
+fn vob_of(alloc: Global, digits: &str) -> Result<Vob<u8>, VobError> {
+    let mut vob = Vob::<u8>::new_with_storage_type(alloc, 0)?;
     for bit in &bits_of(alloc, digits)? {
         vob.push(*bit)?;
     }
     Ok(vob)
 }
 
-/// The digits of a list of bits, and of any other reply what it prints as.
-fn text_of<T: Block>(alloc: Global, reply: &Reply<T>) -> Result<String, AllocError> {
-    let Reply::BitList(bits) = reply else {
-        return format!(in alloc; "{reply:?}");
-    };
-    let mut digits = String::new(alloc);
-    for bit in bits {
-        digits.push(if *bit { '1' } else { '0' })?;
+/// The digits of a list of bits, the indices that were dealt, and of any other reply what it prints as.
+fn text_of(alloc: Global, reply: &Reply<u8>) -> Result<String, AllocError> {
+    let mut text = String::new(alloc);
+    match reply {
+        Reply::BitList(bits) => {
+            for bit in bits {
+                text.push(if *bit { '1' } else { '0' })?;
+            }
+        }
+        Reply::Dealt(indices) => {
+            text.push_str("dealt")?;
+            for index in indices {
+                match index {
+                    Some(index) => write!(text, " {index}")?,
+                    None => text.push_str(" -")?,
+                }
+            }
+        }
+        _ => write!(text, "{reply:?}")?,
     }
-    Ok(digits)
+    Ok(text)
 }
 
 /// Runs the commands on Vobs of these digits, and compares the text of each reply.
-fn check_rows<T: Block>(
+pub fn check(
     rt: &impl Abort,
     alloc: Global,
     lists: &[&str],
-    rows: &[(Command, &str)],
+    rows: &[(Command<u8>, &str)],
 ) -> Result<(), Fail> {
-    let mut vobs: Vec<Vob<T>> = Vec::new(alloc);
+    let mut vobs = Vec::new(alloc);
     for digits in lists {
         vobs.push(vob_of(alloc, digits)?)?;
     }
     for (command, expected) in rows {
-        let mut replies: Vec<Reply<T>> = Vec::new(alloc);
+        let mut replies = Vec::new(alloc);
         run::run(alloc, slice::from_ref(command), &mut vobs, &mut replies)?;
         for reply in &replies {
             let text = text_of(alloc, reply)?;
@@ -59,17 +69,6 @@ fn check_rows<T: Block>(
         assert_eq!(rt; replies.len(), 1, "the replies to {command:?}");
     }
     Ok(())
-}
-
-/// Runs the commands at two widths.
-fn check(
-    rt: &impl Abort,
-    alloc: Global,
-    lists: &[&str],
-    rows: &[(Command, &str)],
-) -> Result<(), Fail> {
-    check_rows::<u8>(rt, alloc, lists, rows)?;
-    check_rows::<usize>(rt, alloc, lists, rows)
 }
 
 #[test]

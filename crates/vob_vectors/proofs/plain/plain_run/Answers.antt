@@ -1,6 +1,6 @@
-use Rattle.std.proofs.Common.{◌<◌, length, ℕ, List, [], ◌∷◌, ◌++◌, take, append_assoc, arith, ap, sym, subst, ◌∙◌}
-use Rattle.std.proofs.lemmas.List.{append-nil, take_more}
-use Rattle.vob_run.specs.declared.command.Command.{Command}
+use Rattle.std.proofs.Common.{◌<◌, length, ℕ, List, [], ◌∷◌, ◌++◌, map, take, append_assoc, arith, ap, sym, subst, ◌∙◌}
+use Rattle.std.proofs.lemmas.List.{append-nil, map_push, take_more}
+use Rattle.vob_run.specs.Call.{call_of}
 use Rattle.vob_run.specs.declared.command.Reply.{Reply}
 use Rattle.vob_vectors.specs.Plain.{bit_lists, IsPlainStep}
 use Rattle.vob_vectors.proofs.RunLemmas.{no_commands, plain_run_more}
@@ -25,6 +25,7 @@ loop-command-preserved c =
     let before = bit_lists c.loop-command.lists in
     let after = c.plain_step.new.lists in
     let item = c.command-item.result in
-    let taken = subst (λ (x : Command). IsPlainStep c.args.width c.loop-command.lists x after reply) c.command-item.is c.in_ok-reply.ensures.ok in
-    let longer = plain_run_more c.args.width first (take i commands) so_far.0 before _ reply _ so_far.2 taken in
-    (so_far.0 ++ reply ∷ [], pushed, rw (take_more commands i item inside) longer)
+    let call = call_of (λ (block : ℕ). block) in
+    let taken = subst (λ x. IsPlainStep c.args.width c.loop-command.lists (call x) after reply) c.command-item.is c.in_ok-reply.ensures.ok in
+    let longer = plain_run_more c.args.width first (map call (take i commands)) so_far.0 before _ reply _ so_far.2 taken in
+    (so_far.0 ++ reply ∷ [], pushed, rw (take_more commands i item inside, map_push call (take i commands)) longer)

@@ -2,7 +2,7 @@
 use Rattle.std.proofs.Common.{◌≡◌, ◌+◌, ◌++◌, length, set, ap, Err, refl, ◌∙◌}
 use Rattle.std.proofs.lemmas.Option.{slice_get_read}
 use Rattle.vob.specs.declared.error.VobError.TheVariants.{Memory}
-use Rattle.vob_run.specs.declared.command.Command.TheVariants.{ExtendSlice}
+use Rattle.vob_run.specs.Call.{ExtendSlice}
 use Rattle.vob_run.specs.Answer.{outcome, done}
 use Rattle.vob_run.specs.Memory.{TakesMemory}
 use Rattle.vob_run.specs.Outcomes.{unless_long}
@@ -23,13 +23,13 @@ returns-in-Ok g c =
     let at = list_at items which vob there in
     let more = c.args.bits.now in
     let read : c.deref.result.now ≡ more.items = c.deref.ensures.value in
-    let command = ExtendSlice which more in
+    let call = ExtendSlice which more.items in
     let after = set (lists items) which (vob.bits ++ more.items) in
-    let is : step width (lists items) command ≡ unless_long (lists items) (length vob.bits + length more.items) (outcome done after) = rw at refl in
+    let is : step width (lists items) call ≡ unless_long (lists items) (length vob.bits + length more.items) (outcome done after) = rw at refl in
     let long = rw read at c.extend_from_slice.ensures.too_long in
     let bits = c.in-Ok.ensures.ok ∙ ap (λ l. vob.bits ++ l) read in
     let changed = lists-set items which vob there c.extend_from_slice.new.self ∙ ap (set (lists items) which) bits in
-    rw changed (done_grow width (lists items) command _ after is c.extend_from_slice.result long c.in-Ok.is)
+    rw changed (done_grow width (lists items) call _ after is c.extend_from_slice.result long c.in-Ok.is)
 
 pub returns-in-Err : goal.returns-in-Err
 returns-in-Err g c =
@@ -42,10 +42,10 @@ returns-in-Err g c =
     let at = list_at items which vob there in
     let more = c.args.bits.now in
     let read : c.deref.result.now ≡ more.items = c.deref.ensures.value in
-    let command = ExtendSlice which more in
+    let call = ExtendSlice which more.items in
     let after = set (lists items) which (vob.bits ++ more.items) in
-    let is : step width (lists items) command ≡ unless_long (lists items) (length vob.bits + length more.items) (outcome done after) = rw at refl in
+    let is : step width (lists items) call ≡ unless_long (lists items) (length vob.bits + length more.items) (outcome done after) = rw at refl in
     let long = rw read at c.extend_from_slice.ensures.too_long in
     let same = lists-same items which vob there c.extend_from_slice.new.self c.in-Err.ensures.err in
-    let memory : c.extend_from_slice.result ≡ Err Memory → TakesMemory width (lists items) command = λ e. rw at (rw read at (c.extend_from_slice.ensures.memory e).1) in
-    rw c.refused.ensures (refused_grow width (lists items) command _ after is c.extend_from_slice.result long c.in-Err.refusal _ c.in-Err.is same memory)
+    let memory : c.extend_from_slice.result ≡ Err Memory → TakesMemory width (lists items) call = λ e. rw at (rw read at (c.extend_from_slice.ensures.memory e).1) in
+    rw c.refused.ensures (refused_grow width (lists items) call _ after is c.extend_from_slice.result long c.in-Err.refusal _ c.in-Err.is same memory)

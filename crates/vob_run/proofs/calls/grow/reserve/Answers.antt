@@ -2,7 +2,7 @@
 use Rattle.std.proofs.Common.{◌≡◌, ◌+◌, length, Err, refl}
 use Rattle.std.proofs.lemmas.Option.{slice_get_read}
 use Rattle.vob.specs.declared.error.VobError.TheVariants.{Memory}
-use Rattle.vob_run.specs.declared.command.Command.TheVariants.{Reserve}
+use Rattle.vob_run.specs.Call.{Reserve}
 use Rattle.vob_run.specs.Answer.{outcome, done}
 use Rattle.vob_run.specs.Memory.{TakesMemory}
 use Rattle.vob_run.specs.Outcomes.{unless_long}
@@ -20,10 +20,10 @@ returns-in-Ok g c =
     let vob = c.in-Some.vob.now in
     let item = c.in-Some.ensures.item in
     let there = slice_get_read items _ which vob refl item.3.0 item.1 in
-    let command = Reserve which c.args.additional in
-    let is : step width (lists items) command ≡ unless_long (lists items) (length vob.bits + c.args.additional) (outcome done (lists items)) = rw (list_at items which vob there) refl in
+    let call = Reserve which c.args.additional in
+    let is : step width (lists items) call ≡ unless_long (lists items) (length vob.bits + c.args.additional) (outcome done (lists items)) = rw (list_at items which vob there) refl in
     let same = lists-same items which vob there c.reserve.new.self c.in-Ok.ensures.bits in
-    rw same (done_grow width (lists items) command _ _ is c.reserve.result c.reserve.ensures.too_long c.in-Ok.is)
+    rw same (done_grow width (lists items) call _ _ is c.reserve.result c.reserve.ensures.too_long c.in-Ok.is)
 
 pub returns-in-Err : goal.returns-in-Err
 returns-in-Err g c =
@@ -34,8 +34,8 @@ returns-in-Err g c =
     let item = c.in-Some.ensures.item in
     let there = slice_get_read items _ which vob refl item.3.0 item.1 in
     let at = list_at items which vob there in
-    let command = Reserve which c.args.additional in
-    let is : step width (lists items) command ≡ unless_long (lists items) (length vob.bits + c.args.additional) (outcome done (lists items)) = rw at refl in
+    let call = Reserve which c.args.additional in
+    let is : step width (lists items) call ≡ unless_long (lists items) (length vob.bits + c.args.additional) (outcome done (lists items)) = rw at refl in
     let same = lists-same items which vob there c.reserve.new.self c.in-Err.ensures.bits in
-    let memory : c.reserve.result ≡ Err Memory → TakesMemory width (lists items) command = λ e. rw at (c.reserve.ensures.memory e).1 in
-    rw c.refused.ensures (refused_grow width (lists items) command _ _ is c.reserve.result c.reserve.ensures.too_long c.in-Err.refusal _ c.in-Err.is same memory)
+    let memory : c.reserve.result ≡ Err Memory → TakesMemory width (lists items) call = λ e. rw at (c.reserve.ensures.memory e).1 in
+    rw c.refused.ensures (refused_grow width (lists items) call _ _ is c.reserve.result c.reserve.ensures.too_long c.in-Err.refusal _ c.in-Err.is same memory)

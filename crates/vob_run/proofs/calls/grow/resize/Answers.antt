@@ -2,7 +2,7 @@
 use Rattle.std.proofs.Common.{◌≡◌, ◌-◌, ◌++◌, length, take, replicate, set, refl, inl, inr}
 use Rattle.std.proofs.lemmas.Option.{slice_get_read}
 use Rattle.vob.specs.declared.error.VobError.TheVariants.{Memory}
-use Rattle.vob_run.specs.declared.command.Command.TheVariants.{Resize}
+use Rattle.vob_run.specs.Call.{Resize}
 use Rattle.vob_run.specs.Answer.{outcome, done}
 use Rattle.vob_run.specs.Memory.{TakesMemory}
 use Rattle.vob_run.specs.Run.{lists}
@@ -28,10 +28,10 @@ returns-in-Err g c =
     let item = c.in-Some.ensures.item in
     let there = slice_get_read items _ which vob refl item.3.0 item.1 in
     let at = list_at items which vob there in
-    let command = Resize which c.args.len c.args.value in
+    let call = Resize which c.args.len c.args.value in
     let after = set (lists items) which (take c.args.len vob.bits ++ replicate (c.args.len - length vob.bits) c.args.value) in
-    let is : step width (lists items) command ≡ outcome done after = rw at refl in
+    let is : step width (lists items) call ≡ outcome done after = rw at refl in
     let same = lists-same items which vob there c.resize.new.self c.in-Err.ensures.err in
-    let grows : TakesMemory width (lists items) command = rw at c.in-Err.ensures.memory.2 in
+    let grows : TakesMemory width (lists items) call = rw at c.in-Err.ensures.memory.2 in
     let reason : c.in-Err.refusal ≡ Memory = let e = c.in-Err.ensures.memory.0 in cc in
-    rw (c.refused.ensures, reason) (inr (MayRefuse-done width (lists items) after command is grows, refl, same))
+    rw (c.refused.ensures, reason) (inr (MayRefuse-done width (lists items) after call is grows, refl, same))

@@ -1,7 +1,7 @@
 -- The Vob behind the others has the bits of the one with this number.
 use Rattle.std.proofs.Common.{◌≡◌, get_or, refl, ap, ◌∙◌}
 use Rattle.std.proofs.lemmas.Option.{slice_get_read}
-use Rattle.vob_run.specs.declared.command.Command.TheVariants.{Copy}
+use Rattle.vob_run.specs.Call.{Copy}
 use Rattle.vob_run.specs.Outcomes.{makes}
 use Rattle.vob_run.specs.Run.{lists}
 use Rattle.vob_run.specs.Step.{step}

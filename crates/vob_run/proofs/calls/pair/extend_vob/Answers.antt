@@ -3,7 +3,7 @@ use Rattle.std.proofs.Common.{◌≡◌, ◌≢◌, ◌+◌, ◌++◌, [], Err, 
 use Rattle.std.proofs.lemmas.Option.{get_or_from_slice_get}
 use Rattle.std.specs.Prelude.{Some, slice_get}
 use Rattle.vob.specs.declared.error.VobError.TheVariants.{Memory}
-use Rattle.vob_run.specs.declared.command.Command.TheVariants.{ExtendVob}
+use Rattle.vob_run.specs.Call.{ExtendVob}
 use Rattle.vob_run.specs.Answer.{outcome, done}
 use Rattle.vob_run.specs.Memory.{TakesMemory}
 use Rattle.vob_run.specs.Outcomes.{unless_long}
@@ -28,13 +28,13 @@ returns-in-Ok g c =
     let there : slice_get items which ≡ Some vob = ap (λ l. slice_get l which) (sym value) ∙ c.two_of-vob.ensures.first in
     let its : slice_get items other ≡ Some more = ap (λ l. slice_get l other) (sym value) ∙ c.two_of-vob.ensures.second in
     let at = list_at items which vob there in
-    let command = ExtendVob which other in
+    let call = ExtendVob which other in
     let after = set (lists items) which (vob.bits ++ more.bits) in
-    let is : step width (lists items) command ≡ unless_long (lists items) (length vob.bits + length more.bits) (outcome done after) =
+    let is : step width (lists items) call ≡ unless_long (lists items) (length vob.bits + length more.bits) (outcome done after) =
     on_two-found (lists items) which other vob.bits more.bits _ different at (list_at items other more its) in
     let back = lent items slice _ which other c.extend_from_vob.new.self more value c.args.vobs.now.ok.0 different c.two_of-vob.ensures.second in
     let changed = lists-set items which vob there c.extend_from_vob.new.self ∙ ap (set (lists items) which) c.in-Ok.ensures.ok in
-    rw (back, changed) (done_grow width (lists items) command _ after is c.extend_from_vob.result c.extend_from_vob.ensures.too_long c.in-Ok.is)
+    rw (back, changed) (done_grow width (lists items) call _ after is c.extend_from_vob.result c.extend_from_vob.ensures.too_long c.in-Ok.is)
 
 pub returns-in-Err : goal.returns-in-Err
 returns-in-Err g c =
@@ -50,12 +50,12 @@ returns-in-Err g c =
     let there : slice_get items which ≡ Some vob = ap (λ l. slice_get l which) (sym value) ∙ c.two_of-vob.ensures.first in
     let its : slice_get items other ≡ Some more = ap (λ l. slice_get l other) (sym value) ∙ c.two_of-vob.ensures.second in
     let at = list_at items which vob there in
-    let command = ExtendVob which other in
+    let call = ExtendVob which other in
     let after = set (lists items) which (vob.bits ++ more.bits) in
-    let is : step width (lists items) command ≡ unless_long (lists items) (length vob.bits + length more.bits) (outcome done after) =
+    let is : step width (lists items) call ≡ unless_long (lists items) (length vob.bits + length more.bits) (outcome done after) =
     on_two-found (lists items) which other vob.bits more.bits _ different at (list_at items other more its) in
     let back = lent items slice _ which other c.extend_from_vob.new.self more value c.args.vobs.now.ok.0 different c.two_of-vob.ensures.second in
     let same = ap lists back ∙ lists-same items which vob there c.extend_from_vob.new.self c.in-Err.ensures.err in
     let its_bits = get_or_from_slice_get (lists items) other more.bits [] (list_at items other more its) in
-    let memory : c.extend_from_vob.result ≡ Err Memory → TakesMemory width (lists items) command = λ e. rw (at, its_bits) (c.extend_from_vob.ensures.memory e).1 in
-    rw c.refused.ensures (refused_grow width (lists items) command _ after is c.extend_from_vob.result c.extend_from_vob.ensures.too_long c.in-Err.refusal _ c.in-Err.is same memory)
+    let memory : c.extend_from_vob.result ≡ Err Memory → TakesMemory width (lists items) call = λ e. rw (at, its_bits) (c.extend_from_vob.ensures.memory e).1 in
+    rw c.refused.ensures (refused_grow width (lists items) call _ after is c.extend_from_vob.result c.extend_from_vob.ensures.too_long c.in-Err.refusal _ c.in-Err.is same memory)

@@ -2,7 +2,7 @@
 use Rattle.std.proofs.Common.{arith, ◌≡◌, ◌^◌, ◌-◌, ◌<◌, Err, length, ap, inl, refl}
 use Rattle.std.proofs.lemmas.Option.{slice_get_read}
 use Rattle.vob.specs.declared.error.VobError.TheVariants.{TooLong, Memory}
-use Rattle.vob_run.specs.declared.command.Command.TheVariants.{Push}
+use Rattle.vob_run.specs.Call.{Push}
 use Rattle.vob_run.specs.Run.{lists}
 use Rattle.vob_run.proofs.StepLemmas.{list_at, lists-set, lists-same, refused_step, step-push_short, step-push_long, MayRefuse-push}
 use Rattle.vob_run.proofs.calls.write.push.Goals as goal

@@ -1,0 +1,110 @@
+//! The commands that make a Vob of the default block type.
+ghost use Rattle.std.specs.Prelude.{◌≡◌, ◌⊎◌, ◌++◌, [], ◌∷◌, length, IfOk, IfErr};
+ghost use Rattle.vob.specs.Refusal.{refusal_number};
+ghost use Rattle.vob_run.specs.Answer.{meaning, made, refused};
+ghost use Rattle.vob_run.specs.Call.{Fresh, WithCapacity, Fill, FromBytes, FromSlice, FromItems, FromRecord};
+ghost use Rattle.vob_run.specs.Run.{lists, IsStep};
+
+use crate::calls::make::placed;
+use crate::calls::raw::{copied, taken};
+use crate::calls::refused;
+use crate::command::Reply;
+use std::alloc::Global;
+use vob::{Vob, VobError, VobRecord};
+
+// Puts a Vob that was made at the end of the list, once there is room for it.
+fn added(vobs: &mut Vec<Vob<usize>>, vob: Result<Vob<usize>, VobError>) -> Reply<usize>
+    ensures ok { IfOk vob (λ v. ((meaning (λ block. block) result ≡ made (length vobs.old.items))
+        × (vobs.new.items ≡ vobs.old.items ++ v ∷ []))
+        ⊎ ((meaning (λ block. block) result ≡ refused 2) × (vobs.new.items ≡ vobs.old.items))) }
+    ensures err { IfErr vob (λ refusal.
+        (meaning (λ block. block) result ≡ refused (refusal_number refusal))
+        × (vobs.new.items ≡ vobs.old.items)) }
+{
+    match vob {
+        Ok(vob) if vobs.reserve(1).is_ok() => placed(vobs, Ok(vob)),
+        Ok(_) => refused(VobError::Memory),
+        Err(refusal) => refused(refusal),
+    }
+}
+
+pub(crate) fn fresh(alloc: Global, vobs: &mut Vec<Vob<usize>>) -> Reply<usize>
+    ensures { IsStep 64 (lists vobs.old.items) Fresh (meaning (λ block. block) result)
+        (lists vobs.new.items) }
+{
+    if vobs.reserve(1).is_err() {
+        return refused(VobError::Memory);
+    }
+    placed(vobs, Ok(Vob::new(alloc)))
+}
+
+pub(crate) fn with_capacity(
+    alloc: Global,
+    vobs: &mut Vec<Vob<usize>>,
+    capacity: usize,
+) -> Reply<usize>
+    ensures { IsStep 64 (lists vobs.old.items) (WithCapacity capacity)
+        (meaning (λ block. block) result) (lists vobs.new.items) }
+{
+    if vobs.reserve(1).is_err() {
+        return refused(VobError::Memory);
+    }
+    placed(vobs, Vob::with_capacity(alloc, capacity))
+}
+
+pub(crate) fn fill(
+    alloc: Global,
+    vobs: &mut Vec<Vob<usize>>,
+    value: bool,
+    len: usize,
+) -> Reply<usize>
+    ensures { IsStep 64 (lists vobs.old.items) (Fill value len) (meaning (λ block. block) result)
+        (lists vobs.new.items) }
+{
+    if vobs.reserve(1).is_err() {
+        return refused(VobError::Memory);
+    }
+    placed(vobs, Vob::from_elem(alloc, value, len))
+}
+
+pub(crate) fn from_bytes(alloc: Global, vobs: &mut Vec<Vob<usize>>, bytes: &[u8]) -> Reply<usize>
+    ensures { IsStep 64 (lists vobs.old.items) (FromBytes bytes.now)
+        (meaning (λ block. block) result) (lists vobs.new.items) }
+{
+    added(vobs, Vob::from_bytes(alloc, bytes))
+}
+
+pub(crate) fn from_slice(alloc: Global, vobs: &mut Vec<Vob<usize>>, bits: &[bool]) -> Reply<usize>
+    ensures { IsStep 64 (lists vobs.old.items) (FromSlice bits.now)
+        (meaning (λ block. block) result) (lists vobs.new.items) }
+{
+    if vobs.reserve(1).is_err() {
+        return refused(VobError::Memory);
+    }
+    placed(vobs, Vob::from_slice(alloc, bits))
+}
+
+pub(crate) fn from_items(alloc: Global, vobs: &mut Vec<Vob<usize>>, bits: &[bool]) -> Reply<usize>
+    ensures { IsStep 64 (lists vobs.old.items) (FromItems bits.now)
+        (meaning (λ block. block) result) (lists vobs.new.items) }
+{
+    added(vobs, Vob::from_iter(alloc, bits.iter().copied()))
+}
+
+pub(crate) fn from_record(
+    alloc: Global,
+    vobs: &mut Vec<Vob<usize>>,
+    len: usize,
+    blocks: &[usize],
+) -> Reply<usize>
+    ensures { IsStep 64 (lists vobs.old.items) (FromRecord len blocks.now)
+        (meaning (λ block. block) result) (lists vobs.new.items) }
+{
+    if vobs.reserve(1).is_err() {
+        return refused(VobError::Memory);
+    }
+    match copied(alloc, blocks) {
+        Ok(vec) => taken(vobs, VobRecord { len, vec }.into_vob()),
+        Err(refusal) => refused(VobError::from(refusal)),
+    }
+}

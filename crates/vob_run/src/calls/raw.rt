@@ -1,0 +1,84 @@
+//! The commands that take blocks as they come: they are taken only where they are canonical.
+ghost use Rattle.std.specs.Prelude.{◌≡◌, ◌==◌, ◌<◌, ◌++◌, [], ◌∷◌, true, map, length, IfOk, OnErr, vec_len, vec_capacity};
+ghost use Rattle.vob_block.specs.Packing.{need};
+ghost use Rattle.vob_run.specs.Answer.{meaning, made, refused};
+ghost use Rattle.vob_run.specs.Call.{FromRaw};
+ghost use Rattle.vob_run.specs.Outcomes.{masked};
+ghost use Rattle.vob_run.specs.Run.{lists, IsStep};
+
+use crate::calls::refused;
+use crate::command::Reply;
+use std::alloc::{AllocError, Global};
+use vob::{RawVob, Vob, VobError};
+use vob_block::Block;
+
+// A copy of some blocks.
+pub(super) fn copied<T: Block>(alloc: Global, blocks: &[T]) -> Result<Vec<T>, AllocError>
+    ensures { IfOk result (λ copy. copy.items ≡ blocks.now) }
+{
+    blocks.iter().copied().collect(alloc)
+}
+
+// Puts a Vob whose blocks were taken at the end of the list, in the room that there is.
+pub(super) fn taken<T: Block, E: Drop>(vobs: &mut Vec<Vob<T>>, vob: Result<Vob<T>, E>) -> Reply<T>
+    requires { vec_len vobs.old < vec_capacity vobs.old }
+    ensures ok { IfOk vob (λ v. (meaning T.number result ≡ made (length vobs.old.items))
+        × (vobs.new.items ≡ vobs.old.items ++ v ∷ [])) }
+    ensures err { OnErr vob ((meaning T.number result ≡ refused 3)
+        × (vobs.new.items ≡ vobs.old.items)) }
+{
+    let which = vobs.len();
+    match vob {
+        Ok(vob) => {
+            vobs.push_reserved(vob);
+            Reply::Made(which)
+        }
+        Err(_) => Reply::Refused(3),
+    }
+}
+
+// The storage with its unused bits made 0, where that is asked for.
+fn masked_raw<T: Block>(raw: RawVob<T>, mask: bool) -> RawVob<T>
+    requires { mask ≡ true → length raw.blocks ≡ need raw.len T.BITS }
+    ensures len { result.len ≡ raw.len }
+    ensures blocks { map T.number result.blocks
+        ≡ masked T.BITS raw.len mask (map T.number raw.blocks) }
+{
+    let mut raw = raw;
+    if mask {
+        raw.mask_last_block();
+    }
+    raw
+}
+
+// Whether the blocks are as many as the bits need.
+fn are_as_many<T: Block>(blocks: &[T], len: usize) -> bool
+    ensures { result ≡ (length blocks.now == need len T.BITS) }
+{
+    blocks.len() == len.div_ceil(T::BITS)
+}
+
+pub(crate) fn from_raw<T: Block>(
+    alloc: Global,
+    vobs: &mut Vec<Vob<T>>,
+    len: usize,
+    mask: bool,
+    blocks: &[T],
+) -> Reply<T>
+    ensures { IsStep T.BITS (lists vobs.old.items) (FromRaw len mask (map T.number blocks.now))
+        (meaning T.number result) (lists vobs.new.items) }
+{
+    if mask && !are_as_many(blocks, len) {
+        return Reply::Skipped;
+    }
+    if vobs.reserve(1).is_err() {
+        return refused(VobError::Memory);
+    }
+    match copied(alloc, blocks) {
+        Ok(copy) => taken(
+            vobs,
+            masked_raw(RawVob::from_parts(len, copy), mask).into_vob(),
+        ),
+        Err(refusal) => refused(VobError::from(refusal)),
+    }
+}
