@@ -1,290 +1,307 @@
--- The words behind a keyword have its kinds, whichever command they stand for.
-use Rattle.std.proofs.Common.{Option, None, ◌≡◌, ◌≢◌, ℕ, suc, ◌+◌, Bool, true, false, cond, List, [], ◌∷◌, length, map, Some, refl, subst, ap, sym, ◌∙◌, arith}
-use Rattle.std.specs.Prelude.{find}
-use Rattle.std.specs.Str.{bytes_eq}
-use Rattle.std.proofs.lemmas.Option.{none-some, same_Some}
-use Rattle.std.proofs.lemmas.Slice.Eq.{bytes_eq-Decides}
-use Rattle.std.proofs.lemmas.List.{nil_from_length, length-map}
-use Rattle.vob_run.specs.declared.command.Command.{Command}
-use Rattle.vob_run.specs.declared.command.Command.TheVariants as command
-use Rattle.vob_use.specs.Grammar.{Argument, number, bit, digit, form_of, Spells, AllSpell, Reads}
-use Rattle.vob_use.specs.Kinds.{kind_of, word_of, kinds_of, keywords, keyword_named, BeginWith, TakesAll}
-use Rattle.vob_use.specs.declared.line.Keyword.{Keyword}
-use Rattle.vob_use.specs.declared.line.Keyword.TheVariants.{New, Push, Pop, Get, GetUnchecked, Index, Set, SetUnchecked, Len, Empty, Truncate, Bits, Blocks}
+-- The keyword of each call, and the call of each keyword and its arguments.
+use Rattle.std.proofs.Common.{Option, None, ◌≡◌, ℕ, Bool, List, [], ◌∷◌, map, Some, refl, ap}
+use Rattle.vob_run.specs.Call.{Call}
+use Rattle.vob_run.specs.Call as call
+use Rattle.vob_use.specs.Grammar.{Argument, number, bit, bits, bytes, range, pulls, form_of}
+use Rattle.vob_use.specs.Kinds.{Kinds, a_number, a_bit, some_bits, nothing, numbers, before, kind_of, kinds_of}
+use Rattle.vob_use.specs.Keywords.{word_of, keyword_named}
+use Rattle.vob_use.specs.declared.keyword.Keyword.{Keyword}
+use Rattle.vob_use.specs.declared.keyword.Keyword.TheVariants.{Fresh, OneNumber, TwoNumbers, BitAndNumber, NumberAndBit, TwoNumbersAndBit, BitList, NumberAndBitList, Bytes, Raw, Record, Walk, Count}
+use Rattle.vob_use.specs.declared.keyword.One.{One}
+use Rattle.vob_use.specs.declared.keyword.One.TheVariants.{New, Clone, Room, Pop, Len, Empty, Clear, Negate, Shrink, Bits, Blocks}
+use Rattle.vob_use.specs.declared.keyword.Two.{Two}
+use Rattle.vob_use.specs.declared.keyword.Two.TheVariants.{Get, GetUnchecked, Index, Truncate, Join, Split, And, Or, Xor, AndNew, OrNew, XorNew, Equal, Reserve}
+use Rattle.vob_use.specs.declared.keyword.Filling.{Filling}
+use Rattle.vob_use.specs.declared.keyword.Filling.TheVariants.{Elem, Fill}
+use Rattle.vob_use.specs.declared.keyword.Setting.{Setting}
+use Rattle.vob_use.specs.declared.keyword.Setting.TheVariants.{Push, SetAll}
+use Rattle.vob_use.specs.declared.keyword.Placing.{Placing}
+use Rattle.vob_use.specs.declared.keyword.Placing.TheVariants.{Set, SetUnchecked, Resize}
+use Rattle.vob_use.specs.declared.keyword.Making.{Making}
+use Rattle.vob_use.specs.declared.keyword.Making.TheVariants.{Slice, Items}
+use Rattle.vob_use.specs.declared.keyword.Adding.{Adding}
+use Rattle.vob_use.specs.declared.keyword.Adding.TheVariants.{Append, Extend}
 
--- the keyword of a command
-keyword_of : Command ℕ → Keyword
-keyword_of (command.New capacity) = New
-keyword_of (command.Push which value) = Push
-keyword_of (command.Pop which) = Pop
-keyword_of (command.GetBit which index) = Get
-keyword_of (command.GetUnchecked which index) = GetUnchecked
-keyword_of (command.IndexBit which index) = Index
-keyword_of (command.SetBit which index value) = Set
-keyword_of (command.SetUnchecked which index value) = SetUnchecked
-keyword_of (command.Length which) = Len
-keyword_of (command.IsEmpty which) = Empty
-keyword_of (command.Truncate which len) = Truncate
-keyword_of (command.Bits which) = Bits
-keyword_of (command.Storage which) = Blocks
-keyword_of _ = New
+-- the keyword of a call
+abbrev pub keyword_of : Call → Keyword
+keyword_of (call.New capacity) = OneNumber New
+keyword_of (call.FromElem value len) = BitAndNumber Elem
+keyword_of (call.Copy which) = OneNumber Clone
+keyword_of (call.FromRaw len mask blocks) = Raw
+keyword_of (call.Push which value) = NumberAndBit Push
+keyword_of (call.Pop which) = OneNumber Pop
+keyword_of (call.GetBit which index) = TwoNumbers Get
+keyword_of (call.GetUnchecked which index) = TwoNumbers GetUnchecked
+keyword_of (call.IndexBit which index) = TwoNumbers Index
+keyword_of (call.SetBit which index value) = TwoNumbersAndBit Set
+keyword_of (call.SetUnchecked which index value) = TwoNumbersAndBit SetUnchecked
+keyword_of (call.Length which) = OneNumber Len
+keyword_of (call.IsEmpty which) = OneNumber Empty
+keyword_of (call.Truncate which len) = TwoNumbers Truncate
+keyword_of (call.Clear which) = OneNumber Clear
+keyword_of (call.SetAll which value) = NumberAndBit SetAll
+keyword_of (call.Negate which) = OneNumber Negate
+keyword_of (call.Resize which len value) = TwoNumbersAndBit Resize
+keyword_of (call.ExtendSlice which more) = NumberAndBitList Append
+keyword_of (call.ExtendItems which more) = NumberAndBitList Extend
+keyword_of (call.ExtendVob which other) = TwoNumbers Join
+keyword_of (call.SplitOff which index) = TwoNumbers Split
+keyword_of (call.And which other) = TwoNumbers And
+keyword_of (call.Or which other) = TwoNumbers Or
+keyword_of (call.Xor which other) = TwoNumbers Xor
+keyword_of (call.AndNew which other) = TwoNumbers AndNew
+keyword_of (call.OrNew which other) = TwoNumbers OrNew
+keyword_of (call.XorNew which other) = TwoNumbers XorNew
+keyword_of (call.Equal which other) = TwoNumbers Equal
+keyword_of (call.Reserve which additional) = TwoNumbers Reserve
+keyword_of (call.Shrink which) = OneNumber Shrink
+keyword_of (call.Bits which) = OneNumber Bits
+keyword_of (call.Storage which) = OneNumber Blocks
+keyword_of (call.Walk which value start end ends) = Walk
+keyword_of (call.Count which value start end) = Count
+keyword_of call.Fresh = Fresh
+keyword_of (call.WithCapacity capacity) = OneNumber Room
+keyword_of (call.Fill value len) = BitAndNumber Fill
+keyword_of (call.FromBytes values) = Bytes
+keyword_of (call.FromSlice values) = BitList Slice
+keyword_of (call.FromItems values) = BitList Items
+keyword_of (call.FromRecord len blocks) = Record
 
--- the word of a command is its keyword's, and its arguments are of the keyword's kinds
-record Belongs (c : Command ℕ) (k : Keyword) : Type 0 where
-  word : (form_of c).word ≡ word_of k
-  kinds : map kind_of (form_of c).arguments ≡ kinds_of k
+-- arguments are of these kinds
+abbrev pub Fits : List Argument → Kinds → Type 0
+Fits arguments nothing = arguments ≡ []
+Fits arguments numbers = (values : List ℕ) × (arguments ≡ map number values)
+Fits arguments (before kind kinds) = (first : Argument) × (others : List Argument)
+    × (arguments ≡ first ∷ others) × (kind_of first ≡ kind) × Fits others kinds
 
-belongs : (c : Command ℕ) → (form_of c).word ≢ [] → Belongs c (keyword_of c)
-unfolding keyword_of
-belongs (command.New capacity) some = record { word = refl; kinds = refl }
-belongs (command.Push which value) some = record { word = refl; kinds = refl }
-belongs (command.Pop which) some = record { word = refl; kinds = refl }
-belongs (command.GetBit which index) some = record { word = refl; kinds = refl }
-belongs (command.GetUnchecked which index) some = record { word = refl; kinds = refl }
-belongs (command.IndexBit which index) some = record { word = refl; kinds = refl }
-belongs (command.SetBit which index value) some = record { word = refl; kinds = refl }
-belongs (command.SetUnchecked which index value) some = record { word = refl; kinds = refl }
-belongs (command.Length which) some = record { word = refl; kinds = refl }
-belongs (command.IsEmpty which) some = record { word = refl; kinds = refl }
-belongs (command.Truncate which len) some = record { word = refl; kinds = refl }
-belongs (command.Bits which) some = record { word = refl; kinds = refl }
-belongs (command.Storage which) some = record { word = refl; kinds = refl }
-belongs (command.FromElem value len) some = absurd (some refl)
-belongs (command.FromRaw len mask blocks) some = absurd (some refl)
-belongs (command.Walk which value bounds pulls) some = absurd (some refl)
-belongs (command.Count which value bounds) some = absurd (some refl)
-belongs (command.Copy which) some = absurd (some refl)
-belongs (command.Clear which) some = absurd (some refl)
-belongs (command.SetAll which value) some = absurd (some refl)
-belongs (command.Negate which) some = absurd (some refl)
-belongs (command.Resize which len value) some = absurd (some refl)
-belongs (command.ExtendSlice which bits) some = absurd (some refl)
-belongs (command.ExtendItems which bits) some = absurd (some refl)
-belongs (command.ExtendVob which other) some = absurd (some refl)
-belongs (command.SplitOff which index) some = absurd (some refl)
-belongs (command.And which other) some = absurd (some refl)
-belongs (command.Or which other) some = absurd (some refl)
-belongs (command.Xor which other) some = absurd (some refl)
-belongs (command.AndNew which other) some = absurd (some refl)
-belongs (command.OrNew which other) some = absurd (some refl)
-belongs (command.XorNew which other) some = absurd (some refl)
-belongs (command.Equal which other) some = absurd (some refl)
-belongs (command.Reserve which additional) some = absurd (some refl)
-belongs (command.Shrink which) some = absurd (some refl)
+one_fits : (n : ℕ) → Fits (number n ∷ []) (before a_number nothing)
+one_fits n = (_, _, refl, refl, refl)
 
--- the command of a keyword and its arguments
-command_of : Keyword → List Argument → Option (Command ℕ)
-command_of New (number capacity ∷ []) = Some (command.New capacity)
-command_of Push (number which ∷ bit value ∷ []) = Some (command.Push which value)
-command_of Pop (number which ∷ []) = Some (command.Pop which)
-command_of Get (number which ∷ number index ∷ []) = Some (command.GetBit which index)
-command_of GetUnchecked (number which ∷ number index ∷ []) = Some (command.GetUnchecked which index)
-command_of Index (number which ∷ number index ∷ []) = Some (command.IndexBit which index)
-command_of Set (number which ∷ number index ∷ bit value ∷ []) = Some (command.SetBit which index value)
-command_of SetUnchecked (number which ∷ number index ∷ bit value ∷ []) = Some (command.SetUnchecked which index value)
-command_of Len (number which ∷ []) = Some (command.Length which)
-command_of Empty (number which ∷ []) = Some (command.IsEmpty which)
-command_of Truncate (number which ∷ number len ∷ []) = Some (command.Truncate which len)
-command_of Bits (number which ∷ []) = Some (command.Bits which)
-command_of Blocks (number which ∷ []) = Some (command.Storage which)
-command_of _ _ = None
+two_fit : (m n : ℕ) → Fits (number m ∷ number n ∷ []) (before a_number (before a_number nothing))
+two_fit m n = (_, _, refl, refl, one_fits n)
 
-again : (c : Command ℕ) → (form_of c).word ≢ [] →
-    command_of (keyword_of c) (form_of c).arguments ≡ Some c
-unfolding keyword_of command_of
-again (command.New capacity) some = refl
-again (command.Push which value) some = refl
-again (command.Pop which) some = refl
-again (command.GetBit which index) some = refl
-again (command.GetUnchecked which index) some = refl
-again (command.IndexBit which index) some = refl
-again (command.SetBit which index value) some = refl
-again (command.SetUnchecked which index value) some = refl
-again (command.Length which) some = refl
-again (command.IsEmpty which) some = refl
-again (command.Truncate which len) some = refl
-again (command.Bits which) some = refl
-again (command.Storage which) some = refl
-again (command.FromElem value len) some = absurd (some refl)
-again (command.FromRaw len mask blocks) some = absurd (some refl)
-again (command.Walk which value bounds pulls) some = absurd (some refl)
-again (command.Count which value bounds) some = absurd (some refl)
-again (command.Copy which) some = absurd (some refl)
-again (command.Clear which) some = absurd (some refl)
-again (command.SetAll which value) some = absurd (some refl)
-again (command.Negate which) some = absurd (some refl)
-again (command.Resize which len value) some = absurd (some refl)
-again (command.ExtendSlice which bits) some = absurd (some refl)
-again (command.ExtendItems which bits) some = absurd (some refl)
-again (command.ExtendVob which other) some = absurd (some refl)
-again (command.SplitOff which index) some = absurd (some refl)
-again (command.And which other) some = absurd (some refl)
-again (command.Or which other) some = absurd (some refl)
-again (command.Xor which other) some = absurd (some refl)
-again (command.AndNew which other) some = absurd (some refl)
-again (command.OrNew which other) some = absurd (some refl)
-again (command.XorNew which other) some = absurd (some refl)
-again (command.Equal which other) some = absurd (some refl)
-again (command.Reserve which additional) some = absurd (some refl)
-again (command.Shrink which) some = absurd (some refl)
+bit_fits : (b : Bool) → Fits (bit b ∷ []) (before a_bit nothing)
+bit_fits b = (_, _, refl, refl, refl)
+
+bits_fit : (bs : List Bool) → Fits (bits bs ∷ []) (before some_bits nothing)
+bits_fit bs = (_, _, refl, refl, refl)
+
+-- the word of a call is its keyword's, and its arguments are of the keyword's kinds
+pub record Belongs (c : Call) (k : Keyword) : Type 0 where
+  pub word : (form_of c).word ≡ word_of k
+  pub fits : Fits (form_of c).arguments (kinds_of k)
+
+pub belongs : (c : Call) → Belongs c (keyword_of c)
+belongs (call.New capacity) = record { word = refl; fits = one_fits capacity }
+belongs (call.FromElem value len) = record { word = refl; fits = (_, _, refl, refl, one_fits len) }
+belongs (call.Copy which) = record { word = refl; fits = one_fits which }
+belongs (call.FromRaw len mask blocks) = record { word = refl; fits = (_, _, refl, refl, (_, _, refl, refl, (blocks, refl))) }
+belongs (call.Push which value) = record { word = refl; fits = (_, _, refl, refl, bit_fits value) }
+belongs (call.Pop which) = record { word = refl; fits = one_fits which }
+belongs (call.GetBit which index) = record { word = refl; fits = two_fit which index }
+belongs (call.GetUnchecked which index) = record { word = refl; fits = two_fit which index }
+belongs (call.IndexBit which index) = record { word = refl; fits = two_fit which index }
+belongs (call.SetBit which index value) = record { word = refl; fits = (_, _, refl, refl, (_, _, refl, refl, bit_fits value)) }
+belongs (call.SetUnchecked which index value) = record { word = refl; fits = (_, _, refl, refl, (_, _, refl, refl, bit_fits value)) }
+belongs (call.Length which) = record { word = refl; fits = one_fits which }
+belongs (call.IsEmpty which) = record { word = refl; fits = one_fits which }
+belongs (call.Truncate which len) = record { word = refl; fits = two_fit which len }
+belongs (call.Clear which) = record { word = refl; fits = one_fits which }
+belongs (call.SetAll which value) = record { word = refl; fits = (_, _, refl, refl, bit_fits value) }
+belongs (call.Negate which) = record { word = refl; fits = one_fits which }
+belongs (call.Resize which len value) = record { word = refl; fits = (_, _, refl, refl, (_, _, refl, refl, bit_fits value)) }
+belongs (call.ExtendSlice which more) = record { word = refl; fits = (_, _, refl, refl, bits_fit more) }
+belongs (call.ExtendItems which more) = record { word = refl; fits = (_, _, refl, refl, bits_fit more) }
+belongs (call.ExtendVob which other) = record { word = refl; fits = two_fit which other }
+belongs (call.SplitOff which index) = record { word = refl; fits = two_fit which index }
+belongs (call.And which other) = record { word = refl; fits = two_fit which other }
+belongs (call.Or which other) = record { word = refl; fits = two_fit which other }
+belongs (call.Xor which other) = record { word = refl; fits = two_fit which other }
+belongs (call.AndNew which other) = record { word = refl; fits = two_fit which other }
+belongs (call.OrNew which other) = record { word = refl; fits = two_fit which other }
+belongs (call.XorNew which other) = record { word = refl; fits = two_fit which other }
+belongs (call.Equal which other) = record { word = refl; fits = two_fit which other }
+belongs (call.Reserve which additional) = record { word = refl; fits = two_fit which additional }
+belongs (call.Shrink which) = record { word = refl; fits = one_fits which }
+belongs (call.Bits which) = record { word = refl; fits = one_fits which }
+belongs (call.Storage which) = record { word = refl; fits = one_fits which }
+belongs (call.Walk which value start end ends) = record { word = refl; fits = (_, _, refl, refl, (_, _, refl, refl, (_, _, refl, refl, (_, _, refl, refl, refl)))) }
+belongs (call.Count which value start end) = record { word = refl; fits = (_, _, refl, refl, (_, _, refl, refl, (_, _, refl, refl, refl))) }
+belongs call.Fresh = record { word = refl; fits = refl }
+belongs (call.WithCapacity capacity) = record { word = refl; fits = one_fits capacity }
+belongs (call.Fill value len) = record { word = refl; fits = (_, _, refl, refl, one_fits len) }
+belongs (call.FromBytes values) = record { word = refl; fits = (_, _, refl, refl, refl) }
+belongs (call.FromSlice values) = record { word = refl; fits = bits_fit values }
+belongs (call.FromItems values) = record { word = refl; fits = bits_fit values }
+belongs (call.FromRecord len blocks) = record { word = refl; fits = (_, _, refl, refl, (blocks, refl)) }
+
+-- the call of a keyword and its arguments
+one_call : One → ℕ → Call
+one_call New n = call.New n
+one_call Clone n = call.Copy n
+one_call Pop n = call.Pop n
+one_call Len n = call.Length n
+one_call Empty n = call.IsEmpty n
+one_call Clear n = call.Clear n
+one_call Negate n = call.Negate n
+one_call Shrink n = call.Shrink n
+one_call Bits n = call.Bits n
+one_call Blocks n = call.Storage n
+one_call Room n = call.WithCapacity n
+
+two_call : Two → ℕ → ℕ → Call
+two_call Get m n = call.GetBit m n
+two_call GetUnchecked m n = call.GetUnchecked m n
+two_call Index m n = call.IndexBit m n
+two_call Truncate m n = call.Truncate m n
+two_call Join m n = call.ExtendVob m n
+two_call Split m n = call.SplitOff m n
+two_call And m n = call.And m n
+two_call Or m n = call.Or m n
+two_call Xor m n = call.Xor m n
+two_call AndNew m n = call.AndNew m n
+two_call OrNew m n = call.OrNew m n
+two_call XorNew m n = call.XorNew m n
+two_call Equal m n = call.Equal m n
+two_call Reserve m n = call.Reserve m n
+
+filling : Filling → Bool → ℕ → Call
+filling Elem b n = call.FromElem b n
+filling Fill b n = call.Fill b n
+
+setting : Setting → ℕ → Bool → Call
+setting Push n b = call.Push n b
+setting SetAll n b = call.SetAll n b
+
+placing : Placing → ℕ → ℕ → Bool → Call
+placing Set m n b = call.SetBit m n b
+placing SetUnchecked m n b = call.SetUnchecked m n b
+placing Resize m n b = call.Resize m n b
+
+making : Making → List Bool → Call
+making Slice bs = call.FromSlice bs
+making Items bs = call.FromItems bs
+
+adding : Adding → ℕ → List Bool → Call
+adding Append n bs = call.ExtendSlice n bs
+adding Extend n bs = call.ExtendItems n bs
+
+-- the numbers among arguments
+values_of : List Argument → List ℕ
+values_of [] = []
+values_of (number n ∷ arguments) = n ∷ values_of arguments
+values_of (_ ∷ arguments) = values_of arguments
+
+values_of-numbers : (values : List ℕ) → values_of (map number values) ≡ values
+unfolding values_of
+values_of-numbers [] = refl
+values_of-numbers (n ∷ values) = ap (λ xs. n ∷ xs) (values_of-numbers values)
+
+pub call_from : Keyword → List Argument → Option Call
+call_from (OneNumber word) (number n ∷ []) = Some (one_call word n)
+call_from (TwoNumbers word) (number m ∷ number n ∷ []) = Some (two_call word m n)
+call_from (BitAndNumber word) (bit b ∷ number n ∷ []) = Some (filling word b n)
+call_from (NumberAndBit word) (number n ∷ bit b ∷ []) = Some (setting word n b)
+call_from (TwoNumbersAndBit word) (number m ∷ number n ∷ bit b ∷ []) = Some (placing word m n b)
+call_from (BitList word) (bits bs ∷ []) = Some (making word bs)
+call_from (NumberAndBitList word) (number n ∷ bits bs ∷ []) = Some (adding word n bs)
+call_from Fresh [] = Some call.Fresh
+call_from Bytes (bytes values ∷ []) = Some (call.FromBytes values)
+call_from Raw (number n ∷ bit b ∷ others) = Some (call.FromRaw n b (values_of others))
+call_from Record (number n ∷ others) = Some (call.FromRecord n (values_of others))
+call_from Walk (number n ∷ bit b ∷ range start end ∷ pulls ends ∷ []) =
+    Some (call.Walk n b start end ends)
+call_from Count (number n ∷ bit b ∷ range start end ∷ []) = Some (call.Count n b start end)
+call_from _ _ = None
+
+pub again : (c : Call) → call_from (keyword_of c) (form_of c).arguments ≡ Some c
+unfolding call_from one_call two_call filling setting placing making adding
+again (call.New capacity) = refl
+again (call.FromElem value len) = refl
+again (call.Copy which) = refl
+again (call.FromRaw len mask blocks) =
+    ap (λ values. Some (call.FromRaw len mask values)) (values_of-numbers blocks)
+again (call.Push which value) = refl
+again (call.Pop which) = refl
+again (call.GetBit which index) = refl
+again (call.GetUnchecked which index) = refl
+again (call.IndexBit which index) = refl
+again (call.SetBit which index value) = refl
+again (call.SetUnchecked which index value) = refl
+again (call.Length which) = refl
+again (call.IsEmpty which) = refl
+again (call.Truncate which len) = refl
+again (call.Clear which) = refl
+again (call.SetAll which value) = refl
+again (call.Negate which) = refl
+again (call.Resize which len value) = refl
+again (call.ExtendSlice which more) = refl
+again (call.ExtendItems which more) = refl
+again (call.ExtendVob which other) = refl
+again (call.SplitOff which index) = refl
+again (call.And which other) = refl
+again (call.Or which other) = refl
+again (call.Xor which other) = refl
+again (call.AndNew which other) = refl
+again (call.OrNew which other) = refl
+again (call.XorNew which other) = refl
+again (call.Equal which other) = refl
+again (call.Reserve which additional) = refl
+again (call.Shrink which) = refl
+again (call.Bits which) = refl
+again (call.Storage which) = refl
+again (call.Walk which value start end ends) = refl
+again (call.Count which value start end) = refl
+again call.Fresh = refl
+again (call.WithCapacity capacity) = refl
+again (call.Fill value len) = refl
+again (call.FromBytes values) = refl
+again (call.FromSlice values) = refl
+again (call.FromItems values) = refl
+again (call.FromRecord len blocks) =
+    ap (λ values. Some (call.FromRecord len values)) (values_of-numbers blocks)
 
 -- the table of keywords finds each of them
-named-word : (k : Keyword) → keyword_named (word_of k) ≡ Some k
-named-word New = refl
-named-word Push = refl
-named-word Pop = refl
-named-word Get = refl
-named-word GetUnchecked = refl
-named-word Index = refl
-named-word Set = refl
-named-word SetUnchecked = refl
-named-word Len = refl
-named-word Empty = refl
-named-word Truncate = refl
-named-word Bits = refl
-named-word Blocks = refl
-
-named-form : (c : Command ℕ) → (form_of c).word ≢ [] →
-    keyword_named (form_of c).word ≡ Some (keyword_of c)
-named-form c some = ap keyword_named (belongs c some).word ∙ named-word (keyword_of c)
-
--- the text of a keyword isn't empty
-some_word : (word : List ℕ) (k : Keyword) → keyword_named word ≡ Some k → word ≢ []
-some_word word k named = λ e. none-some k (sym (ap keyword_named e) ∙ named)
-
--- a command whose word names a keyword belongs to it
-belongs_named : (c : Command ℕ) (k : Keyword) → keyword_named (form_of c).word ≡ Some k → Belongs c k
-belongs_named c k named =
-    let own = belongs c (some_word (form_of c).word k named) in
-    let same : Some (keyword_of c) ≡ Some k =
-    sym (named-word (keyword_of c)) ∙ ap keyword_named (sym own.word) ∙ named in
-    let key : keyword_of c ≡ k = cc in
-    subst (Belongs c) key own
-
--- words that stand for arguments are of their kinds
-BeginWith-spelled : (words : List (List ℕ)) (arguments : List Argument) →
-    AllSpell words arguments → BeginWith words (map kind_of arguments)
-BeginWith-spelled [] [] spelled = tt
-BeginWith-spelled (word ∷ words) (argument ∷ arguments) spelled =
-    ((argument, refl, spelled.0), BeginWith-spelled words arguments spelled.1)
-BeginWith-spelled [] (argument ∷ arguments) spelled = absurd spelled
-BeginWith-spelled (word ∷ words) [] spelled = absurd spelled
-
-length-spelled : (words : List (List ℕ)) (arguments : List Argument) → AllSpell words arguments →
-    length words ≡ length arguments
-length-spelled [] [] spelled = refl
-length-spelled (word ∷ words) (argument ∷ arguments) spelled =
-    ap suc (length-spelled words arguments spelled.1)
-length-spelled [] (argument ∷ arguments) spelled = absurd spelled
-length-spelled (word ∷ words) [] spelled = absurd spelled
-
-length-takes : (before : List (List ℕ)) (arguments : List Argument) (after : List (List ℕ)) →
-    TakesAll before arguments after → length before ≡ length arguments + length after
-length-takes before [] after same = omega (arith, ap length same)
-length-takes before (argument ∷ arguments) after takes =
-    let first = ap length takes.1.first in
-    omega (arith, length-takes takes.0 arguments after takes.2)
-
-AllSpell-takes : (before : List (List ℕ)) (arguments : List Argument) (after : List (List ℕ)) →
-    TakesAll before arguments after → after ≡ [] → AllSpell before arguments
-AllSpell-takes before [] after same none = subst (λ words. AllSpell words []) (sym (same ∙ none)) tt
-AllSpell-takes before (argument ∷ arguments) after takes none =
-    subst (λ words. AllSpell words (argument ∷ arguments)) (sym takes.1.first)
-    (takes.1.spelled, AllSpell-takes takes.0 arguments after takes.2 none)
-
-passes-find : (p : Keyword → Bool) (ks : List Keyword) (k : Keyword) → find p ks ≡ Some k →
-    p k ≡ true
-passes-find p [] k e = absurd (none-some k e)
-passes-find p (x ∷ ks) k e =
-    elim (p x) as (λ b. p x ≡ b → cond b (Some x) (find p ks) ≡ Some k → p k ≡ true) [
-      | true ↦ λ here same. ap p (sym (same_Some x k same)) ∙ here
-      | false ↦ λ _ later. passes-find p ks k later
-    ] refl e
-
--- the table finds a keyword by its text alone
-word_named : (word : List ℕ) (k : Keyword) → keyword_named word ≡ Some k → word ≡ word_of k
-word_named word k named =
-    let passes = passes-find (λ keyword. bytes_eq (word_of keyword) word) keywords k named in
-    sym ((bytes_eq-Decides (word_of k) word).0 passes)
-
-digit_once : (a b : Bool) → digit a ≡ digit b → a ≡ b
-digit_once true true e = refl
-digit_once false false e = refl
-digit_once true false e = absurd (omega (arith, e))
-digit_once false true e = absurd (omega (arith, e))
-
--- a word stands for one argument of a kind
-spells_once : (word : List ℕ) (a b : Argument) → kind_of a ≡ kind_of b →
-    Spells word a → Spells word b → a ≡ b
-spells_once word (number m) (number n) kinds here there = ap number (sym here.1 ∙ there.1)
-spells_once word (bit x) (bit y) kinds here there =
-    ap bit (digit_once x y (let e = sym here ∙ there in cc))
-spells_once word (number m) (bit y) kinds here there = cc
-spells_once word (bit x) (number n) kinds here there = cc
-
-all_spell_once : (words : List (List ℕ)) (xs ys : List Argument) → map kind_of xs ≡ map kind_of ys →
-    AllSpell words xs → AllSpell words ys → xs ≡ ys
-all_spell_once [] [] [] kinds here there = refl
-all_spell_once (word ∷ words) (x ∷ xs) (y ∷ ys) kinds here there =
-    let first : kind_of x ≡ kind_of y = cc in
-    let others : map kind_of xs ≡ map kind_of ys = cc in
-    let same = spells_once word x y first here.0 there.0 in
-    let rest = all_spell_once words xs ys others here.1 there.1 in
-    cc
-all_spell_once [] (x ∷ xs) ys kinds here there = absurd here
-all_spell_once [] [] (y ∷ ys) kinds here there = absurd there
-all_spell_once (word ∷ words) [] ys kinds here there = absurd here
-all_spell_once (word ∷ words) (x ∷ xs) [] kinds here there = absurd there
-
--- words read as one command at most
-pub reads_once : (line : List (List ℕ)) (c d : Command ℕ) → Reads line c → Reads line d → c ≡ d
-reads_once [] c d here there = absurd here
-reads_once (word ∷ words) c d here there =
-    let some : (form_of c).word ≢ [] = λ e. here.0.1 (here.0.0 ∙ e) in
-    let others : (form_of d).word ≢ [] = λ e. there.0.1 (there.0.0 ∙ e) in
-    let named = ap keyword_named (sym here.0.0 ∙ there.0.0) in
-    let same : Some (keyword_of c) ≡ Some (keyword_of d) =
-    sym (named-form c some) ∙ named ∙ named-form d others in
-    let key : keyword_of c ≡ keyword_of d = cc in
-    let kinds = (belongs c some).kinds ∙ ap kinds_of key ∙ sym (belongs d others).kinds in
-    let arguments = all_spell_once words _ _ kinds here.1 there.1 in
-    let back : command_of (keyword_of c) (form_of c).arguments
-    ≡ command_of (keyword_of d) (form_of d).arguments = cc in
-    same_Some c d (sym (again c some) ∙ back ∙ again d others)
-
-module _ (k : Keyword) (line : List (List ℕ)) (word : List ℕ) (words : List (List ℕ))
-    (cut : line ≡ word ∷ words) (named : keyword_named word ≡ Some k) where
-  -- the line reads as commands of the keyword alone
-  arguments_read : (c : Command ℕ) → Reads line c →
-      AllSpell words (form_of c).arguments × (map kind_of (form_of c).arguments ≡ kinds_of k)
-  arguments_read c reads =
-      let here = subst (λ line. Reads line c) cut reads in
-      (here.1, (belongs_named c k (ap keyword_named (sym here.0.0) ∙ named)).kinds)
-
-  -- words of other kinds are no arguments of the keyword
-  pub not_read : (BeginWith words (kinds_of k) → ⊥) → (c : Command ℕ) → Reads line c → ⊥
-  not_read others c reads =
-      let read = arguments_read c reads in
-      others (subst (BeginWith words) read.1 (BeginWith-spelled words (form_of c).arguments read.0))
-
-  -- a word behind the arguments is too much
-  pub too_long : (d : Command ℕ) (after : List (List ℕ)) → (form_of d).word ≡ word_of k →
-      TakesAll words (form_of d).arguments after → (after ≡ [] → ⊥) →
-      (c : Command ℕ) → Reads line c → ⊥
-  too_long d after same takes more c reads =
-      let read = arguments_read c reads in
-      let other = belongs_named d k (ap keyword_named same ∙ named-word k) in
-      let counts = simp length-map at (ap length (read.1 ∙ sym other.kinds)) in
-      let all = length-spelled words (form_of c).arguments read.0 in
-      let taken = length-takes words (form_of d).arguments after takes in
-      more (nil_from_length after (omega (arith, counts, all, taken)))
-
-  -- the keyword and its arguments, with nothing behind them
-  pub read_whole : (d : Command ℕ) (after : List (List ℕ)) → (form_of d).word ≡ word_of k →
-      TakesAll words (form_of d).arguments after → after ≡ [] → Reads line d
-  read_whole d after same takes none =
-      let here : Reads (word ∷ words) d = (
-        (word_named word k named ∙ sym same, some_word word k named),
-        AllSpell-takes words (form_of d).arguments after takes none,
-      ) in
-      subst (λ line. Reads line d) (sym cut) here
+pub named-word : (k : Keyword) → keyword_named (word_of k) ≡ Some k
+named-word (OneNumber New) = refl
+named-word (BitAndNumber Elem) = refl
+named-word (OneNumber Clone) = refl
+named-word Raw = refl
+named-word (NumberAndBit Push) = refl
+named-word (OneNumber Pop) = refl
+named-word (TwoNumbers Get) = refl
+named-word (TwoNumbers GetUnchecked) = refl
+named-word (TwoNumbers Index) = refl
+named-word (TwoNumbersAndBit Set) = refl
+named-word (TwoNumbersAndBit SetUnchecked) = refl
+named-word (OneNumber Len) = refl
+named-word (OneNumber Empty) = refl
+named-word (TwoNumbers Truncate) = refl
+named-word (OneNumber Clear) = refl
+named-word (NumberAndBit SetAll) = refl
+named-word (OneNumber Negate) = refl
+named-word (TwoNumbersAndBit Resize) = refl
+named-word (NumberAndBitList Append) = refl
+named-word (NumberAndBitList Extend) = refl
+named-word (TwoNumbers Join) = refl
+named-word (TwoNumbers Split) = refl
+named-word (TwoNumbers And) = refl
+named-word (TwoNumbers Or) = refl
+named-word (TwoNumbers Xor) = refl
+named-word (TwoNumbers AndNew) = refl
+named-word (TwoNumbers OrNew) = refl
+named-word (TwoNumbers XorNew) = refl
+named-word (TwoNumbers Equal) = refl
+named-word (TwoNumbers Reserve) = refl
+named-word (OneNumber Shrink) = refl
+named-word (OneNumber Bits) = refl
+named-word (OneNumber Blocks) = refl
+named-word Walk = refl
+named-word Count = refl
+named-word Fresh = refl
+named-word (OneNumber Room) = refl
+named-word (BitAndNumber Fill) = refl
+named-word Bytes = refl
+named-word (BitList Slice) = refl
+named-word (BitList Items) = refl
+named-word Record = refl

@@ -1,3 +1,7 @@
 pub mod CutLemmas
+pub mod SpellingLemmas
+pub mod WordsLemmas
+pub mod SpellsLemmas
 pub mod KeywordLemmas
+pub mod ReadLemmas
 pub mod SessionLemmas

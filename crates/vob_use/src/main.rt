@@ -2,8 +2,11 @@
 //! for each reply.
 #![tactic(auto)]
 
+mod command;
+mod keyword;
 mod line;
 mod session;
+mod spelling;
 #[cfg(test)]
 mod tests;
 mod text;

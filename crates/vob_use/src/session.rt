@@ -3,22 +3,22 @@
 
 ghost use Rattle.std.specs.Prelude.{◌≡◌, ◌≢◌, ℕ, List, [], ◌++◌, map, IfOk, IfErr, OnOk, OnErr, IfSome, IsOkUnless, IsErrOf};
 ghost use Rattle.std.specs.Io.KnownBytes.{Appends};
-ghost use Rattle.vob_run.specs.Call.{call_of};
 ghost use Rattle.vob_run.specs.Run.{IsRun};
-ghost use Rattle.vob_run.specs.declared.command.Command.{Command};
+ghost use Rattle.vob_run.specs.Call.{Call, usize_call_of};
 ghost use Rattle.vob_use.specs.Cuts.{lines_of};
 ghost use Rattle.vob_use.specs.Conversation.{sentences, AllRead, lines_for, Says};
-ghost use Rattle.vob_use.specs.Ends.{Ends};
+ghost use Rattle.vob_use.specs.Ends.{Ends, ending_at};
 ghost use Rattle.vob_use.specs.Texts.{answer_of};
 ghost use Rattle.vob_use.specs.declared.session.Ending.TheVariants.{Memory};
 
-use crate::line::{cut_line, is_blank, read_command};
+use crate::command::read_command;
+use crate::line::{LineError, cut_line, is_blank};
 use crate::text::ReplyText;
 use std::alloc::{AllocError, AllocFailed, Global};
 use std::io;
 use std::io::{Read, Write};
-use vob_run::run::run;
-use vob_run::{Command, Reply};
+use vob_run::run::run_usize;
+use vob_run::{Reply, UsizeCommand};
 
 /// How many bytes each read asks for.
 const CHUNK: usize = 4096;
@@ -53,6 +53,18 @@ impl<T: Drop> From<AllocFailed<T>> for Ending {
     }
 }
 
+impl LineError {
+    /// How the conversation ends at the line with this number.
+    fn at(self, line: usize) -> Ending
+        ensures { result ≡ ending_at self line }
+    {
+        match self {
+            LineError::Unreadable => Ending::BadLine(line),
+            LineError::Memory => Ending::Memory,
+        }
+    }
+}
+
 /// Reads all there is, by `MOST_READS` reads at most.
 fn read_all<R: Read>(alloc: Global, input: &mut R) -> Result<Vec<u8>, Ending>
     ensures ok { IfOk result (λ text. IfSome (R.remaining input.old) (λ all. text.items ≡ all)) }
@@ -71,8 +83,9 @@ fn read_all<R: Read>(alloc: Global, input: &mut R) -> Result<Vec<u8>, Ending>
 }
 
 /// Reads all lines as commands, up to the first that no command reads as.
-fn read_commands(alloc: Global, text: &[u8]) -> Result<Vec<Command<usize>>, Ending>
-    ensures ok { IfOk result (λ commands. AllRead (sentences (lines_of text.now)) commands.items) }
+fn read_commands(alloc: Global, text: &[u8]) -> Result<Vec<UsizeCommand>, Ending>
+    ensures ok { IfOk result (λ commands.
+        AllRead (sentences (lines_of text.now)) (map usize_call_of commands.items)) }
     ensures err { IfErr result (λ ending. Ends (lines_of text.now) ending) }
     ensures failed { ¬ (IsErrOf result Ending.Failed) }
 {
@@ -83,7 +96,7 @@ fn read_commands(alloc: Global, text: &[u8]) -> Result<Vec<Command<usize>>, Endi
         let (line, after) = cut_line(rest);
         number += 1;
         if !is_blank(line) {
-            let command = read_command(line).map_err(|_| Ending::BadLine(number))?;
+            let command = read_command(alloc, line).map_err(|error| error.at(number))?;
             commands.push(command)?;
         }
         rest = after;
@@ -92,22 +105,23 @@ fn read_commands(alloc: Global, text: &[u8]) -> Result<Vec<Command<usize>>, Endi
 }
 
 /// Runs commands, from no Vobs at all.
-fn answer(alloc: Global, commands: &[Command<usize>]) -> Result<Vec<Reply<usize>>, Ending>
+fn answer(alloc: Global, commands: &[UsizeCommand]) -> Result<Vec<Reply<usize>>, Ending>
     ensures ok { IfOk result (λ replies.
-        (after : _) × IsRun 64 [] (map (call_of (λ block. block)) commands.now) (map answer_of replies.items) after) }
+        (after : _) × IsRun 64 [] (map usize_call_of commands.now)
+        (map answer_of replies.items) after) }
     ensures err { IsOkUnless result Ending.Memory }
 {
     let mut vobs = Vec::new(alloc);
     let mut replies = Vec::new(alloc);
-    run::<usize>(alloc, commands, &mut vobs, &mut replies)?;
+    run_usize(alloc, commands, &mut vobs, &mut replies)?;
     Ok(replies)
 }
 
 /// Reads the whole input and runs its lines.
 fn replies_to<R: Read>(alloc: Global, input: &mut R) -> Result<Vec<Reply<usize>>, Ending>
     ensures ok { IfOk result (λ replies. IfSome (R.remaining input.old) (λ text.
-        (commands : List (Command ℕ)) × AllRead (sentences (lines_of text)) commands
-        × ((after : _) × IsRun 64 [] (map (call_of (λ block. block)) commands) (map answer_of replies.items) after))) }
+        (calls : List Call) × AllRead (sentences (lines_of text)) calls
+        × ((after : _) × IsRun 64 [] calls (map answer_of replies.items) after))) }
     ensures err { IfErr result (λ ending. IfSome (R.remaining input.old) (λ text.
         Ends (lines_of text) ending)) }
 {

@@ -2,8 +2,8 @@
 
 ghost use Rattle.std.specs.Prelude.{◌≡◌, map, Some};
 ghost use Rattle.std.specs.Fmt.{decimal};
-ghost use Rattle.vob_use.specs.Grammar.{digit};
-ghost use Rattle.vob_use.specs.Texts.{answer_of, digits, index_text, listed, text_of};
+ghost use Rattle.vob_use.specs.Spelling.{digit, digits};
+ghost use Rattle.vob_use.specs.Texts.{answer_of, index_text, listed, text_of};
 
 use std::fmt;
 use vob_run::Reply;

@@ -2,7 +2,8 @@
 use Rattle.std.proofs.Common.{◌≡◌, [], ◌∷◌, ◌++◌, rules, arith}
 use Rattle.std.proofs.lemmas.Bool.Decides.{nat_tests}
 use Rattle.std.proofs.lemmas.Grind.{common_steps}
-use Rattle.std.proofs.lemmas.List.{nil_from_length}
+use Rattle.std.proofs.lemmas.List.{nil_from_length, map-append}
+use Rattle.vob_run.specs.Call.{usize_call_of}
 use Rattle.vob_use.specs.Cuts.{words_of, lines_of}
 use Rattle.vob_use.specs.Grammar.{Reads}
 use Rattle.vob_use.proofs.SessionLemmas.{reads_blank, reads_more, reads_all}
@@ -11,13 +12,14 @@ use Rattle.vob_use.proofs.session.read_commands.Goals as goal
 -- a line that has words
 pub loop-rest-preserved-in_ok-push : goal.loop-rest-preserved-in_ok-push
 loop-rest-preserved-in_ok-push c =
-    let reads : Reads (words_of c.cut_line.result.0.now) c.in_ok-command.command = search rules in
+    let call = usize_call_of c.in_ok-command.command in
+    let reads : Reads (words_of c.cut_line.result.0.now) call = search rules in
     let before = c.loop-rest.commands.items in
     let pushed : c.push.new.self.items ≡ before ++ c.in_ok-command.command ∷ [] =
     grind (arith, common_steps) in
     record {
       lines =
-          rw pushed
+          rw (pushed, map-append)
           (reads_more _ _ _ _ _ _ _ c.loop-rest.invariant.lines c.cut_line.ensures.line reads);
       bytes = omega (arith, c.loop-rest.invariant.bytes, c.cut_line.ensures.shorter);
     }

@@ -1,4 +1,5 @@
-use Rattle.std.proofs.Common.{◌+◌, ◌≤◌, length}
+use Rattle.std.proofs.Common.{◌+◌, ◌≤◌, length, map}
+use Rattle.vob_run.specs.Call.{usize_call_of}
 use Rattle.vob_use.specs.Cuts.{lines_of}
 use Rattle.vob_use.proofs.SessionLemmas.{ReadsSoFar}
 use Rattle.vob_use.proofs.session.read_commands.Given as goal
@@ -6,7 +7,8 @@ use Rattle.vob_use.proofs.session.read_commands.Given as goal
 -- the lines so far read as the commands
 abbrev pub invariant-loop-rest : goal.invariant-loop-rest
 invariant-loop-rest l = record {
-  lines : ReadsSoFar (lines_of l.text) (lines_of l.rest) l.number l.commands.items;
+  lines : ReadsSoFar (lines_of l.text) (lines_of l.rest) l.number
+      (map usize_call_of l.commands.items);
   bytes : l.number + length l.rest ≤ length l.text;
 }
 

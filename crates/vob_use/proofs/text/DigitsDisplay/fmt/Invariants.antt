@@ -1,6 +1,6 @@
 use Rattle.std.proofs.Common.{map, take}
 use Rattle.std.specs.Fmt.{HasWritten, IsPlainFormatter}
-use Rattle.vob_use.specs.Grammar.{digit}
+use Rattle.vob_use.specs.Spelling.{digit}
 use Rattle.vob_use.proofs.text.DigitsDisplay.fmt.Given as goal
 
 -- a digit for each bit so far

@@ -1,7 +1,7 @@
 -- Digits are text.
 use Rattle.std.proofs.lemmas.Fmt.{IsAscii-from_digits}
 use Rattle.std.proofs.lemmas.Str.{IsUtf8-from_ascii}
-use Rattle.vob_use.proofs.line.number_of.Goals as goal
+use Rattle.vob_use.proofs.spelling.number_of.Goals as goal
 
 pub returns-in_default-clause-err : goal.returns-in_default-clause-err
 returns-in_default-clause-err c =

@@ -2,7 +2,7 @@
 use Rattle.std.proofs.Common.{◌<◌, length, sym, ◌∙◌, arith}
 use Rattle.std.proofs.lemmas.Bool.Decides.{nat_tests}
 use Rattle.vob_use.proofs.CutLemmas.{words_of-cut, words_of-blank}
-use Rattle.vob_use.proofs.line.Words.word.Goals as goal
+use Rattle.vob_use.proofs.command.Words.word.Goals as goal
 
 -- nothing stands behind the spaces
 pub returns-then-is_empty-clause-err : goal.returns-then-is_empty-clause-err
