@@ -3,6 +3,7 @@
 //! all answered Ok prints `answered`.
 mod growth;
 mod made;
+mod runs;
 mod walks;
 mod without_memory;
 

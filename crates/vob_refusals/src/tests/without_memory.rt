@@ -1,7 +1,7 @@
 //! Calls that take no memory: no refusal reaches them.
 use super::{check_blocks, pushed};
 use std::test::Fail;
-use vob::{End, IndexWalk, IterSetBits, IterUnsetBits, Vob, deal};
+use vob::{End, IndexWalk, IterSetBits, IterUnsetBits, RawVob, Vob, count_ones_in, deal};
 use vob_block::Blocks;
 
 #[test]
@@ -146,6 +146,36 @@ fn indices_are_walked_in_place(rt: HostRuntime) -> Result<(), Fail> {
     assert_eq!(rt; set.next(), Some(2));
     let mut unset = IterUnsetBits::over(Blocks::new(&stored), 3, ..2);
     assert_eq!(rt; unset.next(), Some(1));
+    println!(rt; "answered")?;
+    Ok(())
+}
+
+#[test]
+fn raw_storage_is_taken_in_place(rt: HostRuntime) -> Result<(), Fail> {
+    let Ok(vob) = pushed(rt.alloc(), &[true, true, true]) else {
+        return Ok(());
+    };
+    let mut raw = vob.into_raw();
+    raw.set_len(2);
+    assert!(rt; raw.fits());
+    let handed_back: Result<Vob<u8>, RawVob<u8>> = raw.into_vob();
+    let Err(mut raw) = handed_back else {
+        return Err("a used bit is past the length")?;
+    };
+    assert!(rt; raw.fits());
+    raw.mask_last_block();
+    assert_eq!(rt; raw.len(), 2);
+    let Ok(vob) = raw.into_vob() else {
+        return Err("a masked block has no bit past the length")?;
+    };
+    check_blocks(&rt, &vob, 2, &[3]);
+    assert_eq!(rt; vob.iter_set_bits(..).count(), 2);
+    assert_eq!(rt; vob.iter_unset_bits(..).count(), 0);
+    assert_eq!(rt; vob.iter().count(), 2);
+    assert_eq!(rt; vob.iter_storage().count(), 1);
+    let mut blocks = vob.blocks();
+    assert_eq!(rt; blocks.len(), 1);
+    assert_eq!(rt; count_ones_in(&mut blocks, 0, 2), 2);
     println!(rt; "answered")?;
     Ok(())
 }
