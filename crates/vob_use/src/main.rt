@@ -2,17 +2,11 @@
 //! for each reply.
 #![tactic(auto)]
 
-mod command;
-mod keyword;
-mod line;
-mod session;
-mod spelling;
 #[cfg(test)]
 mod tests;
-mod text;
 
-use session::converse;
 use std::process::ExitCode;
+pub use vob_lines::converse;
 
 fn main(rt: HostRuntime) -> ExitCode {
     ExitCode::from(converse(rt.alloc(), &mut rt.stdin(), &mut rt.stdout()))

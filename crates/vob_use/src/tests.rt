@@ -1,6 +1,6 @@
 //! What no clause says: the words of the table, each command once, and when a status comes.
 
-use crate::session::converse;
+use crate::converse;
 use std::alloc::{AllocError, Global};
 use std::io;
 use std::io::{ErrorKind, Read, Write};

@@ -1,0 +1,108 @@
+-- Lines that are read as calls, one after another.
+use Rattle.std.proofs.Common.{◌≡◌, ◌≢◌, ℕ, ◌+◌, Bool, true, List, [], ◌∷◌, ◌++◌, length, map, refl, ap, sym, ◌∙◌, arith, length-append}
+use Rattle.std.specs.Prelude.{nat_lt, Option, None, Some, IfSome}
+use Rattle.std.proofs.lemmas.List.{append_assoc, append-nil, map-append}
+use Rattle.std.proofs.lemmas.Bool.{lt-ltb}
+use Rattle.std.proofs.lemmas.List.Elements.{filter-append}
+use Rattle.vob_run.specs.Call.{Call}
+use Rattle.vob_lines.specs.Cuts.{words_of}
+use Rattle.vob_lines.specs.Grammar.{Reads}
+use Rattle.vob_lines.specs.Conversation.{sentences, AllRead, IsFirstBad}
+
+-- the first lines, of which there are so many, read as these calls
+pub record ReadsSoFar (lines rest : List (List ℕ)) (n : ℕ) (calls : List Call) : Type 0 where
+  pub before : List (List ℕ)
+  pub cut : lines ≡ before ++ rest
+  pub count : n ≡ length before
+  pub read : AllRead (sentences before) calls
+
+abbrev is_sentence : List (List ℕ) → Bool
+is_sentence words = nat_lt 0 (length words)
+
+-- no lines, no calls
+pub reads_none : (lines : List (List ℕ)) → ReadsSoFar lines lines 0 []
+reads_none lines = record { before = []; cut = refl; count = refl; read = tt }
+
+sentences_push : (before : List (List ℕ)) (line : List ℕ) →
+    sentences (before ++ line ∷ []) ≡ sentences before ++ sentences (line ∷ [])
+sentences_push before line =
+    rw map-append (filter-append is_sentence (map words_of before) (words_of line ∷ []))
+
+sentences-blank : (before : List (List ℕ)) (line : List ℕ) → words_of line ≡ [] →
+    sentences (before ++ line ∷ []) ≡ sentences before
+sentences-blank before line none =
+    sentences_push before line ∙ rw none (append-nil (sentences before))
+
+-- a blank line is passed over, and counted
+pub reads_blank : (lines rest after : List (List ℕ)) (line : List ℕ) (n : ℕ)
+    (calls : List Call) → ReadsSoFar lines rest n calls → rest ≡ line ∷ after →
+    words_of line ≡ [] → ReadsSoFar lines after (n + 1) calls
+reads_blank lines rest after line n calls so_far e none = record {
+  before = so_far.before ++ line ∷ [];
+  cut =
+      so_far.cut ∙ ap (λ xs. so_far.before ++ xs) e
+      ∙ sym (append_assoc so_far.before (line ∷ []) after);
+  count = omega (arith, so_far.count, length-append so_far.before (line ∷ []));
+  read = rw (sentences-blank so_far.before line none) so_far.read;
+}
+
+AllRead_push : (read : List (List (List ℕ))) (calls : List Call) (words : List (List ℕ))
+    (call : Call) → AllRead read calls → Reads words call →
+    AllRead (read ++ words ∷ []) (calls ++ call ∷ [])
+AllRead_push [] [] words call all reads = (reads, tt)
+AllRead_push (x ∷ xs) (c ∷ cs) words call all reads =
+    (all.0, AllRead_push xs cs words call all.1 reads)
+AllRead_push [] (c ∷ cs) words call all reads = absurd all
+AllRead_push (x ∷ xs) [] words call all reads = absurd all
+
+some_words : (words : List (List ℕ)) (call : Call) → Reads words call →
+    is_sentence words ≡ true
+some_words [] call reads = absurd reads
+some_words (word ∷ words) call reads = lt-ltb 0 (length (word ∷ words)) (omega arith)
+
+sentences-some : (before : List (List ℕ)) (line : List ℕ) → is_sentence (words_of line) ≡ true →
+    sentences (before ++ line ∷ []) ≡ sentences before ++ words_of line ∷ []
+sentences-some before line some = sentences_push before line ∙ rw some refl
+
+-- a line that has words gives a call
+pub reads_more : (lines rest after : List (List ℕ)) (line : List ℕ) (n : ℕ)
+    (calls : List Call) (call : Call) → ReadsSoFar lines rest n calls →
+    rest ≡ line ∷ after → Reads (words_of line) call →
+    ReadsSoFar lines after (n + 1) (calls ++ call ∷ [])
+reads_more lines rest after line n calls call so_far e reads = record {
+  before = so_far.before ++ line ∷ [];
+  cut =
+      so_far.cut ∙ ap (λ xs. so_far.before ++ xs) e
+      ∙ sym (append_assoc so_far.before (line ∷ []) after);
+  count = omega (arith, so_far.count, length-append so_far.before (line ∷ []));
+  read =
+      let some = some_words (words_of line) call reads in
+      rw (sentences-some so_far.before line some) (AllRead_push _ _ _ _ so_far.read reads);
+}
+
+-- a line that reads as no call is the first bad one
+pub reads_bad : (lines rest after : List (List ℕ)) (line : List ℕ) (n : ℕ)
+    (calls : List Call) → ReadsSoFar lines rest n calls → rest ≡ line ∷ after →
+    words_of line ≢ [] → ((call : Call) → Reads (words_of line) call → ⊥) →
+    IsFirstBad lines (n + 1)
+reads_bad lines rest after line n calls so_far e some bad = record {
+  before = so_far.before;
+  line = line;
+  others = after;
+  cut = so_far.cut ∙ ap (λ xs. so_far.before ++ xs) e;
+  place = omega (arith, so_far.count);
+  calls = calls;
+  read = so_far.read;
+  words = some;
+  bad = bad;
+}
+
+-- at the end all lines are read
+pub reads_all : (lines : List (List ℕ)) (n : ℕ) (calls : List Call) →
+    ReadsSoFar lines [] n calls → AllRead (sentences lines) calls
+reads_all lines n calls so_far = rw (so_far.cut ∙ append-nil so_far.before) so_far.read
+
+-- what holds of each value holds of the one that there may be
+pub IfSome-each : {X : Type 0} (o : Option X) (P : X → Type 0) → ((x : X) → P x) → IfSome o P
+IfSome-each None P each = tt
+IfSome-each (Some x) P each = each x

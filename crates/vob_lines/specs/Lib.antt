@@ -1,0 +1,9 @@
+pub mod Cuts
+pub mod Spelling
+pub mod Arguments
+pub mod Grammar
+pub mod Keywords
+pub mod Kinds
+pub mod Texts
+pub mod Conversation
+pub mod Ends

@@ -1,0 +1,170 @@
+//! A conversation: the whole input is read, its lines are run as commands, and a line is printed
+//! for each reply.
+
+ghost use Rattle.std.specs.Prelude.{◌≡◌, ◌≢◌, ℕ, List, [], ◌++◌, map, IfOk, IfErr, OnOk, OnErr, IfSome, IsOkUnless, IsErrOf};
+ghost use Rattle.std.specs.Io.KnownBytes.{Appends};
+ghost use Rattle.vob_run.specs.Run.{IsRun};
+ghost use Rattle.vob_run.specs.Call.{Call, usize_call_of};
+ghost use Rattle.vob_lines.specs.Cuts.{lines_of};
+ghost use Rattle.vob_lines.specs.Conversation.{sentences, AllRead, lines_for, Says};
+ghost use Rattle.vob_lines.specs.Ends.{Ends, ending_at};
+ghost use Rattle.vob_lines.specs.Texts.{answer_of};
+ghost use Rattle.vob_lines.specs.declared.session.Ending.TheVariants.{Memory};
+
+use crate::command::read_command;
+use crate::line::{LineError, cut_line, is_blank};
+use crate::text::ReplyText;
+use std::alloc::{AllocError, AllocFailed, Global};
+use std::io;
+use std::io::{Read, Write};
+use vob_run::run::run_usize;
+use vob_run::{Reply, UsizeCommand};
+
+/// How many bytes each read asks for.
+const CHUNK: usize = 4096;
+
+/// How many reads there are at most.
+const MOST_READS: usize = 1048576;
+
+/// Why a conversation ends with no reply.
+#[derive(Clone, Copy, Debug, PartialEq, Eq)]
+enum Ending {
+    /// Reading failed, or went on for too long.
+    Failed,
+    /// The line with this number, counted from 1, reads as no command.
+    BadLine(usize),
+    /// Memory was refused for the input, the commands or the replies.
+    Memory,
+}
+
+impl From<AllocError> for Ending {
+    ghost from_gives = { λ _ ending. ending ≡ Memory };
+
+    fn from(_: AllocError) -> Ending {
+        Ending::Memory
+    }
+}
+
+impl<T: Drop> From<AllocFailed<T>> for Ending {
+    ghost from_gives = { λ _ ending. ending ≡ Memory };
+
+    fn from(_: AllocFailed<T>) -> Ending {
+        Ending::Memory
+    }
+}
+
+impl LineError {
+    /// How the conversation ends at the line with this number.
+    fn at(self, line: usize) -> Ending
+        ensures { result ≡ ending_at self line }
+    {
+        match self {
+            LineError::Unreadable => Ending::BadLine(line),
+            LineError::Memory => Ending::Memory,
+        }
+    }
+}
+
+/// Reads all there is, by `MOST_READS` reads at most.
+fn read_all<R: Read>(alloc: Global, input: &mut R) -> Result<Vec<u8>, Ending>
+    ensures ok { IfOk result (λ text. IfSome (R.remaining input.old) (λ all. text.items ≡ all)) }
+    ensures err { IfErr result (λ ending. (lines : _) → Ends lines ending) }
+{
+    let mut text = Vec::new(alloc);
+    let mut chunk = [0u8; CHUNK];
+    for _ in 0..MOST_READS {
+        let count = input.read(&mut chunk).map_err(|_| Ending::Failed)?;
+        if count == 0 {
+            return Ok(text);
+        }
+        text.extend_from_slice(&chunk[..count])?;
+    }
+    Err(Ending::Failed)
+}
+
+/// Reads all lines as commands, up to the first that no command reads as.
+fn read_commands(alloc: Global, text: &[u8]) -> Result<Vec<UsizeCommand>, Ending>
+    ensures ok { IfOk result (λ commands.
+        AllRead (sentences (lines_of text.now)) (map usize_call_of commands.items)) }
+    ensures err { IfErr result (λ ending. Ends (lines_of text.now) ending) }
+    ensures failed { ¬ (IsErrOf result Ending.Failed) }
+{
+    let mut commands = Vec::new(alloc);
+    let mut rest = text;
+    let mut number = 0;
+    while !rest.is_empty() {
+        let (line, after) = cut_line(rest);
+        number += 1;
+        if !is_blank(line) {
+            let command = read_command(alloc, line).map_err(|error| error.at(number))?;
+            commands.push(command)?;
+        }
+        rest = after;
+    }
+    Ok(commands)
+}
+
+/// Runs commands, from no Vobs at all.
+fn answer(alloc: Global, commands: &[UsizeCommand]) -> Result<Vec<Reply<usize>>, Ending>
+    ensures ok { IfOk result (λ replies.
+        (after : _) × IsRun 64 [] (map usize_call_of commands.now)
+        (map answer_of replies.items) after) }
+    ensures err { IsOkUnless result Ending.Memory }
+{
+    let mut vobs = Vec::new(alloc);
+    let mut replies = Vec::new(alloc);
+    run_usize(alloc, commands, &mut vobs, &mut replies)?;
+    Ok(replies)
+}
+
+/// Reads the whole input and runs its lines.
+fn replies_to<R: Read>(alloc: Global, input: &mut R) -> Result<Vec<Reply<usize>>, Ending>
+    ensures ok { IfOk result (λ replies. IfSome (R.remaining input.old) (λ text.
+        (calls : List Call) × AllRead (sentences (lines_of text)) calls
+        × ((after : _) × IsRun 64 [] calls (map answer_of replies.items) after))) }
+    ensures err { IfErr result (λ ending. IfSome (R.remaining input.old) (λ text.
+        Ends (lines_of text) ending)) }
+{
+    let text = read_all(alloc, input)?;
+    let commands = read_commands(alloc, &text)?;
+    answer(alloc, &commands)
+}
+
+/// Writes a line for each reply.
+fn write_replies<W: Write>(replies: &[Reply<usize>], output: &mut W) -> io::Result<()>
+    ensures { OnOk result (Appends (W.contents output.old) (W.contents output.new)
+        (lines_for (map answer_of replies.now))) }
+{
+    for reply in replies {
+        writeln!(output, "{}", ReplyText(reply))?;
+    }
+    Ok(())
+}
+
+/// The status of a conversation whose last text was written, or 1 where it wasn't.
+fn status_after(written: io::Result<()>, status: u8) -> u8
+    ensures ok { OnOk written (result ≡ status) }
+    ensures err { OnErr written (result ≡ 1) }
+{
+    if written.is_ok() { status } else { 1 }
+}
+
+/// Reads command lines, and writes a line for each reply. The answer is the exit status:
+///
+/// - 0: each line was read and run;
+/// - 1: reading or writing failed;
+/// - 2: a line can't be read, nothing was run, and `bad line` and its number is all that was
+///   written;
+/// - 3: memory was refused, nothing was run, and `memory` is all that was written.
+pub fn converse<R: Read, W: Write>(alloc: Global, input: &mut R, output: &mut W) -> u8
+    ensures { result ≢ 1 → IfSome (R.remaining input.old) (λ text. (written : List ℕ)
+        × Appends (W.contents output.old) (W.contents output.new) written
+        × Says result text written) }
+{
+    match replies_to(alloc, input) {
+        Ok(replies) => status_after(write_replies(&replies, output), 0),
+        Err(Ending::BadLine(line)) => status_after(writeln!(output, "bad line {line}"), 2),
+        Err(Ending::Memory) => status_after(writeln!(output, "memory"), 3),
+        Err(Ending::Failed) => 1,
+    }
+}
