@@ -33,19 +33,6 @@ sentences-blank : (before : List (List ℕ)) (line : List ℕ) → words_of line
 sentences-blank before line none =
     sentences_push before line ∙ rw none (append-nil (sentences before))
 
--- a blank line is passed over, and counted
-pub reads_blank : (lines rest after : List (List ℕ)) (line : List ℕ) (n : ℕ)
-    (calls : List Call) → ReadsSoFar lines rest n calls → rest ≡ line ∷ after →
-    words_of line ≡ [] → ReadsSoFar lines after (n + 1) calls
-reads_blank lines rest after line n calls so_far e none = record {
-  before = so_far.before ++ line ∷ [];
-  cut =
-      so_far.cut ∙ ap (λ xs. so_far.before ++ xs) e
-      ∙ sym (append_assoc so_far.before (line ∷ []) after);
-  count = omega (arith, so_far.count, length-append so_far.before (line ∷ []));
-  read = rw (sentences-blank so_far.before line none) so_far.read;
-}
-
 AllRead_push : (read : List (List (List ℕ))) (calls : List Call) (words : List (List ℕ))
     (call : Call) → AllRead read calls → Reads words call →
     AllRead (read ++ words ∷ []) (calls ++ call ∷ [])
@@ -64,38 +51,48 @@ sentences-some : (before : List (List ℕ)) (line : List ℕ) → is_sentence (w
     sentences (before ++ line ∷ []) ≡ sentences before ++ words_of line ∷ []
 sentences-some before line some = sentences_push before line ∙ rw some refl
 
--- a line that has words gives a call
-pub reads_more : (lines rest after : List (List ℕ)) (line : List ℕ) (n : ℕ)
-    (calls : List Call) (call : Call) → ReadsSoFar lines rest n calls →
-    rest ≡ line ∷ after → Reads (words_of line) call →
-    ReadsSoFar lines after (n + 1) (calls ++ call ∷ [])
-reads_more lines rest after line n calls call so_far e reads = record {
-  before = so_far.before ++ line ∷ [];
-  cut =
-      so_far.cut ∙ ap (λ xs. so_far.before ++ xs) e
-      ∙ sym (append_assoc so_far.before (line ∷ []) after);
-  count = omega (arith, so_far.count, length-append so_far.before (line ∷ []));
-  read =
-      let some = some_words (words_of line) call reads in
-      rw (sentences-some so_far.before line some) (AllRead_push _ _ _ _ so_far.read reads);
-}
+-- some lines read so far, and the line behind them
+module _ (lines rest after : List (List ℕ)) (line : List ℕ) (n : ℕ) (calls : List Call)
+    (so_far : ReadsSoFar lines rest n calls) (next : rest ≡ line ∷ after) where
+  cut_here : lines ≡ so_far.before ++ line ∷ after
+  cut_here = so_far.cut ∙ ap (λ xs. so_far.before ++ xs) next
 
--- a line that reads as no call is the first bad one
-pub reads_bad : (lines rest after : List (List ℕ)) (line : List ℕ) (n : ℕ)
-    (calls : List Call) → ReadsSoFar lines rest n calls → rest ≡ line ∷ after →
-    words_of line ≢ [] → ((call : Call) → Reads (words_of line) call → ⊥) →
-    IsFirstBad lines (n + 1)
-reads_bad lines rest after line n calls so_far e some bad = record {
-  before = so_far.before;
-  line = line;
-  others = after;
-  cut = so_far.cut ∙ ap (λ xs. so_far.before ++ xs) e;
-  place = omega (arith, so_far.count);
-  calls = calls;
-  read = so_far.read;
-  words = some;
-  bad = bad;
-}
+  -- it is counted
+  passed : (more : List Call) → AllRead (sentences (so_far.before ++ line ∷ [])) more →
+      ReadsSoFar lines after (n + 1) more
+  passed more read = record {
+    before = so_far.before ++ line ∷ [];
+    cut = cut_here ∙ sym (append_assoc so_far.before (line ∷ []) after);
+    count = omega (arith, so_far.count, length-append so_far.before (line ∷ []));
+    read = read;
+  }
+
+  -- a blank one is passed over
+  pub reads_blank : words_of line ≡ [] → ReadsSoFar lines after (n + 1) calls
+  reads_blank none = passed calls (rw (sentences-blank so_far.before line none) so_far.read)
+
+  -- one that has words gives a call
+  pub reads_more : (call : Call) → Reads (words_of line) call →
+      ReadsSoFar lines after (n + 1) (calls ++ call ∷ [])
+  reads_more call reads =
+      let some = some_words (words_of line) call reads in
+      passed _ (rw (sentences-some so_far.before line some)
+      (AllRead_push _ _ _ _ so_far.read reads))
+
+  -- one that reads as no call is the first bad one
+  pub reads_bad : words_of line ≢ [] → ((call : Call) → Reads (words_of line) call → ⊥) →
+      IsFirstBad lines (n + 1)
+  reads_bad some bad = record {
+    before = so_far.before;
+    line = line;
+    others = after;
+    cut = cut_here;
+    place = omega (arith, so_far.count);
+    calls = calls;
+    read = so_far.read;
+    words = some;
+    bad = bad;
+  }
 
 -- at the end all lines are read
 pub reads_all : (lines : List (List ℕ)) (n : ℕ) (calls : List Call) →

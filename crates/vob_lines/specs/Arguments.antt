@@ -1,4 +1,4 @@
--- Which words stand for which arguments of a call.
+-- The arguments of a call, and which words stand for them.
 use Rattle.std.specs.Prelude.{◌≡◌, ℕ, Bool, List, [], ◌∷◌, ⊤}
 use Rattle.std.specs.declared.ops.Bound.{Bound}
 use Rattle.vob.specs.declared.walk.End.{End}

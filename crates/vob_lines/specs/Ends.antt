@@ -1,4 +1,4 @@
--- Why a conversation ends with no reply: what its parts say of it.
+-- Cited by no public clause: why a conversation ends with no reply, as its parts say it.
 use Rattle.std.specs.Prelude.{ℕ, List, ⊤}
 use Rattle.vob_lines.specs.declared.session.Ending.{Ending}
 use Rattle.vob_lines.specs.declared.session.Ending.TheVariants.{Failed, BadLine, Memory}

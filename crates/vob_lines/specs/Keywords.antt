@@ -1,4 +1,4 @@
--- The keywords that the reader of a line goes by: their texts, and which of them a word is.
+-- Cited by no public clause: the keywords of the reader of a line, their texts, and which one a word is.
 use Rattle.std.specs.Prelude.{ℕ, List, [], ◌∷◌, codes, Option, find}
 use Rattle.std.specs.Str.{bytes_eq}
 use Rattle.vob_lines.specs.declared.keyword.Keyword.{Keyword}

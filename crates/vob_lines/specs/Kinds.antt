@@ -1,4 +1,4 @@
--- Which kinds of words follow which keyword: what the reader of a line goes by.
+-- Cited by no public clause: which kinds of words follow which keyword, as the reader of a line goes.
 use Rattle.std.specs.Prelude.{◌≡◌, ℕ, List, [], ◌∷◌, map}
 use Rattle.vob_run.specs.Call.{Call}
 use Rattle.vob_lines.specs.Arguments.{Argument, number, bit, bits, bytes, range, pulls, Spells, AllSpell}

@@ -1,4 +1,4 @@
--- Which word stands for which argument of a call.
+-- How numbers, bits, bytes, ranges and the ends of pulls are written as a word.
 use Rattle.std.specs.Prelude.{◌≡◌, ℕ, ◌^◌, ◌<◌, Bool, if◌then◌else◌, List, [], ◌∷◌, ◌++◌, map, codes}
 use Rattle.std.specs.Str.Parse.{IsNumeral, digits_value}
 use Rattle.std.specs.declared.ops.Bound.{Bound}

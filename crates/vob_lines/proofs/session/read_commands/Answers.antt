@@ -20,7 +20,7 @@ loop-rest-preserved-in_ok-push c =
     record {
       lines =
           rw (pushed, map-append)
-          (reads_more _ _ _ _ _ _ _ c.loop-rest.invariant.lines c.cut_line.ensures.line reads);
+          (reads_more _ _ _ _ _ _ c.loop-rest.invariant.lines c.cut_line.ensures.line _ reads);
       bytes = omega (arith, c.loop-rest.invariant.bytes, c.cut_line.ensures.shorter);
     }
 
