@@ -1,5 +1,1 @@
-pub mod ValueLemmas
-pub mod ListLemmas
-pub mod ReachLemmas
-pub mod RunLemmas
 mod WorkedValues

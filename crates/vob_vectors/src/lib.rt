@@ -1,8 +1,6 @@
-//! Worked examples as tests, and beside them a plain program that is what the commands mean.
+//! Tests of packed vectors of bits, of their users, and of commands on them; and worked values of the
+//! definitions.
 #![tactic(auto)]
 
-pub mod plain;
-pub mod reachable;
-pub mod slots;
 #[cfg(test)]
 mod tests;

@@ -1,17 +1,14 @@
-//! Tests of packed vectors of bits, and of commands on them.
+//! Rows worked out by hand, and patterns against lists of bits.
 mod agreement;
 mod commands;
 mod constructors;
 mod counts;
 mod growing;
-mod index_patterns;
-mod index_walks;
-mod joins;
-mod made_and_changed;
+mod hints;
 mod pointwise;
 mod raw;
-mod reachable;
-mod rows;
 mod single_bits;
-mod slots;
-mod walk_commands;
+mod support;
+mod users;
+mod walk_patterns;
+mod walks;

@@ -1,148 +1,172 @@
-//! Packed vectors and the plain program answer the same, on every list of up to ten bits.
-use crate::plain;
-use std::alloc::{AllocError, Global};
+//! Runs of commands in bytes answer what a plain program on a list answers, on every list of up to
+//! ten bits.
 use std::process::Abort;
-use std::test::Fail;
-use vob_run::command::{Command, Reply};
-use vob_run::run;
+use std::slice;
+use vob::Vob;
+use vob_run::run::run;
+use vob_run::{Command, Reply};
 
-/// How many commands of a list name a number that no list has.
-const UNKNOWN: usize = 5;
-
-/// Makes a list with these bits and reads all of it, also past its end; then names a list that
-/// isn't there.
-fn commands_of(alloc: Global, bits: &[bool]) -> Result<Vec<Command<u8>>, AllocError> {
-    let mut commands = Vec::new(alloc);
-    commands.push(Command::New { capacity: 0 })?;
-    for value in bits {
-        commands.push(Command::Push {
-            which: 0,
-            value: *value,
-        })?;
+/// Writes a bit of the list, where it has one there.
+fn plain_write(bits: &mut Vec<bool>, index: usize, value: bool) -> Reply<u8> {
+    match bits.get_mut(index) {
+        None => Reply::Skipped,
+        Some(bit) => {
+            let changed = *bit != value;
+            *bit = value;
+            Reply::Flag(changed)
+        }
     }
-    commands.push(Command::Length { which: 0 })?;
-    commands.push(Command::Bits { which: 0 })?;
-    commands.push(Command::Storage { which: 0 })?;
-    for index in [0, bits.len().saturating_sub(1), bits.len(), usize::MAX] {
-        commands.push(Command::GetBit { which: 0, index })?;
-    }
-    commands.push(Command::Push {
-        which: 1,
-        value: true,
-    })?;
-    commands.push(Command::GetBit { which: 1, index: 0 })?;
-    commands.push(Command::Length { which: usize::MAX })?;
-    commands.push(Command::Bits { which: 2 })?;
-    commands.push(Command::Storage { which: 1 })?;
-    Ok(commands)
 }
 
-/// The first `len` places of a pattern, the lowest first.
-fn bits_of(alloc: Global, len: usize, pattern: u32) -> Result<Vec<bool>, AllocError> {
-    let mut bits = Vec::new(alloc);
-    let mut rest = pattern;
+/// The bytes of the list, each bit at its weight.
+fn plain_blocks(rt: &(impl Abort + AllocGlobal), bits: &[bool]) -> Vec<u8> {
+    let mut blocks = Vec::new(rt.alloc());
+    for chunk in bits.chunks(8) {
+        let mut block = 0u8;
+        let mut weight = 1u8;
+        for bit in chunk {
+            if *bit {
+                block |= weight;
+            }
+            weight = weight.wrapping_mul(2);
+        }
+        blocks.push(block).expect(rt, "memory");
+    }
+    blocks
+}
+
+/// What a command on single bits answers, and what it leaves of the list.
+fn plain_reply(
+    rt: &(impl Abort + AllocGlobal),
+    bits: &mut Vec<bool>,
+    command: &Command<u8>,
+) -> Reply<u8> {
+    match *command {
+        Command::Push { value, .. } => {
+            bits.push(value).expect(rt, "memory");
+            Reply::Done
+        }
+        Command::Pop { .. } => Reply::Bit(bits.pop()),
+        Command::GetBit { index, .. } => Reply::Bit(bits.get(index).copied()),
+        Command::GetUnchecked { index, .. } | Command::IndexBit { index, .. } => {
+            match bits.get(index) {
+                None => Reply::Skipped,
+                Some(bit) => Reply::Flag(*bit),
+            }
+        }
+        Command::SetBit { index, value, .. } | Command::SetUnchecked { index, value, .. } => {
+            plain_write(bits, index, value)
+        }
+        Command::Length { .. } => Reply::Number(bits.len()),
+        Command::IsEmpty { .. } => Reply::Flag(bits.is_empty()),
+        Command::Truncate { len, .. } => {
+            bits.truncate(len);
+            Reply::Done
+        }
+        Command::Bits { .. } => Reply::BitList(bits.to_vec(rt.alloc()).expect(rt, "memory")),
+        Command::Storage { .. } => Reply::BlockList(plain_blocks(rt, bits)),
+        _ => Reply::Skipped,
+    }
+}
+
+/// The first Vob of a run, and the list that it is.
+#[derive(Drop)]
+struct Pair {
+    vobs: Vec<Vob<u8>>,
+    bits: Vec<bool>,
+}
+
+/// Runs a command on both, and compares the replies.
+fn check_command(rt: &(impl Abort + AllocGlobal), pair: &mut Pair, command: Command<u8>) {
+    let mut replies = Vec::new(rt.alloc());
+    let commands = slice::from_ref(&command);
+    run(rt.alloc(), commands, &mut pair.vobs, &mut replies).expect(rt, "memory");
+    let wanted = plain_reply(rt, &mut pair.bits, &command);
+    assert_eq!(rt; replies.as_slice(), slice::from_ref(&wanted), "{command:?}");
+}
+
+/// A pair of the lowest `len` places of a number, the lowest first.
+fn pair_of(rt: &(impl Abort + AllocGlobal), len: usize, number: u32) -> Pair {
+    let vob = Vob::<u8>::new_with_storage_type(rt.alloc(), 0).expect(rt, "memory");
+    let mut pair = Pair {
+        vobs: Vec::new(rt.alloc()),
+        bits: Vec::new(rt.alloc()),
+    };
+    pair.vobs.push(vob).expect(rt, "memory");
+    let mut rest = number;
     for _ in 0..len {
-        bits.push(rest % 2 == 1)?;
+        let value = rest % 2 == 1;
+        check_command(rt, &mut pair, Command::Push { which: 0, value });
         rest /= 2;
     }
-    Ok(bits)
+    pair
 }
 
-/// Makes a list with these bits, changes and reads each of them and one past the end, and cuts it.
-fn changes_of(alloc: Global, bits: &[bool]) -> Result<Vec<Command<u8>>, AllocError> {
+/// Compares all that can be read.
+fn check_reads(rt: &(impl Abort + AllocGlobal), pair: &mut Pair) {
     let which = 0;
-    let mut commands = Vec::new(alloc);
-    commands.push(Command::New { capacity: 0 })?;
-    for value in bits {
-        commands.push(Command::Push {
+    check_command(rt, pair, Command::Length { which });
+    check_command(rt, pair, Command::IsEmpty { which });
+    check_command(rt, pair, Command::Bits { which });
+    check_command(rt, pair, Command::Storage { which });
+    check_command(
+        rt,
+        pair,
+        Command::GetBit {
             which,
-            value: *value,
-        })?;
-    }
-    for index in 0..=bits.len().min(64) {
-        for value in [true, false, false, true] {
-            commands.push(Command::SetBit {
-                which,
-                index,
-                value,
-            })?;
-            commands.push(Command::GetUnchecked { which, index })?;
-            commands.push(Command::SetUnchecked {
-                which,
-                index,
-                value: !value,
-            })?;
-            commands.push(Command::IndexBit { which, index })?;
-        }
-    }
-    for len in [usize::MAX, bits.len(), bits.len() / 2] {
-        commands.push(Command::Truncate { which, len })?;
-        commands.push(Command::Storage { which })?;
-        commands.push(Command::Pop { which })?;
-        commands.push(Command::Storage { which })?;
-        commands.push(Command::IsEmpty { which })?;
-    }
-    Ok(commands)
-}
-
-/// Runs the commands packed and plain, and compares the replies by their text: a block prints as
-/// its number, whatever its type.
-fn check_agreement(rt: &impl Abort, alloc: Global, commands: &[Command<u8>]) -> Result<(), Fail> {
-    let mut vobs = Vec::new(alloc);
-    let mut packed: Vec<Reply<u8>> = Vec::new(alloc);
-    run::run(alloc, commands, &mut vobs, &mut packed)?;
-    let mut lists = Vec::new(alloc);
-    let mut plain: Vec<Reply<u128>> = Vec::new(alloc);
-    plain::plain_run(alloc, 8, commands, &mut lists, &mut plain)?;
-    let packed_text = format!(in alloc; "{packed:?}")?;
-    let plain_text = format!(in alloc; "{plain:?}")?;
-    assert_eq!(rt;
-        packed_text.as_str(),
-        plain_text.as_str(),
-        "after {commands:?}"
+            index: usize::MAX,
+        },
     );
-    Ok(())
-}
-
-#[test]
-fn packed_and_plain_changes_agree(rt: HostRuntime) -> Result<(), Fail> {
-    let alloc = rt.alloc();
-    for (len, patterns) in (0..10).zip([1u32, 2, 4, 8, 16, 32, 64, 128, 256, 512]) {
-        for pattern in 0..patterns {
-            let bits = bits_of(alloc, len, pattern)?;
-            check_agreement(&rt, alloc, &changes_of(alloc, &bits)?)?;
-        }
+    for index in 0..12 {
+        check_command(rt, pair, Command::GetBit { which, index });
+        check_command(rt, pair, Command::GetUnchecked { which, index });
+        check_command(rt, pair, Command::IndexBit { which, index });
     }
-    Ok(())
 }
 
-#[test]
-fn packed_and_plain_replies_agree(rt: HostRuntime) -> Result<(), Fail> {
-    let alloc = rt.alloc();
-    for (len, patterns) in (0..11).zip([1u32, 2, 4, 8, 16, 32, 64, 128, 256, 512, 1024]) {
-        for pattern in 0..patterns {
-            let bits = bits_of(alloc, len, pattern)?;
-            let commands = commands_of(alloc, &bits)?;
-            let mut vobs = Vec::new(alloc);
-            let mut packed: Vec<Reply<u8>> = Vec::new(alloc);
-            run::run(alloc, &commands, &mut vobs, &mut packed)?;
-            let mut lists = Vec::new(alloc);
-            let mut plain: Vec<Reply<u128>> = Vec::new(alloc);
-            plain::plain_run(alloc, 8, &commands, &mut lists, &mut plain)?;
-            // A block prints as its number, whatever its type.
-            let packed_text = format!(in alloc; "{packed:?}")?;
-            let plain_text = format!(in alloc; "{plain:?}")?;
-            assert_eq!(rt;
-                packed_text.as_str(),
-                plain_text.as_str(),
-                "{len} bits of {pattern}"
+/// Writes each bit and one past the end, cuts, and takes the last bit off.
+fn check_changes(rt: &(impl Abort + AllocGlobal), pair: &mut Pair, len: usize) {
+    let which = 0;
+    for index in 0..=len {
+        for value in [true, false, false, true] {
+            check_command(
+                rt,
+                pair,
+                Command::SetBit {
+                    which,
+                    index,
+                    value,
+                },
             );
-            let skipped = packed
-                .iter()
-                .filter(|reply| **reply == Reply::Skipped)
-                .count();
-            assert_eq!(rt; skipped, UNKNOWN, "{len} bits of {pattern}");
+            check_command(rt, pair, Command::GetUnchecked { which, index });
+            let value = !value;
+            check_command(
+                rt,
+                pair,
+                Command::SetUnchecked {
+                    which,
+                    index,
+                    value,
+                },
+            );
+            check_command(rt, pair, Command::IndexBit { which, index });
         }
     }
-    Ok(())
+    for len in [usize::MAX, len, len / 2] {
+        check_command(rt, pair, Command::Truncate { which, len });
+        check_reads(rt, pair);
+        check_command(rt, pair, Command::Pop { which });
+        check_reads(rt, pair);
+    }
+}
+
+#[test]
+fn packed_and_plain_replies_agree(rt: HostRuntime) {
+    for (len, numbers) in (0..11).zip([1u32, 2, 4, 8, 16, 32, 64, 128, 256, 512, 1024]) {
+        for number in 0..numbers {
+            let mut pair = pair_of(&rt, len, number);
+            check_reads(&rt, &mut pair);
+            check_changes(&rt, &mut pair, len);
+        }
+    }
 }

@@ -1,0 +1,7 @@
+//! Worked users of packed vectors of bits: each is proved from the contracts of the calls that it
+//! makes.
+#![tactic(auto)]
+
+pub mod reachable;
+pub mod rows;
+pub mod slots;

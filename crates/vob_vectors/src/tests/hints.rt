@@ -1,0 +1,117 @@
+//! Iterators with size hints of their own, and what growing by their items leaves.
+ghost use Rattle.std.specs.Iterator.{YieldsFirst, item_count};
+
+use super::support::{check_blocks, vob_of};
+use std::marker::Model;
+use std::test::Fail;
+use vob::{Vob, VobError};
+
+/// The items of a slice, with a lower bound of its own as the hint.
+#[derive(Drop)]
+pub struct Hinted<'a> {
+    pub rest: &'a [bool],
+    pub lower: usize,
+}
+
+impl<'a> Model for Hinted<'a> {
+    ghost use Rattle.std.specs.Prelude.{Bool, List};
+
+    ghost Value = { List Bool };
+
+    ghost view = { λ walk. walk.rest.now };
+}
+
+impl<'a> Iterator for Hinted<'a> {
+    type Item = bool;
+
+    ghost next_gives = { YieldsFirst (λ rest. rest) };
+
+    ghost remaining = { item_count (λ rest. rest) };
+
+    fn next(&mut self) -> Option<bool> {
+        let (first, rest) = self.rest.split_first()?;
+        self.rest = rest;
+        Some(*first)
+    }
+
+    fn size_hint(&self) -> (usize, Option<usize>) {
+        (self.lower.min(self.rest.len()), None)
+    }
+}
+
+/// As many true bits as are left, with their number as both hints.
+#[derive(Drop)]
+struct Countdown {
+    left: usize,
+}
+
+impl Model for Countdown {
+    ghost use Rattle.std.specs.Prelude.{Bool, true, List, replicate};
+
+    ghost Value = { List Bool };
+
+    ghost view = { λ walk. replicate walk.left true };
+}
+
+impl Iterator for Countdown {
+    type Item = bool;
+
+    ghost next_gives = { YieldsFirst (λ rest. rest) };
+
+    ghost remaining = { item_count (λ rest. rest) };
+
+    fn next(&mut self) -> Option<bool> {
+        if self.left == 0 {
+            return None;
+        }
+        self.left -= 1;
+        Some(true)
+    }
+
+    fn size_hint(&self) -> (usize, Option<usize>) {
+        (self.left, Some(self.left))
+    }
+}
+
+#[test]
+fn items_come_behind_the_bits(rt: HostRuntime) -> Result<(), Fail> {
+    let items = [true, true, false];
+    let mut vob = vob_of::<usize>(&rt, "101");
+    vob.extend(Hinted {
+        rest: &items,
+        lower: 0,
+    })?;
+    check_blocks(&rt, &vob, 6, &[29]);
+    vob.truncate(9);
+    check_blocks(&rt, &vob, 6, &[29]);
+    vob.truncate(4);
+    check_blocks(&rt, &vob, 4, &[13]);
+    Ok(())
+}
+
+#[test]
+fn more_items_come_than_the_hint_promised(rt: HostRuntime) -> Result<(), Fail> {
+    let items = [true; 5];
+    let mut vob = Vob::new(rt.alloc());
+    vob.extend(Hinted {
+        rest: &items,
+        lower: 2,
+    })?;
+    check_blocks(&rt, &vob, 5, &[31]);
+    Ok(())
+}
+
+#[test]
+fn a_hint_that_cannot_be_met_is_refused_first(rt: HostRuntime) -> Result<(), Fail> {
+    let left = usize::MAX;
+    let mut one = vob_of::<usize>(&rt, "1");
+    assert_eq!(rt; one.extend(Countdown { left }), Err(VobError::TooLong));
+    check_blocks(&rt, &one, 1, &[1]);
+    let mut none = Vob::new(rt.alloc());
+    assert_eq!(rt; none.extend(Countdown { left }), Err(VobError::Memory));
+    check_blocks(&rt, &none, 0, &[]);
+    none.extend(Countdown { left: 3 })?;
+    check_blocks(&rt, &none, 3, &[7]);
+    assert!(rt; Vob::from_iter(rt.alloc(), Countdown { left }).is_err());
+    Ok(())
+}

@@ -1,0 +1,126 @@
+//! The worked users: which nodes of small graphs lead to which, against lists of bits; slots that
+//! are taken one after another; and the rows of a filter.
+use super::support::vob_of;
+use std::process::Abort;
+use std::test::Fail;
+use vob::Vob;
+use vob_users::reachable::{is_square, reach};
+use vob_users::rows::kept_rows;
+use vob_users::slots::take_slot;
+
+/// How many nodes the graphs have of which each is tried.
+const NODES: usize = 3;
+
+/// Rows of a bit for each node: whether node `from` leads to node `to`.
+fn rows_of(rt: &(impl Abort + AllocGlobal), graph: u32) -> Vec<Vob> {
+    let mut rest = graph;
+    let mut rows = Vec::new(rt.alloc());
+    for _ in 0..NODES {
+        let mut row = Vob::new(rt.alloc());
+        for _ in 0..NODES {
+            row.push(rest % 2 == 1).expect(rt, "memory");
+            rest /= 2;
+        }
+        rows.push(row).expect(rt, "memory");
+    }
+    rows
+}
+
+/// The nodes that `start` leads to.
+fn reached_from(rt: &(impl Abort + AllocGlobal), rows: &[Vob], start: usize) -> Vob {
+    let mut reached = Vob::from_elem(rt.alloc(), false, rows.len()).expect(rt, "memory");
+    if start < reached.len() {
+        reached.set(start, true);
+    }
+    assert!(rt; is_square(&reached, rows));
+    reach(&mut reached, rows);
+    reached
+}
+
+/// Whether `start` leads to `node` by at most so many edges.
+fn leads(rows: &[Vob], start: usize, node: usize, edges: u8) -> bool {
+    if start == node {
+        return true;
+    }
+    let Some(fewer) = edges.checked_sub(1) else {
+        return false;
+    };
+    for between in 0..rows.len() {
+        let edge = rows.get(start).and_then(|row| row.get(between)) == Some(true);
+        if edge && leads(rows, between, node, fewer) {
+            return true;
+        }
+    }
+    false
+}
+
+#[test]
+fn every_graph_of_three_nodes_is_followed(rt: HostRuntime) {
+    for graph in 0..512 {
+        let rows = rows_of(&rt, graph);
+        for start in 0..NODES {
+            let reached = reached_from(&rt, &rows, start);
+            for node in 0..NODES {
+                let wanted = leads(&rows, start, node, 2);
+                assert_eq!(rt;
+                    reached.get(node),
+                    Some(wanted),
+                    "graph {graph}, {start} to {node}"
+                );
+            }
+        }
+    }
+}
+
+#[test]
+fn a_chain_is_followed_from_its_head(rt: HostRuntime) -> Result<(), Fail> {
+    // Each node leads to the one before it, so that each round reaches one node more.
+    let mut rows = Vec::new(rt.alloc());
+    for node in 0..200 {
+        let mut row = Vob::from_elem(rt.alloc(), false, 200)?;
+        if node > 0 {
+            row.set(node - 1, true);
+        }
+        rows.push(row)?;
+    }
+    for start in [0, 99, 199] {
+        let mut wanted = Vob::from_elem(rt.alloc(), true, start + 1)?;
+        wanted.resize(200, false)?;
+        assert!(rt; reached_from(&rt, &rows, start) == wanted, "from {start}");
+    }
+    Ok(())
+}
+
+#[test]
+fn rows_of_another_length_are_seen(rt: HostRuntime) -> Result<(), Fail> {
+    let nodes = vob_of::<usize>(&rt, "00");
+    let mut rows = Vec::new(rt.alloc());
+    rows.push(vob_of::<usize>(&rt, "11"))?;
+    assert!(rt; !is_square(&nodes, &rows), "a row is missing");
+    rows.push(vob_of::<usize>(&rt, "111"))?;
+    assert!(rt; !is_square(&nodes, &rows), "a row is too long");
+    rows.pop();
+    rows.push(vob_of::<usize>(&rt, "11"))?;
+    assert!(rt; is_square(&nodes, &rows));
+    Ok(())
+}
+
+#[test]
+fn free_slots_are_taken_from_the_first_on(rt: HostRuntime) {
+    let mut slots = vob_of::<usize>(&rt, "1010");
+    assert_eq!(rt; take_slot(&mut slots), Some(1));
+    assert_eq!(rt; take_slot(&mut slots), Some(3));
+    assert_eq!(rt; take_slot(&mut slots), None);
+    assert!(rt; slots == vob_of(&rt, "1111"));
+}
+
+#[test]
+fn a_filter_keeps_the_rows_of_its_set_bits(rt: HostRuntime) -> Result<(), Fail> {
+    let filter = vob_of::<usize>(&rt, "01011");
+    assert_eq!(rt;
+        kept_rows(rt.alloc(), &filter)?.as_slice(),
+        [1, 3, 4].as_slice()
+    );
+    assert!(rt; kept_rows(rt.alloc(), &Vob::new(rt.alloc()))?.is_empty());
+    Ok(())
+}
