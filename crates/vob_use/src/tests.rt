@@ -1,5 +1,7 @@
 //! What no clause says: the words of the table, each command once, and when a status comes.
 
+mod rows;
+
 use crate::converse;
 use std::alloc::{AllocError, Global};
 use std::io;
