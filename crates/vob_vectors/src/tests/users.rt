@@ -1,6 +1,6 @@
 //! The worked users: which nodes of small graphs lead to which, against lists of bits; slots that
 //! are taken one after another; and the rows of a filter.
-use super::support::vob_of;
+use super::support::{vob_of, write};
 use std::process::Abort;
 use std::test::Fail;
 use vob::Vob;
@@ -37,21 +37,25 @@ fn reached_from(rt: &(impl Abort + AllocGlobal), rows: &[Vob], start: usize) -> 
     reached
 }
 
-/// Whether `start` leads to `node` by at most so many edges.
-fn leads(rows: &[Vob], start: usize, node: usize, edges: u8) -> bool {
-    if start == node {
-        return true;
+/// The nodes that `start` leads to, one edge further at a time, by as many edges as there are nodes.
+fn plainly_reached(rt: &(impl Abort + AllocGlobal), rows: &[Vob], start: usize) -> Vec<bool> {
+    let mut reached = Vec::new(rt.alloc());
+    for node in 0..NODES {
+        reached.push(node == start).expect(rt, "memory");
     }
-    let Some(fewer) = edges.checked_sub(1) else {
-        return false;
-    };
-    for between in 0..rows.len() {
-        let edge = rows.get(start).and_then(|row| row.get(between)) == Some(true);
-        if edge && leads(rows, between, node, fewer) {
-            return true;
+    for _ in 0..NODES {
+        let mut further = Vec::new(rt.alloc());
+        for node in 0..NODES {
+            let mut led = reached.get(node) == Some(&true);
+            for (from, there) in reached.iter().enumerate() {
+                let edge = rows.get(from).and_then(|row| row.get(node));
+                led = led || *there && edge == Some(true);
+            }
+            further.push(led).expect(rt, "memory");
         }
+        reached = further;
     }
-    false
+    reached
 }
 
 #[test]
@@ -60,11 +64,10 @@ fn every_graph_of_three_nodes_is_followed(rt: HostRuntime) {
         let rows = rows_of(&rt, graph);
         for start in 0..NODES {
             let reached = reached_from(&rt, &rows, start);
-            for node in 0..NODES {
-                let wanted = leads(&rows, start, node, 2);
+            for (node, wanted) in plainly_reached(&rt, &rows, start).iter().enumerate() {
                 assert_eq!(rt;
                     reached.get(node),
-                    Some(wanted),
+                    Some(*wanted),
                     "graph {graph}, {start} to {node}"
                 );
             }
@@ -77,15 +80,17 @@ fn a_chain_is_followed_from_its_head(rt: HostRuntime) -> Result<(), Fail> {
     // Each node leads to the one before it, so that each round reaches one node more.
     let mut rows = Vec::new(rt.alloc());
     for node in 0..200 {
-        let mut row = Vob::from_elem(rt.alloc(), false, 200)?;
-        if node > 0 {
-            row.set(node - 1, true);
+        let mut row = Vob::new(rt.alloc());
+        for other in 0..200 {
+            row.push(other + 1 == node)?;
         }
         rows.push(row)?;
     }
     for start in [0, 99, 199] {
-        let mut wanted = Vob::from_elem(rt.alloc(), true, start + 1)?;
-        wanted.resize(200, false)?;
+        let mut wanted = Vob::from_elem(rt.alloc(), false, 200)?;
+        for node in 0..200 {
+            write(&mut wanted, node, node <= start);
+        }
         assert!(rt; reached_from(&rt, &rows, start) == wanted, "from {start}");
     }
     Ok(())
