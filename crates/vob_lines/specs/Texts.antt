@@ -2,13 +2,8 @@
 use Rattle.std.specs.Prelude.{ℕ, true, false, List, [], ◌∷◌, ◌++◌, map, codes, Option, None, Some}
 use Rattle.std.specs.List.{flat_map}
 use Rattle.std.specs.Fmt.{decimal}
-use Rattle.vob_run.specs.declared.command.Reply.{Reply}
-use Rattle.vob_run.specs.Answer.{Answer, meaning, done, bit, flag, number, made, bit_list, block_list, dealt, skipped, refused}
+use Rattle.vob_run.specs.Answer.{Answer, done, bit, flag, number, made, bit_list, block_list, dealt, skipped, refused}
 use Rattle.vob_lines.specs.Spelling.{digit, digits}
-
--- what a reply says; its blocks are numbers already
-abbrev pub answer_of : Reply ℕ → Answer
-answer_of = meaning (λ block. block)
 
 -- each with one space between, or a dash for none
 abbrev pub listed : List (List ℕ) → List ℕ

@@ -1,7 +1,8 @@
 //! The command that a line reads as: its words, taken off one after another.
 
 ghost use Rattle.std.specs.Prelude.{◌≡◌, ◌≢◌, List, [], ◌∷◌, map, IfOk, OnOk, OnErr, IsErrOf, ℕ};
-ghost use Rattle.vob_run.specs.Call.{Call, usize_call_of};
+ghost use Rattle.vob_run.specs.Call.{Call};
+ghost use Rattle.vob_run.specs.Commands.{usize_call_of};
 ghost use Rattle.vob_lines.specs.Cuts.{words_of};
 ghost use Rattle.vob_lines.specs.Arguments.{number, bit, bits, bytes, range, pulls, AllSpell};
 ghost use Rattle.vob_lines.specs.Grammar.{Reads};

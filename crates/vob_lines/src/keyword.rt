@@ -1,7 +1,7 @@
 //! The first words of lines, and the command of each with the values behind it.
 
 ghost use Rattle.std.specs.Prelude.{◌≡◌, [], ◌∷◌};
-ghost use Rattle.vob_run.specs.Call.{usize_call_of};
+ghost use Rattle.vob_run.specs.Commands.{usize_call_of};
 ghost use Rattle.vob_lines.specs.Arguments.{number, bit, bits};
 ghost use Rattle.vob_lines.specs.Grammar.{form, form_of};
 ghost use Rattle.vob_lines.specs.Keywords.{word_of, keyword_named};

@@ -4,11 +4,12 @@
 ghost use Rattle.std.specs.Prelude.{◌≡◌, ◌≢◌, ℕ, List, [], ◌++◌, map, IfOk, IfErr, OnOk, OnErr, IfSome, IsOkUnless, IsErrOf};
 ghost use Rattle.std.specs.Io.KnownBytes.{Appends};
 ghost use Rattle.vob_run.specs.Run.{IsRun};
-ghost use Rattle.vob_run.specs.Call.{Call, usize_call_of};
+ghost use Rattle.vob_run.specs.Call.{Call};
+ghost use Rattle.vob_run.specs.Commands.{usize_call_of};
 ghost use Rattle.vob_lines.specs.Cuts.{lines_of};
 ghost use Rattle.vob_lines.specs.Conversation.{sentences, AllRead, lines_for, Says};
 ghost use Rattle.vob_lines.specs.Ends.{Ends, ending_at};
-ghost use Rattle.vob_lines.specs.Texts.{answer_of};
+ghost use Rattle.vob_run.specs.Answer.{usize_answer_of};
 ghost use Rattle.vob_lines.specs.declared.session.Ending.TheVariants.{Memory};
 
 use crate::command::read_command;
@@ -108,7 +109,7 @@ fn read_commands(alloc: Global, text: &[u8]) -> Result<Vec<UsizeCommand>, Ending
 fn answer(alloc: Global, commands: &[UsizeCommand]) -> Result<Vec<Reply<usize>>, Ending>
     ensures ok { IfOk result (λ replies.
         (after : _) × IsRun 64 [] (map usize_call_of commands.now)
-        (map answer_of replies.items) after) }
+        (map usize_answer_of replies.items) after) }
     ensures err { IsOkUnless result Ending.Memory }
 {
     let mut vobs = Vec::new(alloc);
@@ -121,7 +122,7 @@ fn answer(alloc: Global, commands: &[UsizeCommand]) -> Result<Vec<Reply<usize>>,
 fn replies_to<R: Read>(alloc: Global, input: &mut R) -> Result<Vec<Reply<usize>>, Ending>
     ensures ok { IfOk result (λ replies. IfSome (R.remaining input.old) (λ text.
         (calls : List Call) × AllRead (sentences (lines_of text)) calls
-        × ((after : _) × IsRun 64 [] calls (map answer_of replies.items) after))) }
+        × ((after : _) × IsRun 64 [] calls (map usize_answer_of replies.items) after))) }
     ensures err { IfErr result (λ ending. IfSome (R.remaining input.old) (λ text.
         Ends (lines_of text) ending)) }
 {
@@ -133,7 +134,7 @@ fn replies_to<R: Read>(alloc: Global, input: &mut R) -> Result<Vec<Reply<usize>>
 /// Writes a line for each reply.
 fn write_replies<W: Write>(replies: &[Reply<usize>], output: &mut W) -> io::Result<()>
     ensures { OnOk result (Appends (W.contents output.old) (W.contents output.new)
-        (lines_for (map answer_of replies.now))) }
+        (lines_for (map usize_answer_of replies.now))) }
 {
     for reply in replies {
         writeln!(output, "{}", ReplyText(reply))?;

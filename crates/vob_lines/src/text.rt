@@ -3,7 +3,8 @@
 ghost use Rattle.std.specs.Prelude.{◌≡◌, map, Some};
 ghost use Rattle.std.specs.Fmt.{decimal};
 ghost use Rattle.vob_lines.specs.Spelling.{digit, digits};
-ghost use Rattle.vob_lines.specs.Texts.{answer_of, index_text, listed, text_of};
+ghost use Rattle.vob_run.specs.Answer.{usize_answer_of};
+ghost use Rattle.vob_lines.specs.Texts.{index_text, listed, text_of};
 
 use std::fmt;
 use vob_run::Reply;
@@ -13,7 +14,7 @@ use vob_run::Reply;
 pub struct ReplyText<'a>(pub &'a Reply<usize>);
 
 impl fmt::Display for ReplyText<'_> {
-    ghost output = { λ reply. Some (text_of (answer_of reply.0.now)) };
+    ghost output = { λ reply. Some (text_of (usize_answer_of reply.0.now)) };
 
     fn fmt<W: fmt::Write>(&self, f: &mut fmt::Formatter<W>) -> fmt::Result {
         match self.0 {

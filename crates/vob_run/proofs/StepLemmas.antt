@@ -1,67 +1,56 @@
 -- What a call on one Vob, or its refusal, is as a step.
 use Rattle.std.specs.Prelude.{Some, slice_get}
-use Rattle.std.proofs.Common.{◌≡◌, ◌^◌, ◌+◌, ◌-◌, ◌<◌, ◌≢◌, ℕ, List, [], ◌∷◌, ◌++◌, Bool, true, false, ◌↔◌, length, set, ap, sym, refl, ◌∙◌, inl, inr, arith}
+use Rattle.std.proofs.Common.{◌≡◌, ◌<◌, ◌≤◌, ◌≢◌, ℕ, List, Bool, true, false, ◌↔◌, length, get_or, set, ap, sym, refl, ◌∙◌, inl}
 use Rattle.std.proofs.lemmas.List.{map-set, set-get_or}
-use Rattle.std.proofs.lemmas.Option.{slice_get-map, get_or_from_slice_get}
-use Rattle.std.proofs.lemmas.Bool.{lt-ltb, le-ltb}
-use Rattle.vob_block.specs.Packing.{need}
-use Rattle.vob.specs.Vob.{BitVector}
-use Rattle.vob.specs.Refusal.{refusal_number}
-use Rattle.vob.specs.declared.error.VobError.{VobError}
-use Rattle.vob.specs.declared.error.VobError.TheVariants.{TooLong, Memory}
-use Rattle.vob_run.specs.Call.{Call}
-use Rattle.vob_run.specs.Call.{Push}
-use Rattle.vob_run.specs.Answer.{outcome, done, refused}
-use Rattle.vob_run.specs.Memory.{TakesMemory, MayRefuse}
+use Rattle.std.proofs.lemmas.Option.{slice_get_read, slice_get-map, slice_get-get_or, slice_get_past, get_or_from_slice_get}
 use Rattle.vob_block.specs.Pointwise.{differ}
+use Rattle.vob.specs.Vob.{BitVector}
+use Rattle.vob_run.specs.Call.{Call}
+use Rattle.vob_run.specs.Answer.{outcome, done, flag, skipped}
+use Rattle.vob_run.specs.Changes.{written}
+use Rattle.vob_run.specs.Memory.{TakesMemory, MayRefuse}
+use Rattle.vob_run.specs.Outcomes.{on}
 use Rattle.vob_run.specs.Step.{step}
 use Rattle.vob_run.specs.Run.{lists, IsStep}
 
-module _ (items : List BitVector) (which : ℕ) (old : BitVector) (there : slice_get items which ≡ Some old) where
-  -- the list with this number
-  pub list_at : slice_get (lists items) which ≡ Some old.bits
-  list_at = rw (slice_get-map, there)
+-- the Vob with this number, as it was lent
+pub record IsLent (items : List BitVector) (which : ℕ) (old : BitVector) : Type 0 where
+  pub there : slice_get items which ≡ Some old
 
-  -- a Vob whose bits have become others leaves the lists with that one changed
-  pub lists-set : (new : BitVector) → lists (set items which new) ≡ set (lists items) which new.bits
-  lists-set new = map-set (λ v. v.bits) items which new
+pub lent : (items : List BitVector) (which : ℕ) (old : BitVector) → which < length items
+    → old ≡ get_or items which old → IsLent items which old
+lent items which old inside read =
+    record { there = slice_get_read items (length items) which old refl inside read }
 
-  -- a Vob whose bits stay leaves the lists as they were
-  pub lists-same : (new : BitVector) → new.bits ≡ old.bits → lists (set items which new) ≡ lists items
-  lists-same new same =
-      lists-set new ∙ ap (set (lists items) which) (same ∙ sym (get_or_from_slice_get (lists items) which old.bits old.bits list_at))
-      ∙ set-get_or (lists items) which old.bits
+-- the list with this number
+pub list_at : {items : List BitVector} {which : ℕ} {old : BitVector} → IsLent items which old
+    → slice_get (lists items) which ≡ Some old.bits
+list_at vob = rw (slice_get-map, vob.there)
 
--- a refusal, where the step is `refused 1` or the call may want memory
-pub refused_step : (width : ℕ) (before after : List (List Bool)) (call : Call) (refusal : VobError) → after ≡ before
-    → (refusal ≡ TooLong → step width before call ≡ outcome (refused 1) before)
-    → (refusal ≡ Memory → MayRefuse width before call)
-    → IsStep width before call (refused (refusal_number refusal)) after
-refused_step width before after call TooLong same long short = inl (long refl ∙ ap (outcome (refused 1)) (sym same))
-refused_step width before after call Memory same long short = inr (short refl, refl, same)
+-- a Vob whose bits have become others leaves the lists with that one changed
+pub lists-set : (items : List BitVector) (which : ℕ) (new : BitVector)
+    → lists (set items which new) ≡ set (lists items) which new.bits
+lists-set items which new = map-set (λ v. v.bits) items which new
+
+-- a Vob whose bits stay leaves the lists as they were
+pub lists-same : {items : List BitVector} {which : ℕ} {old : BitVector} → IsLent items which old
+    → (new : BitVector) → new.bits ≡ old.bits → lists (set items which new) ≡ lists items
+lists-same {items} {which} {old} vob new same =
+    let kept = get_or_from_slice_get (lists items) which old.bits old.bits (list_at vob) in
+    lists-set items which new ∙ ap (set (lists items) which) (same ∙ sym kept)
+    ∙ set-get_or (lists items) which old.bits
 
 -- a call that was made wants memory where its call takes some
-pub MayRefuse-done : (width : ℕ) (all after : List (List Bool)) (call : Call) → step width all call ≡ outcome done after
-    → TakesMemory width all call → MayRefuse width all call
+pub MayRefuse-done : (width : ℕ) (all after : List (List Bool)) (call : Call)
+    → step width all call ≡ outcome done after → TakesMemory width all call
+    → MayRefuse width all call
 MayRefuse-done width all after call is takes =
     let answers : (step width all call).answer ≡ done = ap (λ o. o.answer) is in
     (takes, (λ e. cc), (λ e. cc))
 
--- one bit more behind the list with this number
-module _ (width : ℕ) (all : List (List Bool)) (which : ℕ) (value : Bool) (bits : List Bool) (at : slice_get all which ≡ Some bits) where
-  pub step-push_short : length bits < 2 ^ 64 - 1 → step width all (Push which value) ≡ outcome done (set all which (bits ++ value ∷ []))
-  step-push_short short = rw (at, lt-ltb (length bits) (2 ^ 64 - 1) short) refl
-
-  pub step-push_long : length bits ≡ 2 ^ 64 - 1 → step width all (Push which value) ≡ outcome (refused 1) all
-  step-push_long long = rw (at, le-ltb (length bits) (2 ^ 64 - 1) (omega arith)) refl
-
-  pub MayRefuse-push : length bits < 2 ^ 64 - 1 → need (length bits) width < need (length bits + 1) width → MayRefuse width all (Push which value)
-  MayRefuse-push short grows =
-      let answers : (step width all (Push which value)).answer ≡ done = ap (λ o. o.answer) (step-push_short short) in
-      (rw at grows, (λ e. cc), (λ e. cc))
-
 -- whether a bit changed, as a step tells it
-pub flag-differ : (changed old value : Bool) → ((changed ≡ true) ↔ (Some old ≢ Some value)) → changed ≡ differ old value
+flag-differ : (changed old value : Bool) → ((changed ≡ true) ↔ (Some old ≢ Some value))
+    → changed ≡ differ old value
 flag-differ true true true h = absurd (h.0 refl refl)
 flag-differ true true false h = refl
 flag-differ true false true h = refl
@@ -70,3 +59,22 @@ flag-differ false true true h = refl
 flag-differ false true false h = h.1 (λ e. cc)
 flag-differ false false true h = h.1 (λ e. cc)
 flag-differ false false false h = refl
+
+-- a bit of the list with this number is written, or there is none
+module _ (width : ℕ) (items : List BitVector) (which index : ℕ) (value : Bool) (old : BitVector)
+    (vob : IsLent items which old) (call : Call)
+    (is : step width (lists items) call
+      ≡ on (lists items) which (written (lists items) which index value)) where
+  pub written_past : length old.bits ≤ index
+      → IsStep width (lists items) call skipped (lists (set items which old))
+  written_past past =
+      inl (is ∙ rw (list_at vob, lists-same vob old refl, slice_get_past old.bits index past) refl)
+
+  pub written_inside : index < length old.bits → (new : BitVector) (changed : Bool)
+      → new.bits ≡ set old.bits index value
+      → (changed ≡ true) ↔ (slice_get old.bits index ≢ Some value)
+      → IsStep width (lists items) call (flag changed) (lists (set items which new))
+  written_inside inside new changed bits told =
+      let bit = slice_get-get_or old.bits index true inside in
+      let differs = flag-differ changed (get_or old.bits index true) value (rw bit at told) in
+      inl (is ∙ rw (list_at vob, lists-set items which new, bits, bit, differs) refl)

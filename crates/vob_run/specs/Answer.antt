@@ -17,17 +17,21 @@ pub data Answer : Type 0 where
   refused : ℕ → Answer
 
 -- the answer of a reply whose blocks have these numbers
-abbrev pub meaning : {X : Type 0} → (X → ℕ) → Reply X → Answer
-meaning block_number Done = done
-meaning block_number (Bit value) = bit value
-meaning block_number (Flag value) = flag value
-meaning block_number (Number n) = number n
-meaning block_number (Made which) = made which
-meaning block_number (BitList bits) = bit_list bits.items
-meaning block_number (BlockList blocks) = block_list (map block_number blocks.items)
-meaning block_number (Dealt indices) = dealt indices.items
-meaning block_number Skipped = skipped
-meaning block_number (Refused reason) = refused reason
+abbrev pub answer_of : {X : Type 0} → (X → ℕ) → Reply X → Answer
+answer_of block_number Done = done
+answer_of block_number (Bit value) = bit value
+answer_of block_number (Flag value) = flag value
+answer_of block_number (Number n) = number n
+answer_of block_number (Made which) = made which
+answer_of block_number (BitList bits) = bit_list bits.items
+answer_of block_number (BlockList blocks) = block_list (map block_number blocks.items)
+answer_of block_number (Dealt indices) = dealt indices.items
+answer_of block_number Skipped = skipped
+answer_of block_number (Refused reason) = refused reason
+
+-- the same of a reply whose blocks are numbers already
+abbrev pub usize_answer_of : Reply ℕ → Answer
+usize_answer_of = answer_of (λ block. block)
 
 -- an answer, and the lists after it
 pub record Outcome : Type 0 where

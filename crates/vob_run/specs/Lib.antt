@@ -1,5 +1,8 @@
 pub mod Answer
+pub mod Blocks
 pub mod Call
+pub mod Changes
+pub mod Commands
 pub mod Memory
 pub mod Outcomes
 pub mod Pairs

@@ -8,7 +8,8 @@ use Rattle.vob_run.specs.Step.{step}
 module _ (width : ℕ) (lists : List (List Bool)) where
   -- the list with this number would take more blocks at the length that is asked for
   abbrev pub Grows : ℕ → (List Bool → ℕ) → Type 0
-  Grows which asked = IsSomeAnd (slice_get lists which) (λ bits. need (length bits) width < need (asked bits) width)
+  Grows which asked =
+      IsSomeAnd (slice_get lists which) (λ bits. need (length bits) width < need (asked bits) width)
 
   -- a call asks for memory: it makes something, or a list would take more blocks
   abbrev pub TakesMemory : Call → Type 0
@@ -20,7 +21,8 @@ module _ (width : ℕ) (lists : List (List Bool)) where
   TakesMemory (Resize which len value) = Grows which (λ bits. len)
   TakesMemory (ExtendSlice which more) = Grows which (λ bits. length bits + length more)
   TakesMemory (ExtendItems which more) = Grows which (λ bits. length bits + length more)
-  TakesMemory (ExtendVob which other) = Grows which (λ bits. length bits + length (get_or lists other []))
+  TakesMemory (ExtendVob which other) =
+      Grows which (λ bits. length bits + length (get_or lists other []))
   TakesMemory (SplitOff which index) = ⊤
   TakesMemory (AndNew which other) = ⊤
   TakesMemory (OrNew which other) = ⊤
@@ -40,4 +42,6 @@ module _ (width : ℕ) (lists : List (List Bool)) where
 
   -- memory is asked for only after a call is found not to be skipped, and not to be too long
   abbrev pub MayRefuse : Call → Type 0
-  MayRefuse call = TakesMemory call × ((step width lists call).answer ≢ skipped) × ((step width lists call).answer ≢ refused 1)
+  MayRefuse call =
+      TakesMemory call × ((step width lists call).answer ≢ skipped)
+      × ((step width lists call).answer ≢ refused 1)

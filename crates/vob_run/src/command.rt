@@ -20,9 +20,10 @@ pub enum Command<T> {
     Copy {
         which: usize,
     },
-    /// Makes a Vob of `len` bits in a copy of these blocks: `RawVob::from_parts` and `into_vob`, and
-    /// where `mask`, `mask_last_block` between them, which is skipped where the blocks are not as many
-    /// as the length needs. `Refused(3)` where the blocks are not the length's canonical ones.
+    /// Makes a Vob of `len` bits in a copy of these blocks: `RawVob::from_parts` and `into_vob`,
+    /// and where `mask`, `mask_last_block` between them, which is skipped where the blocks are not
+    /// as many as the length needs. `Refused(3)` where the blocks are not the length's canonical
+    /// ones.
     FromRaw {
         len: usize,
         mask: bool,
@@ -86,7 +87,7 @@ pub enum Command<T> {
         which: usize,
         value: bool,
     },
-    /// Turns every bit round: `Vob::negate`.
+    /// Negates every bit: `Vob::negate`.
     Negate {
         which: usize,
     },
@@ -210,8 +211,8 @@ pub enum UsizeCommand {
     FromSlice { bits: Vec<bool> },
     /// Makes a Vob of these bits, taken one by one: `Vob::from_iter`.
     FromItems { bits: Vec<bool> },
-    /// Makes a Vob of `len` bits in a copy of these blocks: `VobRecord::into_vob`. `Refused(3)` where
-    /// the blocks are not the length's canonical ones.
+    /// Makes a Vob of `len` bits in a copy of these blocks: `VobRecord::into_vob`. `Refused(3)`
+    /// where the blocks are not the length's canonical ones.
     FromRecord { len: usize, blocks: Vec<usize> },
 }
 

@@ -1,12 +1,13 @@
 //! A list of commands, run in order.
 ghost use Rattle.std.specs.Prelude.{◌≡◌, [], ◌++◌, map, OnOk, OnErr, IsOk};
-ghost use Rattle.vob_run.specs.Answer.{Answer, meaning};
-ghost use Rattle.vob_run.specs.Call.{call_of, usize_call_of};
+ghost use Rattle.vob_run.specs.Answer.{Answer, answer_of, usize_answer_of};
+ghost use Rattle.vob_run.specs.Commands.{call_of, usize_call_of};
 ghost use Rattle.vob_run.specs.Run.{lists, IsStep, IsRun};
 
 use crate::calls::pair::Connective;
+use crate::calls::walk::Selection;
 use crate::calls::{grow, make, make_usize, pair, raw, read, walk, write};
-use crate::command::{Command, Reply, UsizeCommand};
+pub use crate::command::{Command, Reply, UsizeCommand};
 use std::alloc::{AllocError, Global};
 use vob::Vob;
 use vob_block::Block;
@@ -14,67 +15,65 @@ use vob_block::Block;
 // Runs one command.
 fn run_one<T: Block>(alloc: Global, vobs: &mut Vec<Vob<T>>, command: &Command<T>) -> Reply<T>
     ensures { IsStep T.BITS (lists vobs.old.items) (call_of T.number command.now)
-        (meaning T.number result) (lists vobs.new.items) }
+        (answer_of T.number result) (lists vobs.new.items) }
 {
-    match command {
-        Command::New { capacity } => make::new(alloc, vobs, *capacity),
-        Command::FromElem { value, len } => make::from_elem(alloc, vobs, *value, *len),
-        Command::Copy { which } => make::copy(vobs, *which),
-        Command::FromRaw { len, mask, blocks } => raw::from_raw(alloc, vobs, *len, *mask, blocks),
-        Command::Push { which, value } => write::push(vobs, *which, *value),
-        Command::Pop { which } => write::pop(vobs, *which),
-        Command::GetBit { which, index } => read::get_bit(vobs, *which, *index),
-        Command::GetUnchecked { which, index } => read::get_unchecked(vobs, *which, *index),
-        Command::IndexBit { which, index } => read::index_bit(vobs, *which, *index),
+    match *command {
+        Command::New { capacity } => make::new(alloc, vobs, capacity),
+        Command::FromElem { value, len } => make::from_elem(alloc, vobs, value, len),
+        Command::Copy { which } => make::copy(vobs, which),
+        Command::FromRaw {
+            len,
+            mask,
+            ref blocks,
+        } => raw::from_raw(alloc, vobs, len, mask, blocks),
+        Command::Push { which, value } => write::push(vobs, which, value),
+        Command::Pop { which } => write::pop(vobs, which),
+        Command::GetBit { which, index } => read::get_bit(vobs, which, index),
+        Command::GetUnchecked { which, index } => read::get_unchecked(vobs, which, index),
+        Command::IndexBit { which, index } => read::index_bit(vobs, which, index),
         Command::SetBit {
             which,
             index,
             value,
-        } => write::set_bit(vobs, *which, *index, *value),
+        } => write::set_bit(vobs, which, index, value),
         Command::SetUnchecked {
             which,
             index,
             value,
-        } => write::set_unchecked(vobs, *which, *index, *value),
-        Command::Length { which } => read::length(vobs, *which),
-        Command::IsEmpty { which } => read::is_empty(vobs, *which),
-        Command::Truncate { which, len } => write::truncate(vobs, *which, *len),
-        Command::Clear { which } => write::clear(vobs, *which),
-        Command::SetAll { which, value } => write::set_all(vobs, *which, *value),
-        Command::Negate { which } => write::negate(vobs, *which),
-        Command::Resize { which, len, value } => grow::resize(vobs, *which, *len, *value),
-        Command::ExtendSlice { which, bits } => grow::extend_slice(vobs, *which, bits),
-        Command::ExtendItems { which, bits } => grow::extend_items(vobs, *which, bits),
-        Command::ExtendVob { which, other } => pair::extend_vob(vobs, *which, *other),
-        Command::SplitOff { which, index } => make::split_off(vobs, *which, *index),
-        Command::And { which, other } => { pair::combine(vobs, Connective::And, *which, *other) }
-        Command::Or { which, other } => { pair::combine(vobs, Connective::Or, *which, *other) }
-        Command::Xor { which, other } => { pair::combine(vobs, Connective::Xor, *which, *other) }
-        Command::AndNew { which, other } => {
-            pair::combine_new(vobs, Connective::And, *which, *other)
-        }
-        Command::OrNew { which, other } => {
-            pair::combine_new(vobs, Connective::Or, *which, *other)
-        }
-        Command::XorNew { which, other } => {
-            pair::combine_new(vobs, Connective::Xor, *which, *other)
-        }
-        Command::Equal { which, other } => pair::equal(vobs, *which, *other),
-        Command::Reserve { which, additional } => grow::reserve(vobs, *which, *additional),
-        Command::Shrink { which } => grow::shrink(vobs, *which),
-        Command::Bits { which } => read::bits(alloc, vobs, *which),
-        Command::Storage { which } => read::storage(alloc, vobs, *which),
+        } => { write::set_unchecked(vobs, which, index, value) }
+        Command::Length { which } => read::length(vobs, which),
+        Command::IsEmpty { which } => read::is_empty(vobs, which),
+        Command::Truncate { which, len } => write::truncate(vobs, which, len),
+        Command::Clear { which } => write::clear(vobs, which),
+        Command::SetAll { which, value } => write::set_all(vobs, which, value),
+        Command::Negate { which } => write::negate(vobs, which),
+        Command::Resize { which, len, value } => grow::resize(vobs, which, len, value),
+        Command::ExtendSlice { which, ref bits } => grow::extend_slice(vobs, which, bits),
+        Command::ExtendItems { which, ref bits } => grow::extend_items(vobs, which, bits),
+        Command::ExtendVob { which, other } => pair::extend_vob(vobs, which, other),
+        Command::SplitOff { which, index } => make::split_off(vobs, which, index),
+        Command::And { which, other } => pair::combine(vobs, Connective::And, which, other),
+        Command::Or { which, other } => pair::combine(vobs, Connective::Or, which, other),
+        Command::Xor { which, other } => pair::combine(vobs, Connective::Xor, which, other),
+        Command::AndNew { which, other } => pair::combine_new(vobs, Connective::And, which, other),
+        Command::OrNew { which, other } => pair::combine_new(vobs, Connective::Or, which, other),
+        Command::XorNew { which, other } => pair::combine_new(vobs, Connective::Xor, which, other),
+        Command::Equal { which, other } => pair::equal(vobs, which, other),
+        Command::Reserve { which, additional } => grow::reserve(vobs, which, additional),
+        Command::Shrink { which } => grow::shrink(vobs, which),
+        Command::Bits { which } => read::bits(alloc, vobs, which),
+        Command::Storage { which } => read::storage(alloc, vobs, which),
         Command::Walk {
             which,
             value,
             bounds,
-            pulls,
-        } => walk::walk(alloc, vobs, *which, *value, *bounds, pulls),
+            ref pulls,
+        } => { walk::walk(alloc, vobs, which, Selection { value, bounds }, pulls) }
         Command::Count {
             which,
             value,
             bounds,
-        } => walk::count(vobs, *which, *value, *bounds),
+        } => { walk::count(vobs, which, Selection { value, bounds }) }
     }
 }
 
@@ -89,7 +88,7 @@ pub fn run<T: Block>(
 ) -> Result<(), AllocError>
     ensures ok { OnOk result ((added : _) × (replies.new.items ≡ replies.old.items ++ added)
         × IsRun T.BITS (lists vobs.old.items) (map (call_of T.number) commands.now)
-        (map (meaning T.number) added) (lists vobs.new.items)) }
+        (map (answer_of T.number) added) (lists vobs.new.items)) }
     ensures vobs_stay { OnErr result (vobs.new.items ≡ vobs.old.items) }
     ensures replies_stay { OnErr result (replies.new.items ≡ replies.old.items) }
     ensures nothing { commands.now ≡ [] → IsOk result }
@@ -105,7 +104,7 @@ pub fn run<T: Block>(
 // Runs one command on Vobs of the default block type.
 fn run_one_usize(alloc: Global, vobs: &mut Vec<Vob<usize>>, command: &UsizeCommand) -> Reply<usize>
     ensures { IsStep 64 (lists vobs.old.items) (usize_call_of command.now)
-        (meaning (λ block. block) result) (lists vobs.new.items) }
+        (usize_answer_of result) (lists vobs.new.items) }
 {
     match command {
         UsizeCommand::Common(command) => run_one(alloc, vobs, command),
@@ -133,7 +132,7 @@ pub fn run_usize(
 ) -> Result<(), AllocError>
     ensures ok { OnOk result ((added : _) × (replies.new.items ≡ replies.old.items ++ added)
         × IsRun 64 (lists vobs.old.items) (map usize_call_of commands.now)
-        (map (meaning (λ block. block)) added) (lists vobs.new.items)) }
+        (map usize_answer_of added) (lists vobs.new.items)) }
     ensures vobs_stay { OnErr result (vobs.new.items ≡ vobs.old.items) }
     ensures replies_stay { OnErr result (replies.new.items ≡ replies.old.items) }
     ensures nothing { commands.now ≡ [] → IsOk result }

@@ -1,31 +1,28 @@
 //! The commands that add bits to a Vob, or change how many it has room for.
 ghost use Rattle.std.specs.Prelude.{◌≡◌, ◌↔◌, ◌+◌, ◌<◌, ◌++◌, length, OnOk, OnErr, Err};
 ghost use Rattle.vob_block.specs.Packing.{need};
-ghost use Rattle.vob_run.specs.Answer.{meaning};
+ghost use Rattle.vob_run.specs.Answer.{answer_of};
 ghost use Rattle.vob_run.specs.Call.{Resize, ExtendSlice, ExtendItems, Reserve, Shrink};
 ghost use Rattle.vob_run.specs.Run.{lists, IsStep};
 
-use crate::calls::refused;
+use crate::calls::reply_to;
 use crate::command::Reply;
 use vob::{Vob, VobError};
 use vob_block::Block;
 
 pub(crate) fn reserve<T: Block>(vobs: &mut Vec<Vob<T>>, which: usize, additional: usize) -> Reply<T>
     ensures { IsStep T.BITS (lists vobs.old.items) (Reserve which additional)
-        (meaning T.number result) (lists vobs.new.items) }
+        (answer_of T.number result) (lists vobs.new.items) }
 {
     let Some(vob) = vobs.get_mut(which) else {
         return Reply::Skipped;
     };
-    match vob.reserve(additional) {
-        Ok(()) => Reply::Done,
-        Err(refusal) => refused(refusal),
-    }
+    reply_to(vob.reserve(additional))
 }
 
 pub(crate) fn shrink<T: Block>(vobs: &mut Vec<Vob<T>>, which: usize) -> Reply<T>
     ensures { IsStep T.BITS (lists vobs.old.items) (Shrink which)
-        (meaning T.number result) (lists vobs.new.items) }
+        (answer_of T.number result) (lists vobs.new.items) }
 {
     let Some(vob) = vobs.get_mut(which) else {
         return Reply::Skipped;
@@ -41,15 +38,12 @@ pub(crate) fn resize<T: Block>(
     value: bool,
 ) -> Reply<T>
     ensures { IsStep T.BITS (lists vobs.old.items) (Resize which len value)
-        (meaning T.number result) (lists vobs.new.items) }
+        (answer_of T.number result) (lists vobs.new.items) }
 {
     let Some(vob) = vobs.get_mut(which) else {
         return Reply::Skipped;
     };
-    match vob.resize(len, value) {
-        Ok(()) => Reply::Done,
-        Err(refusal) => refused(refusal),
-    }
+    reply_to(vob.resize(len, value))
 }
 
 pub(crate) fn extend_slice<T: Block>(
@@ -58,15 +52,12 @@ pub(crate) fn extend_slice<T: Block>(
     bits: &Vec<bool>,
 ) -> Reply<T>
     ensures { IsStep T.BITS (lists vobs.old.items) (ExtendSlice which bits.now.items)
-        (meaning T.number result) (lists vobs.new.items) }
+        (answer_of T.number result) (lists vobs.new.items) }
 {
     let Some(vob) = vobs.get_mut(which) else {
         return Reply::Skipped;
     };
-    match vob.extend_from_slice(bits) {
-        Ok(()) => Reply::Done,
-        Err(refusal) => refused(refusal),
-    }
+    reply_to(vob.extend_from_slice(bits))
 }
 
 // Adds the bits one by one, once there is room for all of them.
@@ -88,13 +79,10 @@ pub(crate) fn extend_items<T: Block>(
     bits: &Vec<bool>,
 ) -> Reply<T>
     ensures { IsStep T.BITS (lists vobs.old.items) (ExtendItems which bits.now.items)
-        (meaning T.number result) (lists vobs.new.items) }
+        (answer_of T.number result) (lists vobs.new.items) }
 {
     let Some(vob) = vobs.get_mut(which) else {
         return Reply::Skipped;
     };
-    match add_items(vob, bits) {
-        Ok(()) => Reply::Done,
-        Err(refusal) => refused(refusal),
-    }
+    reply_to(add_items(vob, bits))
 }

@@ -1,6 +1,6 @@
 //! The commands that make a Vob, at the end of the list.
 ghost use Rattle.std.specs.Prelude.{◌≡◌, ◌<◌, ◌++◌, [], ◌∷◌, length, IfOk, OnErr, vec_len, vec_capacity};
-ghost use Rattle.vob_run.specs.Answer.{meaning, made, refused};
+ghost use Rattle.vob_run.specs.Answer.{answer_of, made, refused};
 ghost use Rattle.vob_run.specs.Call.{New, FromElem, Copy, SplitOff};
 ghost use Rattle.vob_run.specs.Run.{lists, IsStep};
 
@@ -13,9 +13,9 @@ use vob_block::Block;
 // Puts a Vob that was made at the end of the list, in the room that there is.
 pub(super) fn placed<T: Block>(vobs: &mut Vec<Vob<T>>, vob: Result<Vob<T>, AllocError>) -> Reply<T>
     requires { vec_len vobs.old < vec_capacity vobs.old }
-    ensures ok { IfOk vob (λ v. (meaning T.number result ≡ made (length vobs.old.items))
+    ensures ok { IfOk vob (λ v. (answer_of T.number result ≡ made (length vobs.old.items))
         × (vobs.new.items ≡ vobs.old.items ++ v ∷ [])) }
-    ensures err { OnErr vob ((meaning T.number result ≡ refused 2)
+    ensures err { OnErr vob ((answer_of T.number result ≡ refused 2)
         × (vobs.new.items ≡ vobs.old.items)) }
 {
     let which = vobs.len();
@@ -30,7 +30,7 @@ pub(super) fn placed<T: Block>(vobs: &mut Vec<Vob<T>>, vob: Result<Vob<T>, Alloc
 
 pub(crate) fn new<T: Block>(alloc: Global, vobs: &mut Vec<Vob<T>>, capacity: usize) -> Reply<T>
     ensures { IsStep T.BITS (lists vobs.old.items) (New capacity)
-        (meaning T.number result) (lists vobs.new.items) }
+        (answer_of T.number result) (lists vobs.new.items) }
 {
     if vobs.reserve(1).is_err() {
         return refused(VobError::Memory);
@@ -45,7 +45,7 @@ pub(crate) fn from_elem<T: Block>(
     len: usize,
 ) -> Reply<T>
     ensures { IsStep T.BITS (lists vobs.old.items) (FromElem value len)
-        (meaning T.number result) (lists vobs.new.items) }
+        (answer_of T.number result) (lists vobs.new.items) }
 {
     if vobs.reserve(1).is_err() {
         return refused(VobError::Memory);
@@ -55,7 +55,7 @@ pub(crate) fn from_elem<T: Block>(
 
 pub(crate) fn copy<T: Block>(vobs: &mut Vec<Vob<T>>, which: usize) -> Reply<T>
     ensures { IsStep T.BITS (lists vobs.old.items) (Copy which)
-        (meaning T.number result) (lists vobs.new.items) }
+        (answer_of T.number result) (lists vobs.new.items) }
 {
     if which >= vobs.len() {
         return Reply::Skipped;
@@ -69,7 +69,7 @@ pub(crate) fn copy<T: Block>(vobs: &mut Vec<Vob<T>>, which: usize) -> Reply<T>
 
 pub(crate) fn split_off<T: Block>(vobs: &mut Vec<Vob<T>>, which: usize, index: usize) -> Reply<T>
     ensures { IsStep T.BITS (lists vobs.old.items) (SplitOff which index)
-        (meaning T.number result) (lists vobs.new.items) }
+        (answer_of T.number result) (lists vobs.new.items) }
 {
     if which >= vobs.len() {
         return Reply::Skipped;

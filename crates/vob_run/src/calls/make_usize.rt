@@ -1,7 +1,7 @@
 //! The commands that make a Vob of the default block type.
 ghost use Rattle.std.specs.Prelude.{◌≡◌, ◌⊎◌, ◌++◌, [], ◌∷◌, length, IfOk, IfErr};
 ghost use Rattle.vob.specs.Refusal.{refusal_number};
-ghost use Rattle.vob_run.specs.Answer.{meaning, made, refused};
+ghost use Rattle.vob_run.specs.Answer.{usize_answer_of, made, refused};
 ghost use Rattle.vob_run.specs.Call.{Fresh, WithCapacity, Fill, FromBytes, FromSlice, FromItems, FromRecord};
 ghost use Rattle.vob_run.specs.Run.{lists, IsStep};
 
@@ -14,11 +14,11 @@ use vob::{Vob, VobError, VobRecord};
 
 // Puts a Vob that was made at the end of the list, once there is room for it.
 fn added(vobs: &mut Vec<Vob<usize>>, vob: Result<Vob<usize>, VobError>) -> Reply<usize>
-    ensures ok { IfOk vob (λ v. ((meaning (λ block. block) result ≡ made (length vobs.old.items))
+    ensures ok { IfOk vob (λ v. ((usize_answer_of result ≡ made (length vobs.old.items))
         × (vobs.new.items ≡ vobs.old.items ++ v ∷ []))
-        ⊎ ((meaning (λ block. block) result ≡ refused 2) × (vobs.new.items ≡ vobs.old.items))) }
+        ⊎ ((usize_answer_of result ≡ refused 2) × (vobs.new.items ≡ vobs.old.items))) }
     ensures err { IfErr vob (λ refusal.
-        (meaning (λ block. block) result ≡ refused (refusal_number refusal))
+        (usize_answer_of result ≡ refused (refusal_number refusal))
         × (vobs.new.items ≡ vobs.old.items)) }
 {
     match vob {
@@ -29,7 +29,7 @@ fn added(vobs: &mut Vec<Vob<usize>>, vob: Result<Vob<usize>, VobError>) -> Reply
 }
 
 pub(crate) fn fresh(alloc: Global, vobs: &mut Vec<Vob<usize>>) -> Reply<usize>
-    ensures { IsStep 64 (lists vobs.old.items) Fresh (meaning (λ block. block) result)
+    ensures { IsStep 64 (lists vobs.old.items) Fresh (usize_answer_of result)
         (lists vobs.new.items) }
 {
     if vobs.reserve(1).is_err() {
@@ -44,7 +44,7 @@ pub(crate) fn with_capacity(
     capacity: usize,
 ) -> Reply<usize>
     ensures { IsStep 64 (lists vobs.old.items) (WithCapacity capacity)
-        (meaning (λ block. block) result) (lists vobs.new.items) }
+        (usize_answer_of result) (lists vobs.new.items) }
 {
     if vobs.reserve(1).is_err() {
         return refused(VobError::Memory);
@@ -58,7 +58,7 @@ pub(crate) fn fill(
     value: bool,
     len: usize,
 ) -> Reply<usize>
-    ensures { IsStep 64 (lists vobs.old.items) (Fill value len) (meaning (λ block. block) result)
+    ensures { IsStep 64 (lists vobs.old.items) (Fill value len) (usize_answer_of result)
         (lists vobs.new.items) }
 {
     if vobs.reserve(1).is_err() {
@@ -69,14 +69,14 @@ pub(crate) fn fill(
 
 pub(crate) fn from_bytes(alloc: Global, vobs: &mut Vec<Vob<usize>>, bytes: &[u8]) -> Reply<usize>
     ensures { IsStep 64 (lists vobs.old.items) (FromBytes bytes.now)
-        (meaning (λ block. block) result) (lists vobs.new.items) }
+        (usize_answer_of result) (lists vobs.new.items) }
 {
     added(vobs, Vob::from_bytes(alloc, bytes))
 }
 
 pub(crate) fn from_slice(alloc: Global, vobs: &mut Vec<Vob<usize>>, bits: &[bool]) -> Reply<usize>
     ensures { IsStep 64 (lists vobs.old.items) (FromSlice bits.now)
-        (meaning (λ block. block) result) (lists vobs.new.items) }
+        (usize_answer_of result) (lists vobs.new.items) }
 {
     if vobs.reserve(1).is_err() {
         return refused(VobError::Memory);
@@ -86,7 +86,7 @@ pub(crate) fn from_slice(alloc: Global, vobs: &mut Vec<Vob<usize>>, bits: &[bool
 
 pub(crate) fn from_items(alloc: Global, vobs: &mut Vec<Vob<usize>>, bits: &[bool]) -> Reply<usize>
     ensures { IsStep 64 (lists vobs.old.items) (FromItems bits.now)
-        (meaning (λ block. block) result) (lists vobs.new.items) }
+        (usize_answer_of result) (lists vobs.new.items) }
 {
     added(vobs, Vob::from_iter(alloc, bits.iter().copied()))
 }
@@ -98,7 +98,7 @@ pub(crate) fn from_record(
     blocks: &[usize],
 ) -> Reply<usize>
     ensures { IsStep 64 (lists vobs.old.items) (FromRecord len blocks.now)
-        (meaning (λ block. block) result) (lists vobs.new.items) }
+        (usize_answer_of result) (lists vobs.new.items) }
 {
     if vobs.reserve(1).is_err() {
         return refused(VobError::Memory);

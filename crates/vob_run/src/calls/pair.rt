@@ -2,20 +2,19 @@
 ghost use Rattle.std.specs.Prelude.{◌≡◌, ◌≢◌, ◌↔◌, ◌<◌, length, slice_get, slice_set, IsTrue, IfOk, Some};
 ghost use Rattle.std.specs.Borrow.{sem, LendsBoth, Array};
 ghost use Rattle.vob_block.specs.Pointwise.{pointwise};
-ghost use Rattle.vob_run.specs.Answer.{meaning};
-ghost use Rattle.vob_run.specs.Outcomes.{AreEven};
-ghost use Rattle.vob_run.specs.Pairs.{operator, combining, combining_new};
+ghost use Rattle.vob_run.specs.Answer.{answer_of};
+ghost use Rattle.vob_run.specs.Pairs.{operator, combining, combining_new, HaveSameLength};
 ghost use Rattle.vob_run.specs.Call.{ExtendVob, Equal};
 ghost use Rattle.vob_run.specs.Run.{lists, IsStep};
 
 use crate::calls::make::placed;
-use crate::calls::refused;
+use crate::calls::{refused, reply_to};
 use crate::command::Reply;
 use std::alloc::AllocError;
 use vob::{Vob, VobError};
 use vob_block::Block;
 
-/// How the bits of two Vobs are taken together.
+/// How the bits of two Vobs are combined.
 #[derive(Clone, Copy)]
 pub(crate) enum Connective {
     And,
@@ -40,7 +39,8 @@ impl Connective {
     // Makes a Vob of the bits.
     fn made_of<T: Block>(self, vob: &Vob<T>, other: &Vob<T>) -> Result<Vob<T>, AllocError>
         requires { length vob.now.bits ≡ length other.now.bits }
-        ensures { IfOk result (λ made. made.bits ≡ pointwise (operator self) vob.now.bits other.now.bits) }
+        ensures { IfOk result (λ made.
+            made.bits ≡ pointwise (operator self) vob.now.bits other.now.bits) }
     {
         match self {
             Connective::And => vob & other,
@@ -71,30 +71,28 @@ fn two_of<X>(items: &mut [X], first: usize, second: usize) -> (&mut X, &mut X)
 
 // Whether these are the numbers of two Vobs.
 fn are_two<T: Block>(vobs: &[Vob<T>], which: usize, other: usize) -> bool
-    ensures { IsTrue result ↔ (which ≢ other) × (which < length vobs.now) × (other < length vobs.now) }
+    ensures { IsTrue result
+        ↔ (which ≢ other) × (which < length vobs.now) × (other < length vobs.now) }
 {
     which != other && which < vobs.len() && other < vobs.len()
 }
 
-// Whether these are the numbers of two Vobs, and these have one length.
-fn are_even<T: Block>(vobs: &[Vob<T>], which: usize, other: usize) -> bool
-    ensures { IsTrue result ↔ AreEven (lists vobs.now) which other }
+// Whether these are the numbers of two Vobs of one length, which can be combined.
+fn can_combine<T: Block>(vobs: &[Vob<T>], which: usize, other: usize) -> bool
+    ensures { IsTrue result ↔ (which ≢ other) × HaveSameLength (lists vobs.now) which other }
 {
     are_two(vobs, which, other) && vobs[which].len() == vobs[other].len()
 }
 
 pub(crate) fn extend_vob<T: Block>(vobs: &mut Vec<Vob<T>>, which: usize, other: usize) -> Reply<T>
     ensures { IsStep T.BITS (lists vobs.old.items) (ExtendVob which other)
-        (meaning T.number result) (lists vobs.new.items) }
+        (answer_of T.number result) (lists vobs.new.items) }
 {
     if !are_two(vobs, which, other) {
         return Reply::Skipped;
     }
     let (vob, other) = two_of(vobs, which, other);
-    match vob.extend_from_vob(other) {
-        Ok(()) => Reply::Done,
-        Err(refusal) => refused(refusal),
-    }
+    reply_to(vob.extend_from_vob(other))
 }
 
 pub(crate) fn combine<T: Block>(
@@ -104,9 +102,9 @@ pub(crate) fn combine<T: Block>(
     other: usize,
 ) -> Reply<T>
     ensures { IsStep T.BITS (lists vobs.old.items) (combining how which other)
-        (meaning T.number result) (lists vobs.new.items) }
+        (answer_of T.number result) (lists vobs.new.items) }
 {
-    if !are_even(vobs, which, other) {
+    if !can_combine(vobs, which, other) {
         return Reply::Skipped;
     }
     let (vob, other) = two_of(vobs, which, other);
@@ -120,9 +118,9 @@ pub(crate) fn combine_new<T: Block>(
     other: usize,
 ) -> Reply<T>
     ensures { IsStep T.BITS (lists vobs.old.items) (combining_new how which other)
-        (meaning T.number result) (lists vobs.new.items) }
+        (answer_of T.number result) (lists vobs.new.items) }
 {
-    if !are_even(vobs, which, other) {
+    if !can_combine(vobs, which, other) {
         return Reply::Skipped;
     }
     if vobs.reserve(1).is_err() {
@@ -134,7 +132,7 @@ pub(crate) fn combine_new<T: Block>(
 
 pub(crate) fn equal<T: Block>(vobs: &Vec<Vob<T>>, which: usize, other: usize) -> Reply<T>
     ensures { IsStep T.BITS (lists vobs.now.items) (Equal which other)
-        (meaning T.number result) (lists vobs.now.items) }
+        (answer_of T.number result) (lists vobs.now.items) }
 {
     if !are_two(vobs, which, other) {
         return Reply::Skipped;

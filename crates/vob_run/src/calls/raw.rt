@@ -1,9 +1,9 @@
 //! The commands that take blocks as they come: they are taken only where they are canonical.
 ghost use Rattle.std.specs.Prelude.{◌≡◌, ◌==◌, ◌<◌, ◌++◌, [], ◌∷◌, true, map, length, IfOk, OnErr, vec_len, vec_capacity};
 ghost use Rattle.vob_block.specs.Packing.{need};
-ghost use Rattle.vob_run.specs.Answer.{meaning, made, refused};
+ghost use Rattle.vob_run.specs.Answer.{answer_of, made, refused};
 ghost use Rattle.vob_run.specs.Call.{FromRaw};
-ghost use Rattle.vob_run.specs.Outcomes.{masked};
+ghost use Rattle.vob_run.specs.Blocks.{masked};
 ghost use Rattle.vob_run.specs.Run.{lists, IsStep};
 
 use crate::calls::refused;
@@ -22,9 +22,9 @@ pub(super) fn copied<T: Block>(alloc: Global, blocks: &[T]) -> Result<Vec<T>, Al
 // Puts a Vob whose blocks were taken at the end of the list, in the room that there is.
 pub(super) fn taken<T: Block, E: Drop>(vobs: &mut Vec<Vob<T>>, vob: Result<Vob<T>, E>) -> Reply<T>
     requires { vec_len vobs.old < vec_capacity vobs.old }
-    ensures ok { IfOk vob (λ v. (meaning T.number result ≡ made (length vobs.old.items))
+    ensures ok { IfOk vob (λ v. (answer_of T.number result ≡ made (length vobs.old.items))
         × (vobs.new.items ≡ vobs.old.items ++ v ∷ [])) }
-    ensures err { OnErr vob ((meaning T.number result ≡ refused 3)
+    ensures err { OnErr vob ((answer_of T.number result ≡ refused 3)
         × (vobs.new.items ≡ vobs.old.items)) }
 {
     let which = vobs.len();
@@ -66,7 +66,7 @@ pub(crate) fn from_raw<T: Block>(
     blocks: &[T],
 ) -> Reply<T>
     ensures { IsStep T.BITS (lists vobs.old.items) (FromRaw len mask (map T.number blocks.now))
-        (meaning T.number result) (lists vobs.new.items) }
+        (answer_of T.number result) (lists vobs.new.items) }
 {
     if mask && !are_as_many(blocks, len) {
         return Reply::Skipped;

@@ -1,7 +1,7 @@
 //! The commands that read a Vob.
 ghost use Rattle.std.specs.Prelude.{◌≡◌, IfOk, map};
 ghost use Rattle.vob_block.specs.Packing.{packing};
-ghost use Rattle.vob_run.specs.Answer.{meaning};
+ghost use Rattle.vob_run.specs.Answer.{answer_of};
 ghost use Rattle.vob_run.specs.Call.{GetBit, GetUnchecked, IndexBit, Length, IsEmpty, Bits, Storage};
 ghost use Rattle.vob_run.specs.Run.{lists, IsStep};
 
@@ -13,7 +13,7 @@ use vob_block::Block;
 
 pub(crate) fn get_bit<T: Block>(vobs: &Vec<Vob<T>>, which: usize, index: usize) -> Reply<T>
     ensures { IsStep T.BITS (lists vobs.now.items) (GetBit which index)
-        (meaning T.number result) (lists vobs.now.items) }
+        (answer_of T.number result) (lists vobs.now.items) }
 {
     match vobs.get(which) {
         Some(vob) => Reply::Bit(vob.get(index)),
@@ -23,7 +23,7 @@ pub(crate) fn get_bit<T: Block>(vobs: &Vec<Vob<T>>, which: usize, index: usize) 
 
 pub(crate) fn get_unchecked<T: Block>(vobs: &Vec<Vob<T>>, which: usize, index: usize) -> Reply<T>
     ensures { IsStep T.BITS (lists vobs.now.items) (GetUnchecked which index)
-        (meaning T.number result) (lists vobs.now.items) }
+        (answer_of T.number result) (lists vobs.now.items) }
 {
     match vobs.get(which) {
         Some(vob) if index < vob.len() => Reply::Flag(vob.get_unchecked(index)),
@@ -33,7 +33,7 @@ pub(crate) fn get_unchecked<T: Block>(vobs: &Vec<Vob<T>>, which: usize, index: u
 
 pub(crate) fn index_bit<T: Block>(vobs: &Vec<Vob<T>>, which: usize, index: usize) -> Reply<T>
     ensures { IsStep T.BITS (lists vobs.now.items) (IndexBit which index)
-        (meaning T.number result) (lists vobs.now.items) }
+        (answer_of T.number result) (lists vobs.now.items) }
 {
     match vobs.get(which) {
         Some(vob) if index < vob.len() => Reply::Flag(vob[index]),
@@ -43,7 +43,7 @@ pub(crate) fn index_bit<T: Block>(vobs: &Vec<Vob<T>>, which: usize, index: usize
 
 pub(crate) fn length<T: Block>(vobs: &Vec<Vob<T>>, which: usize) -> Reply<T>
     ensures { IsStep T.BITS (lists vobs.now.items) (Length which)
-        (meaning T.number result) (lists vobs.now.items) }
+        (answer_of T.number result) (lists vobs.now.items) }
 {
     match vobs.get(which) {
         Some(vob) => Reply::Number(vob.len()),
@@ -53,7 +53,7 @@ pub(crate) fn length<T: Block>(vobs: &Vec<Vob<T>>, which: usize) -> Reply<T>
 
 pub(crate) fn is_empty<T: Block>(vobs: &Vec<Vob<T>>, which: usize) -> Reply<T>
     ensures { IsStep T.BITS (lists vobs.now.items) (IsEmpty which)
-        (meaning T.number result) (lists vobs.now.items) }
+        (answer_of T.number result) (lists vobs.now.items) }
 {
     match vobs.get(which) {
         Some(vob) => Reply::Flag(vob.is_empty()),
@@ -70,7 +70,7 @@ fn bits_of<T: Block>(alloc: Global, vob: &Vob<T>) -> Result<Vec<bool>, AllocErro
 
 pub(crate) fn bits<T: Block>(alloc: Global, vobs: &Vec<Vob<T>>, which: usize) -> Reply<T>
     ensures { IsStep T.BITS (lists vobs.now.items) (Bits which)
-        (meaning T.number result) (lists vobs.now.items) }
+        (answer_of T.number result) (lists vobs.now.items) }
 {
     let Some(vob) = vobs.get(which) else {
         return Reply::Skipped;
@@ -90,7 +90,7 @@ fn blocks_of<T: Block>(alloc: Global, vob: &Vob<T>) -> Result<Vec<T>, AllocError
 
 pub(crate) fn storage<T: Block>(alloc: Global, vobs: &Vec<Vob<T>>, which: usize) -> Reply<T>
     ensures { IsStep T.BITS (lists vobs.now.items) (Storage which)
-        (meaning T.number result) (lists vobs.now.items) }
+        (answer_of T.number result) (lists vobs.now.items) }
 {
     let Some(vob) = vobs.get(which) else {
         return Reply::Skipped;

@@ -2,7 +2,7 @@
 ghost use Rattle.std.specs.Prelude.{◌≡◌, IfOk, length};
 ghost use Rattle.vob.specs.Matches.{matches};
 ghost use Rattle.vob.specs.Walk.{answers};
-ghost use Rattle.vob_run.specs.Answer.{meaning};
+ghost use Rattle.vob_run.specs.Answer.{answer_of};
 ghost use Rattle.vob_run.specs.Call.{Walk, Count};
 ghost use Rattle.vob_run.specs.Run.{lists, IsStep};
 
@@ -13,22 +13,28 @@ use std::ops::Bound;
 use vob::{End, Vob, VobError, deal};
 use vob_block::Block;
 
+/// Which indices a command asks for: those of the bits of this value, within these bounds.
+#[derive(Clone, Copy)]
+pub(crate) struct Selection {
+    pub value: bool,
+    pub bounds: (Bound<usize>, Bound<usize>),
+}
+
 // What the pulls at a fresh walk answer.
 fn dealt<T: Block>(
     alloc: Global,
     vob: &Vob<T>,
-    value: bool,
-    bounds: (Bound<usize>, Bound<usize>),
+    selection: Selection,
     pulls: &[End],
 ) -> Result<Vec<Option<usize>>, AllocError>
-    ensures { IfOk result (λ indices. indices.items
-        ≡ answers (matches vob.now.bits value bounds.0 bounds.1) pulls.now) }
+    ensures { IfOk result (λ indices. indices.items ≡ answers
+        (matches vob.now.bits selection.value selection.bounds.0 selection.bounds.1) pulls.now) }
 {
     let mut indices = Vec::new(alloc);
-    if value {
-        deal(&mut vob.iter_set_bits(bounds), pulls, &mut indices)?;
+    if selection.value {
+        deal(&mut vob.iter_set_bits(selection.bounds), pulls, &mut indices)?;
     } else {
-        deal(&mut vob.iter_unset_bits(bounds), pulls, &mut indices)?;
+        deal(&mut vob.iter_unset_bits(selection.bounds), pulls, &mut indices)?;
     }
     Ok(indices)
 }
@@ -37,44 +43,45 @@ pub(crate) fn walk<T: Block>(
     alloc: Global,
     vobs: &Vec<Vob<T>>,
     which: usize,
-    value: bool,
-    bounds: (Bound<usize>, Bound<usize>),
+    selection: Selection,
     pulls: &[End],
 ) -> Reply<T>
-    ensures { IsStep T.BITS (lists vobs.now.items) (Walk which value bounds.0 bounds.1 pulls.now)
-        (meaning T.number result) (lists vobs.now.items) }
+    ensures { IsStep T.BITS (lists vobs.now.items)
+        (Walk which selection.value selection.bounds.0 selection.bounds.1 pulls.now)
+        (answer_of T.number result) (lists vobs.now.items) }
 {
     let Some(vob) = vobs.get(which) else {
         return Reply::Skipped;
     };
-    match dealt(alloc, vob, value, bounds, pulls) {
+    match dealt(alloc, vob, selection, pulls) {
         Ok(indices) => Reply::Dealt(indices),
         Err(refusal) => refused(VobError::from(refusal)),
     }
 }
 
 // How many indices a fresh walk gives.
-fn matching<T: Block>(vob: &Vob<T>, value: bool, bounds: (Bound<usize>, Bound<usize>)) -> usize
-    ensures { result ≡ length (matches vob.now.bits value bounds.0 bounds.1) }
+fn matching<T: Block>(vob: &Vob<T>, selection: Selection) -> usize
+    ensures { result
+        ≡ length (matches vob.now.bits selection.value selection.bounds.0 selection.bounds.1) }
 {
-    if value {
-        vob.iter_set_bits(bounds).count()
+    if selection.value {
+        vob.iter_set_bits(selection.bounds).count()
     } else {
-        vob.iter_unset_bits(bounds).count()
+        vob.iter_unset_bits(selection.bounds).count()
     }
 }
 
 pub(crate) fn count<T: Block>(
     vobs: &Vec<Vob<T>>,
     which: usize,
-    value: bool,
-    bounds: (Bound<usize>, Bound<usize>),
+    selection: Selection,
 ) -> Reply<T>
-    ensures { IsStep T.BITS (lists vobs.now.items) (Count which value bounds.0 bounds.1)
-        (meaning T.number result) (lists vobs.now.items) }
+    ensures { IsStep T.BITS (lists vobs.now.items)
+        (Count which selection.value selection.bounds.0 selection.bounds.1)
+        (answer_of T.number result) (lists vobs.now.items) }
 {
     match vobs.get(which) {
-        Some(vob) => Reply::Number(matching(vob, value, bounds)),
+        Some(vob) => Reply::Number(matching(vob, selection)),
         None => Reply::Skipped,
     }
 }

@@ -1,29 +1,26 @@
 //! The commands that change a Vob in its place.
-ghost use Rattle.vob_run.specs.Answer.{meaning};
+ghost use Rattle.vob_run.specs.Answer.{answer_of};
 ghost use Rattle.vob_run.specs.Call.{Push, Pop, SetBit, SetUnchecked, Truncate, Clear, SetAll, Negate};
 ghost use Rattle.vob_run.specs.Run.{lists, IsStep};
 
-use crate::calls::refused;
+use crate::calls::reply_to;
 use crate::command::Reply;
 use vob::Vob;
 use vob_block::Block;
 
 pub(crate) fn push<T: Block>(vobs: &mut Vec<Vob<T>>, which: usize, value: bool) -> Reply<T>
     ensures { IsStep T.BITS (lists vobs.old.items) (Push which value)
-        (meaning T.number result) (lists vobs.new.items) }
+        (answer_of T.number result) (lists vobs.new.items) }
 {
     let Some(vob) = vobs.get_mut(which) else {
         return Reply::Skipped;
     };
-    match vob.push(value) {
-        Ok(()) => Reply::Done,
-        Err(refusal) => refused(refusal),
-    }
+    reply_to(vob.push(value))
 }
 
 pub(crate) fn pop<T: Block>(vobs: &mut Vec<Vob<T>>, which: usize) -> Reply<T>
     ensures { IsStep T.BITS (lists vobs.old.items) (Pop which)
-        (meaning T.number result) (lists vobs.new.items) }
+        (answer_of T.number result) (lists vobs.new.items) }
 {
     let Some(vob) = vobs.get_mut(which) else {
         return Reply::Skipped;
@@ -38,7 +35,7 @@ pub(crate) fn set_bit<T: Block>(
     value: bool,
 ) -> Reply<T>
     ensures { IsStep T.BITS (lists vobs.old.items) (SetBit which index value)
-        (meaning T.number result) (lists vobs.new.items) }
+        (answer_of T.number result) (lists vobs.new.items) }
 {
     let Some(vob) = vobs.get_mut(which) else {
         return Reply::Skipped;
@@ -56,7 +53,7 @@ pub(crate) fn set_unchecked<T: Block>(
     value: bool,
 ) -> Reply<T>
     ensures { IsStep T.BITS (lists vobs.old.items) (SetUnchecked which index value)
-        (meaning T.number result) (lists vobs.new.items) }
+        (answer_of T.number result) (lists vobs.new.items) }
 {
     let Some(vob) = vobs.get_mut(which) else {
         return Reply::Skipped;
@@ -69,7 +66,7 @@ pub(crate) fn set_unchecked<T: Block>(
 
 pub(crate) fn truncate<T: Block>(vobs: &mut Vec<Vob<T>>, which: usize, len: usize) -> Reply<T>
     ensures { IsStep T.BITS (lists vobs.old.items) (Truncate which len)
-        (meaning T.number result) (lists vobs.new.items) }
+        (answer_of T.number result) (lists vobs.new.items) }
 {
     let Some(vob) = vobs.get_mut(which) else {
         return Reply::Skipped;
@@ -80,7 +77,7 @@ pub(crate) fn truncate<T: Block>(vobs: &mut Vec<Vob<T>>, which: usize, len: usiz
 
 pub(crate) fn clear<T: Block>(vobs: &mut Vec<Vob<T>>, which: usize) -> Reply<T>
     ensures { IsStep T.BITS (lists vobs.old.items) (Clear which)
-        (meaning T.number result) (lists vobs.new.items) }
+        (answer_of T.number result) (lists vobs.new.items) }
 {
     let Some(vob) = vobs.get_mut(which) else {
         return Reply::Skipped;
@@ -91,7 +88,7 @@ pub(crate) fn clear<T: Block>(vobs: &mut Vec<Vob<T>>, which: usize) -> Reply<T>
 
 pub(crate) fn set_all<T: Block>(vobs: &mut Vec<Vob<T>>, which: usize, value: bool) -> Reply<T>
     ensures { IsStep T.BITS (lists vobs.old.items) (SetAll which value)
-        (meaning T.number result) (lists vobs.new.items) }
+        (answer_of T.number result) (lists vobs.new.items) }
 {
     let Some(vob) = vobs.get_mut(which) else {
         return Reply::Skipped;
@@ -102,7 +99,7 @@ pub(crate) fn set_all<T: Block>(vobs: &mut Vec<Vob<T>>, which: usize, value: boo
 
 pub(crate) fn negate<T: Block>(vobs: &mut Vec<Vob<T>>, which: usize) -> Reply<T>
     ensures { IsStep T.BITS (lists vobs.old.items) (Negate which)
-        (meaning T.number result) (lists vobs.new.items) }
+        (answer_of T.number result) (lists vobs.new.items) }
 {
     let Some(vob) = vobs.get_mut(which) else {
         return Reply::Skipped;

@@ -1,7 +1,7 @@
 -- A line reads as the call that its keyword's arguments make, and as no other.
 use Rattle.std.proofs.Common.{◌≡◌, None, Some, sym, ◌∙◌, arith}
 use Rattle.std.proofs.lemmas.Result.{IfOk-weaker}
-use Rattle.vob_run.specs.Call.{usize_call_of}
+use Rattle.vob_run.specs.Commands.{usize_call_of}
 use Rattle.vob_lines.proofs.ReadLemmas.{reads_once, reads_line, not_read, not_named}
 use Rattle.vob_lines.proofs.command.read_command.Goals as goal
 

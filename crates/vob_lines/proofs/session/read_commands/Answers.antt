@@ -3,7 +3,7 @@ use Rattle.std.proofs.Common.{◌≡◌, [], ◌∷◌, ◌++◌, rules, arith}
 use Rattle.std.proofs.lemmas.Bool.Decides.{nat_tests}
 use Rattle.std.proofs.lemmas.Grind.{common_steps}
 use Rattle.std.proofs.lemmas.List.{nil_from_length, map-append}
-use Rattle.vob_run.specs.Call.{usize_call_of}
+use Rattle.vob_run.specs.Commands.{usize_call_of}
 use Rattle.vob_lines.specs.Cuts.{words_of, lines_of}
 use Rattle.vob_lines.specs.Grammar.{Reads}
 use Rattle.vob_lines.proofs.SessionLemmas.{reads_blank, reads_more, reads_all}

@@ -1,5 +1,5 @@
 use Rattle.std.proofs.Common.{◌+◌, ◌≤◌, length, map}
-use Rattle.vob_run.specs.Call.{usize_call_of}
+use Rattle.vob_run.specs.Commands.{usize_call_of}
 use Rattle.vob_lines.specs.Cuts.{lines_of}
 use Rattle.vob_lines.proofs.SessionLemmas.{ReadsSoFar}
 use Rattle.vob_lines.proofs.session.read_commands.Given as goal

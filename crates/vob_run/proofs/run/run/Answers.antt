@@ -1,24 +1,25 @@
 -- No command is a run of no replies, and each reply goes on from the run so far.
-use Rattle.std.proofs.Common.{arith, ◌∷◌, ◌++◌, [], map, refl, sym, ap, ◌∙◌, append_assoc, subst}
-use Rattle.std.proofs.lemmas.List.{append-nil, map_push}
-use Rattle.vob_run.specs.Answer.{meaning}
-use Rattle.vob_run.specs.Call.{call_of}
-use Rattle.vob_run.specs.Run.{lists, IsStep}
-use Rattle.vob_run.proofs.RunLemmas.{IsRun-more}
+use Rattle.std.proofs.Common.{arith, [], refl, sym, ◌∙◌}
+use Rattle.std.proofs.lemmas.List.{append-nil}
+use Rattle.vob_run.specs.Answer.{answer_of}
+use Rattle.vob_run.specs.Commands.{call_of}
+use Rattle.vob_run.proofs.RunLemmas.{HasRun-more}
 use Rattle.vob_run.proofs.run.run.Goals as goal
 
 pub loop-command-init : goal.loop-command-init
-loop-command-init g c = (([], c.in_ok-reserve.ensures.items ∙ sym (append-nil _), refl), omega (arith, c.in_ok-reserve.ensures.ok))
+loop-command-init g c =
+    let reserve = c.in_ok-reserve.ensures in
+    (([], reserve.items ∙ sym (append-nil _), refl), omega (arith, reserve.ok))
 
 pub loop-command-preserved : goal.loop-command-preserved
 loop-command-preserved g c =
-    let f = call_of g.T.Block.number in
-    let m = meaning g.T.Block.number in
-    let so_far = c.loop-command.invariant.0 in
-    let reply = c.run_one-reply.result in
-    let command = c.command-item.result in
-    let taken = subst (λ x. IsStep g.T.Block.BITS (lists c.loop-command.vobs.items) (f x) (m reply) (lists c.run_one-reply.new.vobs.items)) c.command-item.is c.run_one-reply.ensures in
-    let ran = IsRun-more f g.T.Block.BITS _ _ _ c.args.commands.now c.loop-command.command-index command (map m so_far.0) (m reply) c.loop-command-test.true so_far.2 taken in (
-      (so_far.0 ++ reply ∷ [], c.push_reserved.ensures.items ∙ ap (λ rs. rs ++ reply ∷ []) so_far.1 ∙ append_assoc c.args.replies.now.items so_far.0 (reply ∷ []), rw (map_push m so_far.0 reply) ran),
-      omega (arith, c.loop-command.invariant.1, c.push_reserved.ensures.len, c.push_reserved.ensures.capacity),
+    let ran = c.loop-command.invariant in
+    let reply = c.run_one-reply in
+    let command = c.command-item in
+    let pushed = c.push_reserved.ensures in (
+      HasRun-more (call_of g.T.Block.number) (answer_of g.T.Block.number) g.T.Block.BITS
+      c.args.commands.now _ c.args.replies.now.items c.loop-command.command-index _ _ _ _
+      command.result reply.result ran.0 c.loop-command-test.true command.is pushed.items
+      reply.ensures,
+      omega (arith, ran.1, pushed.len, pushed.capacity),
     )

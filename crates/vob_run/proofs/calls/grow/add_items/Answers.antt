@@ -13,12 +13,16 @@ returns g c =
     let did = c.extend.ensures.extended in
     let source = c.copied.ensures.source in
     let rest = c.iter.ensures.rest in
-    let road = YieldsList-at did.2 (YieldsList-from_copied (YieldsList-at source (YieldsList-from_slice bits rest))) in
-    let count : length did.0.iter.rest.now ≡ length bits = ap (λ s. length s.iter.rest.now) did.2 ∙ ap (λ i. length i.rest.now) source ∙ ap length rest in
+    let slice = YieldsList-at source (YieldsList-from_slice bits rest) in
+    let road = YieldsList-at did.2 (YieldsList-from_copied slice) in
+    let count : length did.0.iter.rest.now ≡ length bits =
+    ap (λ s. length s.iter.rest.now) did.2 ∙ ap (λ i. length i.rest.now) source ∙ ap length rest in
     let lower : did.1 ≤ length bits = omega (arith, did.3 tt, count) in
-    let not : 2 ^ 64 - 1 < length vob.bits + length bits → ⊥ = λ e. let wrong = reserved.too_long.1 e in cc in
+    let not : 2 ^ 64 - 1 < length vob.bits + length bits → ⊥ = λ e.
+    let wrong = reserved.too_long.1 e in cc in
     let same = ap length reserved.bits in
-    let all = all_added _ did.0 did.1 c.reserve.new.self c.extend.new.self bits road lower (omega (arith, reserved.ok, same)) (omega (arith, not, same)) c.extend.result did.4 in
+    let all = all_added _ did.0 bits road did.1 c.reserve.new.self c.extend.new.self lower
+    (omega (arith, reserved.ok, same)) (omega (arith, not, same)) c.extend.result did.4 in
     record {
       ok = rw all.0 (all.1 ∙ ap (λ l. l ++ bits) reserved.bits);
       err = rw all.0 tt;

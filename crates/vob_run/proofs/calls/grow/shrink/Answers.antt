@@ -1,14 +1,11 @@
 -- The Vob has the same bits.
 use Rattle.std.proofs.Common.{refl, inl}
-use Rattle.std.proofs.lemmas.Option.{slice_get_read}
-use Rattle.vob_run.proofs.StepLemmas.{list_at, lists-same}
+use Rattle.vob_run.proofs.StepLemmas.{lent, list_at, lists-same}
 use Rattle.vob_run.proofs.calls.grow.shrink.Goals as goal
 
 pub returns : goal.returns
 returns g c =
-    let items = c.args.vobs.now.items in
-    let which = c.args.which in
-    let vob = c.in-Some.vob.now in
     let item = c.in-Some.ensures.item in
-    let there = slice_get_read items _ which vob refl item.3.0 item.1 in
-    inl (rw (list_at items which vob there, lists-same items which vob there c.shrink_to_fit.new.self c.shrink_to_fit.ensures.bits) refl)
+    let vob = lent c.args.vobs.now.items c.args.which c.in-Some.vob.now item.3.0 item.1 in
+    let same = lists-same vob c.shrink_to_fit.new.self c.shrink_to_fit.ensures.bits in
+    inl (rw (list_at vob, same) refl)

@@ -8,7 +8,8 @@ pub returns-in-Ok : goal.returns-in-Ok
 returns-in-Ok c =
     let items = c.args.vobs.now.items in
     let blocks = c.args.blocks.now in
-    let taken = rw c.in-Ok.ensures at c.into_vob.ensures.taken in
+    let canonical = rw c.in-Ok.ensures at c.into_vob.ensures.taken in
     let bits = rw c.in-Ok.ensures at c.into_vob.ensures.bits in
-    taken_step 64 (omega arith) items (FromRecord c.args.len blocks) c.args.len blocks refl tt c.reserve.new.self.items c.reserve.ensures.items
-    c.into_vob.result _ c.taken.new.vobs.items taken bits c.taken.ensures.ok c.taken.ensures.err
+    taken_step 64 (omega arith) items (FromRecord c.args.len blocks) c.args.len blocks refl
+    c.reserve.ensures.items c.into_vob.result canonical bits
+    (record { ok = c.taken.ensures.ok; err = c.taken.ensures.err })

@@ -7,4 +7,6 @@ use Rattle.vob_run.proofs.calls.raw.are_as_many.Goals as goal
 pub returns : goal.returns
 returns g c =
     let wide = width_pos g.T.FixedWidth.width _ g.met.T.Block.width_law in
-    ap (nat_eq (length c.args.blocks.now)) (c.div_ceil.ensures ∙ need-is-div_ceil g.T.Block.BITS wide c.args.len c.BITS.result c.BITS.ensures)
+    let width = g.T.Block.BITS in
+    let rounded = need-is-div_ceil width wide c.args.len c.BITS.result c.BITS.ensures in
+    ap (nat_eq (length c.args.blocks.now)) (c.div_ceil.ensures ∙ rounded)
