@@ -26,16 +26,16 @@ pub record IsAnswered (old : BitVector) (bits : List Bool) (result : Result Unit
 -- one bit more
 pub step-push : (width : ℕ) {items : List BitVector} {which : ℕ} {old : BitVector}
     → IsLent items which old → (value : Bool) → step width (lists items) (Push which value)
-      ≡ unless_long (lists items) (length old.bits + 1)
-        (outcome done (set (lists items) which (old.bits ++ value ∷ [])))
+    ≡ unless_long (lists items) (length old.bits + 1)
+    (outcome done (set (lists items) which (old.bits ++ value ∷ [])))
 step-push width {items} {which} {old} vob value =
     let n = length old.bits in
     let most = 2 ^ 64 - 1 in
     elim (cases_lt n most) [
       | inl less ↦
-      rw (list_at vob, lt-ltb n most less, le-ltb most (n + 1) (omega (arith, less))) refl
+          rw (list_at vob, lt-ltb n most less, le-ltb most (n + 1) (omega (arith, less))) refl
       | inr past ↦
-      rw (list_at vob, le-ltb n most past, lt-ltb most (n + 1) (omega (arith, past))) refl
+          rw (list_at vob, le-ltb n most past, lt-ltb most (n + 1) (omega (arith, past))) refl
     ]
 
 module _ (width : ℕ) (items : List BitVector) (which : ℕ) (old : BitVector)
@@ -44,7 +44,7 @@ module _ (width : ℕ) (items : List BitVector) (which : ℕ) (old : BitVector)
   pub asked_step : (asked : ℕ) {bits : List Bool} {result : Result Unit VobError}
       {answer : Answer} {new : BitVector} → IsAnswered old bits result answer new
       → step width (lists items) call
-        ≡ unless_long (lists items) asked (outcome done (set (lists items) which bits))
+      ≡ unless_long (lists items) asked (outcome done (set (lists items) which bits))
       → (result ≡ Err TooLong) ↔ (2 ^ 64 - 1 < asked)
       → (result ≡ Err Memory → TakesMemory width (lists items) call)
       → IsStep width (lists items) call answer (lists (set items which new))
@@ -69,9 +69,9 @@ module _ (width : ℕ) (items : List BitVector) (which : ℕ) (old : BitVector)
       → step width (lists items) call ≡ on (lists items) which (extended (lists items) which more)
       → (result ≡ Err TooLong) ↔ (2 ^ 64 - 1 < length old.bits + length more)
       → (Grows width (lists items) which (λ bits. length bits + length more)
-        → TakesMemory width (lists items) call)
+      → TakesMemory width (lists items) call)
       → (result ≡ Err Memory
-        → need (length old.bits) width < need (length old.bits + length more) width)
+      → need (length old.bits) width < need (length old.bits + length more) width)
       → IsStep width (lists items) call answer (lists (set items which new))
   extended_step more answered is long takes grows =
       asked_step (length old.bits + length more) answered (is ∙ rw (list_at vob) refl) long

@@ -33,7 +33,7 @@ module _ {S : Type 0} (steps : S → Option Bool → S → Type 0) (it : S) (ite
       (fits : length before.bits + length items ≤ 2 ^ 64 - 1) where
     not_refused : (refusal : VobError)
         → RefusesHint steps it hint before after refusal
-          ⊎ RefusesItem steps it hint before after refusal
+        ⊎ RefusesItem steps it hint before after refusal
         → ⊥
     not_refused TooLong (inl h) = omega (arith, h.1, lower, fits)
     not_refused Memory (inl h) = omega (arith, h.1, lower, room)

@@ -30,7 +30,7 @@ MayRefuse-made : (width : ℕ) (before : List BitVector) (call : Call) (bits : L
     → Makes width before call bits → MayRefuse width (lists before) call
 MayRefuse-made width before call bits makes =
     let answers : (step width (lists before) call).answer ≡ made (length (lists before)) =
-      ap (λ o. o.answer) makes.is in
+    ap (λ o. o.answer) makes.is in
     (makes.takes, (λ e. cc), (λ e. cc))
 
 -- a Vob with these bits, or a refusal, once there is room for it
@@ -49,7 +49,7 @@ pub added_step : {width : ℕ} {before : List BitVector} {call : Call} {bits : L
     → (result : Result BitVector VobError) (answer : Answer) (after : List BitVector)
     → (result ≡ Err TooLong → ⊥) → IfOk result (λ v. v.bits ≡ bits)
     → IfOk result (λ v. ((answer ≡ made (length before)) × (after ≡ before ++ v ∷ []))
-      ⊎ ((answer ≡ refused 2) × (after ≡ before)))
+    ⊎ ((answer ≡ refused 2) × (after ≡ before)))
     → IfErr result (λ refusal. (answer ≡ refused (refusal_number refusal)) × (after ≡ before))
     → IsStep width (lists before) call answer (lists after)
 added_step makes (Ok v) answer after short same (inl placed) err =
@@ -65,7 +65,7 @@ module _ (width : ℕ) (before : List BitVector) (which index : ℕ) (old : BitV
     (vob : IsLent before which old) where
   step-cut : step width (lists before) (SplitOff which index)
       ≡ outcome (made (length (lists before)))
-        (set (lists before) which (take index old.bits) ++ drop index old.bits ∷ [])
+      (set (lists before) which (take index old.bits) ++ drop index old.bits ∷ [])
   step-cut = rw (list_at vob) refl
 
   MayRefuse-cut : MayRefuse width (lists before) (SplitOff which index)

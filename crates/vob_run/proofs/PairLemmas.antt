@@ -68,8 +68,8 @@ pub lent_back : {items slice : List BitVector} {len which other : ℕ} {old more
     → AreLent items which other old more → slice ≡ items → len ≡ length items
     → (new : BitVector)
     → take len (set (set slice which new) other more
-        ++ drop (length (set (set slice which new) other more)) items)
-      ≡ set items which new
+    ++ drop (length (set (set slice which new) other more)) items)
+    ≡ set items which new
 lent_back {items} {slice} {len} {which} {other} {old} {more} two same long new =
     let ws = set (set slice which new) other more in
     let read = ap (λ l. slice_get l other) same ∙ two.second.there in
@@ -127,7 +127,7 @@ module _ (width : ℕ) (all : List (List Bool)) (which other : ℕ) where
 
   pub step-combining_new : (how : Connective) → step width all (combining_new how which other)
       ≡ on_same_length all which other
-        (λ bits others. makes all (pointwise (operator how) bits others))
+      (λ bits others. makes all (pointwise (operator how) bits others))
   step-combining_new And = refl
   step-combining_new Or = refl
   step-combining_new Xor = refl

@@ -17,7 +17,7 @@ use Rattle.vob_run.proofs.MakeLemmas.{IsPlaced}
 -- the test of the blocks is true exactly where they are canonical
 same_blocks-canonical : (width : ℕ) → 0 < width → (len : ℕ) (blocks : List ℕ)
     → (same_blocks blocks (packing (spelled len blocks width) width) ≡ true)
-      ↔ IsCanonical len blocks width
+    ↔ IsCanonical len blocks width
 same_blocks-canonical width wide len blocks =
     let test = bytes_decides blocks (packing (spelled len blocks width) width) in (
       (λ e. canonical_from_packing width wide len blocks (test.0 e)),
@@ -32,8 +32,8 @@ step-from_raw width all len mask blocks enough = rw enough refl
 
 -- a Vob of their bits, where they are canonical, or the refusal of other ones
 module _ (width : ℕ) (wide : 0 < width) (before : List BitVector) (call : Call) (len : ℕ)
-    (blocks : List ℕ) (is : step width (lists before) call ≡ taken (lists before) width len blocks)
-    where
+    (blocks : List ℕ)
+    (is : step width (lists before) call ≡ taken (lists before) width len blocks) where
   pub taken_step : {E : Type 0} {between after : List BitVector} {answer : Answer}
       → between ≡ before → (result : Result BitVector E)
       → IsOk result ↔ IsCanonical len blocks width

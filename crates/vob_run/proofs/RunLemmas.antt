@@ -37,7 +37,9 @@ module _ {C R : Type 0} (call_of : C → Call) (answer_of : R → Answer) (width
       (call_of command) (answer_of reply) ran.2 step in
       let next = take_more commands i command inside in
       let taken = ap (λ c. take i commands ++ c ∷ []) read in
-      let behind = ap (λ rs. rs ++ reply ∷ []) ran.1 ∙ append_assoc old ran.0 (reply ∷ []) in
-      (ran.0 ++ reply ∷ [], pushed ∙ behind,
-      rw (next, ← taken, map_push call_of (take i commands) command, map_push answer_of ran.0 reply)
-      more)
+      let calls-push = map_push call_of (take i commands) command in
+      let behind = ap (λ rs. rs ++ reply ∷ []) ran.1 ∙ append_assoc old ran.0 (reply ∷ []) in (
+        ran.0 ++ reply ∷ [],
+        pushed ∙ behind,
+        rw (next, ← taken, calls-push, map_push answer_of ran.0 reply) more,
+      )

@@ -64,7 +64,7 @@ flag-differ false false false h = refl
 module _ (width : ℕ) (items : List BitVector) (which index : ℕ) (value : Bool) (old : BitVector)
     (vob : IsLent items which old) (call : Call)
     (is : step width (lists items) call
-      ≡ on (lists items) which (written (lists items) which index value)) where
+    ≡ on (lists items) which (written (lists items) which index value)) where
   pub written_past : length old.bits ≤ index
       → IsStep width (lists items) call skipped (lists (set items which old))
   written_past past =

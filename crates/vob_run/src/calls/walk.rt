@@ -32,9 +32,17 @@ fn dealt<T: Block>(
 {
     let mut indices = Vec::new(alloc);
     if selection.value {
-        deal(&mut vob.iter_set_bits(selection.bounds), pulls, &mut indices)?;
+        deal(
+            &mut vob.iter_set_bits(selection.bounds),
+            pulls,
+            &mut indices,
+        )?;
     } else {
-        deal(&mut vob.iter_unset_bits(selection.bounds), pulls, &mut indices)?;
+        deal(
+            &mut vob.iter_unset_bits(selection.bounds),
+            pulls,
+            &mut indices,
+        )?;
     }
     Ok(indices)
 }
@@ -71,11 +79,7 @@ fn matching<T: Block>(vob: &Vob<T>, selection: Selection) -> usize
     }
 }
 
-pub(crate) fn count<T: Block>(
-    vobs: &Vec<Vob<T>>,
-    which: usize,
-    selection: Selection,
-) -> Reply<T>
+pub(crate) fn count<T: Block>(vobs: &Vec<Vob<T>>, which: usize, selection: Selection) -> Reply<T>
     ensures { IsStep T.BITS (lists vobs.now.items)
         (Count which selection.value selection.bounds.0 selection.bounds.1)
         (answer_of T.number result) (lists vobs.now.items) }

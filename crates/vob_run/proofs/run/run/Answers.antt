@@ -18,8 +18,8 @@ loop-command-preserved g c =
     let command = c.command-item in
     let pushed = c.push_reserved.ensures in (
       HasRun-more (call_of g.T.Block.number) (answer_of g.T.Block.number) g.T.Block.BITS
-      c.args.commands.now _ c.args.replies.now.items c.loop-command.command-index _ _ _ _
-      command.result reply.result ran.0 c.loop-command-test.true command.is pushed.items
-      reply.ensures,
+          c.args.commands.now _ c.args.replies.now.items c.loop-command.command-index _ _ _ _
+          command.result reply.result ran.0 c.loop-command-test.true command.is pushed.items
+          reply.ensures,
       omega (arith, ran.1, pushed.len, pushed.capacity),
     )

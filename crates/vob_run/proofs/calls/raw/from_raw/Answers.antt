@@ -24,8 +24,8 @@ returns-in-Ok g c =
     let enough : (mask && not (length blocks == need len width)) ≡ false =
     elim c.else-mask.branch [
       | else-mask-via-then-mask+else-not-are_as_many w ↦
-      let many = w.if-not-are_as_many.false in
-      rw (w.if-mask.true, length-map given number, ← w.are_as_many.ensures, many) refl
+          let many = w.if-not-are_as_many.false in
+          rw (w.if-mask.true, length-map given number, ← w.are_as_many.ensures, many) refl
       | else-mask-via-else-mask w ↦ rw w.if-mask.false refl
     ] in
     let is = step-from_raw width (lists items) len mask blocks enough in
