@@ -1,14 +1,18 @@
 -- What an `extend` by the items of an iterator leaves, which reserves the lower bound of its hint first.
-use Rattle.std.specs.Prelude.{◌≡◌, ◌⊎◌, ℕ, ◌+◌, ◌-◌, ◌^◌, ◌<◌, ◌≤◌, Bool, List, ◌++◌, length, Option, Some, Result, Err, OnOk, IfErr, ⊤}
-use Rattle.std.specs.Iterator.{Drains, YieldsThen}
+use Rattle.std.specs.Prelude.{◌≡◌, ◌⊎◌, ℕ, ◌+◌, ◌<◌, ◌≤◌, Bool, List, ◌++◌, length, Option, Some, Result, Err, OnOk, IfErr, ⊤}
+use Rattle.std.specs.Iterator.{Drains, Yields, YieldsThen}
 use Rattle.vob.specs.declared.error.VobError.{VobError}
 use Rattle.vob.specs.declared.error.VobError.TheVariants.{TooLong, Memory}
-use Rattle.vob.specs.Vob.{BitVector}
+use Rattle.vob.specs.Vob.{BitVector, IsTooLong}
 
--- n bits more may be refused: they pass the greatest length, or have no room
-abbrev pub MayRefuseMore : VobError → BitVector → ℕ → Type 0
-MayRefuseMore TooLong vob n = 2 ^ 64 - 1 < length vob.bits + n
-MayRefuseMore Memory vob n = vob.capacity < length vob.bits + n
+-- why n bits more may be refused
+abbrev pub MayRefuse : VobError → BitVector → ℕ → Type 0
+MayRefuse TooLong vob n = IsTooLong vob n
+MayRefuse Memory vob n = vob.capacity < length vob.bits + n
+
+-- calls of an iterator give more than n items
+abbrev pub GivesMoreThan : {S : Type 0} → (S → Option Bool → S → Type 0) → S → ℕ → Type 0
+GivesMoreThan {S} steps it n = (items : List Bool) × (rest : S) × Yields steps it items rest × (n < length items)
 
 module _ {S : Type 0} (steps : S → Option Bool → S → Type 0) (it : S) (hint : ℕ) (before after : BitVector) where
   -- all items are added
@@ -17,15 +21,15 @@ module _ {S : Type 0} (steps : S → Option Bool → S → Type 0) (it : S) (hin
 
   -- the hint is refused, and nothing is added
   abbrev pub RefusesHint : VobError → Type 0
-  RefusesHint refusal = (0 < hint) × MayRefuseMore refusal before hint × (after.bits ≡ before.bits)
+  RefusesHint refusal = (0 < hint) × MayRefuse refusal before hint × (after.bits ≡ before.bits)
 
   -- an item is refused, and those before it are added, no fewer than the hint
   abbrev pub RefusesItem : VobError → Type 0
   RefusesItem refusal =
       (added : List Bool) × (bit : Bool) × (rest : S) × YieldsThen steps it added (Some bit) rest × (hint ≤ length added)
-      × MayRefuseMore refusal before (length added + 1) × (after.bits ≡ before.bits ++ added)
+      × MayRefuse refusal before (length added + 1) × (after.bits ≡ before.bits ++ added)
 
   pub record IsExtended (result : Result ⊤ VobError) : Type 0 where
     pub ok : OnOk result AddsAll
     pub err : IfErr result (λ refusal. RefusesHint refusal ⊎ RefusesItem refusal)
-    pub too_long : 2 ^ 64 - 1 < length before.bits + hint → result ≡ Err TooLong
+    pub too_long : IsTooLong before hint → result ≡ Err TooLong

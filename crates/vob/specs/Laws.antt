@@ -36,7 +36,7 @@ abbrev pub UnequalWherePlacesDiffer : Type 0
 UnequalWherePlacesDiffer =
     (bits others : List Bool) → length bits ≡ length others → (bits ≢ others) ↔ DifferSomewhere bits others
 
--- a list changes by being taken together with another exactly where some bit does
+-- a list changes by being combined with another exactly where some bit does
 abbrev pub PointwiseChangesBits : Type 0
 PointwiseChangesBits =
     (f : Bool → Bool → Bool) (bits others : List Bool) → length bits ≡ length others
@@ -48,11 +48,11 @@ SetChangesBit =
     (bits : List Bool) (index : ℕ) (value : Bool) → index < length bits
     → (slice_get bits index ≢ Some value) ↔ (slice_set bits index value ≢ bits)
 
--- every bit turned round twice is the list
+-- every bit negated twice is the list
 abbrev pub NegateTwice : Type 0
 NegateTwice = (bits : List Bool) → map not (map not bits) ≡ bits
 
--- equal lists differ at no place, so that every bit of both taken together is false
+-- equal lists differ at no place, so that every bit of both combined is false
 abbrev pub XorOfEqual : Type 0
 XorOfEqual = (bits others : List Bool) → bits ≡ others → pointwise differ bits others ≡ replicate (length bits) false
 

@@ -1,16 +1,9 @@
-pub mod BothValues
-pub mod Count
-pub mod Cursor
-pub mod Ends
 pub mod Extending
 pub mod Fed
-pub mod Joining
 pub mod Laws
-pub mod Matches
 pub mod Raw
 pub mod RawLends
 pub mod Refusal
 pub mod Rest
 pub mod Same
 pub mod Vob
-pub mod Walk

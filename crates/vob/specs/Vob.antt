@@ -1,5 +1,6 @@
 -- What a contract sees of a `Vob`.
-use Rattle.std.specs.Prelude.{◌≡◌, ℕ, List, Bool, length}
+use Rattle.std.specs.Prelude.{◌≡◌, ℕ, ◌+◌, ◌-◌, ◌^◌, ◌<◌, ◌≤◌, List, Bool, length}
+use Rattle.vob_block.specs.Packing.{need}
 use Rattle.vob_block.specs.Pointwise.{pointwise}
 
 -- the bits, index 0 first, and how many bits there is room for without memory
@@ -7,11 +8,24 @@ pub record BitVector : Type 0 where
   pub bits : List Bool
   pub capacity : ℕ
 
--- two Vobs of one length, which can be taken together
-abbrev pub AreAsLong : BitVector → BitVector → Type 0
-AreAsLong vob other = length vob.bits ≡ length other.bits
+-- n bits more are past the greatest length
+abbrev pub IsTooLong : BitVector → ℕ → Type 0
+IsTooLong vob n = 2 ^ 64 - 1 < length vob.bits + n
 
--- a Vob taken together with another by f, one bit after another, with the room that it had
-pub record IsTogether (f : Bool → Bool → Bool) (vob other after : BitVector) : Type 0 where
+-- n bits more fit within the capacity
+abbrev pub HasRoomFor : BitVector → ℕ → Type 0
+HasRoomFor vob n = length vob.bits + n ≤ vob.capacity
+
+-- n bits more are past the capacity, and need more blocks
+abbrev pub NeedsMemory : ℕ → BitVector → ℕ → Type 0
+NeedsMemory width vob n =
+    (vob.capacity < length vob.bits + n) × (need (length vob.bits) width < need (length vob.bits + n) width)
+
+-- two Vobs of one length, whose bits can be combined
+abbrev pub HaveSameLength : BitVector → BitVector → Type 0
+HaveSameLength vob other = length vob.bits ≡ length other.bits
+
+-- the bits of two Vobs combined by f, in the room that the first had
+pub record BecomesPointwise (f : Bool → Bool → Bool) (vob other after : BitVector) : Type 0 where
   pub bits : after.bits ≡ pointwise f vob.bits other.bits
   pub capacity : after.capacity ≡ vob.capacity

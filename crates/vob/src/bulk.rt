@@ -1,17 +1,22 @@
 //! Calls on many bits at once: growing, joining and cutting.
-ghost use Rattle.std.specs.Prelude.{◌≡◌, ◌↔◌, ◌+◌, ◌-◌, ◌<◌, ◌≤◌, ◌++◌, map, length, take, drop, replicate, IsOk, IfOk, OnOk, OnErr, Err};
-ghost use Rattle.vob_block.specs.Packing.{need, spelled, IsCanonical};
+ghost use Rattle.std.specs.Prelude.{◌≡◌, ◌↔◌, ℕ, ◌+◌, ◌-◌, ◌<◌, ◌≤◌, ◌++◌, map, length, take, drop, replicate, IsOk, IfOk, OnOk, OnErr, Err};
+ghost use Rattle.std.specs.Iterator.{IsFinite};
+ghost use Rattle.std.specs.Iterator.SizeHint.{IsWithinCount};
+ghost use Rattle.vob_block.specs.Packing.{need, unpacking, IsCanonical};
+ghost use Rattle.vob.specs.Extending.{IsExtended};
+ghost use Rattle.vob.specs.Vob.{HasRoomFor, IsTooLong, NeedsMemory};
 
-use crate::edit::cut_to;
 use crate::error::VobError;
-use crate::fill::append_even;
-use crate::gathered::append_slice;
-use crate::joined::{cut, join, join_copied};
-use crate::room::reserve_bits;
 use crate::vob::Vob;
 use std::alloc::AllocError;
 use std::mem;
 use vob_block::{Block, Blocks};
+use vob_store::fill::append_fill;
+use vob_store::join::{join, join_copied};
+use vob_store::mask::truncate_to;
+use vob_store::pack::append_slice;
+use vob_store::room::reserve_bits;
+use vob_store::split::split_blocks;
 
 impl<T: Block> Vob<T> {
     /// Cuts the bits to `new_len`, or adds bits of `value` up to `new_len`. vob 4.0.1 ends the process
@@ -31,7 +36,7 @@ impl<T: Block> Vob<T> {
             return Ok(());
         }
         reserve_bits(&mut self.vec, new_len)?;
-        append_even(&mut self.vec, self.len, new_len, value);
+        append_fill(&mut self.vec, self.len, new_len, value);
         self.len = new_len;
         Ok(())
     }
@@ -43,12 +48,8 @@ impl<T: Block> Vob<T> {
         ensures err { OnErr result (self.new.bits ≡ self.old.bits) }
 
         // A length that is too great is refused first, and memory only where there is no room.
-        ensures too_long { (result ≡ Err VobError.TooLong)
-            ↔ (usize.MAX < length self.old.bits + length other.now) }
-        ensures memory { result ≡ Err VobError.Memory
-            → (self.old.capacity < length self.old.bits + length other.now)
-            × (need (length self.old.bits) T.BITS
-            < need (length self.old.bits + length other.now) T.BITS) }
+        ensures too_long { (result ≡ Err VobError.TooLong) ↔ IsTooLong self.old (length other.now) }
+        ensures memory { result ≡ Err VobError.Memory → NeedsMemory T.BITS self.old (length other.now) }
         ensures capacity { self.old.capacity ≤ self.new.capacity }
     {
         if usize::MAX - self.len < other.len() {
@@ -60,12 +61,33 @@ impl<T: Block> Vob<T> {
         Ok(())
     }
 
-    /// Appends the `more` bits that `other` spells, in the room that there is. Each block of `other`
+    /// Appends the items of an iterator that ends. The lower bound of its size hint is reserved
+    /// first; where that is refused nothing is added, and where an item is refused those before it
+    /// stay. vob 4.0.1 ends the process where memory is refused, and panics where the length would
+    /// pass `usize::MAX`.
+    pub fn extend<I: IntoIterator<Item = bool>>(&mut self, iter: I) -> Result<(), VobError>
+        requires { (it : I.IntoIter) → I.into_iter_gives iter it
+            → I.IntoIter.can_next it × IsFinite (I.IntoIter.remaining it) }
+        ensures extended { (it : I.IntoIter) × (hint : ℕ) × I.into_iter_gives iter it
+            × IsWithinCount hint (I.IntoIter.remaining it)
+            × IsExtended I.IntoIter.next_gives it hint self.old self.new result }
+        ensures capacity { self.old.capacity ≤ self.new.capacity }
+    {
+        let items = iter.into_iter();
+        let (hint, _) = items.size_hint();
+        self.reserve(hint)?;
+        for bit in items {
+            self.push(bit)?;
+        }
+        Ok(())
+    }
+
+    /// Appends the `more` bits that `other` holds, in the room that there is. Each block of `other`
     /// is read once. vob 4.0.1 has a private call like it.
     pub fn append_blocks(&mut self, other: &mut Blocks<'_, T>, more: usize)
         requires other { IsCanonical more (map T.number other.old.items) T.BITS }
-        requires room { length self.old.bits + more ≤ self.old.capacity }
-        ensures bits { self.new.bits ≡ self.old.bits ++ spelled more (map T.number other.old.items) T.BITS }
+        requires room { HasRoomFor self.old more }
+        ensures bits { self.new.bits ≡ self.old.bits ++ unpacking more (map T.number other.old.items) T.BITS }
         ensures capacity { self.old.capacity ≤ self.new.capacity }
         ensures items { other.new.items ≡ other.old.items }
         ensures reads { other.new.reads ≡ other.old.reads + length other.old.items }
@@ -77,7 +99,7 @@ impl<T: Block> Vob<T> {
     /// Appends the bits of `other`, in the room that there is. Behind whole blocks its blocks are
     /// copied all at once.
     fn append_vob(&mut self, other: &Vob<T>)
-        requires room { length self.old.bits + length other.now.bits ≤ self.old.capacity }
+        requires room { HasRoomFor self.old (length other.now.bits) }
         ensures bits { self.new.bits ≡ self.old.bits ++ other.now.bits }
         ensures capacity { self.old.capacity ≤ self.new.capacity }
     {
@@ -96,12 +118,8 @@ impl<T: Block> Vob<T> {
         ensures err { OnErr result (self.new.bits ≡ self.old.bits) }
 
         // A length that is too great is refused first, and memory only where there is no room.
-        ensures too_long { (result ≡ Err VobError.TooLong)
-            ↔ (usize.MAX < length self.old.bits + length other.now.bits) }
-        ensures memory { result ≡ Err VobError.Memory
-            → (self.old.capacity < length self.old.bits + length other.now.bits)
-            × (need (length self.old.bits) T.BITS
-            < need (length self.old.bits + length other.now.bits) T.BITS) }
+        ensures too_long { (result ≡ Err VobError.TooLong) ↔ IsTooLong self.old (length other.now.bits) }
+        ensures memory { result ≡ Err VobError.Memory → NeedsMemory T.BITS self.old (length other.now.bits) }
         ensures capacity { self.old.capacity ≤ self.new.capacity }
     {
         if usize::MAX - self.len < other.len {
@@ -139,9 +157,9 @@ impl<T: Block> Vob<T> {
                 },
             ));
         }
-        let vec = cut(alloc, self.vec.as_slice(), self.len, at)?;
+        let vec = split_blocks(alloc, self.vec.as_slice(), self.len, at)?;
         let len = self.len - at;
-        cut_to(&mut self.vec, self.len, at);
+        truncate_to(&mut self.vec, self.len, at);
         self.len = at;
         Ok(Vob { len, vec })
     }

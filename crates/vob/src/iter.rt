@@ -1,15 +1,18 @@
 //! The walks over a Vob: over its bits from both ends, and over its blocks.
-ghost use Rattle.std.specs.Prelude.{◌≡◌, ◌*◌, ◌^◌, ◌<◌, ◌≤◌, Bool, map, length, Some, IfSome};
+ghost use Rattle.std.specs.Prelude.{◌≡◌, ◌+◌, ◌*◌, ◌^◌, ◌<◌, ◌≤◌, Bool, true, false, map, length, Some, IfSome};
 ghost use Rattle.std.specs.Iterator.{YieldsFirst, YieldsLast, item_count, at_most, UpTo};
 ghost use Rattle.std.specs.Iterator.SizeHint.{IsWithinCount};
 ghost use Rattle.std.specs.Iterator.Runs.{YieldsInOrder, YieldsInReverse};
-ghost use Rattle.vob_block.specs.Packing.{stored};
+ghost use Rattle.vob_block.specs.Packing.{packing};
+ghost use Rattle.vob_walk.specs.Walk.{IsFresh, GivesFirst, GivesLast};
 
-use crate::packed::block_bit;
 use crate::vob::Vob;
 use std::iter::FusedIterator;
 use std::marker::Model;
+use std::ops::RangeBounds;
 use vob_block::Block;
+use vob_store::single::block_bit;
+pub use vob_walk::{End, IndexWalk, IterSetBits, IterUnsetBits, count_ones_in, deal};
 
 /// The bits of a Vob in order, seen as the list of those that are left.
 #[derive(Drop)]
@@ -47,6 +50,39 @@ impl<T: Block> Vob<T> {
             next: 0,
             end: self.len(),
         }
+    }
+
+    /// A walk over the blocks, the one with bit 0 first.
+    pub fn iter_storage(&self) -> StorageIter<'_, T>
+        ensures { map T.number result ≡ packing self.now.bits T.BITS }
+    {
+        StorageIter {
+            rest: self.vec.as_slice(),
+        }
+    }
+
+    /// The indices of the set bits within a range, the least first. vob 4.0.1 adds 1 to an included
+    /// end and to an excluded start unchecked, so `usize::MAX` there panics or wraps.
+    pub fn iter_set_bits<R: RangeBounds<usize>>(&self, range: R) -> IterSetBits<'_, T>
+        ensures fresh { R.has_bounds range
+            → IsFresh result self.now.bits true (R.start_bound range) (R.end_bound range) T.BITS }
+        ensures reads { result.reads ≡ 0 }
+        ensures runs { YieldsInOrder GivesFirst (λ walk. walk.rest) }
+        ensures runs_back { YieldsInReverse GivesLast (λ walk. walk.rest) }
+    {
+        IterSetBits::over(self.blocks(), self.len(), range)
+    }
+
+    /// The indices of the unset bits within a range, the least first. vob 4.0.1 adds 1 to an included
+    /// end and to an excluded start unchecked, so `usize::MAX` there panics or wraps.
+    pub fn iter_unset_bits<R: RangeBounds<usize>>(&self, range: R) -> IterUnsetBits<'_, T>
+        ensures fresh { R.has_bounds range
+            → IsFresh result self.now.bits false (R.start_bound range) (R.end_bound range) T.BITS }
+        ensures reads { result.reads ≡ 0 }
+        ensures runs { YieldsInOrder GivesFirst (λ walk. walk.rest) }
+        ensures runs_back { YieldsInReverse GivesLast (λ walk. walk.rest) }
+    {
+        IterUnsetBits::over(self.blocks(), self.len(), range)
     }
 }
 

@@ -1,7 +1,7 @@
 //! The laws of the operations on lists of bits. Each function does nothing: its contract is the law.
 ghost use Rattle.vob.specs.Laws.{JoinUndoesCut, JoinIsPushes, EqualWhereListsAre, EqualWhereStorageIs, UnequalWherePlacesDiffer, PointwiseChangesBits, SetChangesBit, NegateTwice, XorOfEqual, NegatedAnd};
-ghost use Rattle.vob.specs.BothValues.{MatchesShareNoIndex, MatchesFillTheRange, MatchesAddUp};
-ghost use Rattle.vob.specs.Ends.{NoneIsForGood};
+ghost use Rattle.vob_walk.specs.Laws.{MatchesShareNoIndex, MatchesFillTheRange, MatchesAddUp};
+ghost use Rattle.vob_walk.specs.Laws.{NoneIsForGood};
 
 /// Cutting a list and joining the parts gives it back, so a `split_off` and an `extend_from_vob` of
 /// the part that both succeed leave the old bits.
@@ -30,7 +30,7 @@ pub fn unequal_where_places_differ()
     ensures { UnequalWherePlacesDiffer }
 {}
 
-/// A list taken together with another changes exactly where some bit does, so `and`, `or` and `xor`
+/// A list combined with another changes exactly where some bit does, so `and`, `or` and `xor`
 /// answer true exactly there.
 pub fn pointwise_changes_bits()
     ensures { PointwiseChangesBits }
@@ -42,7 +42,7 @@ pub fn set_changes_bit()
     ensures { SetChangesBit }
 {}
 
-/// Turning every bit round twice leaves the list.
+/// Negating every bit twice leaves the list.
 pub fn negate_twice()
     ensures { NegateTwice }
 {}
@@ -53,8 +53,8 @@ pub fn xor_of_equal()
     ensures { XorOfEqual }
 {}
 
-/// What not both have is what either hasn't: the `and` of two lists, turned round, is the `or` of
-/// both turned round.
+/// What not both have is what either hasn't: the `and` of two lists, negated, is the `or` of
+/// both negated.
 pub fn negated_and()
     ensures { NegatedAnd }
 {}

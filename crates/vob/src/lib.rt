@@ -1,38 +1,33 @@
 //! A packed vector of bits: `Vec<bool>` at one bit an item, rounded up to whole blocks.
+//!
+//! ```
+//! /// Takes the first free slot, if one is free. A set bit is a slot that is taken.
+//! pub fn take_slot(slots: &mut Vob) -> Option<usize> {
+//!     let slot = slots.iter_unset_bits(..).next()?;
+//!     slots.set(slot, true);
+//!     Some(slot)
+//! }
+//! ```
+//!
+//! 1. Bit `i` stands in block `i / T::BITS`, at the place of weight `2^(i % T::BITS)`.
+//! 2. The unused bits of the last block are 0 after every call.
+//! 3. What fits within the capacity is never refused, and a refused call leaves all bits as they
+//!    were; `extend` alone may keep a first part of its items.
 #![tactic(auto)]
 
-mod bits;
 pub mod bulk;
-mod bytes;
-mod count;
-mod cursor;
-mod edit;
 mod error;
-mod fill;
-mod gathered;
-mod hand;
-mod index;
-mod items;
 pub mod iter;
-mod joined;
 pub mod laws;
 mod macros;
-mod make;
 pub mod ops;
-mod packed;
-mod range;
 pub mod raw;
-mod room;
-mod same;
-mod scan;
 pub mod vob;
-mod walk;
 
-pub use count::count_ones_in;
 pub use error::VobError;
-pub use index::{IterSetBits, IterUnsetBits};
-pub use iter::{Iter, StorageIter};
+pub use iter::{
+    End, IndexWalk, Iter, IterSetBits, IterUnsetBits, StorageIter, count_ones_in, deal,
+};
 pub use raw::{RawVob, VobRecord};
 pub use vob::Vob;
 pub use vob_block;
-pub use walk::{End, IndexWalk, deal};

@@ -1,23 +1,22 @@
-//! Calls on all bits at once: made one value, turned round, compared, or taken together with another
-//! Vob's.
+//! Calls on all bits at once: made one value, negated, compared, or combined with another Vob's.
 ghost use Rattle.std.specs.Prelude.{◌≡◌, ◌≢◌, ◌↔◌, ◌&&◌, ◌||◌, not, map, length, replicate, IsTrue, IfOk};
 ghost use Rattle.std.proofs.Common.{rules, ap};
 ghost use Rattle.std.specs.Cmp.{booleans_Decides};
 ghost use Rattle.std.specs.Cmp.Lexicographic.{pointwise_decides};
 ghost use Rattle.std.specs.Cmp.Rules.{comparing};
 ghost use Rattle.vob_block.specs.Pointwise.{differ, pointwise};
-ghost use Rattle.vob.specs.Fed.{fed_blocks};
+ghost use Rattle.vob.specs.Fed.{hash_words};
 ghost use Rattle.vob.specs.Same.{same_bits};
-ghost use Rattle.vob.specs.Vob.{AreAsLong, IsTogether};
+ghost use Rattle.vob.specs.Vob.{HaveSameLength, BecomesPointwise};
 
-use crate::edit::turn_round;
-use crate::fill::fill;
-use crate::same::same_blocks;
 use crate::vob::Vob;
 use std::alloc::AllocError;
 use std::hash::{Hash, Hasher};
 use std::ops::{BitAnd, BitAndAssign, BitOr, BitOrAssign, BitXor, BitXorAssign};
 use vob_block::Block;
+use vob_store::fill::fill;
+use vob_store::mask::negate;
+use vob_store::same::same_blocks;
 
 impl<T: Block> Vob<T> {
     /// Makes every bit `value`.
@@ -28,12 +27,12 @@ impl<T: Block> Vob<T> {
         fill(&mut self.vec, self.len, value);
     }
 
-    /// Turns every bit round.
+    /// Negates every bit.
     pub fn negate(&mut self)
         ensures bits { self.new.bits ≡ map not self.old.bits }
         ensures capacity { self.new.capacity ≡ self.old.capacity }
     {
-        turn_round(&mut self.vec, self.len);
+        negate(&mut self.vec, self.len);
     }
 
     /// Keeps the bits that both have, and answers whether a bit changed. vob 4.0.1 panics on
@@ -73,7 +72,7 @@ impl<T: Block> Vob<T> {
 impl<'a, 'b, T: Block> BitAnd<&'b Vob<T>> for &'a Vob<T> {
     type Output = Result<Vob<T>, AllocError>;
 
-    ghost can_bitand = { λ vob other. AreAsLong vob.now other.now };
+    ghost can_bitand = { λ vob other. HaveSameLength vob.now other.now };
 
     ghost bitand_gives = { λ vob other result. IfOk result
         (λ made. made.bits ≡ pointwise ◌&&◌ vob.now.bits other.now.bits) };
@@ -90,7 +89,7 @@ impl<'a, 'b, T: Block> BitAnd<&'b Vob<T>> for &'a Vob<T> {
 impl<'a, 'b, T: Block> BitOr<&'b Vob<T>> for &'a Vob<T> {
     type Output = Result<Vob<T>, AllocError>;
 
-    ghost can_bitor = { λ vob other. AreAsLong vob.now other.now };
+    ghost can_bitor = { λ vob other. HaveSameLength vob.now other.now };
 
     ghost bitor_gives = { λ vob other result. IfOk result
         (λ made. made.bits ≡ pointwise ◌||◌ vob.now.bits other.now.bits) };
@@ -107,7 +106,7 @@ impl<'a, 'b, T: Block> BitOr<&'b Vob<T>> for &'a Vob<T> {
 impl<'a, 'b, T: Block> BitXor<&'b Vob<T>> for &'a Vob<T> {
     type Output = Result<Vob<T>, AllocError>;
 
-    ghost can_bitxor = { λ vob other. AreAsLong vob.now other.now };
+    ghost can_bitxor = { λ vob other. HaveSameLength vob.now other.now };
 
     ghost bitxor_gives = { λ vob other result. IfOk result
         (λ made. made.bits ≡ pointwise differ vob.now.bits other.now.bits) };
@@ -124,9 +123,9 @@ impl<'a, 'b, T: Block> BitXor<&'b Vob<T>> for &'a Vob<T> {
 impl<'a, T: Block> BitAnd<&'a Vob<T>> for Vob<T> {
     type Output = Vob<T>;
 
-    ghost can_bitand = { λ vob other. AreAsLong vob other.now };
+    ghost can_bitand = { λ vob other. HaveSameLength vob other.now };
 
-    ghost bitand_gives = { λ vob other result. IsTogether ◌&&◌ vob other.now result };
+    ghost bitand_gives = { λ vob other result. BecomesPointwise ◌&&◌ vob other.now result };
 
     /// The bits that both have, in the blocks of the left one. vob 4.0.1 panics on unequal lengths.
     fn bitand(mut self, other: &'a Vob<T>) -> Vob<T> {
@@ -136,9 +135,9 @@ impl<'a, T: Block> BitAnd<&'a Vob<T>> for Vob<T> {
 }
 
 impl<'a, T: Block> BitAndAssign<&'a Vob<T>> for Vob<T> {
-    ghost can_bitand_assign = { λ vob other. AreAsLong vob other.now };
+    ghost can_bitand_assign = { λ vob other. HaveSameLength vob other.now };
 
-    ghost bitand_assign_gives = { λ vob other after. IsTogether ◌&&◌ vob other.now after };
+    ghost bitand_assign_gives = { λ vob other after. BecomesPointwise ◌&&◌ vob other.now after };
 
     /// As `and`, without its answer.
     fn bitand_assign(&mut self, other: &'a Vob<T>) {
@@ -149,9 +148,9 @@ impl<'a, T: Block> BitAndAssign<&'a Vob<T>> for Vob<T> {
 impl<'a, T: Block> BitOr<&'a Vob<T>> for Vob<T> {
     type Output = Vob<T>;
 
-    ghost can_bitor = { λ vob other. AreAsLong vob other.now };
+    ghost can_bitor = { λ vob other. HaveSameLength vob other.now };
 
-    ghost bitor_gives = { λ vob other result. IsTogether ◌||◌ vob other.now result };
+    ghost bitor_gives = { λ vob other result. BecomesPointwise ◌||◌ vob other.now result };
 
     /// The bits that either has, in the blocks of the left one. vob 4.0.1 panics on unequal
     /// lengths.
@@ -162,9 +161,9 @@ impl<'a, T: Block> BitOr<&'a Vob<T>> for Vob<T> {
 }
 
 impl<'a, T: Block> BitOrAssign<&'a Vob<T>> for Vob<T> {
-    ghost can_bitor_assign = { λ vob other. AreAsLong vob other.now };
+    ghost can_bitor_assign = { λ vob other. HaveSameLength vob other.now };
 
-    ghost bitor_assign_gives = { λ vob other after. IsTogether ◌||◌ vob other.now after };
+    ghost bitor_assign_gives = { λ vob other after. BecomesPointwise ◌||◌ vob other.now after };
 
     /// As `or`, without its answer.
     fn bitor_assign(&mut self, other: &'a Vob<T>) {
@@ -175,9 +174,9 @@ impl<'a, T: Block> BitOrAssign<&'a Vob<T>> for Vob<T> {
 impl<'a, T: Block> BitXor<&'a Vob<T>> for Vob<T> {
     type Output = Vob<T>;
 
-    ghost can_bitxor = { λ vob other. AreAsLong vob other.now };
+    ghost can_bitxor = { λ vob other. HaveSameLength vob other.now };
 
-    ghost bitxor_gives = { λ vob other result. IsTogether differ vob other.now result };
+    ghost bitxor_gives = { λ vob other result. BecomesPointwise differ vob other.now result };
 
     /// The bits that one has and the other hasn't, in the blocks of the left one. vob 4.0.1 panics
     /// on unequal lengths.
@@ -188,9 +187,9 @@ impl<'a, T: Block> BitXor<&'a Vob<T>> for Vob<T> {
 }
 
 impl<'a, T: Block> BitXorAssign<&'a Vob<T>> for Vob<T> {
-    ghost can_bitxor_assign = { λ vob other. AreAsLong vob other.now };
+    ghost can_bitxor_assign = { λ vob other. HaveSameLength vob other.now };
 
-    ghost bitxor_assign_gives = { λ vob other after. IsTogether differ vob other.now after };
+    ghost bitxor_assign_gives = { λ vob other after. BecomesPointwise differ vob other.now after };
 
     /// As `xor`, without its answer.
     fn bitxor_assign(&mut self, other: &'a Vob<T>) {
@@ -208,8 +207,8 @@ impl<T: Block> PartialEq for Vob<T> {
         ensures answer { result ≡ same_bits self.now.bits other.now.bits }
         ensures lists { IsTrue result ↔ (self.now.bits ≡ other.now.bits) }
     {
-        let as_long = self.len == other.len;
-        as_long && same_blocks(self.vec.as_slice(), other.vec.as_slice())
+        let same_length = self.len == other.len;
+        same_length && same_blocks(self.vec.as_slice(), other.vec.as_slice())
     }
 }
 
@@ -218,9 +217,9 @@ impl<T: Block> Eq for Vob<T> {
 }
 
 impl<T: Block> Hash for Vob<T> {
-    ghost hash_input = { λ vob. fed_blocks T.hash_input T.of_bits T.BITS vob.bits };
+    ghost hash_input = { λ vob. hash_words T.hash_input T.of_bits T.BITS vob.bits };
 
-    ghost respects_eq = { λ vob other same. ap (fed_blocks T.hash_input T.of_bits T.BITS)
+    ghost respects_eq = { λ vob other same. ap (hash_words T.hash_input T.of_bits T.BITS)
         ((pointwise_decides booleans_Decides vob.bits other.bits).0 same) };
 
     /// Feeds the blocks in order, and not the length: `0` and `00` feed a hasher the same.

@@ -1,51 +1,23 @@
 //! Raw storage: a length and blocks without a promise, and the tested way back to a Vob.
 ghost use Rattle.std.specs.Prelude.{◌≡◌, ◌↔◌, map, length, IsTrue, IsOk, IfOk, IfErr};
-ghost use Rattle.vob_block.specs.Packing.{need, packing, spelled, IsCanonical};
+ghost use Rattle.vob_block.specs.Packing.{need, packing, unpacking, IsCanonical};
 
-use crate::edit::clear_from;
 use crate::vob::Vob;
 use serde::{Deserialize, Serialize};
 use std::marker::Model;
 use vob_block::Block;
-
-/// Whether the blocks are as many as `len` bits need, and false from bit `len` on. Only the last of
-/// so many blocks can be otherwise, so no other one is read.
-fn is_canonical<T: Block>(blocks: &[T], len: usize) -> bool
-    ensures { IsTrue result ↔ IsCanonical len (map T.number blocks.now) T.BITS }
-{
-    T::known_all(blocks);
-    let width = T::BITS;
-    if blocks.len() != len.div_ceil(width) {
-        return false;
-    }
-    let used = len % width;
-    if used == 0 {
-        return true;
-    }
-    let last = blocks[len / width];
-    last.band(T::low_mask(used)) == last
-}
+use vob_store::canonical::{is_canonical, mask};
 
 /// The Vob of `len` bits in these blocks, where they are canonical; otherwise the blocks again.
 fn vob_of_parts<T: Block>(len: usize, vec: Vec<T>) -> Result<Vob<T>, Vec<T>>
     ensures taken { IsOk result ↔ IsCanonical len (map T.number vec.items) T.BITS }
-    ensures bits { IfOk result (λ vob. vob.bits ≡ spelled len (map T.number vec.items) T.BITS) }
+    ensures bits { IfOk result (λ vob. vob.bits ≡ unpacking len (map T.number vec.items) T.BITS) }
     ensures back { IfErr result (λ returned. returned ≡ vec) }
 {
     if !is_canonical(vec.as_slice(), len) {
         return Err(vec);
     }
     Ok(Vob { len, vec })
-}
-
-/// Makes every bit from `len` on false, of as many blocks as `len` bits need.
-fn mask<T: Block>(blocks: &mut [T], len: usize)
-    requires { length blocks.old ≡ need len T.BITS }
-    ensures { map T.number blocks.new
-        ≡ packing (spelled len (map T.number blocks.old) T.BITS) T.BITS }
-{
-    T::known_all(blocks);
-    clear_from(blocks, len);
 }
 
 /// A length in bits and some blocks, which needn't fit one another. vob 4.0.1 changes these in the
@@ -121,7 +93,7 @@ impl<T: Block> RawVob<T> {
         requires fits { length self.old.blocks ≡ need self.old.len T.BITS }
         ensures len { self.new.len ≡ self.old.len }
         ensures blocks { map T.number self.new.blocks
-            ≡ packing (spelled self.old.len (map T.number self.old.blocks) T.BITS) T.BITS }
+            ≡ packing (unpacking self.old.len (map T.number self.old.blocks) T.BITS) T.BITS }
     {
         mask(&mut self.vec, self.len);
     }
@@ -131,7 +103,7 @@ impl<T: Block> RawVob<T> {
     pub fn into_vob(self) -> Result<Vob<T>, RawVob<T>>
         ensures taken { IsOk result ↔ IsCanonical self.len (map T.number self.blocks) T.BITS }
         ensures bits { IfOk result (λ vob.
-            vob.bits ≡ spelled self.len (map T.number self.blocks) T.BITS) }
+            vob.bits ≡ unpacking self.len (map T.number self.blocks) T.BITS) }
         ensures back { IfErr result (λ returned. returned ≡ self) }
     {
         match vob_of_parts(self.len, self.vec) {
@@ -167,7 +139,7 @@ impl VobRecord {
     /// record again. Looks at the last block alone, and takes no memory.
     pub fn into_vob(self) -> Result<Vob<usize>, VobRecord>
         ensures taken { IsOk result ↔ IsCanonical self.len self.vec.items 64 }
-        ensures bits { IfOk result (λ vob. vob.bits ≡ spelled self.len self.vec.items 64) }
+        ensures bits { IfOk result (λ vob. vob.bits ≡ unpacking self.len self.vec.items 64) }
         ensures back { IfErr result (λ returned. returned ≡ self) }
     {
         match vob_of_parts(self.len, self.vec) {

@@ -1,13 +1,27 @@
 //! The vector of bits, seen by contracts as its list of bits and its capacity.
-ghost use Rattle.std.specs.Prelude.{◌≡◌, ◌↔◌, ◌+◌, ◌<◌, ◌≤◌, [], ◌∷◌, ◌++◌, map, length, slice_get, IsOk, IfOk, IfErr, OnOk, OnErr, Err};
-ghost use Rattle.vob_block.specs.Packing.{need, packing};
+ghost use Rattle.std.specs.Prelude.{◌≡◌, ◌↔◌, ◌+◌, ◌<◌, ◌≤◌, [], ◌∷◌, ◌++◌, map, length, slice_get, IsOk, IfOk, IfErr, OnOk, OnErr, Err, ◌≢◌, ◌==◌, ◌-◌, take, slice_set, IsTrue, Some, vec_capacity, ◌^◌, List, Bool, replicate, ℕ, ◌⊎◌, ◌*◌, ◌/◌, ◌%◌};
+ghost use Rattle.vob_block.specs.Packing.{packing, unpacking, IsCanonical};
+ghost use Rattle.vob_block.specs.Places.{place};
+ghost use Rattle.vob_block.specs.Bytes.{bytes_list};
+ghost use Rattle.std.specs.Iterator.{IsFinite, Yields, Drains};
+ghost use Rattle.std.specs.Iterator.SizeHint.{IsWithinCount};
+ghost use Rattle.vob.specs.Extending.{GivesMoreThan};
+ghost use Rattle.vob.specs.Refusal.{MayRefuseItems};
+ghost use Rattle.vob.specs.Vob.{HasRoomFor, IsTooLong, NeedsMemory};
 
 pub use crate::error::VobError;
 use crate::iter::StorageIter;
-use crate::packed::{append_bit, stored_bit};
 use std::alloc::{AllocError, Global};
+use std::fmt;
 use std::marker::Model;
+use std::ops::Index;
 use vob_block::{Block, Blocks};
+use vob_store::bytes::byte_blocks;
+use vob_store::fill::filled_blocks;
+use vob_store::mask::truncate_to;
+use vob_store::pack::packed_blocks;
+use vob_store::room::reserve_bits;
+use vob_store::single::{append_bit, first_place, stored_bit, write_bit};
 
 /// A vector of bits in blocks of the type `T`. Bit `i` stands in block `i / T::BITS`, at the place
 /// `i % T::BITS`, and the unused bits of the last block are 0.
@@ -20,13 +34,13 @@ pub struct Vob<T: Block = usize> {
 
 impl<T: Block> Model for Vob<T> {
     ghost use Rattle.std.specs.Prelude.{◌*◌, ◌-◌, ◌^◌, map, min, vec_capacity};
-    ghost use Rattle.vob_block.specs.Packing.{spelled, IsCanonical};
+    ghost use Rattle.vob_block.specs.Packing.{unpacking, IsCanonical};
     ghost use Rattle.vob.specs.Vob.{BitVector};
 
     ghost Value = { BitVector };
 
     ghost view = { λ v. record {
-      bits = spelled v.len (map T.number v.vec.items) T.BITS;
+      bits = unpacking v.len (map T.number v.vec.items) T.BITS;
       capacity = min (vec_capacity v.vec * T.BITS) (2 ^ 64 - 1);
     } };
 
@@ -44,6 +58,30 @@ impl<T: Block> Vob<T> {
         Ok(Vob { len: 0, vec })
     }
 
+    /// `len` times `value`. Length 0 takes no memory.
+    pub fn from_elem_with_storage_type(
+        alloc: Global,
+        value: bool,
+        len: usize,
+    ) -> Result<Vob<T>, AllocError>
+        ensures bits { IfOk result (λ vob. vob.bits ≡ replicate len value) }
+        ensures room { IfOk result (λ vob. len ≤ vob.capacity) }
+        ensures nothing { len ≡ 0 → IsOk result }
+    {
+        let vec = filled_blocks(alloc, value, len)?;
+        Ok(Vob { len, vec })
+    }
+
+    /// A Vob with the same bits. The copy of an empty Vob takes no memory.
+    pub fn clone(&self) -> Result<Vob<T>, AllocError>
+        ensures bits { IfOk result (λ vob. vob.bits ≡ self.now.bits) }
+        ensures nothing { self.now.bits ≡ [] → IsOk result }
+    {
+        let mut vec = Vec::with_capacity(*self.vec.allocator(), self.vec.len())?;
+        vec.extend_from_slice(self.vec.as_slice())?;
+        Ok(Vob { len: self.len, vec })
+    }
+
     /// The number of bits.
     pub fn len(&self) -> usize
         ensures len { result ≡ length self.now.bits }
@@ -51,6 +89,55 @@ impl<T: Block> Vob<T> {
         ensures greatest { self.now.capacity ≤ usize.MAX }
     {
         self.len
+    }
+
+    /// Whether there are no bits.
+    pub fn is_empty(&self) -> bool
+        ensures { result ≡ (length self.now.bits == 0) }
+    {
+        self.len == 0
+    }
+
+    /// How many bits there is room for without memory: the places of all blocks that there is room
+    /// for, at most `usize::MAX`. vob 4.0.1 multiplies unchecked.
+    pub fn capacity(&self) -> usize
+        ensures capacity { result ≡ self.now.capacity }
+        ensures within { length self.now.bits ≤ result }
+    {
+        // The length is in the range of its type: a proof knows it from this read.
+        let _len = self.len;
+        self.vec.capacity().saturating_mul(T::BITS)
+    }
+
+    /// Makes room for `additional` bits more than there are. Where there is that room already,
+    /// nothing changes. vob 4.0.1 counts the missing blocks from the capacity, and so may make too
+    /// little room; it panics where the sum passes `usize::MAX`.
+    pub fn reserve(&mut self, additional: usize) -> Result<(), VobError>
+        ensures ok { OnOk result (length self.old.bits + additional ≤ self.new.capacity) }
+        ensures bits { self.new.bits ≡ self.old.bits }
+
+        // A length that can't be is refused first, and memory only where there is no room.
+        ensures too_long { (result ≡ Err VobError.TooLong) ↔ IsTooLong self.old additional }
+        ensures memory { result ≡ Err VobError.Memory → NeedsMemory T.BITS self.old additional }
+        ensures err { OnErr result (self.new.capacity ≡ self.old.capacity) }
+        ensures capacity { self.old.capacity ≤ self.new.capacity }
+        ensures nothing { additional ≡ 0 → IsOk result }
+        ensures room { HasRoomFor self.old additional → IsOk result }
+        ensures stays { HasRoomFor self.old additional → self.new.capacity ≡ self.old.capacity }
+    {
+        if additional > usize::MAX - self.len {
+            return Err(VobError::TooLong);
+        }
+        reserve_bits(&mut self.vec, self.len + additional)?;
+        Ok(())
+    }
+
+    /// Gives room back that isn't used, as far as memory allows. The bits stay.
+    pub fn shrink_to_fit(&mut self)
+        ensures bits { self.new.bits ≡ self.old.bits }
+        ensures capacity { self.new.capacity ≤ self.old.capacity }
+    {
+        self.vec.shrink_to_fit();
     }
 
     /// Bit `index`, or `None` from the length on.
@@ -64,6 +151,35 @@ impl<T: Block> Vob<T> {
         }
     }
 
+    /// Bit `index`, with no test of the index. vob 4.0.1 has this as an unsafe call.
+    pub fn get_unchecked(&self, index: usize) -> bool
+        requires in_range { index < length self.now.bits }
+        ensures { slice_get self.now.bits index ≡ Some result }
+    {
+        stored_bit(self.vec.as_slice(), self.len, index)
+    }
+
+    /// Writes bit `index`, and answers whether it changed. vob 4.0.1 panics from the length on.
+    pub fn set(&mut self, index: usize, value: bool) -> bool
+        requires in_range { index < length self.old.bits }
+        ensures bits { self.new.bits ≡ slice_set self.old.bits index value }
+        ensures changed { IsTrue result ↔ (slice_get self.old.bits index ≢ Some value) }
+        ensures capacity { self.new.capacity ≡ self.old.capacity }
+    {
+        write_bit(&mut self.vec, self.len, index, value)
+    }
+
+    /// The same as `set`, which has no test of the index either. vob 4.0.1 has this as an unsafe
+    /// call.
+    pub fn set_unchecked(&mut self, index: usize, value: bool) -> bool
+        requires in_range { index < length self.old.bits }
+        ensures bits { self.new.bits ≡ slice_set self.old.bits index value }
+        ensures changed { IsTrue result ↔ (slice_get self.old.bits index ≢ Some value) }
+        ensures capacity { self.new.capacity ≡ self.old.capacity }
+    {
+        self.set(index, value)
+    }
+
     /// Adds `value` behind the last bit. vob 4.0.1 ends the process where memory is refused, and
     /// panics at the greatest length.
     pub fn push(&mut self, value: bool) -> Result<(), VobError>
@@ -71,10 +187,8 @@ impl<T: Block> Vob<T> {
         ensures err { OnErr result (self.new.bits ≡ self.old.bits) }
 
         // The greatest length is refused first, and memory only where there is no room.
-        ensures too_long { (result ≡ Err VobError.TooLong) ↔ (length self.old.bits ≡ usize.MAX) }
-        ensures longest { length self.old.bits ≤ usize.MAX }
-        ensures memory { result ≡ Err VobError.Memory → (self.old.capacity ≤ length self.old.bits)
-            × (need (length self.old.bits) T.BITS < need (length self.old.bits + 1) T.BITS) }
+        ensures too_long { (result ≡ Err VobError.TooLong) ↔ IsTooLong self.old 1 }
+        ensures memory { result ≡ Err VobError.Memory → NeedsMemory T.BITS self.old 1 }
         ensures capacity { self.old.capacity ≤ self.new.capacity }
     {
         if self.len == usize::MAX {
@@ -83,6 +197,41 @@ impl<T: Block> Vob<T> {
         append_bit(&mut self.vec, self.len, value)?;
         self.len += 1;
         Ok(())
+    }
+
+    /// Takes off the last bit and answers it, or answers `None` where there are no bits.
+    pub fn pop(&mut self) -> Option<bool>
+        ensures last { result ≡ slice_get self.old.bits (length self.old.bits - 1) }
+        ensures bits { self.new.bits ≡ take (length self.old.bits - 1) self.old.bits }
+        ensures capacity { self.new.capacity ≡ self.old.capacity }
+    {
+        if self.len == 0 {
+            return None;
+        }
+        let last = self.len - 1;
+        let value = stored_bit(self.vec.as_slice(), self.len, last);
+        truncate_to(&mut self.vec, self.len, last);
+        self.len = last;
+        Some(value)
+    }
+
+    /// Takes off the bits from `len` on. Where there are none, nothing changes.
+    pub fn truncate(&mut self, len: usize)
+        ensures bits { self.new.bits ≡ take len self.old.bits }
+        ensures capacity { self.new.capacity ≡ self.old.capacity }
+    {
+        if len < self.len {
+            truncate_to(&mut self.vec, self.len, len);
+            self.len = len;
+        }
+    }
+
+    /// Takes off all bits. The room stays.
+    pub fn clear(&mut self)
+        ensures bits { self.new.bits ≡ [] }
+        ensures capacity { self.new.capacity ≡ self.old.capacity }
+    {
+        self.truncate(0);
     }
 
     /// The blocks, the one with bit 0 first.
@@ -99,13 +248,161 @@ impl<T: Block> Vob<T> {
     {
         Blocks::new(self.vec.as_slice())
     }
+}
 
-    /// A walk over the blocks, the one with bit 0 first.
-    pub fn iter_storage(&self) -> StorageIter<'_, T>
-        ensures { map T.number result ≡ packing self.now.bits T.BITS }
+impl Vob<usize> {
+    /// An empty Vob of the default block type. Takes no memory.
+    pub fn new(alloc: Global) -> Vob<usize>
+        ensures { result.bits ≡ [] }
     {
-        StorageIter {
-            rest: self.vec.as_slice(),
+        Vob {
+            len: 0,
+            vec: Vec::new(alloc),
         }
     }
+
+    /// An empty Vob with room for `capacity` bits. Capacity 0 takes no memory.
+    pub fn with_capacity(alloc: Global, capacity: usize) -> Result<Vob<usize>, AllocError>
+        ensures empty { IfOk result (λ vob. vob.bits ≡ []) }
+        ensures room { IfOk result (λ vob. capacity ≤ vob.capacity) }
+        ensures nothing { capacity ≡ 0 → IsOk result }
+    {
+        Vob::new_with_storage_type(alloc, capacity)
+    }
+
+    /// `len` times `value`. Length 0 takes no memory.
+    pub fn from_elem(alloc: Global, value: bool, len: usize) -> Result<Vob<usize>, AllocError>
+        ensures bits { IfOk result (λ vob. vob.bits ≡ replicate len value) }
+        ensures room { IfOk result (λ vob. len ≤ vob.capacity) }
+        ensures nothing { len ≡ 0 → IsOk result }
+    {
+        Vob::from_elem_with_storage_type(alloc, value, len)
+    }
+
+    /// The bits of a slice. No bits take no memory.
+    pub fn from_slice(alloc: Global, bits: &[bool]) -> Result<Vob<usize>, AllocError>
+        ensures bits { IfOk result (λ vob. vob.bits ≡ bits.now) }
+        ensures nothing { bits.now ≡ [] → IsOk result }
+    {
+        let vec = packed_blocks(alloc, bits)?;
+        Ok(Vob {
+            len: bits.len(),
+            vec,
+        })
+    }
+
+    /// The bits of some bytes, the most significant one of each byte first. No bytes take no
+    /// memory. vob 4.0.1 ends the process where memory is refused, and panics where eight times
+    /// the number of bytes passes `usize::MAX`.
+    pub fn from_bytes(alloc: Global, slice: &[u8]) -> Result<Vob<usize>, VobError>
+        ensures bits { IfOk result (λ vob. vob.bits ≡ bytes_list slice.now) }
+        ensures too_long { (result ≡ Err VobError.TooLong) ↔ (usize.MAX < 8 * length slice.now) }
+        ensures nothing { slice.now ≡ [] → IsOk result }
+    {
+        if slice.len() > usize::MAX / 8 {
+            return Err(VobError::TooLong);
+        }
+        let vec = byte_blocks(alloc, slice)?;
+        Ok(Vob {
+            len: 8 * slice.len(),
+            vec,
+        })
+    }
+
+    /// The items of an iterator that ends. The lower bound of its size hint is reserved first.
+    /// vob 4.0.1 panics where there are more than `usize::MAX` items.
+    pub fn from_iter<I: IntoIterator<Item = bool>>(
+        alloc: Global,
+        iter: I,
+    ) -> Result<Vob<usize>, VobError>
+        requires { (it : I.IntoIter) → I.into_iter_gives iter it
+            → I.IntoIter.can_next it × IsFinite (I.IntoIter.remaining it) }
+        ensures bits { IfOk result (λ vob. (it : I.IntoIter) × I.into_iter_gives iter it
+            × Drains I.IntoIter.next_gives it vob.bits) }
+
+        // More items than a length can count are refused, and memory only where there is an item
+        // or a hint at one.
+        ensures too_long { result ≡ Err VobError.TooLong → (it : I.IntoIter)
+            × I.into_iter_gives iter it × GivesMoreThan I.IntoIter.next_gives it usize.MAX }
+        ensures memory { result ≡ Err VobError.Memory → (it : I.IntoIter) × (hint : ℕ)
+            × I.into_iter_gives iter it × IsWithinCount hint (I.IntoIter.remaining it)
+            × ((0 < hint) ⊎ GivesMoreThan I.IntoIter.next_gives it 0) }
+    {
+        let items = iter.into_iter();
+        let (hint, _) = items.size_hint();
+        let mut vec = Vec::with_capacity(alloc, hint.div_ceil(usize::BITS as usize))?;
+        let len = pack_items(&mut vec, items)?;
+        Ok(Vob { len, vec })
+    }
+}
+
+impl<T: Block> Index<usize> for Vob<T> {
+    type Output = bool;
+
+    ghost can_index = { λ vob index. index < length vob.bits };
+
+    ghost index_gives = { λ vob index bit. slice_get vob.bits index ≡ Some bit };
+
+    /// Bit `index`, with no test of the index. vob 4.0.1 panics from the length on.
+    fn index(&self, index: usize) -> &bool {
+        if self.get_unchecked(index) {
+            &true
+        } else {
+            &false
+        }
+    }
+}
+
+impl<T: Block> fmt::Debug for Vob<T> {
+    fn fmt<W: fmt::Write>(&self, f: &mut fmt::Formatter<W>) -> fmt::Result {
+        write!(f, "Vob[")?;
+        for bit in self {
+            f.write_str(if bit { "1" } else { "0" })?;
+        }
+        write!(f, "]")
+    }
+}
+
+/// Puts a block behind the others.
+fn push_block<T: Block>(blocks: &mut Vec<T>, block: T) -> Result<(), AllocError>
+    ensures { OnOk result (blocks.new.items ≡ blocks.old.items ++ block ∷ []) }
+{
+    blocks.push(block)?;
+    Ok(())
+}
+
+/// Puts the items into blocks, of which there are none yet, and answers how many items came. Each
+/// block is packed first and then pushed.
+fn pack_items<T: Block, I: Iterator<Item = bool>>(
+    blocks: &mut Vec<T>,
+    items: I,
+) -> Result<usize, VobError>
+    requires empty { blocks.old.items ≡ [] }
+    requires ends { I.can_next items × IsFinite (I.remaining items) }
+    ensures ok { IfOk result (λ len. (xs : List Bool) × Drains I.next_gives items xs
+        × (len ≡ length xs) × IsCanonical len (map T.number blocks.new.items) T.BITS
+        × (unpacking len (map T.number blocks.new.items) T.BITS ≡ xs)) }
+    ensures err { IfErr result (λ refusal. (xs : List Bool) × (rest : I)
+        × Yields I.next_gives items xs rest × MayRefuseItems refusal (length xs)) }
+{
+    let width = T::BITS;
+    let mut block = T::ZERO;
+    let mut len: usize = 0;
+    for bit in items {
+        if len == usize::MAX {
+            return Err(VobError::TooLong);
+        }
+        let place = len % width;
+        let mark: T = first_place(bit);
+        block = block.bor(mark.up(place));
+        if place + 1 == width {
+            push_block(blocks, block)?;
+            block = T::ZERO;
+        }
+        len += 1;
+    }
+    if len % width != 0 {
+        push_block(blocks, block)?;
+    }
+    Ok(len)
 }

@@ -5,5 +5,6 @@ pub mod NumberLemmas
 pub mod OnesLemmas
 pub mod PackingLemmas
 pub mod PlaceLemmas
+pub mod PointwiseLemmas
 pub mod ValueLemmas
 pub mod ZeroLemmas

@@ -1,7 +1,9 @@
 -- How many blocks some bits take, and where a bit stands among them.
-use Rattle.std.proofs.Common.{◌≡◌, ◌≢◌, ℕ, ◌+◌, ◌-◌, ◌*◌, ◌/◌, ◌%◌, ◌<◌, ◌≤◌, ap, ◌∙◌, arith, inl, inr, mod-lt, suc-mul, add-one, le_antisymm}
+use Rattle.std.specs.Int.{div_ceil}
+use Rattle.std.proofs.Common.{◌≡◌, ◌≢◌, ℕ, ◌+◌, ◌-◌, ◌*◌, ◌/◌, ◌%◌, ◌<◌, ◌≤◌, sym, ap, ◌∙◌, arith, inl, inr, mod-lt, suc-mul, add-one, le_antisymm}
 use Rattle.std.proofs.lemmas.Bool.{cases_lt}
 use Rattle.std.proofs.lemmas.Nat.{mul-le, div_below, div-add-mod'}
+use Rattle.std.proofs.lemmas.Grind.{div_ceil_times}
 use Rattle.vob_block.specs.Packing.{need}
 
 module _ (w : ℕ) (wide : 0 < w) where
@@ -29,7 +31,8 @@ module _ (w : ℕ) (wide : 0 < w) where
   -- so a count of blocks is the need where it holds n bits, and one block less doesn't
   pub need_is : (n m : ℕ) → n ≤ m * w → m * w < n + w → need n w ≡ m
   need_is n m enough few =
-      le_antisymm (need_least n m enough) (le_from_products m (need n w) (omega (arith, need_enough n)))
+      le_antisymm (need_least n m enough) (le_from_products m (need n w)
+      (omega (arith, need_enough n)))
 
   pub need-zero : need 0 w ≡ 0
   need-zero = need_is 0 0 (omega arith) (omega arith)
@@ -62,13 +65,23 @@ module _ (w : ℕ) (wide : 0 < w) where
   pub need_at_full : (n : ℕ) → n % w ≡ 0 → (need n w ≡ n / w) × (need (n + 1) w ≡ n / w + 1)
   need_at_full n full =
       let parts = div-add-mod' n w in
-      let next = next-product (n / w) in
-      (need_is n (n / w) (omega arith) (omega arith), need_is (n + 1) (n / w + 1) (omega arith) (omega arith))
+      let next = next-product (n / w) in (
+        need_is n (n / w) (omega arith) (omega arith),
+        need_is (n + 1) (n / w + 1) (omega arith) (omega arith),
+      )
 
   -- elsewhere it finds room in the last block
   pub need_at_open : (n : ℕ) → n % w ≢ 0 → (need n w ≡ n / w + 1) × (need (n + 1) w ≡ n / w + 1)
   need_at_open n partial =
       let parts = div-add-mod' n w in
       let next = next-product (n / w) in
-      let rest = mod-lt n wide in
-      (need_is n (n / w + 1) (omega arith) (omega arith), need_is (n + 1) (n / w + 1) (omega arith) (omega arith))
+      let rest = mod-lt n wide in (
+        need_is n (n / w + 1) (omega arith) (omega arith),
+        need_is (n + 1) (n / w + 1) (omega arith) (omega arith),
+      )
+
+  -- what `div_ceil` answers is the need
+  pub need-is-div_ceil : (n v : ℕ) → v ≡ w → div_ceil n v ≡ need n w
+  need-is-div_ceil n v same =
+      let times = div_ceil_times n w wide in
+      rw same (sym (need_is n (div_ceil n w) times.0 times.1))

@@ -18,7 +18,9 @@ ones-bit (suc (suc b)) h = absurd (omega arith)
 
 true_places-more : (w x : ℕ) → true_places (suc w) x ≡ true_places w x + cond (place w x) 1 0
 unfolding true_places
-true_places-more w x = ap (count_by (λ j. place j x)) (ap (range_with_len 0) (sym (add-one w)) ∙ range-more w) ∙ sum_by_push (λ j. cond (place j x) 1 0) (range_with_len 0 w) w
+true_places-more w x = ap (count_by (λ j. place j x))
+    (ap (range_with_len 0) (sym (add-one w)) ∙ range-more w)
+    ∙ sum_by_push (λ j. cond (place j x) 1 0) (range_with_len 0 w) w
 
 ones-none : (x : ℕ) → x ≡ 0 → count_ones x ≡ 0
 unfolding ones
@@ -29,10 +31,12 @@ unfolding true_places
 true_places-none x = refl
 
 ones-low : (w x : ℕ) → count_ones (x % 2 ^ w) ≡ true_places w x
-ones-low zero x = ones-none (x % 2 ^ 0) (omega (arith, mod-lt x (pow_pos 0))) ∙ sym (true_places-none x)
+ones-low zero x = ones-none (x % 2 ^ 0) (omega (arith, mod-lt x (pow_pos 0)))
+    ∙ sym (true_places-none x)
 ones-low (suc w) x =
     let more : suc w ≡ 1 + w = omega arith in
-    ap (λ n. count_ones (x % 2 ^ n)) more ∙ ap count_ones (mod-pow-add x 1 w) ∙ ones_cat w (bit_at x w) (x % 2 ^ w) (mod-lt x (pow_pos w))
+    ap (λ n. count_ones (x % 2 ^ n)) more ∙ ap count_ones (mod-pow-add x 1 w)
+    ∙ ones_cat w (bit_at x w) (x % 2 ^ w) (mod-lt x (pow_pos w))
     ∙ omega (arith, ones-bit (bit_at x w) (bit_at-lt x w), ones-low w x, true_places-more w x)
 
 pub count_ones-places : (w x : ℕ) → x < 2 ^ w → count_ones x ≡ true_places w x

@@ -13,14 +13,18 @@ use Rattle.vob_block.specs.Places.{place, HasPlaces, value}
 use Rattle.vob_block.proofs.PlaceLemmas.{same_from_places}
 
 pub range-more : (n : ℕ) → range_with_len 0 (n + 1) ≡ range_with_len 0 n ++ n ∷ []
-range-more n = sym (map-id (range_with_len 0 (n + 1))) ∙ map-range_with_len_more (λ (x : ℕ). x) 0 n n (omega arith) ∙ ap (λ xs. xs ++ n ∷ []) (map-id (range_with_len 0 n))
+range-more n = sym (map-id (range_with_len 0 (n + 1)))
+    ∙ map-range_with_len_more (λ (x : ℕ). x) 0 n n (omega arith)
+    ∙ ap (λ xs. xs ++ n ∷ []) (map-id (range_with_len 0 n))
 
 -- one more place stands above those that are there
 value-more : (w : ℕ) (f : ℕ → Bool) → value (suc w) f ≡ cond (f w) 1 0 * 2 ^ w + value w f
 unfolding value
 value-more w f =
     let weight = λ (j : ℕ). cond (f j) (2 ^ j) 0 in
-    ap (sum_by weight) (ap (range_with_len 0) (sym (add-one w)) ∙ range-more w) ∙ sum_by_push weight (range_with_len 0 w) w ∙ first (f w) (2 ^ w) (sum_by weight (range_with_len 0 w))
+    ap (sum_by weight) (ap (range_with_len 0) (sym (add-one w)) ∙ range-more w)
+    ∙ sum_by_push weight (range_with_len 0 w) w
+    ∙ first (f w) (2 ^ w) (sum_by weight (range_with_len 0 w))
   where
     first : (b : Bool) (p n : ℕ) → n + cond b p 0 ≡ cond b 1 0 * p + n
     first true p n = omega arith
@@ -46,14 +50,17 @@ bit-test false = refl
 pub place-value : (w j : ℕ) (f : ℕ → Bool) → j < w → place j (value w f) ≡ f j
 place-value zero j f h = absurd (omega arith)
 place-value (suc w) j f h = rw (value-more w f) (elim (cases_lt j w) [
-  | inl below ↦ ap (λ b. eqb b 1) (bit_at_cat_low (cond (f w) 1 0) w (value w f) j below) ∙ place-value w j f below
+  | inl below ↦ ap (λ b. eqb b 1) (bit_at_cat_low (cond (f w) 1 0) w (value w f) j below)
+      ∙ place-value w j f below
   | inr top ↦
       let last : j ≡ w = omega arith in
       let lowest : j - w ≡ 0 = omega arith in
       let high = bit_at_cat_high (cond (f w) 1 0) w (value w f) j (value-lt w f) top in
-      ap (λ b. eqb b 1) (high ∙ ap (bit_at (cond (f w) 1 0)) lowest) ∙ bit-test (f w) ∙ ap f (sym last)
+      ap (λ b. eqb b 1) (high ∙ ap (bit_at (cond (f w) 1 0)) lowest) ∙ bit-test (f w)
+      ∙ ap f (sym last)
 ])
 
 -- the one number within the width that has these places
 pub value_from_places : (w x : ℕ) (f : ℕ → Bool) → x < 2 ^ w → HasPlaces w x f → x ≡ value w f
-value_from_places w x f p h = same_from_places w x (value w f) p (value-lt w f) (λ j k. h.each j k ∙ sym (place-value w j f k))
+value_from_places w x f p h = same_from_places w x (value w f) p (value-lt w f)
+    (λ j k. h.each j k ∙ sym (place-value w j f k))

@@ -29,15 +29,18 @@ place-top : (x j : ℕ) → 2 ^ j ≤ x → x < 2 ^ suc j → place j x ≡ true
 place-top x j low high =
     let split : x ≡ 1 * 2 ^ j + (x - 2 ^ j) = omega arith in
     let same : j - j ≡ 0 = omega arith in
-    ap (place j) split ∙ ap (λ b. eqb b 1) (bit_at_cat_high 1 j (x - 2 ^ j) j (omega (arith, pow-suc 2 j)) (omega arith)) ∙ ap (λ i. place i 1) same
+    ap (place j) split ∙ ap (λ b. eqb b 1) (bit_at_cat_high 1 j (x - 2 ^ j) j
+    (omega (arith, pow-suc 2 j)) (omega arith)) ∙ ap (λ i. place i 1) same
 
 -- v is the width as a block has it, and w that of the type
-pub HasZerosLow-trailing : (w : Width) (v x n : ℕ) → v ≡ bit_len w → x < 2 ^ v → n ≡ trailing_zeros w x → HasZerosLow v x n
+pub HasZerosLow-trailing : (w : Width) (v x n : ℕ) → v ≡ bit_len w → x < 2 ^ v → n
+    ≡ trailing_zeros w x → HasZerosLow v x n
 HasZerosLow-trailing w v x n e within is =
     let all : bits w ≡ v = bits_is w ∙ sym e in
     elim (cases_lt 0 x) [
       | inl some ↦
-          let lowest = bit_at-trailing_zeros w x some (subst (λ (m : ℕ). x < 2 ^ m) (sym all) within) in
+          let lowest = bit_at-trailing_zeros w x some
+          (subst (λ (m : ℕ). x < 2 ^ m) (sym all) within) in
           record {
             bound = omega (arith, lowest.0);
             zeros = λ j h. ap (λ b. eqb b 1) (lowest.2 j (omega arith));
@@ -45,10 +48,12 @@ HasZerosLow-trailing w v x n e within is =
           }
       | inr none ↦
           let zero : x ≡ 0 = omega arith in
-          HasZerosLow-none v x n zero (is ∙ ap (count_trailing_zeros (bits w)) zero ∙ trailing_of_zero (bits w) ∙ all)
+          HasZerosLow-none v x n zero (is ∙ ap (count_trailing_zeros (bits w)) zero
+          ∙ trailing_of_zero (bits w) ∙ all)
     ]
 
-pub HasZerosHigh-leading : (w : Width) (v x n : ℕ) → v ≡ bit_len w → x < 2 ^ v → n ≡ leading_zeros w x → HasZerosHigh v x n
+pub HasZerosHigh-leading : (w : Width) (v x n : ℕ) → v ≡ bit_len w → x < 2 ^ v → n
+    ≡ leading_zeros w x → HasZerosHigh v x n
 HasZerosHigh-leading w v x n e within is =
     let all : bits w ≡ v = bits_is w ∙ sym e in
     elim (cases_lt 0 x) [
@@ -62,5 +67,6 @@ HasZerosHigh-leading w v x n e within is =
           }
       | inr none ↦
           let zero : x ≡ 0 = omega arith in
-          HasZerosHigh-none v x n zero (is ∙ ap (count_leading_zeros (bits w)) zero ∙ leading_of_zero (bits w) ∙ all)
+          HasZerosHigh-none v x n zero (is ∙ ap (count_leading_zeros (bits w)) zero
+          ∙ leading_of_zero (bits w) ∙ all)
     ]

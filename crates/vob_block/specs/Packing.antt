@@ -13,19 +13,21 @@ need n width = (n + (width - 1)) / width
 
 -- the blocks of a list: bit i stands in block i / width, at place i % width
 unfoldable pub packing : List Bool → ℕ → List ℕ
-packing bits width = map (λ k. value width (λ j. item bits (k * width + j))) (range_with_len 0 (need (length bits) width))
+packing bits width =
+    map (λ k. value width (λ j. item bits (k * width + j)))
+    (range_with_len 0 (need (length bits) width))
 
 -- bit i of some blocks, false where there is no such block
-unfoldable pub stored : List ℕ → ℕ → ℕ → Bool
-stored blocks width i = place (i % width) (slice_index_or blocks (i / width) 0)
+unfoldable pub bit_at : List ℕ → ℕ → ℕ → Bool
+bit_at blocks width i = place (i % width) (slice_index_or blocks (i / width) 0)
 
--- the first n bits of some blocks
-unfoldable pub spelled : ℕ → List ℕ → ℕ → List Bool
-spelled n blocks width = map (stored blocks width) (range_with_len 0 n)
+-- the bits that some blocks hold, the first n of them
+unfoldable pub unpacking : ℕ → List ℕ → ℕ → List Bool
+unpacking n blocks width = map (bit_at blocks width) (range_with_len 0 n)
 
 -- n bits stored the one way that each list of n bits has: as many blocks as they need, each within
 -- the width, and false wherever there is no bit
 pub record IsCanonical (n : ℕ) (blocks : List ℕ) (width : ℕ) : Type 0 where
   pub count : length blocks ≡ need n width
   pub within : All (λ x. x < 2 ^ width) blocks
-  pub unused : (i : ℕ) → n ≤ i → stored blocks width i ≡ false
+  pub unused : (i : ℕ) → n ≤ i → bit_at blocks width i ≡ false

@@ -8,11 +8,13 @@ abbrev pub differ : Bool → Bool → Bool
 differ true value = not value
 differ false value = value
 
--- the bits of both lists taken together by f, one place after another
+-- the bits of both lists combined by f, one place after another
 abbrev pub pointwise : (Bool → Bool → Bool) → List Bool → List Bool → List Bool
 pointwise f bits others = map (λ pair. f pair.0 pair.1) (zip bits others)
 
--- the blocks of both lists taken together by f, at each of their places
-pub record IsPointwise (width : ℕ) (f : Bool → Bool → Bool) (blocks others after : List ℕ) : Type 0 where
+-- the blocks of both lists combined by f, at each of their places
+pub record IsPointwise (width : ℕ) (f : Bool → Bool → Bool) (blocks others after : List ℕ)
+    : Type 0 where
   pub count : length after ≡ length blocks
-  pub each : (k : ℕ) → k < length blocks → HasPlaces width (slice_index_or after k 0) (λ j. f (place j (slice_index_or blocks k 0)) (place j (slice_index_or others k 0)))
+  pub each : (k : ℕ) → k < length blocks → HasPlaces width (slice_index_or after k 0)
+      (λ j. f (place j (slice_index_or blocks k 0)) (place j (slice_index_or others k 0)))

@@ -1,5 +1,5 @@
 //! The trait of the types that store bits, by their places.
-ghost use Rattle.std.specs.Prelude.{◌≡◌, ◌≢◌, ◌==◌, ℕ, ◌+◌, ◌-◌, ◌%◌, ◌^◌, ◌<◌, if◌then◌else◌, ◌≤◌, ◌&&◌, ◌||◌, ◌↔◌, not, true, false, nat_le, nat_lt, pos, IsTrue, length, All, map};
+ghost use Rattle.std.specs.Prelude.{◌≡◌, ◌≢◌, ◌==◌, ℕ, ◌+◌, ◌-◌, ◌%◌, ◌^◌, ◌<◌, if◌then◌else◌, ◌≤◌, ◌&&◌, ◌||◌, ◌↔◌, not, nat_le, nat_lt, pos, IsTrue, length, All, map};
 ghost use Rattle.num_traits.specs.Laws.{bit_len};
 ghost use Rattle.vob_block.specs.Places.{place, HasPlaces, HasZerosLow, HasZerosHigh, true_places};
 ghost use Rattle.vob_block.specs.Pointwise.{IsPointwise, differ};
@@ -38,11 +38,11 @@ pub trait Block: PrimInt + Hash + Debug {
     ghost number: { Self → ℕ };
 
     /// Does nothing: a block at hand is in the range of its type, which generic code can't see.
-    fn known(self)
+    fn in_range(self)
         ensures { number self < 2 ^ BITS };
 
     /// Does nothing: blocks at hand are in the range of their type, which generic code can't see.
-    fn known_all(blocks: &[Self])
+    fn all_in_range(blocks: &[Self])
         ensures { All (λ n. n < 2 ^ BITS) (map number blocks.now) };
 
     /// The places that both blocks have.
@@ -50,8 +50,8 @@ pub trait Block: PrimInt + Hash + Debug {
         ensures places { HasPlaces BITS (number result) (λ j. place j (number self) && place j (number other)) }
         ensures within { number result < 2 ^ BITS }
     {
-        self.known();
-        other.known();
+        self.in_range();
+        other.in_range();
         self & other
     }
 
@@ -60,8 +60,8 @@ pub trait Block: PrimInt + Hash + Debug {
         ensures places { HasPlaces BITS (number result) (λ j. place j (number self) || place j (number other)) }
         ensures within { number result < 2 ^ BITS }
     {
-        self.known();
-        other.known();
+        self.in_range();
+        other.in_range();
         self | other
     }
 
@@ -71,8 +71,8 @@ pub trait Block: PrimInt + Hash + Debug {
             (λ j. differ (place j (number self)) (place j (number other))) }
         ensures within { number result < 2 ^ BITS }
     {
-        self.known();
-        other.known();
+        self.in_range();
+        other.in_range();
         self ^ other
     }
 
@@ -81,7 +81,7 @@ pub trait Block: PrimInt + Hash + Debug {
         ensures places { HasPlaces BITS (number result) (λ j. not (place j (number self))) }
         ensures within { number result < 2 ^ BITS }
     {
-        self.known();
+        self.in_range();
         !self
     }
 
@@ -91,7 +91,7 @@ pub trait Block: PrimInt + Hash + Debug {
         ensures places { HasPlaces BITS (number result) (λ j. nat_le n j && place (j - n) (number self)) }
         ensures within { number result < 2 ^ BITS }
     {
-        self.known();
+        self.in_range();
         self.unsigned_shl(n as u32)
     }
 
@@ -102,7 +102,7 @@ pub trait Block: PrimInt + Hash + Debug {
             (λ j. nat_lt (j + n) BITS && place (j + n) (number self)) }
         ensures within { number result < 2 ^ BITS }
     {
-        self.known();
+        self.in_range();
         self.unsigned_shr(n as u32)
     }
 
@@ -113,13 +113,13 @@ pub trait Block: PrimInt + Hash + Debug {
         ensures places { HasPlaces BITS (number result) (λ j. place ((j + (BITS - n)) % BITS) (number self)) }
         ensures within { number result < 2 ^ BITS }
     {
-        self.known();
+        self.in_range();
         self.rotate_left(n as u32)
     }
 
-    /// The places from `from` on, and behind them the low places of `high`: a block that straddles
-    /// two neighbours, of which `self` is the lower one.
-    final fn straddle(self, high: Self, from: usize) -> Self
+    /// A funnel shift: the places from `from` on, and behind them the low places of `high`. So two
+    /// neighbours, of which `self` is the lower one, give the block that begins at place `from`.
+    final fn funnel_down(self, high: Self, from: usize) -> Self
         requires positive { 0 < from }
         requires below { from < BITS }
         ensures places { HasPlaces BITS (number result) (λ j. if nat_lt (j + from) BITS
@@ -133,7 +133,7 @@ pub trait Block: PrimInt + Hash + Debug {
     final fn ones_in(self) -> usize
         ensures { result ≡ true_places BITS (number self) }
     {
-        self.known();
+        self.in_range();
         self.count_ones() as usize
     }
 
@@ -141,7 +141,7 @@ pub trait Block: PrimInt + Hash + Debug {
     final fn zeros_low(self) -> usize
         ensures { HasZerosLow BITS (number self) result }
     {
-        self.known();
+        self.in_range();
         self.trailing_zeros() as usize
     }
 
@@ -149,7 +149,7 @@ pub trait Block: PrimInt + Hash + Debug {
     final fn zeros_high(self) -> usize
         ensures { HasZerosHigh BITS (number self) result }
     {
-        self.known();
+        self.in_range();
         self.leading_zeros() as usize
     }
 
@@ -188,7 +188,7 @@ pub trait Block: PrimInt + Hash + Debug {
         let mut changed = Self::ZERO;
         for k in 0..own.len() {
             let old = own[k];
-            old.known();
+            old.in_range();
             let new = old.band(other.block(k));
             own[k] = new;
             changed = changed.bor(old.bxor(new));
@@ -210,7 +210,7 @@ pub trait Block: PrimInt + Hash + Debug {
         let mut changed = Self::ZERO;
         for k in 0..own.len() {
             let old = own[k];
-            old.known();
+            old.in_range();
             let new = old.bor(other.block(k));
             own[k] = new;
             changed = changed.bor(old.bxor(new));
@@ -218,8 +218,8 @@ pub trait Block: PrimInt + Hash + Debug {
         changed != Self::ZERO
     }
 
-    /// Gives `own` the places that one has and the other hasn't, and answers whether a block changed. Each block of
-    /// `other` is read once.
+    /// Gives `own` the places that one has and the other hasn't, and answers whether a block changed.
+    /// Each block of `other` is read once.
     fn xor_into(own: &mut [Self], other: &mut Blocks<'_, Self>) -> bool
         requires { length own.old ≡ length other.old.items }
         ensures blocks { IsPointwise BITS differ (map number own.old) (map number other.old.items)
@@ -232,7 +232,7 @@ pub trait Block: PrimInt + Hash + Debug {
         let mut changed = Self::ZERO;
         for k in 0..own.len() {
             let old = own[k];
-            old.known();
+            old.in_range();
             let new = old.bxor(other.block(k));
             own[k] = new;
             changed = changed.bor(old.bxor(new));
@@ -250,6 +250,9 @@ pub trait Block: PrimInt + Hash + Debug {
     ghost hash_law: { (x y : Self) → number x ≡ number y → Self.hash_input x ≡ Self.hash_input y };
 
     ghost width_law: { BITS ≡ bit_len Self.width };
+
+    // A block has a place.
+    ghost wide_law: { 0 < BITS };
 
     ghost bits_law: { (x : Self) → Self.bits_of x ≡ number x };
 

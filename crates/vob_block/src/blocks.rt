@@ -1,6 +1,6 @@
 //! Blocks to be read, with a count of the reads that contracts alone see. The module is private, so
 //! that no other code reads past the count: one tick stands beside each read.
-ghost use Rattle.std.specs.Prelude.{◌≡◌, ◌+◌, ◌<◌, ◌≤◌, length, slice_get, Some};
+ghost use Rattle.std.specs.Prelude.{◌≡◌, ◌+◌, ◌<◌, length, slice_get, Some};
 
 use std::marker::Model;
 use std::mem;

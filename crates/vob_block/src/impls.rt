@@ -1,6 +1,6 @@
 //! The six unsigned types as blocks: constants alone, since every body stands in the trait.
-ghost use Rattle.std.specs.Prelude.{◌≡◌, ◌-◌, ◌^◌, pos};
-ghost use Rattle.std.proofs.Common.{refl, ap, eq-eqb, eqb-true};
+ghost use Rattle.std.specs.Prelude.{◌-◌, ◌^◌};
+ghost use Rattle.std.proofs.Common.{refl, ap, eq-eqb, eqb-true, lit<};
 
 use crate::block::Block;
 use std::hash::Hash;
@@ -24,9 +24,9 @@ impl Block for u8 {
 
     ghost number = { λ x. x };
 
-    fn known(self) {}
+    fn in_range(self) {}
 
-    fn known_all(blocks: &[Self]) {}
+    fn all_in_range(blocks: &[Self]) {}
 
     ghost number_law = { λ x. refl };
 
@@ -35,6 +35,8 @@ impl Block for u8 {
     ghost hash_law = { λ x y e. ap ⟦<u8 as Hash>⟧.hash_input e };
 
     ghost width_law = { refl };
+
+    ghost wide_law = { lit< tt };
 
     ghost bits_law = { λ x. refl };
 
@@ -66,9 +68,9 @@ impl Block for u16 {
 
     ghost number = { λ x. x };
 
-    fn known(self) {}
+    fn in_range(self) {}
 
-    fn known_all(blocks: &[Self]) {}
+    fn all_in_range(blocks: &[Self]) {}
 
     ghost number_law = { λ x. refl };
 
@@ -77,6 +79,8 @@ impl Block for u16 {
     ghost hash_law = { λ x y e. ap ⟦<u16 as Hash>⟧.hash_input e };
 
     ghost width_law = { refl };
+
+    ghost wide_law = { lit< tt };
 
     ghost bits_law = { λ x. refl };
 
@@ -108,9 +112,9 @@ impl Block for u32 {
 
     ghost number = { λ x. x };
 
-    fn known(self) {}
+    fn in_range(self) {}
 
-    fn known_all(blocks: &[Self]) {}
+    fn all_in_range(blocks: &[Self]) {}
 
     ghost number_law = { λ x. refl };
 
@@ -119,6 +123,8 @@ impl Block for u32 {
     ghost hash_law = { λ x y e. ap ⟦<u32 as Hash>⟧.hash_input e };
 
     ghost width_law = { refl };
+
+    ghost wide_law = { lit< tt };
 
     ghost bits_law = { λ x. refl };
 
@@ -150,9 +156,9 @@ impl Block for u64 {
 
     ghost number = { λ x. x };
 
-    fn known(self) {}
+    fn in_range(self) {}
 
-    fn known_all(blocks: &[Self]) {}
+    fn all_in_range(blocks: &[Self]) {}
 
     ghost number_law = { λ x. refl };
 
@@ -161,6 +167,8 @@ impl Block for u64 {
     ghost hash_law = { λ x y e. ap ⟦<u64 as Hash>⟧.hash_input e };
 
     ghost width_law = { refl };
+
+    ghost wide_law = { lit< tt };
 
     ghost bits_law = { λ x. refl };
 
@@ -192,9 +200,9 @@ impl Block for u128 {
 
     ghost number = { λ x. x };
 
-    fn known(self) {}
+    fn in_range(self) {}
 
-    fn known_all(blocks: &[Self]) {}
+    fn all_in_range(blocks: &[Self]) {}
 
     ghost number_law = { λ x. refl };
 
@@ -203,6 +211,8 @@ impl Block for u128 {
     ghost hash_law = { λ x y e. ap ⟦<u128 as Hash>⟧.hash_input e };
 
     ghost width_law = { refl };
+
+    ghost wide_law = { lit< tt };
 
     ghost bits_law = { λ x. refl };
 
@@ -234,9 +244,9 @@ impl Block for usize {
 
     ghost number = { λ x. x };
 
-    fn known(self) {}
+    fn in_range(self) {}
 
-    fn known_all(blocks: &[Self]) {}
+    fn all_in_range(blocks: &[Self]) {}
 
     ghost number_law = { λ x. refl };
 
@@ -245,6 +255,8 @@ impl Block for usize {
     ghost hash_law = { λ x y e. ap ⟦<usize as Hash>⟧.hash_input e };
 
     ghost width_law = { refl };
+
+    ghost wide_law = { lit< tt };
 
     ghost bits_law = { λ x. refl };
 

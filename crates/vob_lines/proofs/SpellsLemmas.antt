@@ -3,8 +3,8 @@ use Rattle.std.proofs.Common.{◌≡◌, ◌≢◌, ℕ, Bool, true, false, List
 use Rattle.std.specs.List.{position_or_len}
 use Rattle.std.specs.declared.ops.Bound.{Bound}
 use Rattle.std.specs.declared.ops.Bound.TheVariants.{Included, Excluded, Unbounded}
-use Rattle.vob.specs.declared.walk.End.{End}
-use Rattle.vob.specs.declared.walk.End.TheVariants.{Front, Back}
+use Rattle.vob_walk.specs.declared.walk.End.{End}
+use Rattle.vob_walk.specs.declared.walk.End.TheVariants.{Front, Back}
 use Rattle.vob_lines.specs.Spelling.{digit, initial, letters, IsPair, ArePairs, WritesBytes, IsStart, IsEnd, IsRange, Writes}
 use Rattle.vob_lines.specs.Arguments.{Argument, number, bit, bits, bytes, range, pulls, Spells}
 use Rattle.vob_lines.specs.Kinds.{kind_of}

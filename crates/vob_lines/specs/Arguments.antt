@@ -1,7 +1,7 @@
 -- The arguments of a call, and which words stand for them.
 use Rattle.std.specs.Prelude.{◌≡◌, ℕ, Bool, List, [], ◌∷◌, ⊤}
 use Rattle.std.specs.declared.ops.Bound.{Bound}
-use Rattle.vob.specs.declared.walk.End.{End}
+use Rattle.vob_walk.specs.declared.walk.End.{End}
 use Rattle.vob_lines.specs.Spelling.{digit, initial, letters, Writes, WritesBytes, IsRange}
 
 -- what a word behind the first one stands for

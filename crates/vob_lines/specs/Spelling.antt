@@ -3,8 +3,8 @@ use Rattle.std.specs.Prelude.{◌≡◌, ℕ, ◌^◌, ◌<◌, Bool, if◌then�
 use Rattle.std.specs.Str.Parse.{IsNumeral, digits_value}
 use Rattle.std.specs.declared.ops.Bound.{Bound}
 use Rattle.std.specs.declared.ops.Bound.TheVariants.{Included, Excluded, Unbounded}
-use Rattle.vob.specs.declared.walk.End.{End}
-use Rattle.vob.specs.declared.walk.End.TheVariants.{Front, Back}
+use Rattle.vob_walk.specs.declared.walk.End.{End}
+use Rattle.vob_walk.specs.declared.walk.End.TheVariants.{Front, Back}
 
 -- a numeral: one decimal digit or more, for a number below 2^64
 abbrev pub Writes : List ℕ → ℕ → Type 0

@@ -4,25 +4,6 @@
 mod growth;
 mod made;
 mod runs;
+mod support;
 mod walks;
 mod without_memory;
-
-use std::alloc::Global;
-use std::process::Abort;
-use vob::{Vob, VobError};
-use vob_block::Block;
-
-/// A packed vector of these bits in bytes.
-fn pushed(alloc: Global, bits: &[bool]) -> Result<Vob<u8>, VobError> {
-    let mut vob = Vob::<u8>::new_with_storage_type(alloc, 0)?;
-    for bit in bits {
-        vob.push(*bit)?;
-    }
-    Ok(vob)
-}
-
-/// Compares the length and the blocks.
-fn check_blocks<T: Block>(rt: &impl Abort, vob: &Vob<T>, len: usize, blocks: &[T]) {
-    assert_eq!(rt; vob.len(), len, "the length");
-    assert_eq!(rt; vob.get_storage(), blocks, "the blocks");
-}

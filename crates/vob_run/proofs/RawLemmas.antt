@@ -4,8 +4,8 @@ use Rattle.std.proofs.Common.{◌≡◌, ◌<◌, ◌↔◌, ℕ, List, Bool, tr
 use Rattle.std.specs.Prelude.{◌==◌, ◌&&◌}
 use Rattle.std.proofs.lemmas.Bool.{false_from_ne_true}
 use Rattle.std.proofs.lemmas.List.{map_push, length-map}
-use Rattle.vob_block.specs.Packing.{need, packing, spelled, IsCanonical}
-use Rattle.vob_block.proofs.PackingLemmas.{packing-spelled, canonical_from_packing}
+use Rattle.vob_block.specs.Packing.{need, packing, unpacking, IsCanonical}
+use Rattle.vob_block.proofs.PackingLemmas.{packing-unpacking, canonical_from_packing}
 use Rattle.vob.specs.Vob.{BitVector}
 use Rattle.vob_run.specs.Call.{Call, FromRaw}
 use Rattle.vob_run.specs.Answer.{Answer}
@@ -16,12 +16,12 @@ use Rattle.vob_run.proofs.MakeLemmas.{IsPlaced}
 
 -- the test of the blocks is true exactly where they are canonical
 same_blocks-canonical : (width : ℕ) → 0 < width → (len : ℕ) (blocks : List ℕ)
-    → (same_blocks blocks (packing (spelled len blocks width) width) ≡ true)
+    → (same_blocks blocks (packing (unpacking len blocks width) width) ≡ true)
     ↔ IsCanonical len blocks width
 same_blocks-canonical width wide len blocks =
-    let test = bytes_decides blocks (packing (spelled len blocks width) width) in (
+    let test = bytes_decides blocks (packing (unpacking len blocks width) width) in (
       (λ e. canonical_from_packing width wide len blocks (test.0 e)),
-      (λ canonical. test.1 (sym (packing-spelled width wide len blocks canonical))),
+      (λ canonical. test.1 (sym (packing-unpacking width wide len blocks canonical))),
     )
 
 -- blocks that are as many as the bits need where they are to be masked
@@ -37,14 +37,14 @@ module _ (width : ℕ) (wide : 0 < width) (before : List BitVector) (call : Call
   pub taken_step : {E : Type 0} {between after : List BitVector} {answer : Answer}
       → between ≡ before → (result : Result BitVector E)
       → IsOk result ↔ IsCanonical len blocks width
-      → IfOk result (λ v. v.bits ≡ spelled len blocks width)
+      → IfOk result (λ v. v.bits ≡ unpacking len blocks width)
       → IsPlaced 3 between result answer after
       → IsStep width (lists before) call answer (lists after)
   taken_step room (Ok v) canonical bits placed =
       let same = (same_blocks-canonical width wide len blocks).1 (canonical.0 refl) in
       inl (is ∙ rw (same, placed.ok.0, placed.ok.1, room, map_push, length-map, bits) refl)
   taken_step room (Err e) canonical bits placed =
-      let test = same_blocks blocks (packing (spelled len blocks width) width) in
+      let test = same_blocks blocks (packing (unpacking len blocks width) width) in
       let wrong : test ≡ true → ⊥ = λ t.
       let e = canonical.1 ((same_blocks-canonical width wide len blocks).0 t) in cc in
       let other : test ≡ false = false_from_ne_true test wrong in

@@ -2,7 +2,7 @@
 use Rattle.std.specs.Prelude.{ℕ, List, length, ◌==◌, ◌&&◌, Bool, true, false, not, if◌then◌else◌}
 use Rattle.std.specs.Bool.{nat_eq}
 use Rattle.std.specs.Cmp.Lexicographic.{pointwise as same_items}
-use Rattle.vob_block.specs.Packing.{need, packing, spelled}
+use Rattle.vob_block.specs.Packing.{need, packing, unpacking}
 use Rattle.vob_run.specs.Answer.{skipped, refused, Outcome}
 use Rattle.vob_run.specs.Outcomes.{tells, makes}
 
@@ -13,15 +13,15 @@ same_blocks = same_items nat_eq
 -- blocks with their unused bits made 0, where that is asked for
 abbrev pub masked : ℕ → ℕ → Bool → List ℕ → List ℕ
 masked width len false blocks = blocks
-masked width len true blocks = packing (spelled len blocks width) width
+masked width len true blocks = packing (unpacking len blocks width) width
 
 module _ (lists : List (List Bool)) where
   -- blocks that are the packing of a list of so many bits are taken as that list, and other ones
   -- are refused
   abbrev pub taken : ℕ → ℕ → List ℕ → Outcome
   taken width len blocks =
-      if same_blocks blocks (packing (spelled len blocks width) width)
-      then makes lists (spelled len blocks width)
+      if same_blocks blocks (packing (unpacking len blocks width) width)
+      then makes lists (unpacking len blocks width)
       else tells lists (refused 3)
 
   -- the same, once they are masked where that is asked for, which is skipped where they aren't as

@@ -1,7 +1,7 @@
 -- What contracts see of a command: a call on numbered lists.
 use Rattle.std.specs.Prelude.{ℕ, List, Bool}
 use Rattle.std.specs.declared.ops.Bound.{Bound}
-use Rattle.vob.specs.declared.walk.End.{End}
+use Rattle.vob_walk.specs.declared.walk.End.{End}
 
 -- as the command, with lists for vectors and numbers for blocks, so that commands of all block
 -- types are calls alike

@@ -3,9 +3,9 @@ use Rattle.std.specs.Prelude.{ℕ, ◌+◌, ◌-◌, ◌*◌, List, [], ◌++◌
 use Rattle.vob_block.specs.Bytes.{bytes_list}
 use Rattle.vob_block.specs.Packing.{packing}
 use Rattle.vob_block.specs.Pointwise.{differ, pointwise}
-use Rattle.vob.specs.Matches.{matches}
+use Rattle.vob_walk.specs.Matches.{matches}
 use Rattle.vob.specs.Same.{same_bits}
-use Rattle.vob.specs.Walk.{answers}
+use Rattle.vob_walk.specs.Walk.{answers}
 use Rattle.vob_run.specs.Call.{Call, New, FromElem, Copy, FromRaw, Push, Pop, GetBit, GetUnchecked, IndexBit, SetBit, SetUnchecked, Length, IsEmpty, Truncate, Clear, SetAll, Negate, Resize, ExtendSlice, ExtendItems, ExtendVob, SplitOff, And, Or, Xor, AndNew, OrNew, XorNew, Equal, Reserve, Shrink, Bits, Storage, Walk, Count, Fresh, WithCapacity, Fill, FromBytes, FromSlice, FromItems, FromRecord}
 use Rattle.vob_run.specs.Answer.{done, bit, flag, number, bit_list, block_list, dealt, Outcome}
 use Rattle.vob_run.specs.Outcomes.{on, on_two, on_same_length, tells, leaves, makes, unless_long, tells_bit}

@@ -5,7 +5,7 @@ use Rattle.std.proofs.lemmas.List.{get_or_past, get_or-map, length-map}
 use Rattle.std.proofs.lemmas.List.Elements.{All-map}
 use Rattle.vob_block.specs.Packing.{item}
 use Rattle.vob_block.specs.Pointwise.{pointwise}
-use Rattle.vob.proofs.PointwiseLemmas.{length-pointwise, item-pointwise}
+use Rattle.vob_block.proofs.PointwiseLemmas.{length-pointwise, item-pointwise}
 use Rattle.vob.specs.Same.{same_bits}
 use Rattle.vob.proofs.SameLemmas.{same_bits_decides}
 use Rattle.vob_users.specs.Reachable.{IsMatrix, IsWithin, IsClosed, IsRound, trues}
@@ -149,7 +149,7 @@ module _ (rows : List (List Bool)) (starts : List Bool) where
       still_least others within closed i e =
           let mine = h.least others within closed in
           let led : IsWithin row others =
-              subst (λ (bs : List Bool). IsWithin bs others) r.is (closed k (mine k r.reached)) in
+          subst (λ (bs : List Bool). IsWithin bs others) r.is (closed k (mine k r.reached)) in
           let now = sym (each i) ∙ e in
           or_either (item bits i) (item row i) (item others i) (mine i) (led i) now
 
@@ -158,7 +158,7 @@ module _ (rows : List (List Bool)) (starts : List Bool) where
       AreAdded-more differs =
           let more = or_adds bits row r.long (λ same. differs (r.added ∙ same)) in
           let adds : trues bits < trues after =
-              subst (λ (bs : List Bool). trues bits < trues bs) (sym r.added) more in
+          subst (λ (bs : List Bool). trues bits < trues bs) (sym r.added) more in
           record {
             count = ap length r.added ∙ length-pointwise ◌||◌ bits row r.long ∙ h.count;
             kept = λ i e. wider i (h.kept i e);

@@ -1,7 +1,7 @@
 -- Slots that are free or taken, a bit each: a set bit is a slot that is taken.
 use Rattle.std.specs.Prelude.{◌≡◌, ℕ, Bool, true, false, List, [], slice_get, slice_set, Option, Some, None}
 use Rattle.std.specs.declared.ops.Bound.TheVariants.{Unbounded}
-use Rattle.vob.specs.Matches.{matches}
+use Rattle.vob_walk.specs.Matches.{matches}
 
 -- the numbers of the free slots, the least first
 abbrev pub free_slots : List Bool → List ℕ

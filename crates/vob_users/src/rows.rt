@@ -1,7 +1,7 @@
 //! The rows of a table that a filter keeps: a user of the walk over set bits.
 ghost use Rattle.std.specs.Prelude.{◌≡◌, true, IfOk};
 ghost use Rattle.std.specs.declared.ops.Bound.TheVariants.{Unbounded};
-ghost use Rattle.vob.specs.Matches.{matches};
+ghost use Rattle.vob_walk.specs.Matches.{matches};
 
 use std::alloc::{AllocError, Global};
 use vob::Vob;

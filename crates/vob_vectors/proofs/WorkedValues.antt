@@ -4,7 +4,7 @@ use Rattle.std.proofs.lemmas.Bool.{cases_lt, false≢true}
 use Rattle.std.proofs.lemmas.List.{get_or_past}
 use Rattle.vob_block.proofs.PlaceLemmas.{place_above, place-zero}
 use Rattle.vob_block.specs.Places.{place, value}
-use Rattle.vob_block.specs.Packing.{need, packing, stored, spelled, IsCanonical}
+use Rattle.vob_block.specs.Packing.{need, packing, bit_at, unpacking, IsCanonical}
 
 abbrev bits-101 : List Bool
 bits-101 = true ∷ false ∷ true ∷ []
@@ -23,8 +23,8 @@ place-2-of-5 = refl
 place-1-of-5 : place 1 5 ≡ false
 place-1-of-5 = refl
 
-value-of-places-0-and-2 : value 8 (λ j. stored (5 ∷ []) 8 j) ≡ 5
-unfolding value stored
+value-of-places-0-and-2 : value 8 (λ j. bit_at (5 ∷ []) 8 j) ≡ 5
+unfolding value bit_at
 value-of-places-0-and-2 = refl
 
 -- ---- how many blocks
@@ -81,19 +81,19 @@ packing-none = refl
 
 -- ---- bits of blocks
 
-spelled-101 : spelled 3 (5 ∷ []) 8 ≡ bits-101
-unfolding spelled stored
-spelled-101 = refl
+unpacking-101 : unpacking 3 (5 ∷ []) 8 ≡ bits-101
+unfolding unpacking bit_at
+unpacking-101 = refl
 
-spelled-1011011101 : spelled 10 (237 ∷ 2 ∷ []) 8 ≡ bits-1011011101
-unfolding spelled stored
-spelled-1011011101 = refl
+unpacking-1011011101 : unpacking 10 (237 ∷ 2 ∷ []) 8 ≡ bits-1011011101
+unfolding unpacking bit_at
+unpacking-1011011101 = refl
 
 -- ---- the one way to store a list of bits
 
 -- bits from 9 on stand above place 0 of block 1, or in no block
-unused-nine_true : (i : ℕ) → 9 ≤ i → stored (255 ∷ 1 ∷ []) 8 i ≡ false
-unfolding stored
+unused-nine_true : (i : ℕ) → 9 ≤ i → bit_at (255 ∷ 1 ∷ []) 8 i ≡ false
+unfolding bit_at
 unused-nine_true i above = elim (cases_lt i 16) [
   | inl last ↦
       let block : i / 8 ≡ 1 = omega arith in
@@ -116,11 +116,11 @@ canonical-nine_true = record { count = refl; within = within-nine_true; unused =
 
 -- place 1 of the last block is true, and only 9 bits are asked for
 not_canonical-unused_bit : IsCanonical 9 (255 ∷ 2 ∷ []) 8 → ⊥
-unfolding stored
+unfolding bit_at
 not_canonical-unused_bit c = false≢true (sym (c.unused 9 (lit≤ tt)))
 
 not_canonical-13 : IsCanonical 3 (13 ∷ []) 8 → ⊥
-unfolding stored
+unfolding bit_at
 not_canonical-13 c = false≢true (sym (c.unused 3 (lit≤ tt)))
 
 -- a block too many, and one too few

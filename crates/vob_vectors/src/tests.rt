@@ -5,6 +5,7 @@ mod constructors;
 mod counts;
 mod growing;
 mod hints;
+mod paths;
 mod pointwise;
 mod raw;
 mod single_bits;

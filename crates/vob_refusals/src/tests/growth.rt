@@ -1,11 +1,23 @@
 //! Calls that make room behind the bits: refused, they leave the bits and the blocks.
-use super::{check_blocks, pushed};
+use super::support::{check_blocks, vob_of};
+use std::process::Abort;
 use std::test::Fail;
 use vob::{Vob, VobError};
 
+/// Whether `101` was grown, and is so long now. If not, there was no memory, and it is as it was.
+fn is_grown(rt: &impl Abort, answer: Result<(), VobError>, vob: &Vob<u8>, len: usize) -> bool {
+    if answer.is_ok() {
+        assert_eq!(rt; vob.len(), len);
+        return true;
+    }
+    assert_eq!(rt; answer, Err(VobError::Memory));
+    check_blocks(rt, vob, 3, &[5]);
+    false
+}
+
 #[test]
 fn a_push_asks_for_memory_only_at_the_capacity(rt: HostRuntime) -> Result<(), Fail> {
-    let Ok(mut vob) = pushed(rt.alloc(), &[true; 8]) else {
+    let Ok(mut vob) = vob_of(rt.alloc(), "11111111") else {
         return Ok(());
     };
     assert_eq!(rt; vob.pop(), Some(true));
@@ -35,7 +47,7 @@ fn a_join_within_the_capacity_takes_no_memory(rt: HostRuntime) -> Result<(), Fai
     let Ok(mut vob) = Vob::<u8>::new_with_storage_type(rt.alloc(), 8) else {
         return Ok(());
     };
-    let Ok(five) = pushed(rt.alloc(), &[true; 5]) else {
+    let Ok(five) = vob_of(rt.alloc(), "11111") else {
         return Ok(());
     };
     for _ in 0..3 {
@@ -49,73 +61,59 @@ fn a_join_within_the_capacity_takes_no_memory(rt: HostRuntime) -> Result<(), Fai
 
 #[test]
 fn a_join_that_is_refused_leaves_all_bits(rt: HostRuntime) -> Result<(), Fail> {
-    let Ok(mut vob) = pushed(rt.alloc(), &[true, false, true]) else {
+    let Ok(mut vob) = vob_of(rt.alloc(), "101") else {
         return Ok(());
     };
     let Ok(many) = Vob::<u8>::from_elem_with_storage_type(rt.alloc(), true, 999) else {
         return Ok(());
     };
     let answer = vob.extend_from_vob(&many);
-    if answer.is_ok() {
-        assert_eq!(rt; vob.len(), 1002);
+    if is_grown(&rt, answer, &vob, 1002) {
         println!(rt; "answered")?;
-        return Ok(());
     }
-    assert_eq!(rt; answer, Err(VobError::Memory));
-    check_blocks(&rt, &vob, 3, &[5]);
     Ok(())
 }
 
 #[test]
 fn room_that_is_refused_leaves_all_bits(rt: HostRuntime) -> Result<(), Fail> {
-    let Ok(mut vob) = pushed(rt.alloc(), &[true, false, true]) else {
+    let Ok(mut vob) = vob_of(rt.alloc(), "101") else {
         return Ok(());
     };
     let answer = vob.reserve(999);
-    check_blocks(&rt, &vob, 3, &[5]);
-    if answer.is_err() {
-        assert_eq!(rt; answer, Err(VobError::Memory));
-        return Ok(());
-    }
-    let room = vob.capacity();
-    assert!(rt; room >= 1002);
-    vob.shrink_to_fit();
-    check_blocks(&rt, &vob, 3, &[5]);
-    if vob.capacity() < room {
-        println!(rt; "answered")?;
+    if is_grown(&rt, answer, &vob, 3) {
+        check_blocks(&rt, &vob, 3, &[5]);
+        let room = vob.capacity();
+        assert!(rt; room >= 1002);
+        vob.shrink_to_fit();
+        check_blocks(&rt, &vob, 3, &[5]);
+        if vob.capacity() < room {
+            println!(rt; "answered")?;
+        }
     }
     Ok(())
 }
 
 #[test]
 fn equal_bits_that_are_refused_leave_all_bits(rt: HostRuntime) -> Result<(), Fail> {
-    let Ok(mut vob) = pushed(rt.alloc(), &[true, false, true]) else {
+    let Ok(mut vob) = vob_of(rt.alloc(), "101") else {
         return Ok(());
     };
     let answer = vob.resize(999, true);
-    if answer.is_ok() {
-        assert_eq!(rt; vob.len(), 999);
+    if is_grown(&rt, answer, &vob, 999) {
         println!(rt; "answered")?;
-        return Ok(());
     }
-    assert_eq!(rt; answer, Err(VobError::Memory));
-    check_blocks(&rt, &vob, 3, &[5]);
     Ok(())
 }
 
 #[test]
 fn a_slice_that_is_refused_leaves_all_bits(rt: HostRuntime) -> Result<(), Fail> {
-    let Ok(mut vob) = pushed(rt.alloc(), &[true, false, true]) else {
+    let Ok(mut vob) = vob_of(rt.alloc(), "101") else {
         return Ok(());
     };
-    let answer = vob.extend_from_slice([true; 99].as_slice());
-    if answer.is_ok() {
-        assert_eq!(rt; vob.len(), 102);
+    let answer = vob.extend_from_slice(&[true; 99]);
+    if is_grown(&rt, answer, &vob, 102) {
         println!(rt; "answered")?;
-        return Ok(());
     }
-    assert_eq!(rt; answer, Err(VobError::Memory));
-    check_blocks(&rt, &vob, 3, &[5]);
     Ok(())
 }
 

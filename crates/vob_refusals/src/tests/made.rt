@@ -1,5 +1,5 @@
 //! Calls that make a Vob: refused, they say so and leave what they were given.
-use super::{check_blocks, pushed};
+use super::support::{check_blocks, vob_of};
 use std::process::Abort;
 use std::test::Fail;
 use vob::{Vob, VobError};
@@ -73,7 +73,7 @@ fn items_without_a_hint_are_made_or_refused(rt: HostRuntime) -> Result<(), Fail>
 
 #[test]
 fn a_copy_is_made_or_refused(rt: HostRuntime) -> Result<(), Fail> {
-    let Ok(vob) = pushed(rt.alloc(), &[true, false, true]) else {
+    let Ok(vob) = vob_of(rt.alloc(), "101") else {
         return Ok(());
     };
     let copy = is_made(&rt, vob.clone(), 3, &[5]);
@@ -86,7 +86,7 @@ fn a_copy_is_made_or_refused(rt: HostRuntime) -> Result<(), Fail> {
 
 #[test]
 fn a_cut_that_is_refused_leaves_all_bits(rt: HostRuntime) -> Result<(), Fail> {
-    let Ok(mut vob) = pushed(rt.alloc(), &[true; 10]) else {
+    let Ok(mut vob) = vob_of(rt.alloc(), "1111111111") else {
         return Ok(());
     };
     let rest = vob.split_off(5);
@@ -101,10 +101,10 @@ fn a_cut_that_is_refused_leaves_all_bits(rt: HostRuntime) -> Result<(), Fail> {
 
 #[test]
 fn operators_make_a_vob_or_are_refused(rt: HostRuntime) -> Result<(), Fail> {
-    let Ok(one) = pushed(rt.alloc(), &[true, false, true]) else {
+    let Ok(one) = vob_of(rt.alloc(), "101") else {
         return Ok(());
     };
-    let Ok(two) = pushed(rt.alloc(), &[true, true, false]) else {
+    let Ok(two) = vob_of(rt.alloc(), "110") else {
         return Ok(());
     };
     assert_eq!(rt; one.len(), two.len());

@@ -1,5 +1,5 @@
 //! Pulls at a walk over indices: refused, they leave the walk and the answers that were there.
-use super::pushed;
+use super::support::vob_of;
 use std::alloc::Global;
 use std::process::Abort;
 use std::test::Fail;
@@ -29,7 +29,7 @@ fn is_dealt<W: IndexWalk>(rt: &impl Abort, alloc: Global, walk: &mut W, indices:
 #[test]
 fn pulls_that_are_refused_leave_the_walk(rt: HostRuntime) -> Result<(), Fail> {
     let alloc = rt.alloc();
-    let Ok(vob) = pushed(alloc, &[true, false, true, true, false, true]) else {
+    let Ok(vob) = vob_of(alloc, "101101") else {
         return Ok(());
     };
     let mut set = vob.iter_set_bits(..);

@@ -1,5 +1,5 @@
 //! Calls that take no memory: no refusal reaches them.
-use super::{check_blocks, pushed};
+use super::support::{check_blocks, vob_of};
 use std::test::Fail;
 use vob::{End, IndexWalk, IterSetBits, IterUnsetBits, RawVob, Vob, count_ones_in, deal};
 use vob_block::Blocks;
@@ -25,7 +25,7 @@ fn no_bits_take_no_memory(rt: HostRuntime) -> Result<(), Fail> {
 
 #[test]
 fn bits_are_read_and_written_in_place(rt: HostRuntime) -> Result<(), Fail> {
-    let Ok(mut vob) = pushed(rt.alloc(), &[true, false, true]) else {
+    let Ok(mut vob) = vob_of(rt.alloc(), "101") else {
         return Ok(());
     };
     assert_eq!(rt; vob.len(), 3);
@@ -49,10 +49,10 @@ fn bits_are_read_and_written_in_place(rt: HostRuntime) -> Result<(), Fail> {
 
 #[test]
 fn bits_are_combined_in_place(rt: HostRuntime) -> Result<(), Fail> {
-    let Ok(mut vob) = pushed(rt.alloc(), &[true, false, true]) else {
+    let Ok(mut vob) = vob_of(rt.alloc(), "101") else {
         return Ok(());
     };
-    let Ok(other) = pushed(rt.alloc(), &[true, true, false]) else {
+    let Ok(other) = vob_of(rt.alloc(), "110") else {
         return Ok(());
     };
     assert_eq!(rt; vob.len(), other.len());
@@ -70,10 +70,10 @@ fn bits_are_combined_in_place(rt: HostRuntime) -> Result<(), Fail> {
 
 #[test]
 fn bits_move_in_the_room_that_there_is(rt: HostRuntime) -> Result<(), Fail> {
-    let Ok(mut vob) = pushed(rt.alloc(), &[true, false, true]) else {
+    let Ok(mut vob) = vob_of(rt.alloc(), "101") else {
         return Ok(());
     };
-    let Ok(other) = pushed(rt.alloc(), &[true, true, false]) else {
+    let Ok(other) = vob_of(rt.alloc(), "110") else {
         return Ok(());
     };
     assert_eq!(rt; vob.split_off(3)?.len(), 0);
@@ -89,7 +89,7 @@ fn bits_move_in_the_room_that_there_is(rt: HostRuntime) -> Result<(), Fail> {
 
 #[test]
 fn all_bits_change_in_place(rt: HostRuntime) -> Result<(), Fail> {
-    let Ok(mut vob) = pushed(rt.alloc(), &[true, false, true]) else {
+    let Ok(mut vob) = vob_of(rt.alloc(), "101") else {
         return Ok(());
     };
     vob.negate();
@@ -108,10 +108,10 @@ fn all_bits_change_in_place(rt: HostRuntime) -> Result<(), Fail> {
 
 #[test]
 fn operators_change_their_left_side(rt: HostRuntime) -> Result<(), Fail> {
-    let Ok(mut vob) = pushed(rt.alloc(), &[true, false, true]) else {
+    let Ok(mut vob) = vob_of(rt.alloc(), "101") else {
         return Ok(());
     };
-    let Ok(other) = pushed(rt.alloc(), &[true, true, false]) else {
+    let Ok(other) = vob_of(rt.alloc(), "110") else {
         return Ok(());
     };
     assert!(rt; vob != other);
@@ -128,7 +128,7 @@ fn operators_change_their_left_side(rt: HostRuntime) -> Result<(), Fail> {
 
 #[test]
 fn indices_are_walked_in_place(rt: HostRuntime) -> Result<(), Fail> {
-    let Ok(vob) = pushed(rt.alloc(), &[true, false, true]) else {
+    let Ok(vob) = vob_of(rt.alloc(), "101") else {
         return Ok(());
     };
     let mut set = vob.iter_set_bits(..);
@@ -152,7 +152,7 @@ fn indices_are_walked_in_place(rt: HostRuntime) -> Result<(), Fail> {
 
 #[test]
 fn raw_storage_is_taken_in_place(rt: HostRuntime) -> Result<(), Fail> {
-    let Ok(vob) = pushed(rt.alloc(), &[true, true, true]) else {
+    let Ok(vob) = vob_of(rt.alloc(), "111") else {
         return Ok(());
     };
     let mut raw = vob.into_raw();

@@ -1,7 +1,7 @@
 //! The commands that walk over the indices of a Vob's bits of one value, within a range.
 ghost use Rattle.std.specs.Prelude.{◌≡◌, IfOk, length};
-ghost use Rattle.vob.specs.Matches.{matches};
-ghost use Rattle.vob.specs.Walk.{answers};
+ghost use Rattle.vob_walk.specs.Matches.{matches};
+ghost use Rattle.vob_walk.specs.Walk.{answers};
 ghost use Rattle.vob_run.specs.Answer.{answer_of};
 ghost use Rattle.vob_run.specs.Call.{Walk, Count};
 ghost use Rattle.vob_run.specs.Run.{lists, IsStep};

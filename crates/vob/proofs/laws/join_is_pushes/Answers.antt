@@ -6,7 +6,8 @@ use Rattle.vob.proofs.laws.join_is_pushes.Goals as goal
 
 joined : (bits others : List Bool) → bits ++ others ≡ pushed bits others
 joined bits [] = append-nil bits
-joined bits (value ∷ others) = sym (append_assoc bits (value ∷ []) others) ∙ joined (bits ++ value ∷ []) others
+joined bits (value ∷ others) = sym (append_assoc bits (value ∷ []) others)
+    ∙ joined (bits ++ value ∷ []) others
 
 pub returns : goal.returns
 returns c = joined

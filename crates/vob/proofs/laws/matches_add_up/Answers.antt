@@ -1,5 +1,5 @@
 -- By the indices, one after another.
-use Rattle.vob.proofs.MatchesLemmas.{length-matches_both}
+use Rattle.vob_walk.proofs.MatchesLemmas.{length-matches_both}
 use Rattle.vob.proofs.laws.matches_add_up.Goals as goal
 
 pub returns : goal.returns

@@ -8,7 +8,8 @@ bit_twice false = refl
 
 twice : (bits : List Bool) → map not (map not bits) ≡ bits
 twice [] = refl
-twice (bit ∷ bits) = ap (λ b. b ∷ map not (map not bits)) (bit_twice bit) ∙ ap (λ bs. bit ∷ bs) (twice bits)
+twice (bit ∷ bits) = ap (λ b. b ∷ map not (map not bits)) (bit_twice bit)
+    ∙ ap (λ bs. bit ∷ bs) (twice bits)
 
 pub returns : goal.returns
 returns c = twice

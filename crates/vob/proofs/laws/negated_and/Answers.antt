@@ -7,7 +7,8 @@ negated_bit : (bit other : Bool) → not (bit && other) ≡ (not bit || not othe
 negated_bit true other = refl
 negated_bit false other = refl
 
-negated : (bits others : List Bool) → map not (pointwise ◌&&◌ bits others) ≡ pointwise ◌||◌ (map not bits) (map not others)
+negated : (bits others : List Bool) → map not (pointwise ◌&&◌ bits others)
+    ≡ pointwise ◌||◌ (map not bits) (map not others)
 negated [] others = refl
 negated (bit ∷ bits) [] = refl
 negated (bit ∷ bits) (other ∷ others) =

@@ -1,6 +1,6 @@
--- Two lists taken together are as long as each.
+-- Two lists combined are as long as each.
 use Rattle.vob.proofs.ChangeLemmas.{unequal_decides}
-use Rattle.vob.proofs.PointwiseLemmas.{length-pointwise}
+use Rattle.vob_block.proofs.PointwiseLemmas.{length-pointwise}
 use Rattle.vob.proofs.laws.pointwise_changes_bits.Goals as goal
 
 pub returns : goal.returns

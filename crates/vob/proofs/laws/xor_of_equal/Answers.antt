@@ -10,7 +10,8 @@ differ_none false = refl
 
 with_itself : (bits : List Bool) → pointwise differ bits bits ≡ replicate (length bits) false
 with_itself [] = refl
-with_itself (bit ∷ bits) = ap (λ b. b ∷ pointwise differ bits bits) (differ_none bit) ∙ ap (λ bs. false ∷ bs) (with_itself bits)
+with_itself (bit ∷ bits) = ap (λ b. b ∷ pointwise differ bits bits) (differ_none bit)
+    ∙ ap (λ bs. false ∷ bs) (with_itself bits)
 
 pub returns : goal.returns
 returns c = λ bits others same. ap (pointwise differ bits) (sym same) ∙ with_itself bits

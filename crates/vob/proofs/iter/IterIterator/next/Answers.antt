@@ -5,15 +5,24 @@ use Rattle.vob.proofs.iter.IterIterator.next.Goals as goal
 
 pub returns-then-index-self-clause-steps : goal.returns-then-index-self-clause-steps
 returns-then-index-self-clause-steps g c =
-    let none = sym c.self.view_is ∙ bits_between-nothing _ _ _ _ (omega (arith, c.if-index-self.true)) in (none, none)
+    let none = sym c.self.view_is ∙ bits_between-nothing _ _ _ _
+    (omega (arith, c.if-index-self.true)) in (none, none)
 
 pub returns-clause-steps : goal.returns-clause-steps
 returns-clause-steps g c =
     let more : c.self.inside.next < c.self.inside.end = omega arith in
-    rw (← c.self.view_is, c.block_bit.ensures) (bits_between-first c.self.inside.next c.self.inside.end _ _ more)
+    rw (← c.self.view_is, c.block_bit.ensures)
+    (bits_between-first c.self.inside.next c.self.inside.end _ _ more)
 
 pub returns-clause-goes : goal.returns-clause-goes
 returns-clause-goes g c =
-    let before : length c.args.self.now ≡ c.self.inside.end - c.self.inside.next = ap length (sym c.self.view_is) ∙ length-bits_between _ _ _ _ in
-    let after = length-bits_between (c.self.inside.next + 1) c.self.inside.end (map g.T.Block.number c.self.inside.blocks.now) g.T.Block.BITS in
-    record { on = λ finite. (tt, finite, omega (arith, before, after)); keeps = tt; rests = λ _. tt }
+    let before : length c.args.self.now ≡ c.self.inside.end - c.self.inside.next =
+    ap length (sym c.self.view_is) ∙ length-bits_between _ _ _ _ in
+    let after = length-bits_between (c.self.inside.next + 1) c.self.inside.end
+    (map g.T.Block.number c.self.inside.blocks.now) g.T.Block.BITS in
+    record {
+      on = λ finite. (tt, finite, omega (arith, before, after));
+      keeps = tt;
+      rests =
+          λ _. tt;
+    }

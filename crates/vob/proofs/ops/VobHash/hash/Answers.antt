@@ -2,9 +2,8 @@
 use Rattle.std.specs.List.{flat_map, fold}
 use Rattle.std.proofs.Common.{◌≡◌, ◌∙◌, ap, sym, map}
 use Rattle.vob_block.specs.Packing.{packing}
-use Rattle.vob_block.proofs.PackingLemmas.{packing-spelled}
-use Rattle.vob_block.proofs.PlaceLemmas.{width_pos}
-use Rattle.vob.proofs.FedLemmas.{fed_by_numbers}
+use Rattle.vob_block.proofs.PackingLemmas.{packing-unpacking}
+use Rattle.vob.proofs.HashLemmas.{words_from_numbers}
 use Rattle.vob.proofs.ops.VobHash.hash.Goals as goal
 
 pub returns : goal.returns
@@ -14,11 +13,12 @@ returns g c =
     let block_of = g.T.FixedWidth.of_bits in
     let w = g.T.Block.BITS in
     let items = c.self.inside.vec.items in
-    let wide = width_pos g.T.FixedWidth.width _ g.met.T.Block.width_law in
-    let stored : map number items ≡ packing c.args.self.now.bits w =
-    sym (packing-spelled w wide c.self.inside.len _ c.self.invariant) ∙ ap (λ v. packing v.bits w) c.self.view_is in
+    let bit_at : map number items ≡ packing c.args.self.now.bits w =
+    sym (packing-unpacking w g.met.T.Block.wide_law c.self.inside.len _ c.self.invariant)
+    ∙ ap (λ v. packing v.bits w) c.self.view_is in
     c.hash_slice.ensures ∙ ap (fold g.H.Hasher.write c.args.state.now) (
     ap (flat_map fed) c.as_slice.ensures.value
-    ∙ fed_by_numbers number block_of fed w g.met.T.Block.of_bits_number_law g.met.T.Block.hash_law items c.self.invariant.within
-    ∙ ap (flat_map (λ n. fed (block_of n))) stored
+    ∙ words_from_numbers number block_of fed w g.met.T.Block.of_bits_number_law
+    g.met.T.Block.hash_law items c.self.invariant.within
+    ∙ ap (flat_map (λ n. fed (block_of n))) bit_at
     )

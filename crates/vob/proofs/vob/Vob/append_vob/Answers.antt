@@ -1,29 +1,39 @@
 -- The fields' clauses, read as the values'; the other's blocks are the packing of its bits.
 use Rattle.std.proofs.Common.{◌≡◌, ◌++◌, length, arith, ap, ◌∙◌}
-use Rattle.vob_block.proofs.PackingLemmas.{length-spelled}
-use Rattle.vob_block.proofs.PlaceLemmas.{width_pos}
-use Rattle.vob.proofs.ExtendLemmas.{packing_is}
+use Rattle.vob_block.proofs.PackingLemmas.{length-unpacking}
+use Rattle.vob_block.proofs.PackingLemmas.{packing_is}
 use Rattle.vob.proofs.vob.Vob.append_vob.Goals as goal
 
 pub append_blocks-requires-clause-other : goal.append_blocks-requires-clause-other
 append_blocks-requires-clause-other g c =
-    let wide = width_pos g.T.FixedWidth.width _ g.met.T.Block.width_law in
-    let long : length c.args.other.now.bits ≡ c.other.inside.len = rw (← c.other.view_is) (length-spelled _ _ _) in
-    (packing_is g.T.Block.BITS wide c.args.other.now.bits c.other.inside.len _ c.blocks-then-self-BITS-ne0.ensures.blocks long).0
+    let long : length c.args.other.now.bits ≡ c.other.inside.len =
+    rw (← c.other.view_is) (length-unpacking _ _ _) in
+    (packing_is g.T.Block.BITS g.met.T.Block.wide_law c.args.other.now.bits c.other.inside.len _
+    c.blocks-then-self-BITS-ne0.ensures.blocks long).0
 
 pub append_blocks-requires-clause-room : goal.append_blocks-requires-clause-room
 append_blocks-requires-clause-room g c =
-    let long : length c.args.other.now.bits ≡ c.other.inside.len = rw (← c.other.view_is) (length-spelled _ _ _) in
+    let long : length c.args.other.now.bits ≡ c.other.inside.len =
+    rw (← c.other.view_is) (length-unpacking _ _ _) in
     omega (arith, c.requires, long)
 
 pub returns-then-self-BITS-ne0-clause-bits : goal.returns-then-self-BITS-ne0-clause-bits
 returns-then-self-BITS-ne0-clause-bits g c =
-    let wide = width_pos g.T.FixedWidth.width _ g.met.T.Block.width_law in
-    let long : length c.args.other.now.bits ≡ c.other.inside.len = rw (← c.other.view_is) (length-spelled _ _ _) in
-    c.append_blocks.ensures.bits ∙ ap (λ o. c.args.self.now.bits ++ o) (packing_is g.T.Block.BITS wide c.args.other.now.bits c.other.inside.len _ c.blocks-then-self-BITS-ne0.ensures.blocks long).1
+    let long : length c.args.other.now.bits ≡ c.other.inside.len =
+    rw (← c.other.view_is) (length-unpacking _ _ _) in
+    c.append_blocks.ensures.bits ∙ ap (λ o. c.args.self.now.bits ++ o)
+    (packing_is g.T.Block.BITS g.met.T.Block.wide_law c.args.other.now.bits c.other.inside.len
+    _ c.blocks-then-self-BITS-ne0.ensures.blocks long).1
 
 pub join_copied-requires-clause-room : goal.join_copied-requires-clause-room
-join_copied-requires-clause-room g c = let room = rw (← c.self.view_is, ← c.other.view_is, length-spelled, length-spelled) at c.requires in omega (arith, room)
+join_copied-requires-clause-room g c = let room =
+    rw (← c.self.view_is, ← c.other.view_is, length-unpacking, length-unpacking) at c.requires in
+    omega (arith, room)
 
 pub overflow_add-self : goal.overflow_add-self
-overflow_add-self g c = let room = rw (← c.self.view_is, ← c.other.view_is, length-spelled, length-spelled) at c.requires in omega (arith, room)
+overflow_add-self g c = let room = rw (
+  ← c.self.view_is,
+  ← c.other.view_is,
+  length-unpacking,
+  length-unpacking,
+) at c.requires in omega (arith, room)

@@ -3,8 +3,7 @@ use Rattle.std.proofs.Common.{◌∙◌, sym, ap, length, arith}
 use Rattle.std.proofs.lemmas.List.{length-map}
 use Rattle.std.proofs.lemmas.Bool.{false≢true}
 use Rattle.vob_block.proofs.NeedLemmas.{need-zero}
-use Rattle.vob_block.proofs.PackingLemmas.{length-spelled}
-use Rattle.vob_block.proofs.PlaceLemmas.{width_pos}
+use Rattle.vob_block.proofs.PackingLemmas.{length-unpacking}
 use Rattle.vob_block.specs.Packing.{need}
 use Rattle.vob.proofs.vob.Vob.clone.Goals as goal
 
@@ -12,8 +11,9 @@ pub returns-in_err-vec-clause-nothing : goal.returns-in_err-vec-clause-nothing
 returns-in_err-vec-clause-nothing g c =
     let w = g.T.Block.BITS in
     let vec = c.self.inside.vec in
-    let wide = width_pos g.T.FixedWidth.width _ g.met.T.Block.width_law in
     rw (← c.self.view_is) (λ none.
-    let zero_len = sym (length-spelled _ _ _) ∙ ap length none in
-    let blocks = sym (length-map vec.items g.T.Block.number) ∙ c.self.invariant.count ∙ ap (λ n. need n w) zero_len ∙ need-zero w wide in
-    absurd (false≢true (c.in_err-vec.ensures.succeeds (omega (arith, blocks, vec.ok, c.len.ensures)))))
+    let zero_len = sym (length-unpacking _ _ _) ∙ ap length none in
+    let blocks = sym (length-map vec.items g.T.Block.number) ∙ c.self.invariant.count
+    ∙ ap (λ n. need n w) zero_len ∙ need-zero w g.met.T.Block.wide_law in
+    absurd (false≢true (c.in_err-vec.ensures.succeeds
+    (omega (arith, blocks, vec.ok, c.len.ensures)))))

@@ -1,13 +1,12 @@
 -- The bits have room in their blocks.
 use Rattle.std.proofs.Common.{◌∙◌, sym, length, arith}
 use Rattle.std.proofs.lemmas.List.{length-map}
-use Rattle.vob_block.proofs.PlaceLemmas.{width_pos}
-use Rattle.vob.proofs.StorageLemmas.{length-le-room}
+use Rattle.vob_store.proofs.StorageLemmas.{length-le-room}
 use Rattle.vob.proofs.vob.Vob.from_elem_with_storage_type.Goals as goal
 
 pub returns-clause-room : goal.returns-clause-room
 returns-clause-room g c =
     let vec = c.in_ok-vec.vec in
-    let wide = width_pos g.T.FixedWidth.width _ g.met.T.Block.width_law in
     let count = sym (length-map vec.items g.T.Block.number) ∙ c.in_ok-vec.ensures.canonical.count in
-    length-le-room g.T.Block.BITS wide c.args.len (length vec.items) vec.cap count (omega (arith, vec.ok)) (omega arith)
+    length-le-room g.T.Block.BITS g.met.T.Block.wide_law c.args.len (length vec.items) vec.cap
+    count (omega (arith, vec.ok)) (omega arith)

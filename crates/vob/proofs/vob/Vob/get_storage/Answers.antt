@@ -1,12 +1,12 @@
--- Canonical storage is the packing of the list that it spells.
+-- Canonical storage is the packing of the list that it unpacks to.
 use Rattle.std.proofs.Common.{◌∙◌, sym, ap, map}
 use Rattle.vob_block.specs.Packing.{packing}
-use Rattle.vob_block.proofs.PackingLemmas.{packing-spelled}
-use Rattle.vob_block.proofs.PlaceLemmas.{width_pos}
+use Rattle.vob_block.proofs.PackingLemmas.{packing-unpacking}
 use Rattle.vob.proofs.vob.Vob.get_storage.Goals as goal
 
 pub returns : goal.returns
 returns g c =
     let w = g.T.Block.BITS in
-    let wide = width_pos g.T.FixedWidth.width _ g.met.T.Block.width_law in
-    ap (map g.T.Block.number) c.as_slice.ensures.value ∙ sym (packing-spelled w wide c.self.inside.len _ c.self.invariant) ∙ ap (λ v. packing v.bits w) c.self.view_is
+    ap (map g.T.Block.number) c.as_slice.ensures.value
+    ∙ sym (packing-unpacking w g.met.T.Block.wide_law c.self.inside.len _ c.self.invariant)
+    ∙ ap (λ v. packing v.bits w) c.self.view_is

@@ -1,15 +1,14 @@
--- Canonical storage is as long as the list that it spells, and its packing.
+-- Canonical storage is as long as the list that it unpacks to, and its packing.
 use Rattle.std.proofs.Common.{◌∙◌, sym, ap, length}
 use Rattle.vob_block.specs.Packing.{packing}
-use Rattle.vob_block.proofs.PackingLemmas.{length-spelled, packing-spelled}
-use Rattle.vob_block.proofs.PlaceLemmas.{width_pos}
+use Rattle.vob_block.proofs.PackingLemmas.{length-unpacking, packing-unpacking}
 use Rattle.vob.proofs.vob.Vob.into_raw.Goals as goal
 
 pub returns-clause-len : goal.returns-clause-len
-returns-clause-len g c = sym (length-spelled _ _ _) ∙ ap (λ v. length v.bits) c.self.view_is
+returns-clause-len g c = sym (length-unpacking _ _ _) ∙ ap (λ v. length v.bits) c.self.view_is
 
 pub returns-clause-blocks : goal.returns-clause-blocks
 returns-clause-blocks g c =
     let w = g.T.Block.BITS in
-    let wide = width_pos g.T.FixedWidth.width _ g.met.T.Block.width_law in
-    sym (packing-spelled w wide c.self.inside.len _ c.self.invariant) ∙ ap (λ v. packing v.bits w) c.self.view_is
+    sym (packing-unpacking w g.met.T.Block.wide_law c.self.inside.len _ c.self.invariant)
+    ∙ ap (λ v. packing v.bits w) c.self.view_is

@@ -1,6 +1,6 @@
--- The list that the blocks spell is as long as the length says.
-use Rattle.vob_block.proofs.PackingLemmas.{length-spelled}
+-- The list that the blocks unpack to is as long as the length says.
+use Rattle.vob_block.proofs.PackingLemmas.{length-unpacking}
 use Rattle.vob.proofs.vob.Vob.is_empty.Goals as goal
 
 pub returns : goal.returns
-returns g c = rw (← c.self.view_is, length-spelled)
+returns g c = rw (← c.self.view_is, length-unpacking)

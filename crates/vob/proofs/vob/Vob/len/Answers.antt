@@ -1,17 +1,16 @@
 -- The list that canonical storage spells is as long as the length says, and has room in its blocks.
 use Rattle.std.proofs.Common.{◌∙◌, sym, ap, length, arith}
 use Rattle.std.proofs.lemmas.List.{length-map}
-use Rattle.vob_block.proofs.PackingLemmas.{length-spelled}
-use Rattle.vob_block.proofs.PlaceLemmas.{width_pos}
-use Rattle.vob.proofs.StorageLemmas.{length-le-room}
+use Rattle.vob_block.proofs.PackingLemmas.{length-unpacking}
+use Rattle.vob_store.proofs.StorageLemmas.{length-le-room}
 use Rattle.vob.proofs.vob.Vob.len.Goals as goal
 
 pub returns-clause-len : goal.returns-clause-len
-returns-clause-len g c = sym (length-spelled _ _ _) ∙ ap (λ v. length v.bits) c.self.view_is
+returns-clause-len g c = sym (length-unpacking _ _ _) ∙ ap (λ v. length v.bits) c.self.view_is
 
 pub returns-clause-within : goal.returns-clause-within
 returns-clause-within g c =
     let vec = c.self.inside.vec in
-    let wide = width_pos g.T.FixedWidth.width _ g.met.T.Block.width_law in
     let count = sym (length-map vec.items g.T.Block.number) ∙ c.self.invariant.count in
-    rw (← c.self.view_is) (length-le-room g.T.Block.BITS wide c.self.inside.len (length vec.items) vec.cap count (omega (arith, vec.ok)) (omega arith))
+    rw (← c.self.view_is) (length-le-room g.T.Block.BITS g.met.T.Block.wide_law c.self.inside.len
+    (length vec.items) vec.cap count (omega (arith, vec.ok)) (omega arith))

@@ -1,10 +1,15 @@
 -- As often the value as there were bits.
 use Rattle.std.proofs.Common.{◌≡◌, ◌∙◌, sym, ap, length}
 use Rattle.std.proofs.lemmas.List.{take_at}
-use Rattle.vob_block.proofs.PackingLemmas.{length-spelled}
+use Rattle.vob_block.proofs.PackingLemmas.{length-unpacking}
 use Rattle.vob.proofs.vob.Vob.set_all.Goals as goal
 
 pub returns-clause-bits : goal.returns-clause-bits
 returns-clause-bits g c =
-    let long : length c.args.self.now.bits ≡ c.self.inside.len = ap (λ v. length v.bits) (sym c.self.view_is) ∙ length-spelled _ _ _ in
-    rw (take_at c.fill.new.blocks _ c.self.inside.vec.len (c.fill.auto.blocks ∙ c.deref_mut.ensures.len), long) c.fill.ensures.bits
+    let long : length c.args.self.now.bits ≡ c.self.inside.len =
+    ap (λ v. length v.bits) (sym c.self.view_is) ∙ length-unpacking _ _ _ in
+    rw (
+      take_at c.fill.new.blocks _ c.self.inside.vec.len
+          (c.fill.auto.blocks ∙ c.deref_mut.ensures.len),
+      long,
+    ) c.fill.ensures.bits

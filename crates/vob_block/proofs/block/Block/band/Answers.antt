@@ -11,10 +11,14 @@ returns g c =
     let number = g.Self.Block.number in
     let a = c.args.self in
     let b = c.args.other in
-    let within = lt_of_le_of_lt (and_le_l (number a) (number b)) c.known.ensures in
-    let same = ap (λ x. bit_and x (g.Self.FixedWidth.bits_of b)) (g.met.Self.Block.bits_law a) ∙ ap (bit_and (number a)) (g.met.Self.Block.bits_law b) in
-    let is = number_from_bits number g.Self.FixedWidth.of_bits g.Self.Block.BITS g.met.Self.Block.of_bits_number_law c.bitand.result _ _ (g.met.Self.PrimInt.bitand_law a b _ c.bitand.ensures) same within in
+    let within = lt_of_le_of_lt (and_le_l (number a) (number b)) c.in_range.ensures in
+    let same = ap (λ x. bit_and x (g.Self.FixedWidth.bits_of b)) (g.met.Self.Block.bits_law a)
+    ∙ ap (bit_and (number a)) (g.met.Self.Block.bits_law b) in
+    let is = number_from_bits number g.Self.FixedWidth.of_bits g.Self.Block.BITS
+    g.met.Self.Block.of_bits_number_law c.bitand.result _ _
+    (g.met.Self.PrimInt.bitand_law a b _ c.bitand.ensures) same within in
     record {
-      places = HasPlaces-at _ _ _ _ (sym is) (record { each = λ j h. place-and (number a) (number b) j });
+      places = HasPlaces-at _ _ _ _ (sym is) (record
+          { each = λ j h. place-and (number a) (number b) j });
       within = subst (λ (n : ℕ). n < 2 ^ g.Self.Block.BITS) (sym is) within;
     }

@@ -12,7 +12,11 @@ returns g c =
     let x = c.args.self in
     let one = ap number c.ONE.ensures ∙ g.met.Self.Block.one_number_law in
     let none = ap number c.ZERO.ensures ∙ g.met.Self.Block.zero_number_law in
-    let mask = mask-is w j c.requires (number c.ONE.result) (number c.up.result) one c.up.ensures.within c.up.ensures.places in
-    let places = subst (λ (m : ℕ). HasPlaces w (number c.band.result) (λ i. place i (number x) && place i m)) mask c.band.ensures.places in
-    let tested = place_from_test w j c.requires (number x) (number c.band.result) (number c.ZERO.result) (g.Self.PartialEq.eq c.band.result c.ZERO.result) places c.band.ensures.within none (g.met.Self.Block.equal_law c.band.result c.ZERO.result) in
+    let mask = mask-is w j c.requires (number c.ONE.result) (number c.up.result) one
+    c.up.ensures.within c.up.ensures.places in
+    let places = subst (λ (m : ℕ). HasPlaces w (number c.band.result)
+    (λ i. place i (number x) && place i m)) mask c.band.ensures.places in
+    let tested = place_from_test w j c.requires (number x) (number c.band.result)
+    (number c.ZERO.result) (g.Self.PartialEq.eq c.band.result c.ZERO.result) places
+    c.band.ensures.within none (g.met.Self.Block.equal_law c.band.result c.ZERO.result) in
     c.ne.ensures ∙ tested

@@ -12,8 +12,12 @@ returns g c =
     let n = g.Self.Block.BITS in
     let a = c.args.self in
     let within = complement-lt w n (number a) g.met.Self.Block.width_law in
-    let is = number_from_bits number g.Self.FixedWidth.of_bits n g.met.Self.Block.of_bits_number_law c.not.result _ _ (g.met.Self.PrimInt.not_law a _ c.not.ensures) (ap (bit_not w) (g.met.Self.Block.bits_law a)) within in
+    let is = number_from_bits number g.Self.FixedWidth.of_bits n
+    g.met.Self.Block.of_bits_number_law c.not.result _ _
+    (g.met.Self.PrimInt.not_law a _ c.not.ensures)
+    (ap (bit_not w) (g.met.Self.Block.bits_law a)) within in
     record {
-      places = HasPlaces-at _ _ _ _ (sym is) (HasPlaces-complement w n (number a) g.met.Self.Block.width_law c.known.ensures);
+      places = HasPlaces-at _ _ _ _ (sym is) (HasPlaces-complement w n (number a)
+          g.met.Self.Block.width_law c.in_range.ensures);
       within = subst (λ (m : ℕ). m < 2 ^ n) (sym is) within;
     }

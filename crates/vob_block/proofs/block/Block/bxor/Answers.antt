@@ -11,10 +11,15 @@ returns g c =
     let number = g.Self.Block.number in
     let a = c.args.self in
     let b = c.args.other in
-    let within = xor_lt g.Self.Block.BITS (number a) (number b) c.known.ensures c.known-2.ensures in
-    let same = ap (λ x. bit_xor x (g.Self.FixedWidth.bits_of b)) (g.met.Self.Block.bits_law a) ∙ ap (bit_xor (number a)) (g.met.Self.Block.bits_law b) in
-    let is = number_from_bits number g.Self.FixedWidth.of_bits g.Self.Block.BITS g.met.Self.Block.of_bits_number_law c.bitxor.result _ _ (g.met.Self.PrimInt.bitxor_law a b _ c.bitxor.ensures) same within in
+    let within = xor_lt g.Self.Block.BITS (number a) (number b) c.in_range.ensures
+    c.in_range-2.ensures in
+    let same = ap (λ x. bit_xor x (g.Self.FixedWidth.bits_of b)) (g.met.Self.Block.bits_law a)
+    ∙ ap (bit_xor (number a)) (g.met.Self.Block.bits_law b) in
+    let is = number_from_bits number g.Self.FixedWidth.of_bits g.Self.Block.BITS
+    g.met.Self.Block.of_bits_number_law c.bitxor.result _ _
+    (g.met.Self.PrimInt.bitxor_law a b _ c.bitxor.ensures) same within in
     record {
-      places = HasPlaces-at _ _ _ _ (sym is) (record { each = λ j h. place-xor (number a) (number b) j });
+      places = HasPlaces-at _ _ _ _ (sym is) (record
+          { each = λ j h. place-xor (number a) (number b) j });
       within = subst (λ (n : ℕ). n < 2 ^ g.Self.Block.BITS) (sym is) within;
     }

@@ -9,9 +9,12 @@ returns g c =
     let number = g.Self.Block.number in
     let n = g.Self.Block.BITS in
     let a = c.args.self in
-    let within = shift_down-lt n (number a) c.args.n c.known.ensures in
-    let is = number_from_bits number g.Self.FixedWidth.of_bits n g.met.Self.Block.of_bits_number_law c.unsigned_shr.result _ _ c.unsigned_shr.ensures (ap (λ x. x / 2 ^ c.args.n) (g.met.Self.Block.bits_law a)) within in
+    let within = shift_down-lt n (number a) c.args.n c.in_range.ensures in
+    let is = number_from_bits number g.Self.FixedWidth.of_bits n
+    g.met.Self.Block.of_bits_number_law c.unsigned_shr.result _ _ c.unsigned_shr.ensures
+    (ap (λ x. x / 2 ^ c.args.n) (g.met.Self.Block.bits_law a)) within in
     record {
-      places = HasPlaces-at _ _ _ _ (sym is) (HasPlaces-shift_down n (number a) c.args.n c.known.ensures);
+      places = HasPlaces-at _ _ _ _ (sym is) (HasPlaces-shift_down n (number a) c.args.n
+          c.in_range.ensures);
       within = subst (λ (m : ℕ). m < 2 ^ n) (sym is) within;
     }

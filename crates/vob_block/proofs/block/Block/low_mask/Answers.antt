@@ -6,12 +6,15 @@ use Rattle.vob_block.proofs.block.Block.low_mask.Goals as goal
 
 pub returns-then-n-eq0-clause-places : goal.returns-then-n-eq0-clause-places
 returns-then-n-eq0-clause-places g c =
-    HasPlaces-mask_none g.Self.Block.BITS _ c.args.n (ap g.Self.Block.number c.ZERO.ensures ∙ g.met.Self.Block.zero_number_law) c.if-n-eq0.true
+    HasPlaces-mask_none g.Self.Block.BITS _ c.args.n
+    (ap g.Self.Block.number c.ZERO.ensures ∙ g.met.Self.Block.zero_number_law) c.if-n-eq0.true
 
 pub returns-else-n-eq0-clause-places : goal.returns-else-n-eq0-clause-places
 returns-else-n-eq0-clause-places g c =
     let number = g.Self.Block.number in
     let w = g.Self.Block.BITS in
     let all = ap number c.ONES.ensures ∙ g.met.Self.Block.ones_number_law in
-    let places = subst (λ (v : ℕ). HasPlaces w (number c.down.result) (λ j. ltb (j + (v - c.args.n)) w && place (j + (v - c.args.n)) (number c.ONES.result))) c.BITS.ensures c.down.ensures.places in
+    let places = subst (λ (v : ℕ). HasPlaces w (number c.down.result)
+    (λ j. ltb (j + (v - c.args.n)) w && place (j + (v - c.args.n)) (number c.ONES.result)))
+    c.BITS.ensures c.down.ensures.places in
     HasPlaces-mask w (number c.ONES.result) (number c.down.result) c.args.n all c.requires places

@@ -5,4 +5,5 @@ use Rattle.vob_block.proofs.block.Block.ones_in.Goals as goal
 
 pub returns : goal.returns
 returns g c =
-    c.count_ones.ensures ∙ ap count_ones (g.met.Self.Block.bits_law c.args.self) ∙ count_ones-places g.Self.Block.BITS (g.Self.Block.number c.args.self) c.known.ensures
+    c.count_ones.ensures ∙ ap count_ones (g.met.Self.Block.bits_law c.args.self)
+    ∙ count_ones-places g.Self.Block.BITS (g.Self.Block.number c.args.self) c.in_range.ensures

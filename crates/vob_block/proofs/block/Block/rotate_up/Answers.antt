@@ -1,4 +1,4 @@
--- The number of the result is the number turned.
+-- The number of the result is the number negated.
 use Rattle.std.specs.Int.{rotate_left}
 use Rattle.std.proofs.Common.{ℕ, ◌^◌, ◌<◌, ap, subst, sym}
 use Rattle.vob_block.proofs.NumberLemmas.{number_from_bits}
@@ -11,9 +11,12 @@ returns g c =
     let w = g.Self.FixedWidth.width in
     let n = g.Self.Block.BITS in
     let a = c.args.self in
-    let within = rotate-lt w n (number a) c.args.n g.met.Self.Block.width_law c.known.ensures in
-    let is = number_from_bits number g.Self.FixedWidth.of_bits n g.met.Self.Block.of_bits_number_law c.rotate_left.result _ _ c.rotate_left.ensures (ap (λ x. rotate_left w x c.args.n) (g.met.Self.Block.bits_law a)) within in
+    let within = rotate-lt w n (number a) c.args.n g.met.Self.Block.width_law c.in_range.ensures in
+    let is = number_from_bits number g.Self.FixedWidth.of_bits n
+    g.met.Self.Block.of_bits_number_law c.rotate_left.result _ _ c.rotate_left.ensures
+    (ap (λ x. rotate_left w x c.args.n) (g.met.Self.Block.bits_law a)) within in
     record {
-      places = HasPlaces-at _ _ _ _ (sym is) (HasPlaces-rotate w n (number a) c.args.n g.met.Self.Block.width_law c.known.ensures c.requires.positive c.requires.below);
+      places = HasPlaces-at _ _ _ _ (sym is) (HasPlaces-rotate w n (number a) c.args.n
+          g.met.Self.Block.width_law c.in_range.ensures c.requires.positive c.requires.below);
       within = subst (λ (m : ℕ). m < 2 ^ n) (sym is) within;
     }

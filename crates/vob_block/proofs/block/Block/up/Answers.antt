@@ -12,8 +12,11 @@ returns g c =
     let n = g.Self.Block.BITS in
     let a = c.args.self in
     let within = shift-lt w n (number a) c.args.n g.met.Self.Block.width_law in
-    let is = number_from_bits number g.Self.FixedWidth.of_bits n g.met.Self.Block.of_bits_number_law c.unsigned_shl.result _ _ c.unsigned_shl.ensures (ap (λ x. shift_left w x c.args.n) (g.met.Self.Block.bits_law a)) within in
+    let is = number_from_bits number g.Self.FixedWidth.of_bits n
+    g.met.Self.Block.of_bits_number_law c.unsigned_shl.result _ _ c.unsigned_shl.ensures
+    (ap (λ x. shift_left w x c.args.n) (g.met.Self.Block.bits_law a)) within in
     record {
-      places = HasPlaces-at _ _ _ _ (sym is) (HasPlaces-shift w n (number a) c.args.n g.met.Self.Block.width_law);
+      places = HasPlaces-at _ _ _ _ (sym is) (HasPlaces-shift w n (number a) c.args.n
+          g.met.Self.Block.width_law);
       within = subst (λ (m : ℕ). m < 2 ^ n) (sym is) within;
     }

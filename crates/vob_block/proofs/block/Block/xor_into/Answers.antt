@@ -8,7 +8,8 @@ use Rattle.vob_block.proofs.block.Block.xor_into.Goals as goal
 
 pub loop-k-init : goal.loop-k-init
 loop-k-init g c = record {
-  taken = AreTaken-none g.Self.Block.BITS differ _ _ _ (ap g.Self.Block.number c.ZERO-changed.ensures ∙ g.met.Self.Block.zero_number_law);
+  taken = AreTaken-none g.Self.Block.BITS differ _ _ _
+      (ap g.Self.Block.number c.ZERO-changed.ensures ∙ g.met.Self.Block.zero_number_law);
   items = search rules;
   reads = omega arith;
 }
@@ -19,9 +20,12 @@ loop-k-preserved g c =
     let so_far = c.loop-k.invariant in
     let their = c.block.ensures.block in
     record {
-      taken = item-more number g.Self.Block.BITS differ c.args.own.now c.args.other.now.items c.loop-k.own c.loop-k.k (number c.loop-k.changed) so_far.taken (omega arith)
-          c.index-own-k.result c.block.result c.bxor-new.result c.bxor.result c.bor-changed.result c.index-own-k.is (rw so_far.items at their)
-          c.known.ensures c.bxor-new.ensures.within c.bxor.ensures.within c.bor-changed.ensures.within
+      taken = item-more number g.Self.Block.BITS differ c.args.own.now c.args.other.now.items
+          c.loop-k.own c.loop-k.k (number c.loop-k.changed) so_far.taken (omega arith)
+          c.index-own-k.result c.block.result c.bxor-new.result c.bxor.result c.bor-changed.result
+          c.index-own-k.is (rw so_far.items at their)
+          c.in_range.ensures c.bxor-new.ensures.within c.bxor.ensures.within
+          c.bor-changed.ensures.within
           c.bxor-new.ensures.places c.bxor.ensures.places c.bor-changed.ensures.places;
       items = c.block.ensures.items ∙ so_far.items;
       reads = omega (arith, c.block.ensures.reads, so_far.reads);
@@ -35,13 +39,30 @@ returns g c =
     let others = map number c.args.other.now.items in
     let news = map number c.loop-k.own in
     let taken = c.loop-k.invariant.taken in
-    let whole : c.loop-k.k ≡ length olds = omega (arith, taken.count, length-map c.loop-k.own number, c.loop-k.auto.own, c.loop-k.auto.k-end) in
+    let whole : c.loop-k.k ≡ length olds = omega (
+      arith,
+      taken.count,
+      length-map c.loop-k.own number,
+      c.loop-k.auto.own,
+      c.loop-k.auto.k-end,
+    ) in
     let zero = ap number c.ZERO.ensures ∙ g.met.Self.Block.zero_number_law in
     let test = g.met.Self.Block.equal_law c.loop-k.changed c.ZERO.result in
     record {
-      blocks = IsPointwise-taken w differ olds others news c.loop-k.k (number c.loop-k.changed) taken whole;
-      within = All-from_get_or (λ n. n < 2 ^ w) news 0 (within-taken w differ olds others news c.loop-k.k (number c.loop-k.changed) taken whole);
-      changed = rw c.ne.ensures (flag-taken w differ olds others news c.loop-k.k (number c.loop-k.changed) taken whole (g.Self.PartialEq.eq c.loop-k.changed c.ZERO.result) ((λ e. test.0 e ∙ zero), (λ e. test.1 (e ∙ sym zero))));
+      blocks = IsPointwise-taken w differ olds others news c.loop-k.k (number c.loop-k.changed)
+          taken whole;
+      within = All-from_get_or (λ n. n < 2 ^ w) news 0
+          (within-taken w differ olds others news c.loop-k.k (number c.loop-k.changed) taken whole);
+      changed = rw c.ne.ensures (flag-taken w differ olds others news c.loop-k.k
+          (number c.loop-k.changed) taken whole
+          (g.Self.PartialEq.eq c.loop-k.changed c.ZERO.result)
+          ((λ e. test.0 e ∙ zero), (λ e. test.1 (e ∙ sym zero))));
       items = c.loop-k.invariant.items;
-      reads = omega (arith, c.loop-k.invariant.reads, c.requires, c.loop-k.auto.own, c.loop-k.auto.k-end);
+      reads = omega (
+        arith,
+        c.loop-k.invariant.reads,
+        c.requires,
+        c.loop-k.auto.own,
+        c.loop-k.auto.k-end,
+      );
     }

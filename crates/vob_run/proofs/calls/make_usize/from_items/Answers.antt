@@ -20,8 +20,9 @@ returns c =
     let short : length bits ≤ 2 ^ 64 - 1 = omega (arith, c.iter.ensures.bound) in
     let not_long : result ≡ Err TooLong → ⊥ = λ e.
     let long = taken.too_long e in
-    let road = YieldsList-at long.3 source in
-    omega (arith, short, long.5, none_more _ long.0 bits road long.1 long.2 long.4) in
+    let more = long.2 in
+    let road = YieldsList-at long.1 source in
+    omega (arith, short, more.3, none_more _ long.0 bits road more.0 more.1 more.2) in
     let makes : Makes 64 items (FromItems bits) bits =
     record { is = rw (le-ltb (2 ^ 64 - 1) (length bits) short) refl; takes = tt } in
     let all = all_taken_if _ _ bits (λ it gives. YieldsList-at gives source) result taken.bits in

@@ -2,7 +2,6 @@
 use Rattle.std.proofs.Common.{◌≡◌, false, not, length, map, refl, ◌∙◌}
 use Rattle.std.specs.Prelude.{◌==◌, ◌&&◌}
 use Rattle.std.proofs.lemmas.List.{length-map}
-use Rattle.vob_block.proofs.PlaceLemmas.{width_pos}
 use Rattle.vob_block.specs.Packing.{need}
 use Rattle.vob_run.specs.Call.{FromRaw}
 use Rattle.vob_run.specs.Blocks.{masked}
@@ -15,7 +14,6 @@ pub returns-in-Ok : goal.returns-in-Ok
 returns-in-Ok g c =
     let width = g.T.Block.BITS in
     let number = g.T.Block.number in
-    let wide = width_pos g.T.FixedWidth.width _ g.met.T.Block.width_law in
     let items = c.args.vobs.now.items in
     let len = c.args.len in
     let mask = c.args.mask in
@@ -35,6 +33,6 @@ returns-in-Ok g c =
     let copy = parts.blocks ∙ c.in-Ok.ensures in
     let canonical = rw (raw.blocks, long, parts.len, copy) at c.into_vob.ensures.taken in
     let bits = rw (raw.blocks, long, parts.len, copy) at c.into_vob.ensures.bits in
-    taken_step width wide items (FromRaw len mask blocks) len (masked width len mask blocks) is
+    taken_step width g.met.T.Block.wide_law items (FromRaw len mask blocks) len (masked width len mask blocks) is
     c.reserve.ensures.items c.into_vob.result canonical bits
     (record { ok = c.taken.ensures.ok; err = c.taken.ensures.err })

@@ -1,6 +1,5 @@
 -- The Vob with this number has the bit, or is as it was.
-use Rattle.std.proofs.Common.{arith, ◌≡◌, ◌↔◌, ◌^◌, ◌-◌, ◌+◌, ◌<◌, Err, length}
-use Rattle.vob.specs.declared.error.VobError.TheVariants.{TooLong}
+use Rattle.std.proofs.Common.{◌+◌, length}
 use Rattle.vob_run.specs.Call.{Push}
 use Rattle.vob_run.proofs.StepLemmas.{lent, list_at}
 use Rattle.vob_run.proofs.GrowLemmas.{asked_step, step-push}
@@ -15,9 +14,6 @@ returns g c =
     let call = Push c.args.which c.args.value in
     let push = c.push.ensures in
     let reply = c.reply_to.ensures in
-    let longest = push.longest in
-    let long : (c.push.result ≡ Err TooLong) ↔ (2 ^ 64 - 1 < length bits + 1) =
-    ((λ e. let most = push.too_long.0 e in omega arith), (λ e. push.too_long.1 (omega arith))) in
     asked_step width _ _ _ vob call (length bits + 1)
     (record { told = reply.ok; refusal = reply.err; ok = push.ok; err = push.err })
-    (step-push width vob c.args.value) long (λ e. rw (list_at vob) (push.memory e).1)
+    (step-push width vob c.args.value) push.too_long (λ e. rw (list_at vob) (push.memory e).1)

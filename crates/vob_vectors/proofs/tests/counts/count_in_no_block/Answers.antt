@@ -1,8 +1,8 @@
 -- By computing.
 use Rattle.std.proofs.Common.{length, ap, arith}
 use Rattle.vob_block.specs.Packing.{need}
-use Rattle.vob.specs.Matches.{met}
-use Rattle.vob.specs.Count.{ones_between}
+use Rattle.vob_walk.specs.Matches.{blocks_met}
+use Rattle.vob_walk.specs.Count.{ones_between}
 use Rattle.vob_vectors.proofs.tests.counts.count_in_no_block.Goals as goal
 
 pub count_ones_in-requires-clause-enough : goal.count_ones_in-requires-clause-enough
@@ -14,5 +14,5 @@ unfolding ones_between
 returns-clause-ones c = c.count_ones_in.ensures.ones
 
 pub returns-clause-reads : goal.returns-clause-reads
-unfolding met
+unfolding blocks_met
 returns-clause-reads c = omega (arith, c.count_ones_in.ensures.reads)

@@ -1,9 +1,0 @@
--- By the places of both shifts.
-use Rattle.vob_block.proofs.PlaceLemmas.{HasPlaces-straddle}
-use Rattle.vob_block.proofs.block.Block.straddle.Goals as goal
-
-pub returns-clause-places : goal.returns-clause-places
-returns-clause-places g c =
-    let number = g.Self.Block.number in
-    HasPlaces-straddle g.Self.Block.BITS c.args.from c.BITS.result (number c.args.self) (number c.args.high) (number c.down.result) (number c.up.result) (number c.bor.result)
-    c.BITS.ensures c.requires.positive c.requires.below c.down.ensures.places c.up.ensures.places c.bor.ensures.places

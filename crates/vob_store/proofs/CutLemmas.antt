@@ -1,0 +1,177 @@
+-- The bits from some index on taken off, at a plain width.
+use Rattle.std.specs.Prelude.{All}
+use Rattle.std.proofs.Common.{◌≡◌, ◌≢◌, ℕ, ◌+◌, ◌*◌, ◌/◌, ◌%◌, ◌^◌, ◌<◌, ◌≤◌, min, Bool, true, false, ◌&&◌, List, length, map, get_or, set, take, ltb, refl, sym, ap, ◌∙◌, arith, inl, inr, mod-lt, div-add-mod'}
+use Rattle.std.proofs.lemmas.Bool.{cases_eq, cases_lt, lt-ltb, le-ltb, and_right}
+use Rattle.std.proofs.lemmas.List.{get_or-map, map-set, length-map, length-set, get_or-take, length-take-le, take-map}
+use Rattle.std.proofs.lemmas.List.Elements.{All-set, All-take}
+use Rattle.std.proofs.lemmas.List.FromFn.{take-map-range_with_len}
+use Rattle.std.proofs.lemmas.Nat.{mul-le}
+use Rattle.vob_block.specs.Places.{place, HasPlaces}
+use Rattle.vob_block.specs.Packing.{need, bit_at, unpacking, IsCanonical}
+use Rattle.vob_block.proofs.NeedLemmas.{need-le-need, need_at_full, need_at_open, div-lt-need}
+use Rattle.vob_block.proofs.PackingLemmas.{bit_at-is_place, bit_at-past, bit_at-set_same, bit_at-set_other, length-unpacking, get_or-unpacking, unpacking_from_items}
+
+and-true : (b : Bool) → (b && true) ≡ b
+and-true true = refl
+and-true false = refl
+
+-- ---- what is unpacked, at fewer bits
+
+-- blocks that store the same below n unpack to the same n bits
+pub unpacking_same : (n : ℕ) (xs ys : List ℕ) (w : ℕ)
+    → ((i : ℕ) → i < n → bit_at ys w i ≡ bit_at xs w i) → unpacking n ys w ≡ unpacking n xs w
+unpacking_same n xs ys w same = unpacking_from_items (unpacking n xs w) n ys w
+    (length-unpacking n xs w) (λ i h. same i h ∙ sym (get_or-unpacking n xs w i false h))
+
+pub take-unpacking : (m n : ℕ) (xs : List ℕ) (w : ℕ) → m ≤ n → take m (unpacking n xs w)
+    ≡ unpacking m xs w
+unfolding unpacking
+take-unpacking m n xs w h = take-map-range_with_len (bit_at xs w) 0 n m h
+
+module _ (w : ℕ) (wide : 0 < w) where
+  -- the blocks that the first n bits need store them
+  pub unpacking-take : (n : ℕ) (xs : List ℕ) → unpacking n (take (need n w) xs) w ≡ unpacking n xs w
+  unpacking-take n xs = unpacking_same n xs (take (need n w) xs) w (λ i h.
+      bit_at-is_place (take (need n w) xs) w i
+      ∙ ap (place (i % w)) (get_or-take (need n w) xs (i / w) 0 (div-lt-need w wide n i h))
+      ∙ sym (bit_at-is_place xs w i))
+
+  -- what the code computes for the need
+  pub div_ceil-need : (n : ℕ) → n / w + min 1 (n % w) ≡ need n w
+  div_ceil-need n = elim (cases_eq (n % w) 0) [
+    | inl full ↦ omega (arith, (need_at_full w wide n full).0)
+    | inr partial ↦ omega (arith, (need_at_open w wide n partial).0)
+  ]
+
+-- ---- blocks that are as many as n bits need, and the places of the last one from n on
+
+module _ (w : ℕ) (wide : 0 < w) (n : ℕ) (xs : List ℕ) (count : length xs ≡ need n w)
+    (within : All (λ x. x < 2 ^ w) xs) where
+  -- where the last block is full, nothing stands past the bits
+  pub canonical_at_full : n % w ≡ 0 → IsCanonical n xs w
+  canonical_at_full full = record {
+    count = count;
+    within = within;
+    unused = λ i past. bit_at-past xs w i (past_blocks i past);
+  }
+    where
+      past_blocks : (i : ℕ) → n ≤ i → length xs ≤ i / w
+      past_blocks i past = elim (cases_lt (i / w) (length xs)) [
+        | inr fine ↦ fine
+        | inl below ↦
+            let needs = need_at_full w wide n full in
+            let row : (i / w + 1) * w ≤ n / w * w =
+            mul-le (i / w + 1) w (n / w) w (omega (arith, needs.0)) (omega arith) in
+            absurd (omega (arith, row, div-add-mod' i w, div-add-mod' n w, mod-lt i wide))
+      ]
+
+  module _ (partial : n % w ≢ 0) where
+    pub last_there : n / w < length xs
+    last_there = omega (arith, count, (need_at_open w wide n partial).0)
+
+    above : (i : ℕ) → i / w ≡ n / w → n ≤ i → n % w ≤ i % w
+    above i here past = omega (arith, ap (λ q. q * w) here, div-add-mod' i w, div-add-mod' n w)
+
+    under : (i : ℕ) → i / w ≡ n / w → i < n → i % w < n % w
+    under i here below = omega (arith, ap (λ q. q * w) here, div-add-mod' i w, div-add-mod' n w)
+
+    past_last : (i : ℕ) → i / w ≢ n / w → n ≤ i → length xs ≤ i / w
+    past_last i apart past = elim (cases_lt (n / w) (i / w)) [
+      | inl more ↦ omega (arith, count, (need_at_open w wide n partial).0)
+      | inr few ↦
+          let row : (i / w + 1) * w ≤ n / w * w =
+          mul-le (i / w + 1) w (n / w) w (omega arith) (omega arith) in
+          absurd (omega (arith, row, div-add-mod' i w, div-add-mod' n w, mod-lt i wide))
+    ]
+
+    module _ (y : ℕ) (places : (j : ℕ) → j < w → place j y
+        ≡ (place j (get_or xs (n / w) 0) && ltb j (n % w))) where
+      masked : (i : ℕ) → i / w ≡ n / w → bit_at (set xs (n / w) y) w i
+          ≡ (place (i % w) (get_or xs (n / w) 0) && ltb (i % w) (n % w))
+      masked i here = bit_at-set_same xs w (n / w) y i last_there here
+          ∙ places (i % w) (mod-lt i wide)
+
+      none_above : (i : ℕ) → n ≤ i → bit_at (set xs (n / w) y) w i ≡ false
+      none_above i past = elim (cases_eq (i / w) (n / w)) [
+        | inl here ↦ masked i here ∙ and_right (place (i % w) (get_or xs (n / w) 0))
+            (ltb (i % w) (n % w)) (le-ltb (i % w) (n % w) (above i here past))
+        | inr apart ↦ bit_at-past (set xs (n / w) y) w i
+            (omega (arith, length-set xs (n / w) y, past_last i apart past))
+      ]
+
+      same_below : (i : ℕ) → i < n → bit_at (set xs (n / w) y) w i ≡ bit_at xs w i
+      same_below i below = elim (cases_eq (i / w) (n / w)) [
+        | inl here ↦
+            masked i here ∙ ap (λ t. place (i % w) (get_or xs (n / w) 0) && t)
+            (lt-ltb (i % w) (n % w) (under i here below))
+            ∙ and-true (place (i % w) (get_or xs (n / w) 0))
+            ∙ ap (λ q. place (i % w) (get_or xs q 0)) (sym here) ∙ sym (bit_at-is_place xs w i)
+        | inr apart ↦ bit_at-set_other xs w (n / w) y i apart
+      ]
+
+      -- elsewhere the last block is masked
+      pub mask_last : y < 2 ^ w → IsCanonical n (set xs (n / w) y) w
+          × (unpacking n (set xs (n / w) y) w ≡ unpacking n xs w)
+      mask_last small = (
+        record {
+          count = length-set xs (n / w) y ∙ count;
+          within = All-set (λ x. x < 2 ^ w) xs (n / w) y small within;
+          unused = none_above;
+        },
+        unpacking_same n xs (set xs (n / w) y) w same_below,
+      )
+
+-- the same of items with a number each; u is the width as the code read it, and m the mask
+module _ {X : Type 0} (number : X → ℕ) (w : ℕ) (wide : 0 < w) (n : ℕ) (items : List X)
+    (count : length items ≡ need n w) (u : ℕ) (same : u ≡ w) where
+  pub canonical_at_full_width : All (λ x. x < 2 ^ w) (map number items) → n % u ≡ 0
+      → IsCanonical n (map number items) w
+  canonical_at_full_width within full = canonical_at_full w wide n (map number items)
+      (length-map items number ∙ count) within (rw same at full)
+
+  pub last_in_items : n % u ≢ 0 → n / u < length items
+  last_in_items partial = rw same (omega (
+    arith,
+    count,
+    (need_at_open w wide n (rw same at partial)).0,
+  ))
+
+  pub mask_last_at : All (λ x. x < 2 ^ w) (map number items) → n % u ≢ 0 → (x y : X) (m : ℕ) → x
+      ≡ get_or items (n / u) x → number y < 2 ^ w
+      → HasPlaces w (number y) (λ j. place j (number x) && place j m)
+      → HasPlaces w m (λ j. ltb j (n % u))
+      → IsCanonical n (map number (set items (n / u) y)) w
+      × (unpacking n (map number (set items (n / u) y)) w ≡ unpacking n (map number items) w)
+  mask_last_at within partial x y m read small places mask =
+      let xs = map number items in
+      let block : number x ≡ get_or xs (n / w) 0 =
+      ap number read ∙ sym (get_or-map number items (n / u) x 0 (last_in_items partial))
+      ∙ ap (λ k. get_or xs (n / k) 0) same in
+      let masked = λ (j : ℕ) (k : j < w). places.each j k
+      ∙ ap (λ b. place j (number x) && b) (mask.each j k ∙ ap (λ k. ltb j (n % k)) same)
+      ∙ ap (λ b. place j b && ltb j (n % w)) block in
+      let both = mask_last w wide n xs (length-map items number ∙ count) within
+      (rw same at partial) (number y) masked small in
+      rw (same, map-set) both
+
+-- the first blocks of canonical storage, as many as m bits need; u is the width as the code read it
+module _ {X : Type 0} (number : X → ℕ) (w : ℕ) (wide : 0 < w) (n : ℕ) (items : List X)
+    (h : IsCanonical n (map number items) w) (m : ℕ) (shorter : m ≤ n) (u k : ℕ) (same : u ≡ w)
+    (needed : k ≡ m / u + min 1 (m % u)) where
+  kept_is : k ≡ need m w
+  kept_is = needed ∙ ap (λ v. m / v + min 1 (m % v)) same ∙ div_ceil-need w wide m
+
+  pub length-kept : length (take k items) ≡ need m w
+  length-kept = length-take-le k items (omega
+      (arith, kept_is, need-le-need w wide m n shorter, h.count, length-map items number)) ∙ kept_is
+
+  pub kept_within : All (λ x. x < 2 ^ w) (map number (take k items))
+  kept_within = rw (← take-map) (All-take (λ x. x < 2 ^ w) k (map number items) h.within)
+
+  pub unpacking-kept : unpacking m (map number (take k items)) w
+      ≡ take m (unpacking n (map number items) w)
+  unpacking-kept =
+      ap (λ xs. unpacking m xs w) (sym (take-map number k items)
+      ∙ ap (λ q. take q (map number items)) kept_is)
+      ∙ unpacking-take w wide m (map number items)
+      ∙ sym (take-unpacking m n (map number items) w shorter)

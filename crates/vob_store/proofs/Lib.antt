@@ -1,0 +1,15 @@
+pub mod AppendLemmas
+pub mod CutLemmas
+pub mod FillLemmas
+pub mod FunnelLemmas
+pub mod JoinLemmas
+pub mod LaidLemmas
+pub mod PushLemmas
+pub mod RawLemmas
+pub mod ReverseLemmas
+pub mod RoomLemmas
+pub mod SameLemmas
+pub mod SplatLemmas
+pub mod StorageLemmas
+pub mod WholeLemmas
+pub mod WriteLemmas

@@ -1,0 +1,33 @@
+-- The blocks that the bits left need are kept, and the last of them is cleared.
+use Rattle.std.proofs.Common.{◌≡◌, ap, ◌∙◌, map, length, arith}
+use Rattle.std.proofs.lemmas.List.{take_at}
+use Rattle.vob_block.specs.Packing.{unpacking}
+use Rattle.vob_store.proofs.CutLemmas.{length-kept, kept_within, unpacking-kept}
+use Rattle.vob_store.proofs.mask.truncate_to.Goals as goal
+
+pub mask_last-requires-clause-count : goal.mask_last-requires-clause-count
+mask_last-requires-clause-count g c =
+    rw (c.deref_mut.ensures.value, c.truncate.ensures.items)
+    (length-kept g.T.Block.number g.T.Block.BITS g.met.T.Block.wide_law c.args.len
+    c.args.blocks.now.items c.requires.canonical c.args.new_len c.requires.shorter
+    c.BITS.result c.div_ceil.result c.BITS.ensures c.div_ceil.ensures)
+
+pub mask_last-requires-clause-within : goal.mask_last-requires-clause-within
+mask_last-requires-clause-within g c =
+    rw (c.deref_mut.ensures.value, c.truncate.ensures.items)
+    (kept_within g.T.Block.number g.T.Block.BITS g.met.T.Block.wide_law c.args.len
+    c.args.blocks.now.items c.requires.canonical c.args.new_len c.requires.shorter
+    c.BITS.result c.div_ceil.result c.BITS.ensures c.div_ceil.ensures)
+
+pub returns-clause-bits : goal.returns-clause-bits
+returns-clause-bits g c =
+    let number = g.T.Block.number in
+    let w = g.T.Block.BITS in
+    let long : length c.mask_last.new.blocks ≡ c.truncate.new.self.len =
+    omega (arith, c.mask_last.auto.blocks, c.deref_mut.ensures.len) in
+    let kept = unpacking-kept number w g.met.T.Block.wide_law c.args.len c.args.blocks.now.items
+    c.requires.canonical c.args.new_len c.requires.shorter c.BITS.result c.div_ceil.result
+    c.BITS.ensures c.div_ceil.ensures in
+    rw (take_at c.mask_last.new.blocks _ c.truncate.new.self.len long)
+    (c.mask_last.ensures.bits ∙ ap (λ xs. unpacking c.args.new_len (map number xs) w)
+    (c.deref_mut.ensures.value ∙ c.truncate.ensures.items) ∙ kept)

@@ -1,0 +1,5 @@
+use Rattle.vob_store.proofs.LaidLemmas.{HasFirst}
+use Rattle.vob_store.proofs.pack.pack_block.Given as goal
+
+abbrev pub invariant-loop-place : goal.invariant-loop-place
+invariant-loop-place g l = HasFirst g.T.Block.BITS (g.T.Block.number l.block) l.bits l.place

@@ -1,0 +1,46 @@
+-- One place of the bit's block is written, and the bit that was read there before says what changed.
+use Rattle.vob_store.proofs.StorageLemmas.{block_in_range, bit_is_place}
+use Rattle.vob_store.proofs.WriteLemmas.{write_at, offset_fits, changed_from}
+use Rattle.vob_store.proofs.single.write_bit.Goals as goal
+
+pub offset_bounds-blocks-k : goal.offset_bounds-blocks-k
+offset_bounds-blocks-k g c =
+    offset_fits _ _ _ (block_in_range g.T.Block.number g.T.Block.BITS g.met.T.Block.wide_law
+    c.args.len c.args.blocks.now c.requires.canonical c.args.index c.BITS-width.result
+    c.BITS-width.ensures c.requires.in_range) c.well_formed.0.1
+
+pub bounds-blocks-k : goal.bounds-blocks-k
+bounds-blocks-k g c =
+    block_in_range g.T.Block.number g.T.Block.BITS g.met.T.Block.wide_law c.args.len
+    c.args.blocks.now c.requires.canonical c.args.index c.BITS-width.result
+    c.BITS-width.ensures c.requires.in_range
+
+pub offset_bounds-blocks-k-2 : goal.offset_bounds-blocks-k-2
+offset_bounds-blocks-k-2 g c =
+    offset_fits _ _ _ (block_in_range g.T.Block.number g.T.Block.BITS g.met.T.Block.wide_law
+    c.args.len c.args.blocks.now c.requires.canonical c.args.index c.BITS-width.result
+    c.BITS-width.ensures c.requires.in_range) c.well_formed.0.1
+
+pub bounds-blocks-k-2 : goal.bounds-blocks-k-2
+bounds-blocks-k-2 g c =
+    block_in_range g.T.Block.number g.T.Block.BITS g.met.T.Block.wide_law c.args.len
+    c.args.blocks.now c.requires.canonical c.args.index c.BITS-width.result
+    c.BITS-width.ensures c.requires.in_range
+
+pub returns : goal.returns
+returns g c =
+    let both = write_at g.T.Block.number g.T.Block.BITS g.met.T.Block.wide_law c.args.len
+    c.args.blocks.now c.requires.canonical c.args.index c.requires.in_range
+    c.BITS-width.result c.BITS-width.ensures c.args.value c.index-blocks-k.result
+    c.with_place.result c.index-blocks-k.is c.with_place.ensures.within
+    c.with_place.ensures.places in
+    let bit = bit_is_place g.T.Block.number g.T.Block.BITS g.met.T.Block.wide_law c.args.len
+    c.args.blocks.now c.requires.canonical c.args.index c.BITS-width.result
+    c.BITS-width.ensures c.requires.in_range c.index-blocks-k.result c.bit.result
+    c.index-blocks-k.is c.bit.ensures in
+    record {
+      canonical = both.0;
+      bits = both.1;
+      changed =
+          changed_from _ c.bit.result c.args.value bit;
+    }

@@ -1,0 +1,92 @@
+//! Bits of one value: a block of them, all bits made it, and others of it added behind them.
+ghost use Rattle.std.specs.Prelude.{◌≡◌, ◌+◌, ◌-◌, ◌*◌, ◌^◌, ◌≤◌, ◌<◌, ◌++◌, if◌then◌else◌, map, length, replicate, All, vec_capacity, IsOk, IfOk};
+ghost use Rattle.vob_block.specs.Packing.{need, unpacking, IsCanonical};
+
+use crate::mask::mask_last;
+use std::alloc::{AllocError, Global};
+use vob_block::Block;
+
+/// A block whose places are all `value`.
+pub fn splat<T: Block>(value: bool) -> T
+    ensures { T.number result ≡ (if value then 2 ^ T.BITS - 1 else 0) }
+{
+    if value { T::ONES } else { T::ZERO }
+}
+
+/// Stores `block` in the place of every block.
+fn store_all<T: Block>(blocks: &mut [T], block: T)
+    ensures { blocks.new ≡ replicate (length blocks.old) block }
+{
+    for k in 0..blocks.len() {
+        blocks[k] = block;
+    }
+}
+
+/// Makes each place of the blocks `value`.
+fn fill_blocks<T: Block>(blocks: &mut [T], value: bool)
+    ensures { (splat : T) × (blocks.new ≡ replicate (length blocks.old) splat)
+        × (T.number splat ≡ (if value then 2 ^ T.BITS - 1 else 0)) }
+{
+    // A block that the compiler knows is stored by the machine's own fill.
+    if value {
+        store_all(blocks, T::ONES);
+    } else {
+        store_all(blocks, T::ZERO);
+    }
+}
+
+/// Makes each of the `len` bits `value`.
+pub fn fill<T: Block>(blocks: &mut [T], len: usize, value: bool)
+    requires { IsCanonical len (map T.number blocks.old) T.BITS }
+    ensures canonical { IsCanonical len (map T.number blocks.new) T.BITS }
+    ensures bits { unpacking len (map T.number blocks.new) T.BITS ≡ replicate len value }
+{
+    fill_blocks(blocks, value);
+    mask_last(blocks, len);
+}
+
+/// Makes the places that the last block has left `value`.
+fn fill_last<T: Block>(blocks: &mut [T], len: usize, value: bool)
+    requires { IsCanonical len (map T.number blocks.old) T.BITS }
+    ensures within { All (λ x. x < 2 ^ T.BITS) (map T.number blocks.new) }
+    ensures bits { unpacking (length blocks.old * T.BITS) (map T.number blocks.new) T.BITS
+        ≡ unpacking len (map T.number blocks.old) T.BITS ++ replicate (length blocks.old * T.BITS - len) value }
+{
+    let width = T::BITS;
+    let used = len % width;
+    if value && used != 0 {
+        let last = len / width;
+        let block = blocks[last];
+        blocks[last] = block.bor(T::ONES.up(used));
+    }
+}
+
+/// Adds bits of one `value` behind `len` bits, up to `new_len` bits, in the room that is there.
+pub fn append_fill<T: Block>(blocks: &mut Vec<T>, len: usize, new_len: usize, value: bool)
+    requires canonical { IsCanonical len (map T.number blocks.old.items) T.BITS }
+    requires longer { len ≤ new_len }
+    requires room { need new_len T.BITS ≤ vec_capacity blocks.old }
+    ensures canonical { IsCanonical new_len (map T.number blocks.new.items) T.BITS }
+    ensures bits { unpacking new_len (map T.number blocks.new.items) T.BITS
+        ≡ unpacking len (map T.number blocks.old.items) T.BITS ++ replicate (new_len - len) value }
+    ensures capacity { vec_capacity blocks.old ≤ vec_capacity blocks.new }
+{
+    fill_last(blocks, len, value);
+    // There is room, so this isn't refused.
+    let _ = blocks.resize(new_len.div_ceil(T::BITS), splat(value));
+    mask_last(blocks, new_len);
+}
+
+/// The blocks of `len` times `value`.
+pub fn filled_blocks<T: Block>(alloc: Global, value: bool, len: usize) -> Result<Vec<T>, AllocError>
+    ensures canonical { IfOk result (λ blocks. IsCanonical len (map T.number blocks.items) T.BITS) }
+    ensures bits { IfOk result (λ blocks.
+        unpacking len (map T.number blocks.items) T.BITS ≡ replicate len value) }
+    ensures nothing { len ≡ 0 → IsOk result }
+{
+    let count = len.div_ceil(T::BITS);
+    let mut blocks = Vec::with_capacity(alloc, count)?;
+    blocks.resize(count, splat(value))?;
+    mask_last(&mut blocks, len);
+    Ok(blocks)
+}

@@ -1,0 +1,13 @@
+//! Bits stored in slices and vectors of blocks: the work that a vector of bits does on its fields.
+#![tactic(auto)]
+
+pub mod bytes;
+pub mod canonical;
+pub mod fill;
+pub mod join;
+pub mod mask;
+pub mod pack;
+pub mod room;
+pub mod same;
+pub mod single;
+pub mod split;

@@ -1,0 +1,50 @@
+//! Blocks made canonical: the last one masked, the bits negated or cut, and the test of both.
+ghost use Rattle.std.specs.Prelude.{◌≡◌, not, ◌^◌, ◌<◌, ◌≤◌, map, length, take, All, vec_capacity};
+ghost use Rattle.vob_block.specs.Packing.{need, unpacking, IsCanonical};
+
+use vob_block::Block;
+
+/// Makes every bit from `len` on false, in as many blocks as `len` bits need. Only the last block
+/// can have such a bit.
+pub fn mask_last<T: Block>(blocks: &mut [T], len: usize)
+    requires count { length blocks.old ≡ need len T.BITS }
+    requires within { All (λ x. x < 2 ^ T.BITS) (map T.number blocks.old) }
+    ensures canonical { IsCanonical len (map T.number blocks.new) T.BITS }
+    ensures bits { unpacking len (map T.number blocks.new) T.BITS
+        ≡ unpacking len (map T.number blocks.old) T.BITS }
+{
+    let width = T::BITS;
+    let used = len % width;
+    if used != 0 {
+        let last = len / width;
+        let block = blocks[last];
+        blocks[last] = block.band(T::low_mask(used));
+    }
+}
+
+/// Negates each of the `len` bits.
+pub fn negate<T: Block>(blocks: &mut [T], len: usize)
+    requires { IsCanonical len (map T.number blocks.old) T.BITS }
+    ensures canonical { IsCanonical len (map T.number blocks.new) T.BITS }
+    ensures bits { unpacking len (map T.number blocks.new) T.BITS
+        ≡ map not (unpacking len (map T.number blocks.old) T.BITS) }
+{
+    for k in 0..blocks.len() {
+        let block = blocks[k];
+        blocks[k] = block.bnot();
+    }
+    mask_last(blocks, len);
+}
+
+/// Takes off the bits from `new_len` on, with the blocks that only they needed.
+pub fn truncate_to<T: Block>(blocks: &mut Vec<T>, len: usize, new_len: usize)
+    requires canonical { IsCanonical len (map T.number blocks.old.items) T.BITS }
+    requires shorter { new_len ≤ len }
+    ensures canonical { IsCanonical new_len (map T.number blocks.new.items) T.BITS }
+    ensures bits { unpacking new_len (map T.number blocks.new.items) T.BITS
+        ≡ take new_len (unpacking len (map T.number blocks.old.items) T.BITS) }
+    ensures capacity { vec_capacity blocks.new ≡ vec_capacity blocks.old }
+{
+    blocks.truncate(new_len.div_ceil(T::BITS));
+    mask_last(blocks, new_len);
+}

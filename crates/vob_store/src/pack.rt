@@ -1,0 +1,86 @@
+//! Bits of a slice put into blocks: as many as a block holds are packed first, and then stored.
+ghost use Rattle.std.specs.Prelude.{◌≡◌, ◌≢◌, ◌+◌, ◌%◌, ◌^◌, ◌<◌, ◌≤◌, ◌++◌, map, length, vec_capacity, ◌-◌, [], IsOk, IfOk};
+ghost use Rattle.vob_block.specs.Places.{HasPlaces};
+ghost use Rattle.vob_block.specs.Packing.{item, need, packing, unpacking, IsCanonical};
+
+use crate::single::first_place;
+use std::alloc::{AllocError, Global};
+use vob_block::Block;
+
+/// The block whose places are some bits, and false above them.
+fn pack_block<T: Block>(bits: &[bool]) -> T
+    requires { length bits.now ≤ T.BITS }
+    ensures places { HasPlaces T.BITS (T.number result) (item bits.now) }
+    ensures within { T.number result < 2 ^ T.BITS }
+{
+    let mut block = T::ZERO;
+    for (place, bit) in bits.iter().enumerate() {
+        let mark: T = first_place(*bit);
+        block = block.bor(mark.up(place));
+    }
+    block
+}
+
+/// Puts the blocks of some bits behind others, in the room that is there.
+pub fn push_packed<T: Block>(blocks: &mut Vec<T>, bits: &[bool])
+    requires room { length blocks.old.items + need (length bits.now) T.BITS ≤ vec_capacity blocks.old }
+    ensures blocks { map T.number blocks.new.items
+        ≡ map T.number blocks.old.items ++ packing bits.now T.BITS }
+    ensures capacity { vec_capacity blocks.new ≡ vec_capacity blocks.old }
+{
+    let width = T::BITS;
+    let mut rest = bits;
+    while !rest.is_empty() {
+        let (first, after) = rest.split_at(rest.len().min(width));
+        blocks.push_reserved(pack_block(first));
+        rest = after;
+    }
+}
+
+/// Puts some bits into the places that the last block has left.
+fn top_up<T: Block>(blocks: &mut [T], len: usize, bits: &[bool])
+    requires canonical { IsCanonical len (map T.number blocks.old) T.BITS }
+    requires partial { len % T.BITS ≢ 0 }
+    requires fits { len % T.BITS + length bits.now ≤ T.BITS }
+    ensures canonical { IsCanonical (len + length bits.now) (map T.number blocks.new) T.BITS }
+    ensures bits { unpacking (len + length bits.now) (map T.number blocks.new) T.BITS
+        ≡ unpacking len (map T.number blocks.old) T.BITS ++ bits.now }
+{
+    let width = T::BITS;
+    let last = len / width;
+    let block = blocks[last];
+    let more: T = pack_block(bits);
+    blocks[last] = block.bor(more.up(len % width));
+}
+
+/// Adds some bits behind `len` bits, in the room that is there.
+pub fn append_slice<T: Block>(blocks: &mut Vec<T>, len: usize, bits: &[bool])
+    requires canonical { IsCanonical len (map T.number blocks.old.items) T.BITS }
+    requires room { need (len + length bits.now) T.BITS ≤ vec_capacity blocks.old }
+    ensures canonical { IsCanonical (len + length bits.now) (map T.number blocks.new.items) T.BITS }
+    ensures bits { unpacking (len + length bits.now) (map T.number blocks.new.items) T.BITS
+        ≡ unpacking len (map T.number blocks.old.items) T.BITS ++ bits.now }
+    ensures capacity { vec_capacity blocks.new ≡ vec_capacity blocks.old }
+{
+    let used = len % T::BITS;
+    if used == 0 {
+        push_packed(blocks, bits);
+    } else {
+        let (first, rest) = bits.split_at(bits.len().min(T::BITS - used));
+        top_up(blocks, len, first);
+        push_packed(blocks, rest);
+    }
+}
+
+/// The blocks of some bits.
+pub fn packed_blocks<T: Block>(alloc: Global, bits: &[bool]) -> Result<Vec<T>, AllocError>
+    ensures canonical { IfOk result (λ blocks.
+        IsCanonical (length bits.now) (map T.number blocks.items) T.BITS) }
+    ensures bits { IfOk result (λ blocks.
+        unpacking (length bits.now) (map T.number blocks.items) T.BITS ≡ bits.now) }
+    ensures nothing { bits.now ≡ [] → IsOk result }
+{
+    let mut blocks = Vec::with_capacity(alloc, bits.len().div_ceil(T::BITS))?;
+    push_packed(&mut blocks, bits);
+    Ok(blocks)
+}

@@ -1,0 +1,92 @@
+//! Single bits of the blocks that store some bits: read, written, and added at the end.
+ghost use Rattle.std.specs.Prelude.{◌≡◌, if◌then◌else◌, ◌+◌, ◌*◌, ◌<◌, ◌≤◌, [], ◌∷◌, ◌++◌, map, length, slice_get, Some, OnOk, OnErr, vec_capacity, ◌≢◌, ◌==◌, ◌↔◌, ◌^◌, slice_set, IsTrue};
+ghost use Rattle.vob_block.specs.Packing.{need, bit_at, unpacking, IsCanonical};
+ghost use Rattle.vob_block.specs.Places.{place, HasPlaces};
+
+use std::alloc::AllocError;
+use vob_block::Block;
+
+/// The place of bit `index` in its block. The bits past the length are places too.
+pub fn block_bit<T: Block>(blocks: &[T], index: usize) -> bool
+    requires { index < length blocks.now * T.BITS }
+    ensures { result ≡ bit_at (map T.number blocks.now) T.BITS index }
+{
+    let width = T::BITS;
+    blocks[index / width].bit(index % width)
+}
+
+/// Bit `index` of the `len` bits of the blocks.
+pub fn stored_bit<T: Block>(blocks: &[T], len: usize, index: usize) -> bool
+    requires canonical { IsCanonical len (map T.number blocks.now) T.BITS }
+    requires in_range { index < len }
+    ensures { slice_get (unpacking len (map T.number blocks.now) T.BITS) index ≡ Some result }
+{
+    block_bit(blocks, index)
+}
+
+/// A block whose first place is `value`, and whose other places are false.
+pub fn first_place<T: Block>(value: bool) -> T
+    ensures { T.number result ≡ (if value then 1 else 0) }
+{
+    if value { T::ONE } else { T::ZERO }
+}
+
+/// Adds a bit behind the last one, with a block more where the last one is full.
+pub fn append_bit<T: Block>(blocks: &mut Vec<T>, len: usize, value: bool) -> Result<(), AllocError>
+    requires { IsCanonical len (map T.number blocks.old.items) T.BITS }
+    ensures canonical { OnOk result (IsCanonical (len + 1) (map T.number blocks.new.items) T.BITS) }
+    ensures bits { OnOk result (unpacking (len + 1) (map T.number blocks.new.items) T.BITS
+        ≡ unpacking len (map T.number blocks.old.items) T.BITS ++ value ∷ []) }
+
+    // Memory is asked for only where the blocks have no room for the bit.
+    ensures err { OnErr result (blocks.new.items ≡ blocks.old.items) }
+    ensures full { OnErr result ((vec_capacity blocks.old * T.BITS ≤ len)
+        × (need len T.BITS < need (len + 1) T.BITS)) }
+    ensures capacity { vec_capacity blocks.old ≤ vec_capacity blocks.new }
+{
+    let width = T::BITS;
+    let place = len % width;
+    if place == 0 {
+        blocks.push(first_place(value))?;
+    } else {
+        // Written for a false bit too: a branch on the value is one that no processor foresees.
+        let last = len / width;
+        let block = blocks[last];
+        let mark: T = first_place(value);
+        blocks[last] = block.bor(mark.up(place));
+    }
+    Ok(())
+}
+
+/// The block with `value` at place `j`.
+fn with_place<T: Block>(block: T, j: usize, value: bool) -> T
+    requires { j < T.BITS }
+    ensures places { HasPlaces T.BITS (T.number result)
+        (λ i. if i == j then value else place i (T.number block)) }
+    ensures within { T.number result < 2 ^ T.BITS }
+{
+    let mask = T::ONE.up(j);
+    if value {
+        block.bor(mask)
+    } else {
+        block.band(mask.bnot())
+    }
+}
+
+/// Writes bit `index`, and answers whether it changed.
+pub fn write_bit<T: Block>(blocks: &mut [T], len: usize, index: usize, value: bool) -> bool
+    requires canonical { IsCanonical len (map T.number blocks.old) T.BITS }
+    requires in_range { index < len }
+    ensures canonical { IsCanonical len (map T.number blocks.new) T.BITS }
+    ensures bits { unpacking len (map T.number blocks.new) T.BITS
+        ≡ slice_set (unpacking len (map T.number blocks.old) T.BITS) index value }
+    ensures changed { IsTrue result
+        ↔ (slice_get (unpacking len (map T.number blocks.old) T.BITS) index ≢ Some value) }
+{
+    let width = T::BITS;
+    let k = index / width;
+    let place = index % width;
+    let block = blocks[k];
+    blocks[k] = with_place(block, place, value);
+    block.bit(place) != value
+}

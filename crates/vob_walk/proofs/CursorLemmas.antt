@@ -1,0 +1,182 @@
+-- A pull at a walk: the block in hand gives its first or last index, and the rest stays.
+use Rattle.std.specs.Bool.{⊤}
+use Rattle.std.specs.Option.{MatchOption}
+use Rattle.std.specs.Iterator.{MakesProgress, item_count}
+use Rattle.std.specs.declared.ops.Bound.{Bound}
+use Rattle.std.proofs.Common.{◌≡◌, ℕ, Bool, ◌/◌, ◌+◌, ◌-◌, ◌^◌, ◌<◌, ◌≤◌, List, [], ◌∷◌, ◌++◌, length, Option, Some, None, refl, sym, ap, ◌∙◌, arith, inl, inr, append-nil, append_assoc}
+use Rattle.std.proofs.lemmas.Bool.{cases_lt}
+use Rattle.std.proofs.lemmas.Option.{MatchOption-at_none}
+use Rattle.std.proofs.lemmas.List.{nil_from_length, length-append}
+use Rattle.vob_block.specs.Packing.{need, unpacking}
+use Rattle.vob_block.proofs.NeedLemmas.{mul-lt_from_need}
+use Rattle.vob_walk.specs.Matches.{matches, blocks_met}
+use Rattle.vob_walk.specs.Cursor.{unread, UnreadBlocks, has_index, AreBlocksOf}
+use Rattle.vob_walk.proofs.WindowLemmas.{IsWindow, matches-hits, matches-nothing, blocks_met-window, blocks_met-nothing, unread-nothing, div-le-need}
+use Rattle.vob_walk.specs.Walk.{Walk, IsPulled, given_count}
+
+nil_left : (xs ys : List ℕ) → xs ++ ys ≡ [] → xs ≡ []
+nil_left xs ys none = nil_from_length xs (omega (arith, length-append xs ys, ap length none))
+
+nil_right : (xs ys : List ℕ) → xs ++ ys ≡ [] → ys ≡ []
+nil_right xs ys none = nil_from_length ys (omega (arith, length-append xs ys, ap length none))
+
+-- the first of a list whose first part is in hand
+pub first-steps : (answer : Option ℕ) (full bits others old : List ℕ) → full ++ others ≡ old
+    → (full ≡ [] → old ≡ []) → MatchOption answer ((full ≡ []) × (bits ≡ [])) (λ i. full ≡ i ∷ bits)
+    → MatchOption answer ((old ≡ []) × (bits ++ others ≡ [])) (λ i. old ≡ i ∷ (bits ++ others))
+first-steps None full bits others old same empty taken =
+    let none = empty taken.0 in
+    (none, ap (λ xs. xs ++ others) taken.1 ∙ nil_right full others (same ∙ none))
+first-steps (Some i) full bits others old same empty taken =
+    sym same ∙ ap (λ xs. xs ++ others) taken
+
+-- and the last of one whose last part is
+pub last-steps : (answer : Option ℕ) (full bits front between old : List ℕ)
+    → front ++ (between ++ full) ≡ old → (full ≡ [] → old ≡ [])
+    → MatchOption answer ((full ≡ []) × (bits ≡ [])) (λ i. full ≡ bits ++ i ∷ [])
+    → MatchOption answer ((old ≡ []) × (front ++ (between ++ bits) ≡ []))
+    (λ i. old ≡ (front ++ (between ++ bits)) ++ i ∷ [])
+last-steps None full bits front between old same empty taken =
+    let none = empty taken.0 in
+    (none, ap (λ xs. front ++ (between ++ xs)) (taken.1 ∙ sym taken.0) ∙ same ∙ none)
+last-steps (Some i) full bits front between old same empty taken =
+    sym same ∙ ap (λ xs. front ++ (between ++ xs)) taken
+    ∙ ap (λ xs. front ++ xs) (sym (append_assoc between bits (i ∷ [])))
+    ∙ sym (append_assoc front (between ++ bits) (i ∷ []))
+
+has_index-le : (xs : List ℕ) → has_index xs ≤ 1
+has_index-le xs = elim (cases_lt 0 (length xs)) [ inl some ↦ omega arith | inr none ↦ omega arith ]
+
+has_index-falls : (xs ys : List ℕ) → length xs ≤ length ys → has_index xs ≤ has_index ys
+has_index-falls xs ys less = elim (cases_lt 0 (length xs))
+    [ inl some ↦ omega arith | inr none ↦ omega arith ]
+
+-- ---- a pull at either end: the indices in hand there and at the other end, before it and after it
+
+module _ (before after : UnreadBlocks) (taken left other other_after : List ℕ)
+    (reads : after.reads + after.left ≡ before.reads + before.left)
+    (falls : after.left ≤ before.left) (fewer : length other_after ≤ length other) where
+  -- where an index was given, one read more is paid for, and else no end holds an index any more
+  pub reads-pulled : (answer : Option ℕ) (walk walk_after : Walk) → walk.reads ≡ before.reads
+      → walk.left ≡ before.left + has_index taken + has_index other → walk.credit ≡ before.left
+      → walk_after.reads ≡ after.reads → walk_after.left
+      ≡ after.left + has_index left + has_index other_after → walk_after.credit ≡ after.left
+      → (answer ≡ None → (left ≡ []) × (other_after ≡ [])) → IsPulled walk (answer ∷ []) walk_after
+  unfolding given_count
+  reads-pulled None walk walk_after r l k ra la ka empty =
+      let none = empty refl in
+      record {
+        bound = omega (
+          arith,
+          r,
+          l,
+          k,
+          ra,
+          la,
+          ka,
+          reads,
+          falls,
+          ap has_index none.0,
+          ap has_index none.1,
+        );
+        rises = omega (arith, r, ra, reads, falls);
+        credit = omega (arith, r, k, ra, ka, reads);
+      }
+  reads-pulled (Some i) walk walk_after r l k ra la ka empty = record {
+    bound = omega (
+      arith,
+      r,
+      l,
+      k,
+      ra,
+      la,
+      ka,
+      reads,
+      falls,
+      has_index-le left,
+      has_index-falls other_after other fewer,
+    );
+    rises = omega (arith, r, ra, reads, falls);
+    credit = omega (arith, r, k, ra, ka, reads);
+  }
+
+-- a pull that gave nothing left nothing at either end
+pub first-none : (answer : Option ℕ) (filled left between other : List ℕ) (Q : ℕ → Type 0)
+    → answer ≡ None → (filled ≡ [] → between ++ other ≡ [])
+    → MatchOption answer ((filled ≡ []) × (left ≡ [])) Q → (left ≡ []) × (other ≡ [])
+first-none answer filled left between other Q none empty taken =
+    let nothing = MatchOption-at_none ((filled ≡ []) × (left ≡ [])) Q none taken in
+    (nothing.1, nil_right between other (empty nothing.0))
+
+pub last-none : (answer : Option ℕ) (filled left between other : List ℕ) (Q : ℕ → Type 0) → answer
+    ≡ None → (filled ≡ [] → other ++ between ≡ [])
+    → MatchOption answer ((filled ≡ []) × (left ≡ [])) Q → (left ≡ []) × (other ≡ [])
+last-none answer filled left between other Q none empty taken =
+    let nothing = MatchOption-at_none ((filled ≡ []) × (left ≡ [])) Q none taken in
+    (nothing.1, nil_left other between (empty nothing.0))
+
+-- ---- the walk over a window, before the first pull
+
+module _ (w : ℕ) (wide : 0 < w) where
+  pub AreBlocksOf-window : (start stop next end : ℕ) → start < stop → next ≡ start / w → end
+      ≡ need stop w → AreBlocksOf w start stop next end
+  AreBlocksOf-window start stop next end some first last = record {
+    order = omega (arith, first, last, div-le-need w wide start stop (omega arith));
+    count = omega (arith, last);
+    below = λ k h. mul-lt_from_need w wide stop k (omega (arith, last));
+    some = λ _. (first, last);
+    none = λ empty. absurd (omega arith);
+  }
+
+  module _ {low high : Bound ℕ} {n start stop next end : ℕ}
+      (window : IsWindow low high n start stop) (spans : AreBlocksOf w start stop next end) where
+    -- all that matches is in unread blocks
+    pub unread-window : (xs : List ℕ) (value : Bool) → unread w xs value start stop next end
+        ≡ matches (unpacking n xs w) value low high
+    unread-window xs value = elim (cases_lt start stop) [
+      | inl some ↦
+          let ends = spans.some some in
+          ap (λ k. unread w xs value start stop k end) ends.0
+          ∙ ap (λ k. unread w xs value start stop (start / w) k) ends.1
+          ∙ sym (matches-hits w wide window xs value)
+      | inr none ↦
+          let empty : start ≡ stop = let ordered = window.ordered in omega arith in
+          unread-nothing w xs value start stop next end (omega (arith, spans.none empty))
+          ∙ sym (matches-nothing w wide window xs value empty)
+    ]
+
+    -- and they are the blocks met
+    pub blocks_met-blocks : end - next ≡ blocks_met low high n w
+    blocks_met-blocks = elim (cases_lt start stop) [
+      | inl some ↦ let ends = spans.some some in omega
+          (arith, ends.0, ends.1, blocks_met-window w wide window some)
+      | inr none ↦
+          let empty : start ≡ stop = let ordered = window.ordered in omega arith in
+          omega (arith, spans.none empty, blocks_met-nothing w wide window empty)
+    ]
+
+-- where nothing is in hand at either end, all is in the unread blocks
+pub rest-fresh : (front back indices : List ℕ) → front ≡ [] → back ≡ []
+    → front ++ (indices ++ back) ≡ indices
+rest-fresh front back indices none no_other =
+    ap (λ xs. xs ++ (indices ++ back)) none ∙ ap (λ xs. indices ++ xs) no_other ∙ append-nil indices
+
+-- what gives the first or the last of a list has less left
+pub goes-first : (answer : Option ℕ) (walk after : Walk)
+    → MatchOption answer ((walk.rest ≡ []) × (after.rest ≡ [])) (λ i. walk.rest ≡ i ∷ after.rest)
+    → MakesProgress (λ (w : Walk). ⊤) (item_count (λ (w : Walk). w.rest)) walk answer after
+goes-first None walk after taken = record { on = λ finite. tt; keeps = tt; rests = λ _. tt }
+goes-first (Some i) walk after taken = record
+    { on = λ finite. (tt, finite, omega (arith, ap length taken)); keeps = tt; rests = λ _. tt }
+
+pub goes-last : (answer : Option ℕ) (walk after : Walk)
+    → MatchOption answer ((walk.rest ≡ []) × (after.rest ≡ []))
+    (λ i. walk.rest ≡ after.rest ++ i ∷ [])
+    → MakesProgress (λ (w : Walk). ⊤) (item_count (λ (w : Walk). w.rest)) walk answer after
+goes-last None walk after taken = record { on = λ finite. tt; keeps = tt; rests = λ _. tt }
+goes-last (Some i) walk after taken = record {
+  on =
+      λ finite. (tt, finite, omega (arith, ap length taken, length-append after.rest (i ∷ [])));
+  keeps = tt;
+  rests = λ _. tt;
+}

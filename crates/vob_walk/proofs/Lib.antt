@@ -1,0 +1,9 @@
+pub mod BlockBitsLemmas
+pub mod CountLemmas
+pub mod CursorLemmas
+pub mod MatchesLemmas
+pub mod PullLemmas
+pub mod ScanLemmas
+pub mod WalkLemmas
+pub mod WhereLemmas
+pub mod WindowLemmas

@@ -1,0 +1,214 @@
+-- A range cut to a window of indices: what matches there stands in the blocks that the window meets.
+use Rattle.std.specs.List.{list_any, range_with_len}
+use Rattle.std.specs.declared.ops.Bound.{Bound}
+use Rattle.std.proofs.Common.{◌≡◌, ℕ, ◌+◌, ◌-◌, ◌*◌, ◌/◌, ◌<◌, ◌≤◌, Bool, true, false, ◌&&◌, nat_le, nat_lt, ◌==◌, List, [], length, refl, sym, ap, ◌∙◌, arith, inl, inr, add-mul, suc-mul, add-one, div-add-mod', mod-lt, div-mul-le_self, mul-div_cancel}
+use Rattle.std.proofs.lemmas.Bool.{cases_lt, and_from, and_left, and_right, and_parts, ltb-true, leb-true, lt-ltb, le-leb, eqb-true, eq-eqb, false_from_ne_true, false≢true}
+use Rattle.std.proofs.lemmas.List.Sums.{length-filter}
+use Rattle.std.proofs.lemmas.Nat.{div_below, le-div, mul-le}
+use Rattle.vob_block.specs.Packing.{item, need, bit_at, unpacking}
+use Rattle.vob_block.proofs.NeedLemmas.{need_enough, need_least, mul-lt_from_need, div-lt-need}
+use Rattle.vob_block.proofs.PackingLemmas.{length-unpacking, get_or-unpacking}
+use Rattle.vob_walk.specs.Matches.{from_start, up_to_end, within, has_value, matches, blocks_met}
+use Rattle.vob_walk.specs.Cursor.{indices_where, is_hit, unread}
+use Rattle.vob_walk.proofs.WhereLemmas.{indices_where-same, indices_where-nothing, indices_where-both, length-indices_all, length-indices_below, any-indices_where, any-nothing}
+
+-- the indices below len within the bounds are those from start to below stop
+pub record IsWindow (low high : Bound ℕ) (len start stop : ℕ) : Type 0 where
+  pub ordered : start ≤ stop
+  pub inside : stop ≤ len
+  pub each : (i : ℕ) → (nat_le start i && nat_lt i stop) ≡ (nat_lt i len && within low high i)
+
+cut_tests : (l u s a f : Bool) → s ≡ (l && u) → (s ≡ true → a ≡ f) → (a && s) ≡ (l && (f && u))
+cut_tests true true s a f e h = ap (λ t. a && t) e ∙ ap (λ t. t && true) (h e)
+cut_tests true false s a f e h = and_right a s e ∙ sym (and_right f false refl)
+cut_tests false u s a f e h = and_right a s e
+
+-- cut at the end first, and then at the start
+pub IsWindow-cut : (low high : Bound ℕ) (len start stop : ℕ) → stop ≤ len → start ≤ stop
+    → ((i : ℕ) → nat_lt i stop ≡ (nat_lt i len && up_to_end high i))
+    → ((i : ℕ) → i < stop → nat_le start i ≡ from_start low i)
+    → IsWindow low high len start stop
+IsWindow-cut low high len start stop shorter ordered ends starts = record {
+  ordered = ordered;
+  inside = shorter;
+  each = λ i. cut_tests (nat_lt i len) (up_to_end high i) (nat_lt i stop) (nat_le start i)
+      (from_start low i) (ends i) (λ below. starts i (ltb-true i stop below));
+}
+
+module _ {low high : Bound ℕ} {n start stop : ℕ} (window : IsWindow low high n start stop) where
+  -- at an index below n the bounds and the window ask the same
+  within-window : (i : ℕ) → i < n → within low high i ≡ (nat_le start i && nat_lt i stop)
+  within-window i below = sym (window.each i ∙ ap (λ b. b && within low high i) (lt-ltb i n below))
+
+  in_window : (i : ℕ) → i < n → within low high i ≡ true → (start ≤ i) × (i < stop)
+  in_window i below holds =
+      let both = and_parts (nat_le start i) (nat_lt i stop) (sym (within-window i below) ∙ holds) in
+      (leb-true start i both.0, ltb-true i stop both.1)
+
+  from_window : (i : ℕ) → start ≤ i → i < stop → within low high i ≡ true
+  from_window i from below =
+      let inside = window.inside in
+      within-window i (omega arith) ∙ and_from (nat_le start i) (nat_lt i stop)
+      (le-leb start i from) (lt-ltb i stop below)
+
+-- ---- the blocks from that of index start to the last that stop bits need
+
+module _ (w : ℕ) (wide : 0 < w) where
+  div-le-div : (i j : ℕ) → i ≤ j → i / w ≤ j / w
+  div-le-div i j h = le-div (i / w) j w wide (omega (arith, div-mul-le_self i w))
+
+  need-le_self : (n : ℕ) → need n w ≤ n
+  need-le_self n = need_least w wide n n (omega (arith, mul-le n 1 n w (omega arith) wide))
+
+  pub div-le-need : (start stop : ℕ) → start ≤ stop → start / w ≤ need stop w
+  div-le-need start stop h =
+      let more : (need stop w + 1) * w ≡ need stop w * w + w =
+      ap (λ k. k * w) (add-one (need stop w)) ∙ suc-mul (need stop w) w in
+      let below = div_below start w (need stop w + 1) wide
+      (omega (arith, need_enough w wide stop)) in
+      omega arith
+
+  -- each block but the first has no index before start
+  pub le-mul_from_div : (start k : ℕ) → start / w < k → start ≤ k * w
+  le-mul_from_div start k h =
+      let more : (start / w + 1) * w ≡ start / w * w + w =
+      ap (λ q. q * w) (add-one (start / w)) ∙ suc-mul (start / w) w in
+      omega (
+        arith,
+        mul-le (start / w + 1) w k w (omega arith) (omega arith),
+        div-add-mod' start w,
+        mod-lt start wide,
+      )
+
+  product_between : (k end : ℕ) → k ≤ end → k * w + (end - k) * w ≡ end * w
+  product_between k end h =
+      let whole : k + (end - k) ≡ end = omega arith in
+      sym (add-mul k (end - k) w) ∙ ap (λ m. m * w) whole
+
+-- ---- what is left of some blocks
+
+module _ (w : ℕ) (xs : List ℕ) (value : Bool) (start stop : ℕ) where
+  hit_between : (i : ℕ) → is_hit w xs value start stop i ≡ true → (start ≤ i) × (i < stop)
+  hit_between i holds =
+      let first = and_parts (nat_le start i && nat_lt i stop) (has_value value (bit_at xs w i))
+      holds in
+      let both = and_parts (nat_le start i) (nat_lt i stop) first.0 in
+      (leb-true start i both.0, ltb-true i stop both.1)
+
+  pub unread-nothing : (k end : ℕ) → end ≤ k → unread w xs value start stop k end ≡ []
+  unfolding unread
+  unread-nothing k end h =
+      let none : (end - k) * w ≡ 0 * w = ap (λ m. m * w) (omega arith) in
+      indices_where-nothing (λ i. is_hit w xs value start stop i) (k * w) ((end - k) * w)
+      (λ i from below. absurd (omega arith))
+
+  pub length-unread-le : (k end : ℕ) → length (unread w xs value start stop k end) ≤ stop
+  unfolding unread
+  length-unread-le k end = length-indices_below (λ i. is_hit w xs value start stop i) (k * w)
+      ((end - k) * w) stop (λ i holds. (hit_between i holds).1)
+
+-- ---- a window over the first n bits of some blocks
+
+module _ (w : ℕ) (wide : 0 < w) {low high : Bound ℕ} {n start stop : ℕ}
+    (window : IsWindow low high n start stop) where
+  -- the bits that match within the bounds are the hits in the blocks that the window meets
+  pub matches-hits : (xs : List ℕ) (value : Bool) → matches (unpacking n xs w) value low high
+      ≡ unread w xs value start stop (start / w) (need stop w)
+  unfolding matches unread
+  matches-hits xs value =
+      let bits = unpacking n xs w in
+      let test = λ (i : ℕ). within low high i && has_value value (item bits i) in
+      let hit = λ (i : ℕ). is_hit w xs value start stop i in
+      let agree = λ (i : ℕ) (from : 0 ≤ i) (below : i < 0 + n).
+      ap (λ b. b && has_value value (item bits i)) (within-window window i (omega arith))
+      ∙ ap (λ b. (nat_le start i && nat_lt i stop) && has_value value b)
+      (get_or-unpacking n xs w i false (omega arith)) in
+      let between = hit_between w xs value start stop in
+      let first = div-mul-le_self start w in
+      let last = need_enough w wide stop in
+      let blocks = product_between w wide (start / w) (need stop w)
+      (div-le-need w wide start stop window.ordered) in
+      let shorter = window.inside in
+      ap (λ m. indices_where test 0 m) (length-unpacking n xs w)
+      ∙ indices_where-same test hit 0 n agree
+      ∙ indices_where-both hit 0 n (start / w * w) ((need stop w - start / w) * w)
+      (λ i holds. (omega arith, omega (arith, between i holds)))
+      (λ i holds. (omega (arith, between i holds), omega (arith, between i holds)))
+
+  -- nothing matches where the window is empty
+  pub matches-nothing : (xs : List ℕ) (value : Bool) → start ≡ stop
+      → matches (unpacking n xs w) value low high ≡ []
+  unfolding matches
+  matches-nothing xs value empty =
+      let bits = unpacking n xs w in
+      let test = λ (i : ℕ). within low high i && has_value value (item bits i) in
+      ap (λ m. indices_where test 0 m) (length-unpacking n xs w)
+      ∙ indices_where-nothing test 0 n (λ i from below.
+      and_left (within low high i) (has_value value (item bits i))
+      (false_from_ne_true (within low high i)
+      (λ holds. let there = in_window window i (omega arith) holds in absurd (omega arith))))
+
+  -- whether block k holds an index of the range
+  abbrev meets : ℕ → Bool
+  meets k = list_any (λ i. i / w == k && within low high i) (range_with_len 0 n)
+
+  meets-from : (k i : ℕ) → start ≤ i → i < stop → i / w ≡ k → meets k ≡ true
+  meets-from k i from below here =
+      let inside = window.inside in
+      any-indices_where (λ j. j / w == k && within low high j) 0 n i (omega arith) (omega arith)
+      (and_from (i / w == k) (within low high i) (eq-eqb (i / w) k here)
+      (from_window window i from below))
+
+  -- a block from the first to the last of the window does
+  meets-within : (k : ℕ) → start < stop → start / w ≤ k → k < need stop w → meets k ≡ true
+  meets-within k some first last = elim (cases_lt (k * w) start) [
+    | inl before ↦
+        let quotient : start / w ≡ k = omega (arith, le-div k start w wide (omega arith)) in
+        meets-from k start (omega arith) some quotient
+    | inr after ↦ meets-from k (k * w) after (mul-lt_from_need w wide stop k last)
+        (mul-div_cancel k wide)
+  ]
+
+  -- and no other block
+  meets-nothing : (k : ℕ) → ((i : ℕ) → start ≤ i → i < stop → i / w ≡ k → ⊥) → meets k ≡ false
+  meets-nothing k never =
+      any-nothing (λ j. j / w == k && within low high j) 0 n (λ i from below.
+      false_from_ne_true (i / w == k && within low high i) (λ holds.
+      let both = and_parts (i / w == k) (within low high i) holds in
+      let there = in_window window i (omega arith) both.1 in
+      never i there.0 there.1 (eqb-true (i / w) k both.0)))
+
+  meets-only : (k : ℕ) → meets k ≡ true → (start / w ≤ k) × (k < need stop w)
+  meets-only k holds = (
+    elim (cases_lt k (start / w)) [
+      | inl before ↦ absurd (false≢true (sym (meets-nothing k
+          (λ i from below here. omega (arith, div-le-div w wide start i from))) ∙ holds))
+      | inr fine ↦ fine
+    ],
+    elim (cases_lt k (need stop w)) [
+      | inl fine ↦ fine
+      | inr past ↦ absurd (false≢true (sym (meets-nothing k
+          (λ i from below here. omega (arith, div-lt-need w wide stop i below))) ∙ holds))
+    ],
+  )
+
+  -- so as many blocks are met as the window spans
+  pub blocks_met-window : start < stop → blocks_met low high n w ≡ need stop w - start / w
+  unfolding blocks_met
+  blocks_met-window some =
+      let ordered = div-le-need w wide start stop window.ordered in
+      let few = need-le_self w wide stop in
+      let shorter = window.inside in
+      sym (length-filter meets (range_with_len 0 n))
+      ∙ ap length (indices_where-both meets 0 n (start / w) (need stop w - start / w)
+      (λ k holds. (omega arith, omega (arith, meets-only k holds)))
+      (λ k holds. (omega (arith, meets-only k holds), omega (arith, meets-only k holds))))
+      ∙ length-indices_all meets (start / w) (need stop w - start / w)
+      (λ k first last. meets-within k some first (omega arith))
+
+  pub blocks_met-nothing : start ≡ stop → blocks_met low high n w ≡ 0
+  unfolding blocks_met
+  blocks_met-nothing empty =
+      sym (length-filter meets (range_with_len 0 n))
+      ∙ ap length (indices_where-nothing meets 0 n
+      (λ k from below. meets-nothing k (λ i first last here. omega arith)))

@@ -1,0 +1,17 @@
+-- The front is filled, and gives its first index.
+use Rattle.std.specs.Prelude.{None}
+use Rattle.std.proofs.Common.{◌≡◌, refl, arith}
+use Rattle.vob_walk.proofs.CursorLemmas.{reads-pulled, first-none}
+use Rattle.vob_walk.proofs.cursor.Cursor.next.Goals as goal
+
+pub returns-clause-reads : goal.returns-clause-reads
+returns-clause-reads g c =
+    let s = c.self.inside in
+    let e = c.fill_front.ensures in
+    let after = c.fill_front.new in
+    let none = λ (gave : c.next.result ≡ None).
+    first-none c.next.result after.front c.next.new.self after.unread.rest after.back _ gave
+    e.empty c.next.ensures in
+    rw (← c.self.view_is) (reads-pulled s.unread after.unread s.front c.next.new.self s.back
+    after.back e.reads e.falls e.fewer c.next.result _ _
+    refl refl refl refl refl refl none)

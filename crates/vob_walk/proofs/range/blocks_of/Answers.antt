@@ -1,0 +1,15 @@
+-- By the width that the code read.
+use Rattle.std.proofs.Common.{◌/◌, ◌∙◌, ap, arith}
+use Rattle.vob_block.proofs.NeedLemmas.{need-is-div_ceil}
+use Rattle.vob_walk.proofs.CursorLemmas.{AreBlocksOf-window}
+use Rattle.vob_walk.proofs.range.blocks_of.Goals as goal
+
+pub returns : goal.returns
+returns g c =
+    let w = g.T.Block.BITS in
+    AreBlocksOf-window w g.met.T.Block.wide_law c.args.start c.args.stop
+    (c.args.start / c.BITS.result) c.div_ceil.result
+    (omega (arith, c.requires, c.if-start-stop.false))
+    (ap (λ v. c.args.start / v) c.BITS.ensures)
+    (c.div_ceil.ensures ∙ need-is-div_ceil w g.met.T.Block.wide_law c.args.stop _
+    c.BITS-2.ensures)

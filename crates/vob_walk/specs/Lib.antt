@@ -1,0 +1,5 @@
+pub mod Count
+pub mod Cursor
+pub mod Laws
+pub mod Matches
+pub mod Walk

@@ -1,0 +1,38 @@
+-- The indices of the bits of one value, cut to a range.
+use Rattle.std.specs.Prelude.{ℕ, ◌/◌, Bool, true, false, ◌&&◌, ◌==◌, not, nat_le, nat_lt, List, length, count_by, filter}
+use Rattle.std.specs.List.{list_any, range_with_len}
+use Rattle.std.specs.declared.ops.Bound.{Bound}
+use Rattle.std.specs.declared.ops.Bound.TheVariants.{Included, Excluded, Unbounded}
+use Rattle.vob_block.specs.Packing.{item}
+
+-- whether an index meets the start of a range, and its end, as whole numbers
+abbrev pub from_start : Bound ℕ → ℕ → Bool
+from_start (Included a) i = nat_le a i
+from_start (Excluded a) i = nat_lt a i
+from_start Unbounded i = true
+
+abbrev pub up_to_end : Bound ℕ → ℕ → Bool
+up_to_end (Included b) i = nat_le i b
+up_to_end (Excluded b) i = nat_lt i b
+up_to_end Unbounded i = true
+
+-- whether it meets both
+abbrev pub within : Bound ℕ → Bound ℕ → ℕ → Bool
+within low high i = from_start low i && up_to_end high i
+
+-- whether a bit has the value that is wanted
+abbrev pub has_value : Bool → Bool → Bool
+has_value true b = b
+has_value false b = not b
+
+-- the rising indices within the range whose bits have the value
+unfoldable pub matches : List Bool → Bool → Bound ℕ → Bound ℕ → List ℕ
+matches bits value low high =
+    filter (λ i. within low high i && has_value value (item bits i))
+    (range_with_len 0 (length bits))
+
+-- how many blocks hold an index below n within the range
+unfoldable pub blocks_met : Bound ℕ → Bound ℕ → ℕ → ℕ → ℕ
+blocks_met low high n width =
+    count_by (λ k. list_any (λ i. i / width == k && within low high i) (range_with_len 0 n))
+    (range_with_len 0 n)

@@ -1,0 +1,78 @@
+//! Counts of bits by whole blocks: only the first and the last block of a window are masked.
+ghost use Rattle.std.specs.Prelude.{◌≡◌, ◌+◌, ◌-◌, ◌*◌, ◌≤◌, length, map};
+ghost use Rattle.std.specs.declared.ops.Bound.TheVariants.{Included, Excluded};
+ghost use Rattle.vob_block.specs.Packing.{need};
+ghost use Rattle.vob_walk.specs.Matches.{blocks_met};
+ghost use Rattle.vob_walk.specs.Count.{ones_between};
+ghost use Rattle.vob_walk.specs.Cursor.{unread};
+
+use crate::range::blocks_of;
+use crate::window::{Window, masked};
+use vob_block::{Block, Blocks};
+
+/// How many places are true from index `start` to below `stop`. Reads each block that holds one of
+/// these indices once, and no other. vob 4.0.1 has no public call like it.
+pub fn count_ones_in<T: Block>(blocks: &mut Blocks<'_, T>, start: usize, stop: usize) -> usize
+    requires order { start ≤ stop }
+    requires enough { need stop T.BITS ≤ length blocks.old.items }
+    ensures ones { result ≡ ones_between T.BITS (map T.number blocks.old.items) start stop }
+    ensures reads { blocks.new.reads ≡ blocks.old.reads + blocks_met (Included start) (Excluded stop) stop T.BITS }
+    ensures items { blocks.new.items ≡ blocks.old.items }
+{
+    let (first, end) = blocks_of::<T>(start, stop);
+    if first == end {
+        return 0;
+    }
+    let last = end - 1;
+    let window = Window {
+        value: true,
+        start,
+        stop,
+    };
+    let head = masked(blocks.block(first), first, window).ones_in();
+    if first == last {
+        return head;
+    }
+    let middle = ones_in_blocks(blocks, first + 1, last);
+    let tail = masked(blocks.block(last), last, window).ones_in();
+    head + middle + tail
+}
+
+/// How many places are true in the blocks from `from` to below `to`. Reads each of them once.
+fn ones_in_blocks<T: Block>(blocks: &mut Blocks<'_, T>, from: usize, to: usize) -> usize
+    requires order { from ≤ to }
+    requires count { to ≤ length blocks.old.items }
+    requires fits { to * T.BITS ≤ usize.MAX }
+    ensures ones { result ≡ ones_between T.BITS (map T.number blocks.old.items) (from * T.BITS) (to * T.BITS) }
+    ensures reads { blocks.new.reads ≡ blocks.old.reads + (to - from) }
+    ensures items { blocks.new.items ≡ blocks.old.items }
+{
+    let mut ones = 0;
+    for k in from..to {
+        ones += blocks.block(k).ones_in();
+    }
+    ones
+}
+
+/// How many indices of the window stand in the blocks from `next` to below `end`.
+pub(crate) fn count_between<T: Block>(
+    blocks: &mut Blocks<'_, T>,
+    window: Window,
+    next: usize,
+    end: usize,
+) -> usize
+    requires order { next ≤ end }
+    requires count { end ≤ length blocks.old.items }
+    ensures { result ≡ length (unread T.BITS (map T.number blocks.old.items) window.value
+        window.start window.stop next end) }
+{
+    // Where a block ends past the greatest index, the window ends before it.
+    let below = window.stop.min(end.saturating_mul(T::BITS));
+    let from = window.start.max(next.saturating_mul(T::BITS)).min(below);
+    let ones = count_ones_in(blocks, from, below);
+    if window.value {
+        ones
+    } else {
+        below - from - ones
+    }
+}

@@ -1,0 +1,143 @@
+//! Walks over the indices of the set bits, or of the unset ones, within a range, from both ends. A
+//! block is read once, when an end first enters it, and its indices are then in hand at that end.
+ghost use Rattle.std.specs.Prelude.{◌≡◌, ◌≤◌, ◌∷◌, ◌++◌, [], ⊤, ◌+◌, length, map};
+ghost use Rattle.std.specs.Iterator.{YieldsFirst, YieldsLast, MakesProgress, item_count};
+ghost use Rattle.vob_block.specs.Packing.{need, unpacking};
+ghost use Rattle.vob_walk.specs.Walk.{Walk, IsFresh, IsPulled, end_item, without_end};
+
+use crate::block_bits::BlockBits;
+use crate::scan::Unread;
+use crate::walk::End;
+use std::marker::Model;
+use std::mem;
+use std::ops::RangeBounds;
+use vob_block::{Block, Blocks};
+
+/// A walk over the indices of the bits of one value: those in hand at either end, and the blocks
+/// between them.
+#[derive(Drop)]
+pub(crate) struct Cursor<'a, T: Block> {
+    unread: Unread<'a, T>,
+    front: BlockBits<T>,
+    back: BlockBits<T>,
+}
+
+impl<'a, T: Block> Model for Cursor<'a, T> {
+    ghost use Rattle.std.specs.Prelude.{◌^◌, ◌<◌, ◌++◌, length};
+    ghost use Rattle.vob_walk.specs.Walk.{Walk};
+    ghost use Rattle.vob_walk.specs.Cursor.{walk_of};
+
+    ghost Value = { Walk };
+
+    ghost view = { λ c. walk_of c.front c.unread c.back };
+
+    // Countable by the type of lengths.
+    ghost invariant = { λ c. length (c.front ++ (c.unread.rest ++ c.back)) < 2 ^ 64 };
+}
+
+/// Where the front has no index in hand, it gets those of the first block that has some, or else
+/// what the back has. So it has none afterwards only where none is left at all.
+fn fill_front<T: Block>(
+    unread: &mut Unread<'_, T>,
+    front: &mut BlockBits<T>,
+    back: &mut BlockBits<T>,
+)
+    ensures rest { front.new ++ (unread.new.rest ++ back.new) ≡ front.old ++ (unread.old.rest ++ back.old) }
+    ensures empty { front.new ≡ [] → unread.new.rest ++ back.new ≡ [] }
+    ensures fewer { length back.new ≤ length back.old }
+    ensures falls { unread.new.left ≤ unread.old.left }
+    ensures reads { unread.new.reads + unread.new.left ≡ unread.old.reads + unread.old.left }
+{
+    if !front.is_empty() {
+        return;
+    }
+    *front = unread.next_bits();
+    if front.is_empty() {
+        mem::swap(front, back);
+    }
+}
+
+/// Where the back has no index in hand, it gets those of the last block that has some, or else what
+/// the front has. So it has none afterwards only where none is left at all.
+fn fill_back<T: Block>(
+    unread: &mut Unread<'_, T>,
+    front: &mut BlockBits<T>,
+    back: &mut BlockBits<T>,
+)
+    ensures rest { front.new ++ (unread.new.rest ++ back.new) ≡ front.old ++ (unread.old.rest ++ back.old) }
+    ensures empty { back.new ≡ [] → front.new ++ unread.new.rest ≡ [] }
+    ensures fewer { length front.new ≤ length front.old }
+    ensures falls { unread.new.left ≤ unread.old.left }
+    ensures reads { unread.new.reads + unread.new.left ≡ unread.old.reads + unread.old.left }
+{
+    if !back.is_empty() {
+        return;
+    }
+    *back = unread.next_back_bits();
+    if back.is_empty() {
+        mem::swap(front, back);
+    }
+}
+
+impl<'a, T: Block> Cursor<'a, T> {
+    /// A walk over the first `len` bits of some blocks.
+    pub(crate) fn over<R: RangeBounds<usize>>(
+        blocks: Blocks<'a, T>,
+        value: bool,
+        len: usize,
+        range: R,
+    ) -> Cursor<'a, T>
+        requires { length blocks.items ≡ need len T.BITS }
+        ensures fresh { R.has_bounds range
+            → IsFresh result (unpacking len (map T.number blocks.entry.items) T.BITS) value
+            (R.start_bound range) (R.end_bound range) T.BITS }
+        ensures reads { result.reads ≡ blocks.entry.reads }
+    {
+        Cursor {
+            unread: Unread::over(blocks, value, len, range),
+            front: BlockBits::none(),
+            back: BlockBits::none(),
+        }
+    }
+
+    /// The first index that is left, taken.
+    pub(crate) fn next(&mut self) -> Option<usize>
+        ensures steps { YieldsFirst (λ (walk : Walk). walk.rest) self.old result self.new }
+        ensures goes { MakesProgress (λ (walk : Walk). ⊤) (item_count (λ (walk : Walk). walk.rest))
+            self.old result self.new }
+        ensures reads { IsPulled self.old (result ∷ []) self.new }
+    {
+        fill_front(&mut self.unread, &mut self.front, &mut self.back);
+        self.front.next()
+    }
+
+    /// The last index that is left, taken.
+    pub(crate) fn next_back(&mut self) -> Option<usize>
+        ensures steps { YieldsLast (λ (walk : Walk). walk.rest) self.old result self.new }
+        ensures goes { MakesProgress (λ (walk : Walk). ⊤) (item_count (λ (walk : Walk). walk.rest))
+            self.old result self.new }
+        ensures reads { IsPulled self.old (result ∷ []) self.new }
+    {
+        fill_back(&mut self.unread, &mut self.front, &mut self.back);
+        self.back.next_back()
+    }
+
+    /// How many indices are left.
+    pub(crate) fn count(self) -> usize
+        ensures { result ≡ length self.entry.rest }
+    {
+        self.front.count() + self.unread.count() + self.back.count()
+    }
+
+    /// The first or the last index that is left, taken.
+    pub(crate) fn pull(&mut self, side: End) -> Option<usize>
+        ensures given { result ≡ end_item side self.old.rest }
+        ensures kept { self.new.rest ≡ without_end side self.old.rest }
+        ensures reads { IsPulled self.old (result ∷ []) self.new }
+    {
+        match side {
+            End::Front => self.next(),
+            End::Back => self.next_back(),
+        }
+    }
+}

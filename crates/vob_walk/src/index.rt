@@ -1,0 +1,163 @@
+//! The walks over the indices of set bits and of unset bits within a range, from both ends.
+ghost use Rattle.std.specs.Prelude.{◌≡◌, true, false, length, map};
+ghost use Rattle.std.specs.Iterator.{item_count};
+ghost use Rattle.std.specs.Iterator.Runs.{YieldsInOrder, YieldsInReverse};
+ghost use Rattle.vob_block.specs.Packing.{need, unpacking};
+ghost use Rattle.vob_walk.specs.Walk.{IsFresh, GivesFirst, GivesLast};
+
+use crate::cursor::Cursor;
+use crate::walk::{End, IndexWalk};
+use std::iter::FusedIterator;
+use std::marker::Model;
+use std::ops::RangeBounds;
+use vob_block::{Block, Blocks};
+
+/// The rising indices of the set bits within a range. Each block that holds an index of the range is
+/// read once at most.
+#[derive(Drop)]
+pub struct IterSetBits<'a, T: Block> {
+    cursor: Cursor<'a, T>,
+}
+
+impl<'a, T: Block> Model for IterSetBits<'a, T> {
+    ghost use Rattle.vob_walk.specs.Walk.{Walk};
+
+    ghost Value = { Walk };
+
+    ghost view = { λ walk. walk.cursor };
+}
+
+impl<'a, T: Block> IterSetBits<'a, T> {
+    /// A walk over the first `len` bits of some blocks. Every pair of bounds is accepted; an index
+    /// belongs to the range where it is below `len` and meets both as whole numbers.
+    pub fn over<R: RangeBounds<usize>>(
+        blocks: Blocks<'a, T>,
+        len: usize,
+        range: R,
+    ) -> IterSetBits<'a, T>
+        requires { length blocks.items ≡ need len T.BITS }
+        ensures fresh { R.has_bounds range
+            → IsFresh result (unpacking len (map T.number blocks.entry.items) T.BITS) true
+            (R.start_bound range) (R.end_bound range) T.BITS }
+        ensures reads { result.reads ≡ blocks.entry.reads }
+        ensures runs { YieldsInOrder GivesFirst (λ walk. walk.rest) }
+        ensures runs_back { YieldsInReverse GivesLast (λ walk. walk.rest) }
+    {
+        IterSetBits {
+            cursor: Cursor::over(blocks, true, len, range),
+        }
+    }
+
+    /// How many indices are still to come. vob 4.0.1 overrides `Iterator::count` by this number.
+    pub fn count(self) -> usize
+        ensures { result ≡ length self.entry.rest }
+    {
+        self.cursor.count()
+    }
+}
+
+impl<'a, T: Block> Iterator for IterSetBits<'a, T> {
+    type Item = usize;
+
+    ghost next_gives = { GivesFirst };
+
+    ghost remaining = { item_count (λ walk. walk.rest) };
+
+    fn next(&mut self) -> Option<usize> {
+        self.cursor.next()
+    }
+}
+
+impl<'a, T: Block> DoubleEndedIterator for IterSetBits<'a, T> {
+    ghost next_back_gives = { GivesLast };
+
+    fn next_back(&mut self) -> Option<usize> {
+        self.cursor.next_back()
+    }
+}
+
+impl<'a, T: Block> FusedIterator for IterSetBits<'a, T> {}
+
+impl<'a, T: Block> IndexWalk for IterSetBits<'a, T> {
+    ghost walk = { λ walk. walk };
+
+    fn pull(&mut self, side: End) -> Option<usize> {
+        self.cursor.pull(side)
+    }
+}
+
+/// The rising indices of the unset bits within a range. Each block that holds an index of the range
+/// is read once at most.
+#[derive(Drop)]
+pub struct IterUnsetBits<'a, T: Block> {
+    cursor: Cursor<'a, T>,
+}
+
+impl<'a, T: Block> Model for IterUnsetBits<'a, T> {
+    ghost use Rattle.vob_walk.specs.Walk.{Walk};
+
+    ghost Value = { Walk };
+
+    ghost view = { λ walk. walk.cursor };
+}
+
+impl<'a, T: Block> IterUnsetBits<'a, T> {
+    /// A walk over the first `len` bits of some blocks. Every pair of bounds is accepted; an index
+    /// belongs to the range where it is below `len` and meets both as whole numbers.
+    pub fn over<R: RangeBounds<usize>>(
+        blocks: Blocks<'a, T>,
+        len: usize,
+        range: R,
+    ) -> IterUnsetBits<'a, T>
+        requires { length blocks.items ≡ need len T.BITS }
+        ensures fresh { R.has_bounds range
+            → IsFresh result (unpacking len (map T.number blocks.entry.items) T.BITS) false
+            (R.start_bound range) (R.end_bound range) T.BITS }
+        ensures reads { result.reads ≡ blocks.entry.reads }
+        ensures runs { YieldsInOrder GivesFirst (λ walk. walk.rest) }
+        ensures runs_back { YieldsInReverse GivesLast (λ walk. walk.rest) }
+    {
+        IterUnsetBits {
+            cursor: Cursor::over(blocks, false, len, range),
+        }
+    }
+
+    /// How many indices are still to come. vob 4.0.1 overrides `Iterator::count` by the indices of the
+    /// range less its set bits: of a range whose end is before its start, and after an answer None that
+    /// left the start past the end, that panics or wraps.
+    pub fn count(self) -> usize
+        ensures { result ≡ length self.entry.rest }
+    {
+        self.cursor.count()
+    }
+}
+
+impl<'a, T: Block> Iterator for IterUnsetBits<'a, T> {
+    type Item = usize;
+
+    ghost next_gives = { GivesFirst };
+
+    ghost remaining = { item_count (λ walk. walk.rest) };
+
+    fn next(&mut self) -> Option<usize> {
+        self.cursor.next()
+    }
+}
+
+impl<'a, T: Block> DoubleEndedIterator for IterUnsetBits<'a, T> {
+    ghost next_back_gives = { GivesLast };
+
+    fn next_back(&mut self) -> Option<usize> {
+        self.cursor.next_back()
+    }
+}
+
+impl<'a, T: Block> FusedIterator for IterUnsetBits<'a, T> {}
+
+impl<'a, T: Block> IndexWalk for IterUnsetBits<'a, T> {
+    ghost walk = { λ walk. walk };
+
+    fn pull(&mut self, side: End) -> Option<usize> {
+        self.cursor.pull(side)
+    }
+}

@@ -1,0 +1,16 @@
+//! Walks over the indices of the set bits or of the unset bits of some blocks, from both ends, and
+//! counts.
+#![tactic(auto)]
+
+mod block_bits;
+mod count;
+mod cursor;
+mod index;
+mod range;
+mod scan;
+mod walk;
+mod window;
+
+pub use count::count_ones_in;
+pub use index::{IterSetBits, IterUnsetBits};
+pub use walk::{End, IndexWalk, deal};

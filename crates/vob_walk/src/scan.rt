@@ -1,0 +1,161 @@
+//! The blocks of a walk that neither end has read, and the next one, from either end, that has a bit
+//! of the value that is looked for.
+ghost use Rattle.std.specs.Prelude.{◌≡◌, ℕ, ◌+◌, ◌-◌, ◌*◌, ◌^◌, ◌<◌, ◌≤◌, [], ◌++◌, map, length};
+ghost use Rattle.vob_block.specs.Packing.{need, unpacking};
+ghost use Rattle.vob_walk.specs.Matches.{matches, blocks_met};
+ghost use Rattle.vob_walk.specs.Cursor.{unread};
+
+use crate::block_bits::{BlockBits, is_zero};
+use crate::count::count_between;
+use crate::range::{blocks_of, first_index, past_last_index};
+use crate::window::{Window, masked};
+use std::marker::Model;
+use std::ops::RangeBounds;
+use vob_block::{Block, Blocks};
+
+/// Reads blocks from `next` on until one has an index to give, and answers that one's. Where none
+/// has, all up to `end` are read.
+fn find_front<T: Block>(
+    blocks: &mut Blocks<'_, T>,
+    window: Window,
+    next: &mut usize,
+    end: usize,
+) -> BlockBits<T>
+    requires order { next.old ≤ end }
+    requires count { end ≤ length blocks.old.items }
+    requires below { (k : ℕ) → k < end → k * T.BITS < window.stop }
+    ensures rest { result ++ unread T.BITS (map T.number blocks.old.items) window.value
+        window.start window.stop next.new end
+        ≡ unread T.BITS (map T.number blocks.old.items) window.value window.start window.stop next.old end }
+    ensures none { result ≡ [] → next.new ≡ end }
+    ensures rises { next.old ≤ next.new }
+    ensures order { next.new ≤ end }
+    ensures items { blocks.new.items ≡ blocks.old.items }
+    ensures reads { blocks.new.reads + (end - next.new) ≡ blocks.old.reads + (end - next.old) }
+{
+    for k in *next..end {
+        let word = masked(blocks.block(k), k, window);
+        if !is_zero(word) {
+            *next = k + 1;
+            return BlockBits::of(word, k * T::BITS);
+        }
+    }
+    *next = end;
+    BlockBits::none()
+}
+
+/// Reads blocks from below `end` down until one has an index to give, and answers that one's. Where
+/// none has, all down to `next` are read.
+fn find_back<T: Block>(
+    blocks: &mut Blocks<'_, T>,
+    window: Window,
+    next: usize,
+    end: &mut usize,
+) -> BlockBits<T>
+    requires order { next ≤ end.old }
+    requires count { end.old ≤ length blocks.old.items }
+    requires below { (k : ℕ) → k < end.old → k * T.BITS < window.stop }
+    ensures rest { unread T.BITS (map T.number blocks.old.items) window.value window.start
+        window.stop next end.new ++ result
+        ≡ unread T.BITS (map T.number blocks.old.items) window.value window.start window.stop next end.old }
+    ensures none { result ≡ [] → end.new ≡ next }
+    ensures falls { end.new ≤ end.old }
+    ensures order { next ≤ end.new }
+    ensures items { blocks.new.items ≡ blocks.old.items }
+    ensures reads { blocks.new.reads + (end.new - next) ≡ blocks.old.reads + (end.old - next) }
+{
+    for k in (next..*end).rev() {
+        let word = masked(blocks.block(k), k, window);
+        if !is_zero(word) {
+            *end = k;
+            return BlockBits::of(word, k * T::BITS);
+        }
+    }
+    *end = next;
+    BlockBits::none()
+}
+
+/// The blocks that neither end of a walk has read, from `next` to below `end`, and what is looked
+/// for in them.
+#[derive(Drop)]
+pub(crate) struct Unread<'a, T: Block> {
+    blocks: Blocks<'a, T>,
+    window: Window,
+    next: usize,
+    end: usize,
+}
+
+impl<'a, T: Block> Model for Unread<'a, T> {
+    ghost use Rattle.std.specs.Prelude.{map, ◌-◌};
+    ghost use Rattle.vob_walk.specs.Cursor.{UnreadBlocks, IsUnread, unread};
+
+    ghost Value = { UnreadBlocks };
+
+    ghost view = { λ u. record {
+      rest = unread T.BITS (map T.number u.blocks.items) u.window.value u.window.start u.window.stop u.next u.end;
+      reads = u.blocks.reads;
+      left = u.end - u.next;
+    } };
+
+    ghost invariant = { λ u. IsUnread T.BITS (map T.number u.blocks.items) u.window.stop u.next u.end };
+}
+
+impl<'a, T: Block> Unread<'a, T> {
+    /// The blocks of a walk over the first `len` bits of some blocks, all unread.
+    pub(crate) fn over<R: RangeBounds<usize>>(
+        blocks: Blocks<'a, T>,
+        value: bool,
+        len: usize,
+        range: R,
+    ) -> Unread<'a, T>
+        requires { length blocks.items ≡ need len T.BITS }
+        ensures rest { R.has_bounds range
+            → result.rest ≡ matches (unpacking len (map T.number blocks.entry.items) T.BITS)
+            value (R.start_bound range) (R.end_bound range) }
+        ensures reads { result.reads ≡ blocks.entry.reads }
+        ensures left { R.has_bounds range
+            → result.left ≡ blocks_met (R.start_bound range) (R.end_bound range) len T.BITS }
+
+        // Countable by the type of lengths.
+        ensures countable { length result.rest < 2 ^ 64 }
+    {
+        let stop = past_last_index(&range, len);
+        let start = first_index(&range, stop);
+        let (next, end) = blocks_of::<T>(start, stop);
+        let window = Window { value, start, stop };
+        Unread {
+            blocks,
+            window,
+            next,
+            end,
+        }
+    }
+
+    /// The indices of the first block that has some, which is read.
+    pub(crate) fn next_bits(&mut self) -> BlockBits<T>
+        ensures rest { result ++ self.new.rest ≡ self.old.rest }
+        ensures none { result ≡ [] → self.new.rest ≡ [] }
+        ensures falls { self.new.left ≤ self.old.left }
+        ensures reads { self.new.reads + self.new.left ≡ self.old.reads + self.old.left }
+    {
+        find_front(&mut self.blocks, self.window, &mut self.next, self.end)
+    }
+
+    /// The indices of the last block that has some, which is read.
+    pub(crate) fn next_back_bits(&mut self) -> BlockBits<T>
+        ensures rest { self.new.rest ++ result ≡ self.old.rest }
+        ensures none { result ≡ [] → self.new.rest ≡ [] }
+        ensures falls { self.new.left ≤ self.old.left }
+        ensures reads { self.new.reads + self.new.left ≡ self.old.reads + self.old.left }
+    {
+        find_back(&mut self.blocks, self.window, self.next, &mut self.end)
+    }
+
+    /// How many indices these blocks have.
+    pub(crate) fn count(self) -> usize
+        ensures { result ≡ length self.entry.rest }
+    {
+        let mut blocks = self.blocks;
+        count_between(&mut blocks, self.window, self.next, self.end)
+    }
+}
