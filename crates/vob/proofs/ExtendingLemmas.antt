@@ -1,11 +1,11 @@
 -- Why an `extend` is refused, by what its calls say.
 use Rattle.std.specs.Prelude.{Err, Result, ⊤, IsOk, is_ok}
-use Rattle.std.proofs.Common.{◌≡◌, ◌↔◌, ℕ, ◌+◌, ◌-◌, ◌^◌, ◌<◌, ◌≤◌, length, zero, suc, refl, sym, ap, ◌∙◌, arith}
+use Rattle.std.proofs.Common.{◌≡◌, ℕ, ◌+◌, ◌-◌, ◌^◌, ◌<◌, ◌≤◌, length, zero, suc, refl, sym, ap, ◌∙◌, arith}
 use Rattle.std.proofs.lemmas.Bool.{false≢true}
 use Rattle.vob.specs.declared.error.VobError.{VobError}
 use Rattle.vob.specs.declared.error.VobError.TheVariants.{TooLong, Memory}
-use Rattle.vob.specs.Vob.{BitVector, IsTooLong, NeedsMemory}
-use Rattle.vob.specs.Extending.{MayRefuse}
+use Rattle.vob.specs.Vob.{BitVector}
+use Rattle.vob.specs.Extending.{MayRefuse, RefusesMore}
 
 -- what is refused was asked for some bits, where a call for none isn't refused
 some_asked : (n : ℕ) (result : Result ⊤ VobError) (r : VobError) → result ≡ Err r
@@ -16,19 +16,18 @@ some_asked (suc n) result r e nothing = omega arith
 module _ (before : BitVector) (hint : ℕ) (result : Result ⊤ VobError) where
   -- a reserve that is refused was asked for some bits, and may be refused them
   pub hint_refused : (w : ℕ) (r : VobError) → result ≡ Err r → (hint ≡ 0 → IsOk result)
-      → ((result ≡ Err TooLong) ↔ IsTooLong before hint)
-      → (result ≡ Err Memory → NeedsMemory w before hint)
-      → (0 < hint) × MayRefuse r before hint
-  hint_refused w TooLong e nothing long full = (some_asked hint result TooLong e nothing, long.0 e)
-  hint_refused w Memory e nothing long full = (some_asked hint result Memory e nothing, (full e).0)
+      → RefusesMore w before hint result → (0 < hint) × MayRefuse r before hint
+  hint_refused w TooLong e nothing h = (some_asked hint result TooLong e nothing, h.too_long.0 e)
+  hint_refused w Memory e nothing h = (some_asked hint result Memory e nothing, (h.memory e).0)
 
   -- and where an item is, those before it are no fewer than the hint
   pub item_refused : (w : ℕ) (now : BitVector) (added : ℕ) (r : VobError) → result ≡ Err r
       → length now.bits ≡ length before.bits + added → before.capacity ≤ now.capacity
       → length before.bits + hint ≤ now.capacity → length before.bits + hint ≤ 2 ^ 64 - 1
-      → ((result ≡ Err TooLong) ↔ IsTooLong now 1) → (result ≡ Err Memory → NeedsMemory w now 1)
+      → RefusesMore w now 1 result
       → (hint ≤ added) × MayRefuse r before (added + 1)
-  item_refused w now added TooLong e bits grown hinted fits long full =
-      let h = long.0 e in (omega (arith, h, bits, fits), omega (arith, h, bits))
-  item_refused w now added Memory e bits grown hinted fits long full =
-      let h = (full e).0 in (omega (arith, h, bits, hinted), omega (arith, h, bits, grown))
+  item_refused w now added TooLong e bits grown hinted fits refused =
+      let h = refused.too_long.0 e in (omega (arith, h, bits, fits), omega (arith, h, bits))
+  item_refused w now added Memory e bits grown hinted fits refused =
+      let h = (refused.memory e).0 in
+      (omega (arith, h, bits, hinted), omega (arith, h, bits, grown))

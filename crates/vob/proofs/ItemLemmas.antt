@@ -7,9 +7,9 @@ use Rattle.std.proofs.lemmas.List.Elements.{All-push}
 use Rattle.std.proofs.lemmas.Nat.{div-mul-add, div_below, pow_pos}
 use Rattle.std.specs.Iterator.{Yields}
 use Rattle.vob_block.specs.Places.{place}
-use Rattle.vob_block.specs.Packing.{item, bit_at, unpacking, IsCanonical}
+use Rattle.vob_block.specs.Packing.{item, bit_at, Stores}
 use Rattle.vob_block.proofs.NeedLemmas.{need_at_full, need_at_open}
-use Rattle.vob_block.proofs.PackingLemmas.{bit_at-past, bit_at-push_same, bit_at-push_other, canonical_from_items}
+use Rattle.vob_block.proofs.PackingLemmas.{bit_at-past, bit_at-push_same, bit_at-push_other, stores_from_items}
 use Rattle.vob_block.proofs.PlaceLemmas.{place-zero}
 use Rattle.vob_store.proofs.PushLemmas.{item-push, eqb-places, eqb-blocks, and-false, or-false}
 
@@ -108,11 +108,10 @@ module _ (w : ℕ) (wide : 0 < w) where
           }
 
     -- at the end an empty block at hand is left out
-    pub canonical_without : length bits % w ≡ 0 → IsCanonical (length bits) xs w
-        × (unpacking (length bits) xs w ≡ bits)
-    canonical_without full =
+    pub stored_without : length bits % w ≡ 0 → Stores w (length bits) xs bits
+    stored_without full =
         let n = length bits in
-        canonical_from_items w wide bits n xs refl (h.count ∙ sym (need_at_full w wide n full).0)
+        stores_from_items w wide bits n xs refl (h.count ∙ sym (need_at_full w wide n full).0)
         h.within (λ i. elim (cases_eq (i / w) (length xs)) [
           | inl here ↦
               let whole : i / w * w ≡ n / w * w = ap (λ q. q * w) (here ∙ h.count) in
@@ -123,10 +122,9 @@ module _ (w : ℕ) (wide : 0 < w) where
         ])
 
     -- and another one goes behind the full ones
-    pub canonical_with : length bits % w ≢ 0 → IsCanonical (length bits) (xs ++ x ∷ []) w
-        × (unpacking (length bits) (xs ++ x ∷ []) w ≡ bits)
-    canonical_with partial =
+    pub stored_with : length bits % w ≢ 0 → Stores w (length bits) (xs ++ x ∷ []) bits
+    stored_with partial =
         let n = length bits in
-        canonical_from_items w wide bits n (xs ++ x ∷ []) refl
+        stores_from_items w wide bits n (xs ++ x ∷ []) refl
         (length_push xs x ∙ ap (λ k. k + 1) h.count ∙ sym (need_at_open w wide n partial).0)
         (All-push (λ y. y < 2 ^ w) xs x h.within h.small) h.each

@@ -1,20 +1,45 @@
--- What an `extend` by the items of an iterator leaves, which reserves the lower bound of its hint first.
-use Rattle.std.specs.Prelude.{◌≡◌, ◌⊎◌, ℕ, ◌+◌, ◌<◌, ◌≤◌, Bool, List, ◌++◌, length, Option, Some, Result, Err, OnOk, IfErr, ⊤}
-use Rattle.std.specs.Iterator.{Drains, Yields, YieldsThen}
+-- What an `extend` by the items of an iterator leaves: it reserves the lower bound of its hint first.
+use Rattle.std.specs.Prelude.{◌≡◌, ◌↔◌, ◌⊎◌, ℕ, ◌+◌, ◌-◌, ◌^◌, ◌<◌, ◌≤◌, Bool, List, ◌++◌, length, Option, Some, Result, Err, OnOk, IfErr, ⊤}
+use Rattle.std.specs.Iterator.{Count, Drains, Yields, YieldsThen}
+use Rattle.std.specs.Iterator.SizeHint.{IsWithinCount}
 use Rattle.vob.specs.declared.error.VobError.{VobError}
 use Rattle.vob.specs.declared.error.VobError.TheVariants.{TooLong, Memory}
-use Rattle.vob.specs.Vob.{BitVector, IsTooLong}
+use Rattle.vob.specs.Vob.{BitVector, IsTooLong, NeedsMemory}
+
+-- what a call for n bits more refuses: a length that is too great always, and memory only where
+-- more of it is needed
+pub record RefusesMore (width : ℕ) (vob : BitVector) (n : ℕ) (result : Result ⊤ VobError)
+    : Type 0 where
+  pub too_long : (result ≡ Err TooLong) ↔ IsTooLong vob n
+  pub memory : result ≡ Err Memory → NeedsMemory width vob n
 
 -- why n bits more may be refused
 abbrev pub MayRefuse : VobError → BitVector → ℕ → Type 0
 MayRefuse TooLong vob n = IsTooLong vob n
 MayRefuse Memory vob n = vob.capacity < length vob.bits + n
 
+-- a source makes an iterator whose calls give these items, and then none
+abbrev pub GivesAll : {X S : Type 0} → (X → S → Type 0) → (S → Option Bool → S → Type 0)
+    → X → List Bool → Type 0
+GivesAll {X} {S} makes steps source items = (it : S) × makes source it × Drains steps it items
+
 -- calls of an iterator give more than n items
 abbrev pub GivesMoreThan : {S : Type 0} → (S → Option Bool → S → Type 0) → S → ℕ → Type 0
-GivesMoreThan {S} steps it n = (items : List Bool) × (rest : S) × Yields steps it items rest × (n < length items)
+GivesMoreThan {S} steps it n =
+    (items : List Bool) × (rest : S) × Yields steps it items rest × (n < length items)
 
-module _ {S : Type 0} (steps : S → Option Bool → S → Type 0) (it : S) (hint : ℕ) (before after : BitVector) where
+-- what a call for a Vob of the items of a source refuses: more of them than a length can count, and
+-- memory only where there is an item, or a hint at one
+pub record RefusesItems {X S A : Type 0} (makes : X → S → Type 0)
+    (steps : S → Option Bool → S → Type 0) (remaining : S → Count) (source : X) (result : Result A VobError) : Type 0 where
+  pub too_long : result ≡ Err TooLong
+      → (it : S) × makes source it × GivesMoreThan steps it (2 ^ 64 - 1)
+  pub memory : result ≡ Err Memory
+      → (it : S) × (hint : ℕ) × makes source it × IsWithinCount hint (remaining it)
+      × ((0 < hint) ⊎ GivesMoreThan steps it 0)
+
+module _ {S : Type 0} (steps : S → Option Bool → S → Type 0) (it : S) (hint : ℕ)
+    (before after : BitVector) where
   -- all items are added
   abbrev pub AddsAll : Type 0
   AddsAll = (items : List Bool) × Drains steps it items × (after.bits ≡ before.bits ++ items)
@@ -26,7 +51,8 @@ module _ {S : Type 0} (steps : S → Option Bool → S → Type 0) (it : S) (hin
   -- an item is refused, and those before it are added, no fewer than the hint
   abbrev pub RefusesItem : VobError → Type 0
   RefusesItem refusal =
-      (added : List Bool) × (bit : Bool) × (rest : S) × YieldsThen steps it added (Some bit) rest × (hint ≤ length added)
+      (added : List Bool) × (bit : Bool) × (rest : S) × YieldsThen steps it added (Some bit) rest
+      × (hint ≤ length added)
       × MayRefuse refusal before (length added + 1) × (after.bits ≡ before.bits ++ added)
 
   pub record IsExtended (result : Result ⊤ VobError) : Type 0 where

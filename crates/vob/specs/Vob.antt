@@ -19,7 +19,8 @@ HasRoomFor vob n = length vob.bits + n ≤ vob.capacity
 -- n bits more are past the capacity, and need more blocks
 abbrev pub NeedsMemory : ℕ → BitVector → ℕ → Type 0
 NeedsMemory width vob n =
-    (vob.capacity < length vob.bits + n) × (need (length vob.bits) width < need (length vob.bits + n) width)
+    (vob.capacity < length vob.bits + n)
+    × (need (length vob.bits) width < need (length vob.bits + n) width)
 
 -- two Vobs of one length, whose bits can be combined
 abbrev pub HaveSameLength : BitVector → BitVector → Type 0

@@ -3,8 +3,9 @@ ghost use Rattle.std.specs.Prelude.{◌≡◌, ◌↔◌, ℕ, ◌+◌, ◌-◌,
 ghost use Rattle.std.specs.Iterator.{IsFinite};
 ghost use Rattle.std.specs.Iterator.SizeHint.{IsWithinCount};
 ghost use Rattle.vob_block.specs.Packing.{need, unpacking, IsCanonical};
-ghost use Rattle.vob.specs.Extending.{IsExtended};
-ghost use Rattle.vob.specs.Vob.{HasRoomFor, IsTooLong, NeedsMemory};
+ghost use Rattle.vob_block.specs.Reading.{AreReadOnce};
+ghost use Rattle.vob.specs.Extending.{IsExtended, RefusesMore};
+ghost use Rattle.vob.specs.Vob.{HasRoomFor};
 
 use crate::error::VobError;
 use crate::vob::Vob;
@@ -48,8 +49,7 @@ impl<T: Block> Vob<T> {
         ensures err { OnErr result (self.new.bits ≡ self.old.bits) }
 
         // A length that is too great is refused first, and memory only where there is no room.
-        ensures too_long { (result ≡ Err VobError.TooLong) ↔ IsTooLong self.old (length other.now) }
-        ensures memory { result ≡ Err VobError.Memory → NeedsMemory T.BITS self.old (length other.now) }
+        ensures refused { RefusesMore T.BITS self.old (length other.now) result }
         ensures capacity { self.old.capacity ≤ self.new.capacity }
     {
         if usize::MAX - self.len < other.len() {
@@ -89,8 +89,7 @@ impl<T: Block> Vob<T> {
         requires room { HasRoomFor self.old more }
         ensures bits { self.new.bits ≡ self.old.bits ++ unpacking more (map T.number other.old.items) T.BITS }
         ensures capacity { self.old.capacity ≤ self.new.capacity }
-        ensures items { other.new.items ≡ other.old.items }
-        ensures reads { other.new.reads ≡ other.old.reads + length other.old.items }
+        ensures read { AreReadOnce other.old other.new }
     {
         join(&mut self.vec, self.len, other, more);
         self.len += more;
@@ -118,8 +117,7 @@ impl<T: Block> Vob<T> {
         ensures err { OnErr result (self.new.bits ≡ self.old.bits) }
 
         // A length that is too great is refused first, and memory only where there is no room.
-        ensures too_long { (result ≡ Err VobError.TooLong) ↔ IsTooLong self.old (length other.now.bits) }
-        ensures memory { result ≡ Err VobError.Memory → NeedsMemory T.BITS self.old (length other.now.bits) }
+        ensures refused { RefusesMore T.BITS self.old (length other.now.bits) result }
         ensures capacity { self.old.capacity ≤ self.new.capacity }
     {
         if usize::MAX - self.len < other.len {

@@ -1,13 +1,13 @@
 //! The vector of bits, seen by contracts as its list of bits and its capacity.
 ghost use Rattle.std.specs.Prelude.{◌≡◌, ◌↔◌, ◌+◌, ◌<◌, ◌≤◌, [], ◌∷◌, ◌++◌, map, length, slice_get, IsOk, IfOk, IfErr, OnOk, OnErr, Err, ◌≢◌, ◌==◌, ◌-◌, take, slice_set, IsTrue, Some, vec_capacity, ◌^◌, List, Bool, replicate, ℕ, ◌⊎◌, ◌*◌, ◌/◌, ◌%◌};
-ghost use Rattle.vob_block.specs.Packing.{packing, unpacking, IsCanonical};
+ghost use Rattle.vob_block.specs.Packing.{packing, unpacking, IsCanonical, Stores};
 ghost use Rattle.vob_block.specs.Places.{place};
 ghost use Rattle.vob_block.specs.Bytes.{bytes_list};
 ghost use Rattle.std.specs.Iterator.{IsFinite, Yields, Drains};
 ghost use Rattle.std.specs.Iterator.SizeHint.{IsWithinCount};
-ghost use Rattle.vob.specs.Extending.{GivesMoreThan};
+ghost use Rattle.vob.specs.Extending.{GivesAll, RefusesItems, RefusesMore};
 ghost use Rattle.vob.specs.Refusal.{MayRefuseItems};
-ghost use Rattle.vob.specs.Vob.{HasRoomFor, IsTooLong, NeedsMemory};
+ghost use Rattle.vob.specs.Vob.{HasRoomFor};
 
 pub use crate::error::VobError;
 use crate::iter::StorageIter;
@@ -117,13 +117,12 @@ impl<T: Block> Vob<T> {
         ensures bits { self.new.bits ≡ self.old.bits }
 
         // A length that can't be is refused first, and memory only where there is no room.
-        ensures too_long { (result ≡ Err VobError.TooLong) ↔ IsTooLong self.old additional }
-        ensures memory { result ≡ Err VobError.Memory → NeedsMemory T.BITS self.old additional }
+        ensures refused { RefusesMore T.BITS self.old additional result }
         ensures err { OnErr result (self.new.capacity ≡ self.old.capacity) }
         ensures capacity { self.old.capacity ≤ self.new.capacity }
         ensures nothing { additional ≡ 0 → IsOk result }
-        ensures room { HasRoomFor self.old additional → IsOk result }
-        ensures stays { HasRoomFor self.old additional → self.new.capacity ≡ self.old.capacity }
+        ensures room { HasRoomFor self.old additional
+            → IsOk result × (self.new.capacity ≡ self.old.capacity) }
     {
         if additional > usize::MAX - self.len {
             return Err(VobError::TooLong);
@@ -187,8 +186,7 @@ impl<T: Block> Vob<T> {
         ensures err { OnErr result (self.new.bits ≡ self.old.bits) }
 
         // The greatest length is refused first, and memory only where there is no room.
-        ensures too_long { (result ≡ Err VobError.TooLong) ↔ IsTooLong self.old 1 }
-        ensures memory { result ≡ Err VobError.Memory → NeedsMemory T.BITS self.old 1 }
+        ensures refused { RefusesMore T.BITS self.old 1 result }
         ensures capacity { self.old.capacity ≤ self.new.capacity }
     {
         if self.len == usize::MAX {
@@ -317,16 +315,13 @@ impl Vob<usize> {
     ) -> Result<Vob<usize>, VobError>
         requires { (it : I.IntoIter) → I.into_iter_gives iter it
             → I.IntoIter.can_next it × IsFinite (I.IntoIter.remaining it) }
-        ensures bits { IfOk result (λ vob. (it : I.IntoIter) × I.into_iter_gives iter it
-            × Drains I.IntoIter.next_gives it vob.bits) }
+        ensures bits { IfOk result (λ vob.
+            GivesAll I.into_iter_gives I.IntoIter.next_gives iter vob.bits) }
 
         // More items than a length can count are refused, and memory only where there is an item
         // or a hint at one.
-        ensures too_long { result ≡ Err VobError.TooLong → (it : I.IntoIter)
-            × I.into_iter_gives iter it × GivesMoreThan I.IntoIter.next_gives it usize.MAX }
-        ensures memory { result ≡ Err VobError.Memory → (it : I.IntoIter) × (hint : ℕ)
-            × I.into_iter_gives iter it × IsWithinCount hint (I.IntoIter.remaining it)
-            × ((0 < hint) ⊎ GivesMoreThan I.IntoIter.next_gives it 0) }
+        ensures refused { RefusesItems I.into_iter_gives I.IntoIter.next_gives
+            I.IntoIter.remaining iter result }
     {
         let items = iter.into_iter();
         let (hint, _) = items.size_hint();
@@ -380,8 +375,7 @@ fn pack_items<T: Block, I: Iterator<Item = bool>>(
     requires empty { blocks.old.items ≡ [] }
     requires ends { I.can_next items × IsFinite (I.remaining items) }
     ensures ok { IfOk result (λ len. (xs : List Bool) × Drains I.next_gives items xs
-        × (len ≡ length xs) × IsCanonical len (map T.number blocks.new.items) T.BITS
-        × (unpacking len (map T.number blocks.new.items) T.BITS ≡ xs)) }
+        × (len ≡ length xs) × Stores T.BITS len (map T.number blocks.new.items) xs) }
     ensures err { IfErr result (λ refusal. (xs : List Bool) × (rest : I)
         × Yields I.next_gives items xs rest × MayRefuseItems refusal (length xs)) }
 {

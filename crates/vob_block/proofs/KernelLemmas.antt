@@ -1,12 +1,13 @@
 -- A loop that combines blocks with others, one after another, and collects whether one changed.
-use Rattle.std.specs.Prelude.{Some, slice_get}
+use Rattle.std.specs.Prelude.{Some, slice_get, ◌↔◌}
 use Rattle.std.proofs.lemmas.Option.{get_or_from_slice_get, slice_get-map}
 use Rattle.std.proofs.Common.{◌≡◌, ◌≢◌, ℕ, ◌+◌, ◌^◌, ◌<◌, ◌≤◌, Bool, true, false, not, ◌||◌, List, length, map, get_or, set, refl, sym, ap, ◌∙◌, subst, arith, inl, inr}
 use Rattle.std.proofs.lemmas.Bool.{cases_eq, or_parts, false≢true}
 use Rattle.std.proofs.lemmas.List.{ext_get_or, get_or-set_same, get_or-set_other, get_or-map, map-set, length-map, length-set}
+use Rattle.std.proofs.lemmas.List.Elements.{All-from_get_or}
 use Rattle.std.proofs.lemmas.Nat.{pow_pos}
 use Rattle.vob_block.specs.Places.{place, HasPlaces}
-use Rattle.vob_block.specs.Pointwise.{IsPointwise, differ}
+use Rattle.vob_block.specs.Pointwise.{IsCombined, differ}
 use Rattle.vob_block.proofs.PlaceLemmas.{same_from_places, place-zero}
 
 -- two bits that don't differ are the same
@@ -137,13 +138,10 @@ module _ (w : ℕ) (f : Bool → Bool → Bool) (olds others : List ℕ) where
   -- at the end every block is taken, and changed is 0 exactly where all are as they were
   module _ (news : List ℕ) (k changed : ℕ) (h : AreTaken news k changed) (whole : k ≡ length olds)
     where
-      pub IsPointwise-taken : IsPointwise w f olds others news
-      IsPointwise-taken = record { count = h.count; each = λ i less. h.done i (omega arith) }
-
-      pub within-taken : (i : ℕ) → i < length news → get_or news i 0 < 2 ^ w
+      within-taken : (i : ℕ) → i < length news → get_or news i 0 < 2 ^ w
       within-taken i less = h.within i (omega (arith, h.count))
 
-      pub flag-taken : (same : Bool) → ((same ≡ true → changed ≡ 0) × (changed ≡ 0 → same ≡ true))
+      flag-taken : (same : Bool) → ((same ≡ true → changed ≡ 0) × (changed ≡ 0 → same ≡ true))
           → (not same ≡ true → news ≢ olds) × (news ≢ olds → not same ≡ true)
       flag-taken true test = (
         (λ e. absurd (false≢true e)),
@@ -155,6 +153,14 @@ module _ (w : ℕ) (f : Bool → Bool → Bool) (olds others : List ℕ) where
             (test.1 (h.none (λ i less. ap (λ xs. get_or xs i 0) e))))),
         (λ _. refl),
       )
+
+      pub IsCombined-taken : (same : Bool) → ((same ≡ true) ↔ (changed ≡ 0))
+          → IsCombined w f olds others news (not same)
+      IsCombined-taken same test = record {
+        places = record { count = h.count; each = λ i less. h.done i (omega arith) };
+        within = All-from_get_or (λ x. x < 2 ^ w) news 0 within-taken;
+        flag = flag-taken same test;
+      }
 
 -- the same where the blocks are items with a number each, as the code reads and writes them
 module _ {X : Type 0} (number : X → ℕ) (w : ℕ) (f : Bool → Bool → Bool) (olds others own : List X)

@@ -7,7 +7,7 @@ use Rattle.std.proofs.lemmas.List.FromFn.{length-map-range_with_len, get_or-map-
 use Rattle.std.proofs.lemmas.List.Elements.{All-from_get_or, All-get_or}
 use Rattle.std.proofs.lemmas.Nat.{div-mul-add, mod-mul-add}
 use Rattle.vob_block.specs.Places.{place, value}
-use Rattle.vob_block.specs.Packing.{item, need, packing, bit_at, unpacking, IsCanonical}
+use Rattle.vob_block.specs.Packing.{item, need, packing, bit_at, unpacking, IsCanonical, Stores}
 use Rattle.vob_block.proofs.PlaceLemmas.{same_from_places, place-zero}
 use Rattle.vob_block.proofs.ValueLemmas.{value-lt, place-value}
 use Rattle.vob_block.proofs.NeedLemmas.{div-lt-need}
@@ -87,20 +87,18 @@ module _ (w : ℕ) (wide : 0 < w) where
         (omega (arith, length-unpacking n xs w)))
   ]
 
-  -- blocks that store a list, false everywhere else, and are no more than it needs, are canonical
-  pub canonical_from_items : (bits : List Bool) (n : ℕ) (xs : List ℕ) → length bits ≡ n
+  -- blocks that hold a list, false everywhere else, and are no more than it needs, store it
+  pub stores_from_items : (bits : List Bool) (n : ℕ) (xs : List ℕ) → length bits ≡ n
       → length xs ≡ need n w
-      → All (λ x. x < 2 ^ w) xs → ((i : ℕ) → bit_at xs w i ≡ item bits i) → IsCanonical n xs w
-      × (unpacking n xs w ≡ bits)
-  canonical_from_items bits n xs e count within same = (
-    (record {
+      → All (λ x. x < 2 ^ w) xs → ((i : ℕ) → bit_at xs w i ≡ item bits i) → Stores w n xs bits
+  stores_from_items bits n xs e count within same = record {
+    canonical = record {
       count = count;
       within = within;
-      unused =
-          λ i h. same i ∙ get_or_past bits i false (omega arith);
-    }),
-    unpacking_from_items bits n xs w e (λ i _. same i),
-  )
+      unused = λ i h. same i ∙ get_or_past bits i false (omega arith);
+    };
+    bits = unpacking_from_items bits n xs w e (λ i _. same i);
+  }
 
   -- ---- the packing of a list
 
@@ -142,8 +140,8 @@ module _ (w : ℕ) (wide : 0 < w) where
 
   -- the packing of a list is canonical, and unpacks to the list
   pub IsCanonical-packing : (bits : List Bool) → IsCanonical (length bits) (packing bits w) w
-  IsCanonical-packing bits = (canonical_from_items bits (length bits) (packing bits w) refl
-      (length-packing bits) (packing-within bits) (bit_at-packing bits)).0
+  IsCanonical-packing bits = (stores_from_items bits (length bits) (packing bits w) refl
+      (length-packing bits) (packing-within bits) (bit_at-packing bits)).canonical
 
   pub unpacking-packing : (bits : List Bool) → unpacking (length bits) (packing bits w) w ≡ bits
   unpacking-packing bits = unpacking_from_items bits (length bits) (packing bits w) w refl
@@ -179,12 +177,12 @@ module _ (w : ℕ) (wide : 0 < w) where
       (IsCanonical-packing bits) in
       subst (λ (ys : List ℕ). IsCanonical n ys w) (sym e) packed
 
-  -- the blocks of a list are canonical, and unpack to it
+  -- the packing of a list stores it
   pub packing_is : (bits : List Bool) (n : ℕ) (xs : List ℕ) → xs ≡ packing bits w → length bits
-      ≡ n → IsCanonical n xs w × (unpacking n xs w ≡ bits)
-  packing_is bits n xs is long = (
-    (subst (λ (ys : List ℕ). IsCanonical n ys w) (sym is)
-        (subst (λ (m : ℕ). IsCanonical m (packing bits w) w) long (IsCanonical-packing bits))),
-    ap (λ ys. unpacking n ys w) is ∙ ap (λ m. unpacking m (packing bits w) w) (sym long)
-        ∙ unpacking-packing bits,
-  )
+      ≡ n → Stores w n xs bits
+  packing_is bits n xs is long = record {
+    canonical = subst (λ (ys : List ℕ). IsCanonical n ys w) (sym is)
+        (subst (λ (m : ℕ). IsCanonical m (packing bits w) w) long (IsCanonical-packing bits));
+    bits = ap (λ ys. unpacking n ys w) is ∙ ap (λ m. unpacking m (packing bits w) w) (sym long)
+        ∙ unpacking-packing bits;
+  }

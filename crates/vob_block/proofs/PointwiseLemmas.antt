@@ -4,9 +4,9 @@ use Rattle.std.proofs.Common.{◌≡◌, ◌≢◌, ◌↔◌, ℕ, zero, suc, �
 use Rattle.std.proofs.lemmas.Bool.{cases_lt}
 use Rattle.std.proofs.lemmas.List.{length-map}
 use Rattle.vob_block.specs.Places.{place}
-use Rattle.vob_block.specs.Packing.{item, packing, bit_at, unpacking, IsCanonical}
-use Rattle.vob_block.specs.Pointwise.{IsPointwise, pointwise}
-use Rattle.vob_block.proofs.PackingLemmas.{IsCanonical-packing, unpacking-packing, bit_at-is_place, bit_at-past, length-unpacking, bit_at-is_item, canonical_from_items, packing-unpacking}
+use Rattle.vob_block.specs.Packing.{item, packing, bit_at, unpacking, IsCanonical, Stores}
+use Rattle.vob_block.specs.Pointwise.{IsCombined, IsPointwise, pointwise}
+use Rattle.vob_block.proofs.PackingLemmas.{IsCanonical-packing, unpacking-packing, bit_at-is_place, bit_at-past, length-unpacking, bit_at-is_item, stores_from_items, packing-unpacking}
 
 pub length-pointwise : (f : Bool → Bool → Bool) (bs cs : List Bool) → length bs ≡ length cs
     → length (pointwise f bs cs) ≡ length bs
@@ -39,13 +39,13 @@ module _ (w : ℕ) (wide : 0 < w) (f : Bool → Bool → Bool) (none : f false f
         ∙ sym (ap (λ b. f b (bit_at ys w i)) ours ∙ ap (f false) theirs)
   ]
 
-  pub pointwise_canonical : All (λ x. x < 2 ^ w) zs → IsCanonical n zs w
-      × (unpacking n zs w ≡ pointwise f (unpacking n xs w) (unpacking n ys w))
-  pointwise_canonical within =
+  pub pointwise_stored : All (λ x. x < 2 ^ w) zs
+      → Stores w n zs (pointwise f (unpacking n xs w) (unpacking n ys w))
+  pointwise_stored within =
       let bs = unpacking n xs w in
       let cs = unpacking n ys w in
       let same = length-unpacking n xs w ∙ sym (length-unpacking n ys w) in
-      canonical_from_items w wide (pointwise f bs cs) n zs
+      stores_from_items w wide (pointwise f bs cs) n zs
       (length-pointwise f bs cs same ∙ length-unpacking n xs w) (p.count ∙ g.count) within (λ i.
       bit_at-pointwise i ∙ ap (λ b. f b (bit_at ys w i)) (bit_at-is_item w wide n xs g i)
       ∙ ap (f (item bs i)) (bit_at-is_item w wide n ys h i)
@@ -73,25 +73,24 @@ module _ {X : Type 0} (number : X → ℕ) (w : ℕ) (wide : 0 < w) (n : ℕ) (m
   same_count = sym (length-map mine number) ∙ h.count ∙ sym their_canonical.count
       ∙ length-map theirs number
 
-  module _ (news : List X) (within : All (λ x. x < 2 ^ w) (map number news)) where
-    pub combined : (f : Bool → Bool → Bool) → f false false ≡ false
-        → IsPointwise w f (map number mine) (map number theirs) (map number news)
-        → IsCanonical n (map number news) w × (unpacking n (map number news) w
-        ≡ pointwise f (unpacking n (map number mine) w) bits)
-    combined f none taken =
-        let both = pointwise_canonical w wide f none n (map number mine) (map number theirs)
-        (map number news) h their_canonical taken within in
-        let unpacking-bits : unpacking n (map number theirs) w ≡ bits =
-        ap (λ xs. unpacking n xs w) its ∙ ap (λ m. unpacking m (packing bits w) w) same
-        ∙ unpacking-packing w wide bits in
-        (both.0, both.1 ∙ ap (pointwise f (unpacking n (map number mine) w)) unpacking-bits)
-
-    -- the blocks changed exactly where the list did
-    pub changed_lists : IsCanonical n (map number news) w → (changed : Bool)
-        → ((changed ≡ true) ↔ (map number news ≢ map number mine))
-        → (changed ≡ true) ↔ (unpacking n (map number news) w ≢ unpacking n (map number mine) w)
-    changed_lists after changed flag = (
-      (λ e lists. flag.0 e (same_from_lists w wide n (map number news) (map number mine) after h
-          lists)),
-      (λ lists. flag.1 (λ blocks. lists (ap (λ xs. unpacking n xs w) blocks))),
-    )
+  -- what the news store, and that they are others exactly where the list is
+  pub combined : (f : Bool → Bool → Bool) → f false false ≡ false → (news : List X) (changed : Bool)
+      → IsCombined w f (map number mine) (map number theirs) (map number news) changed
+      → Stores w n (map number news) (pointwise f (unpacking n (map number mine) w) bits)
+      × ((changed ≡ true) ↔ (unpacking n (map number news) w ≢ unpacking n (map number mine) w))
+  combined f none news changed done =
+      let stored = pointwise_stored w wide f none n (map number mine) (map number theirs)
+      (map number news) h their_canonical done.places done.within in
+      let unpacking-bits : unpacking n (map number theirs) w ≡ bits =
+      ap (λ xs. unpacking n xs w) its ∙ ap (λ m. unpacking m (packing bits w) w) same
+      ∙ unpacking-packing w wide bits in (
+        record {
+          canonical = stored.canonical;
+          bits = stored.bits ∙ ap (pointwise f (unpacking n (map number mine) w)) unpacking-bits;
+        },
+        (
+          (λ e lists. done.flag.0 e (same_from_lists w wide n (map number news) (map number mine)
+              stored.canonical h lists)),
+          (λ lists. done.flag.1 (λ blocks. lists (ap (λ xs. unpacking n xs w) blocks))),
+        ),
+      )

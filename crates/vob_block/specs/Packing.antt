@@ -31,3 +31,8 @@ pub record IsCanonical (n : ℕ) (blocks : List ℕ) (width : ℕ) : Type 0 wher
   pub count : length blocks ≡ need n width
   pub within : All (λ x. x < 2 ^ width) blocks
   pub unused : (i : ℕ) → n ≤ i → bit_at blocks width i ≡ false
+
+-- these blocks are the one way to store this list of n bits
+pub record Stores (width n : ℕ) (blocks : List ℕ) (list : List Bool) : Type 0 where
+  pub canonical : IsCanonical n blocks width
+  pub bits : unpacking n blocks width ≡ list

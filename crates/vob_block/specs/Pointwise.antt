@@ -1,5 +1,5 @@
 -- Two lists, place by place.
-use Rattle.std.specs.Prelude.{◌≡◌, ℕ, ◌<◌, Bool, true, false, not, List, length, map, slice_index_or}
+use Rattle.std.specs.Prelude.{◌≡◌, ◌≢◌, ◌↔◌, ℕ, ◌^◌, ◌<◌, Bool, true, false, not, IsTrue, List, length, map, slice_index_or, All}
 use Rattle.std.specs.List.{zip}
 use Rattle.vob_block.specs.Places.{place, HasPlaces}
 
@@ -18,3 +18,10 @@ pub record IsPointwise (width : ℕ) (f : Bool → Bool → Bool) (blocks others
   pub count : length after ≡ length blocks
   pub each : (k : ℕ) → k < length blocks → HasPlaces width (slice_index_or after k 0)
       (λ j. f (place j (slice_index_or blocks k 0)) (place j (slice_index_or others k 0)))
+
+-- blocks combined with others by f, and whether a block changed
+pub record IsCombined (width : ℕ) (f : Bool → Bool → Bool) (blocks others after : List ℕ)
+    (changed : Bool) : Type 0 where
+  pub places : IsPointwise width f blocks others after
+  pub within : All (λ x. x < 2 ^ width) after
+  pub flag : IsTrue changed ↔ (after ≢ blocks)

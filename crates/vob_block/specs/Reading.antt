@@ -1,5 +1,5 @@
 -- What a contract sees of blocks that are read.
-use Rattle.std.specs.Prelude.{ℕ, ◌+◌, List, Option, None, Some, refl}
+use Rattle.std.specs.Prelude.{◌≡◌, ℕ, ◌+◌, List, length, Option, None, Some, refl}
 use Rattle.std.specs.Coded.{Coded, code_by, coded×, coded_list, coded_ℕ}
 
 -- one more than the count before, 0 where there is none
@@ -11,6 +11,11 @@ one_more (Some n) = n + 1
 pub record Reading (X : Type 0) : Type 0 where
   pub items : List X
   pub reads : ℕ
+
+-- each of the blocks was read once
+pub record AreReadOnce {X : Type 0} (before after : Reading X) : Type 0 where
+  pub items : after.items ≡ before.items
+  pub reads : after.reads ≡ before.reads + length before.items
 
 -- a reading is stored as the pair of its fields
 abbrev pub reading_code : {X : Type 0} → Coded X → Coded (Reading X)

@@ -2,7 +2,8 @@
 ghost use Rattle.std.specs.Prelude.{◌≡◌, ◌≢◌, ◌==◌, ℕ, ◌+◌, ◌-◌, ◌%◌, ◌^◌, ◌<◌, if◌then◌else◌, ◌≤◌, ◌&&◌, ◌||◌, ◌↔◌, not, nat_le, nat_lt, pos, IsTrue, length, All, map};
 ghost use Rattle.num_traits.specs.Laws.{bit_len};
 ghost use Rattle.vob_block.specs.Places.{place, HasPlaces, HasZerosLow, HasZerosHigh, true_places};
-ghost use Rattle.vob_block.specs.Pointwise.{IsPointwise, differ};
+ghost use Rattle.vob_block.specs.Pointwise.{IsCombined, differ};
+ghost use Rattle.vob_block.specs.Reading.{AreReadOnce};
 
 use crate::blocks::Blocks;
 use num_traits::PrimInt;
@@ -178,12 +179,9 @@ pub trait Block: PrimInt + Hash + Debug {
     /// `other` is read once.
     fn and_into(own: &mut [Self], other: &mut Blocks<'_, Self>) -> bool
         requires { length own.old ≡ length other.old.items }
-        ensures blocks { IsPointwise BITS ◌&&◌ (map number own.old) (map number other.old.items)
-            (map number own.new) }
-        ensures within { All (λ n. n < 2 ^ BITS) (map number own.new) }
-        ensures changed { IsTrue result ↔ (map number own.new ≢ map number own.old) }
-        ensures items { other.new.items ≡ other.old.items }
-        ensures reads { other.new.reads ≡ other.old.reads + length other.old.items }
+        ensures combined { IsCombined BITS ◌&&◌ (map number own.old) (map number other.old.items)
+            (map number own.new) result }
+        ensures read { AreReadOnce other.old other.new }
     {
         let mut changed = Self::ZERO;
         for k in 0..own.len() {
@@ -200,12 +198,9 @@ pub trait Block: PrimInt + Hash + Debug {
     /// `other` is read once.
     fn or_into(own: &mut [Self], other: &mut Blocks<'_, Self>) -> bool
         requires { length own.old ≡ length other.old.items }
-        ensures blocks { IsPointwise BITS ◌||◌ (map number own.old) (map number other.old.items)
-            (map number own.new) }
-        ensures within { All (λ n. n < 2 ^ BITS) (map number own.new) }
-        ensures changed { IsTrue result ↔ (map number own.new ≢ map number own.old) }
-        ensures items { other.new.items ≡ other.old.items }
-        ensures reads { other.new.reads ≡ other.old.reads + length other.old.items }
+        ensures combined { IsCombined BITS ◌||◌ (map number own.old) (map number other.old.items)
+            (map number own.new) result }
+        ensures read { AreReadOnce other.old other.new }
     {
         let mut changed = Self::ZERO;
         for k in 0..own.len() {
@@ -222,12 +217,9 @@ pub trait Block: PrimInt + Hash + Debug {
     /// Each block of `other` is read once.
     fn xor_into(own: &mut [Self], other: &mut Blocks<'_, Self>) -> bool
         requires { length own.old ≡ length other.old.items }
-        ensures blocks { IsPointwise BITS differ (map number own.old) (map number other.old.items)
-            (map number own.new) }
-        ensures within { All (λ n. n < 2 ^ BITS) (map number own.new) }
-        ensures changed { IsTrue result ↔ (map number own.new ≢ map number own.old) }
-        ensures items { other.new.items ≡ other.old.items }
-        ensures reads { other.new.reads ≡ other.old.reads + length other.old.items }
+        ensures combined { IsCombined BITS differ (map number own.old) (map number other.old.items)
+            (map number own.new) result }
+        ensures read { AreReadOnce other.old other.new }
     {
         let mut changed = Self::ZERO;
         for k in 0..own.len() {

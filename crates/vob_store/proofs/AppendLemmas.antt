@@ -6,9 +6,9 @@ use Rattle.std.proofs.lemmas.List.{nil_from_length, map-append, take_all, take_a
 use Rattle.std.proofs.lemmas.List.Elements.{All-set, All-append, All-replicate}
 use Rattle.std.proofs.lemmas.Nat.{mul-le, mod-mul-add, div-mul-add}
 use Rattle.vob_block.specs.Places.{place, HasPlaces}
-use Rattle.vob_block.specs.Packing.{item, need, packing, bit_at, unpacking, IsCanonical}
+use Rattle.vob_block.specs.Packing.{item, need, packing, bit_at, unpacking, IsCanonical, Stores}
 use Rattle.vob_block.proofs.NeedLemmas.{need_is, need-le-need, need-zero, need_enough, need_at_full, need_at_open, div-lt-need}
-use Rattle.vob_block.proofs.PackingLemmas.{bit_at-in_block, bit_at-is_place, bit_at-set_same, bit_at-set_other, length-unpacking, get_or-unpacking, unpacking_from_items, canonical_from_items, length-packing, bit_at-packing, packing-within, packing-unpacking}
+use Rattle.vob_block.proofs.PackingLemmas.{bit_at-in_block, bit_at-is_place, bit_at-set_same, bit_at-set_other, length-unpacking, get_or-unpacking, unpacking_from_items, stores_from_items, length-packing, bit_at-packing, packing-within, packing-unpacking}
 use Rattle.vob_block.proofs.PlaceLemmas.{same_from_places, place-ones}
 use Rattle.vob_store.specs.Joining.{IsJoined}
 use Rattle.vob_store.proofs.SplatLemmas.{place-splat, splat-lt}
@@ -84,8 +84,7 @@ module _ (w : ℕ) (wide : 0 < w) where
 
     -- the packing of a list behind whole blocks
     append_whole : (bits : List Bool) → n % w ≡ 0
-        → IsCanonical (n + length bits) (xs ++ packing bits w) w
-        × (unpacking (n + length bits) (xs ++ packing bits w) w ≡ unpacking n xs w ++ bits)
+        → Stores w (n + length bits) (xs ++ packing bits w) (unpacking n xs w ++ bits)
     append_whole bits full =
         let whole : length xs * w ≡ n = ap (λ k. k * w) (h.count ∙ (need_at_full w wide n full).0)
         ∙ omega (arith, div-add-mod' n w, full) in
@@ -107,7 +106,7 @@ module _ (w : ℕ) (wide : 0 < w) where
           ap (λ k. k * w) (length-append xs (packing bits w)
               ∙ ap (λ k. length xs + k) (length-packing w wide bits)),
         ))) in
-        canonical_from_items w wide (unpacking n xs w ++ bits) (n + length bits)
+        stores_from_items w wide (unpacking n xs w ++ bits) (n + length bits)
         (xs ++ packing bits w) (long bits) count
         (All-append (λ x. x < 2 ^ w) xs (packing bits w) h.within (packing-within w wide bits))
         (λ i. elim (cases_lt i n) [
@@ -130,8 +129,7 @@ module _ (w : ℕ) (wide : 0 < w) where
 
     -- no bits behind any blocks
     append_nothing : (bits : List Bool) → length bits ≡ 0
-        → IsCanonical (n + length bits) (xs ++ packing bits w) w
-        × (unpacking (n + length bits) (xs ++ packing bits w) w ≡ unpacking n xs w ++ bits)
+        → Stores w (n + length bits) (xs ++ packing bits w) (unpacking n xs w ++ bits)
     append_nothing bits none =
         let no_bits : bits ≡ [] = nil_from_length bits none in
         let no_blocks : packing bits w ≡ [] =
@@ -139,16 +137,15 @@ module _ (w : ℕ) (wide : 0 < w) where
         ∙ need-zero w wide) in
         let blocks : xs ++ packing bits w ≡ xs = ap (λ ys. xs ++ ys) no_blocks ∙ append-nil xs in
         let all : n + length bits ≡ n = omega (arith, none) in
-        rw (blocks, all) (
-          h,
-          sym (append-nil (unpacking n xs w))
-              ∙ ap (λ bs. unpacking n xs w ++ bs) (sym no_bits),
-        )
+        rw (blocks, all) (record {
+          canonical = h;
+          bits = sym (append-nil (unpacking n xs w))
+              ∙ ap (λ bs. unpacking n xs w ++ bs) (sym no_bits);
+        })
 
     -- the packing of a list behind blocks, where they are whole or the list is empty
     pub append_packing : (bits : List Bool) → (n % w ≡ 0) ⊎ (length bits ≡ 0)
-        → IsCanonical (n + length bits) (xs ++ packing bits w) w
-        × (unpacking (n + length bits) (xs ++ packing bits w) w ≡ unpacking n xs w ++ bits)
+        → Stores w (n + length bits) (xs ++ packing bits w) (unpacking n xs w ++ bits)
     append_packing bits which = elim which [
       | inl full ↦ append_whole bits full
       | inr none ↦
@@ -165,9 +162,9 @@ module _ (w : ℕ) (wide : 0 < w) where
         let blocks : xs ++ packing (unpacking m others w) w ≡ xs ++ others =
         ap (λ ys. xs ++ ys) (packing-unpacking w wide m others other) in
         record {
-          canonical = rw (sym count, sym blocks) both.0;
+          canonical = rw (sym count, sym blocks) both.canonical;
           bits =
-              rw (sym count, sym blocks) both.1;
+              rw (sym count, sym blocks) both.bits;
         }
 
     module _ (partial : n % w ≢ 0) where
@@ -248,15 +245,14 @@ module _ (w : ℕ) (wide : 0 < w) where
         -- bits put there
         pub append_in_last : (bits : List Bool) → n % w + length bits ≤ w → y < 2 ^ w
             → HasPlaces w x (item bits)
-            → IsCanonical (n + length bits) (set xs (n / w) y) w
-            × (unpacking (n + length bits) (set xs (n / w) y) w ≡ unpacking n xs w ++ bits)
+            → Stores w (n + length bits) (set xs (n / w) y) (unpacking n xs w ++ bits)
         append_in_last bits fits small held =
             let count : length (set xs (n / w) y) ≡ need (n + length bits) w =
             length-set xs (n / w) y ∙ h.count ∙ (need_at_open w wide n partial).0
             ∙ sym (need_is w wide (n + length bits) (n / w + 1)
             (omega (arith, next, div-add-mod' n w))
             (omega (arith, next, div-add-mod' n w, partial))) in
-            canonical_from_items w wide (unpacking n xs w ++ bits) (n + length bits)
+            stores_from_items w wide (unpacking n xs w ++ bits) (n + length bits)
             (set xs (n / w) y) (long bits) count
             (All-set (λ x. x < 2 ^ w) xs (n / w) y small h.within)
             (λ i. elim (cases_lt i n) [
@@ -386,10 +382,9 @@ module _ (w : ℕ) (wide : 0 < w) where
   -- a list put behind others in two parts: the last block takes the first, and the packing of the rest follows
   pub append_parts : (n : ℕ) (before bits first rest : List Bool) (k : ℕ) (ys : List ℕ) → n % w
       ≢ 0 → k ≡ min (length bits) (w - n % w) → first ≡ take k bits → rest ≡ drop k bits
-      → IsCanonical (n + length first) ys w → unpacking (n + length first) ys w ≡ before ++ first
-      → IsCanonical (n + length bits) (ys ++ packing rest w) w
-      × (unpacking (n + length bits) (ys ++ packing rest w) w ≡ before ++ bits)
-  append_parts n before bits first rest k ys partial size front back canonical held =
+      → Stores w (n + length first) ys (before ++ first)
+      → Stores w (n + length bits) (ys ++ packing rest w) (before ++ bits)
+  append_parts n before bits first rest k ys partial size front back top =
       let short : length first ≡ k = ap length front
       ∙ length-take-le k bits (omega (arith, size)) in
       let left : length rest ≡ length bits - k = ap length back ∙ length-drop k bits in
@@ -403,17 +398,18 @@ module _ (w : ℕ) (wide : 0 < w) where
             inl (ap (λ m. m % w) whole ∙ mod-mul-add (n / w + 1) w 0 wide)
         | inr all ↦ inr (omega (arith, left, size))
       ] in
-      let both = append_packing (n + length first) ys canonical rest which in
+      let both = append_packing (n + length first) ys top.canonical rest which in
       let sum : n + length first + length rest ≡ n + length bits =
       omega (arith, short, left, size) in
       let joined : (before ++ first) ++ rest ≡ before ++ bits =
       append_assoc before first rest ∙ ap (λ bs. before ++ bs)
       (ap (λ bs. bs ++ rest) front ∙ ap (λ bs. take k bits ++ bs) back
-      ∙ take-append-drop k bits) in (
-        subst (λ (m : ℕ). IsCanonical m (ys ++ packing rest w) w) sum both.0,
-        ap (λ m. unpacking m (ys ++ packing rest w) w) (sym sum) ∙ both.1
-            ∙ ap (λ bs. bs ++ rest) held ∙ joined,
-      )
+      ∙ take-append-drop k bits) in
+      record {
+        canonical = subst (λ (m : ℕ). IsCanonical m (ys ++ packing rest w) w) sum both.canonical;
+        bits = ap (λ m. unpacking m (ys ++ packing rest w) w) (sym sum) ∙ both.bits
+            ∙ ap (λ bs. bs ++ rest) top.bits ∙ joined;
+      }
 
 -- the last block of items, where it has places left; u is the width as the code read it
 module _ {X : Type 0} (number : X → ℕ) (w : ℕ) (wide : 0 < w) (n : ℕ) (items : List X)

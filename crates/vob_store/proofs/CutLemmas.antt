@@ -7,7 +7,7 @@ use Rattle.std.proofs.lemmas.List.Elements.{All-set, All-take}
 use Rattle.std.proofs.lemmas.List.FromFn.{take-map-range_with_len}
 use Rattle.std.proofs.lemmas.Nat.{mul-le}
 use Rattle.vob_block.specs.Places.{place, HasPlaces}
-use Rattle.vob_block.specs.Packing.{need, bit_at, unpacking, IsCanonical}
+use Rattle.vob_block.specs.Packing.{need, bit_at, unpacking, IsCanonical, Stores}
 use Rattle.vob_block.proofs.NeedLemmas.{need-le-need, need_at_full, need_at_open, div-lt-need}
 use Rattle.vob_block.proofs.PackingLemmas.{bit_at-is_place, bit_at-past, bit_at-set_same, bit_at-set_other, length-unpacking, get_or-unpacking, unpacking_from_items}
 
@@ -110,16 +110,15 @@ module _ (w : ℕ) (wide : 0 < w) (n : ℕ) (xs : List ℕ) (count : length xs �
       ]
 
       -- elsewhere the last block is masked
-      pub mask_last : y < 2 ^ w → IsCanonical n (set xs (n / w) y) w
-          × (unpacking n (set xs (n / w) y) w ≡ unpacking n xs w)
-      mask_last small = (
-        record {
+      pub mask_last : y < 2 ^ w → Stores w n (set xs (n / w) y) (unpacking n xs w)
+      mask_last small = record {
+        canonical = record {
           count = length-set xs (n / w) y ∙ count;
           within = All-set (λ x. x < 2 ^ w) xs (n / w) y small within;
           unused = none_above;
-        },
-        unpacking_same n xs (set xs (n / w) y) w same_below,
-      )
+        };
+        bits = unpacking_same n xs (set xs (n / w) y) w same_below;
+      }
 
 -- the same of items with a number each; u is the width as the code read it, and m the mask
 module _ {X : Type 0} (number : X → ℕ) (w : ℕ) (wide : 0 < w) (n : ℕ) (items : List X)
@@ -140,8 +139,7 @@ module _ {X : Type 0} (number : X → ℕ) (w : ℕ) (wide : 0 < w) (n : ℕ) (i
       ≡ get_or items (n / u) x → number y < 2 ^ w
       → HasPlaces w (number y) (λ j. place j (number x) && place j m)
       → HasPlaces w m (λ j. ltb j (n % u))
-      → IsCanonical n (map number (set items (n / u) y)) w
-      × (unpacking n (map number (set items (n / u) y)) w ≡ unpacking n (map number items) w)
+      → Stores w n (map number (set items (n / u) y)) (unpacking n (map number items) w)
   mask_last_at within partial x y m read small places mask =
       let xs = map number items in
       let block : number x ≡ get_or xs (n / w) 0 =

@@ -6,10 +6,9 @@ use Rattle.std.proofs.lemmas.List.{length-set, length-drop, length-map, get_or-d
 use Rattle.std.proofs.lemmas.List.Elements.{All-set, All-drop}
 use Rattle.std.proofs.lemmas.Nat.{le-div}
 use Rattle.vob_block.specs.Places.{place, HasPlaces}
-use Rattle.vob_block.specs.Packing.{need, bit_at, unpacking, IsCanonical}
+use Rattle.vob_block.specs.Packing.{need, bit_at, unpacking, IsCanonical, Stores}
 use Rattle.vob_block.proofs.NeedLemmas.{div-lt-need, lt-need, mul-lt_from_need, need_enough, need_is}
-use Rattle.vob_block.proofs.PackingLemmas.{bit_at-is_place, bit_at-in_block, bit_at-past, length-unpacking, bit_at-is_item, canonical_from_items}
-use Rattle.vob_store.specs.Joining.{IsRest}
+use Rattle.vob_block.proofs.PackingLemmas.{bit_at-is_place, bit_at-in_block, bit_at-past, length-unpacking, bit_at-is_item, stores_from_items}
 use Rattle.vob_store.proofs.JoinLemmas.{AreLaid, AreLaid-more, bit_at-laid}
 
 -- the blocks that bits need have less than one block of room behind them
@@ -95,9 +94,9 @@ module _ (w : ℕ) (wide : 0 < w) (n at : ℕ) (xs : List ℕ) (h : IsCanonical 
       { laid = AreLaid-more w wide (λ i. bit_at xs w (at + i)) ys k y cut.laid inside places }
 
   -- blocks that hold all of these bits are the rest
-  pub IsRest-cut : (ys : List ℕ) (k : ℕ) → length ys ≡ need (n - at) w → All (λ x. x < 2 ^ w) ys
-      → AreCut w at xs ys k → length ys ≤ k → IsRest w n at xs ys
-  IsRest-cut ys k count within cut all =
+  pub Stores-cut : (ys : List ℕ) (k : ℕ) → length ys ≡ need (n - at) w → All (λ x. x < 2 ^ w) ys
+      → AreCut w at xs ys k → length ys ≤ k → Stores w (n - at) ys (drop at (unpacking n xs w))
+  Stores-cut ys k count within cut all =
       let bits = drop at (unpacking n xs w) in
       let long : length bits ≡ n - at = length-drop at (unpacking n xs w)
       ∙ ap (λ l. l - at) (length-unpacking n xs w) in
@@ -106,20 +105,20 @@ module _ (w : ℕ) (wide : 0 < w) (n at : ℕ) (xs : List ℕ) (h : IsCanonical 
         | inl short ↦ absurd (omega (arith, div-lt-need w wide (n - at) i short))
         | inr fine ↦ omega arith
       ]) in
-      let both = canonical_from_items w wide bits (n - at) ys long count within (λ i.
+      stores_from_items w wide bits (n - at) ys long count within (λ i.
       bit_at-laid w (λ i. bit_at xs w (at + i)) ys k cut.laid all none i
       ∙ bit_at-is_item w wide n xs h (at + i)
-      ∙ sym (get_or-drop at (unpacking n xs w) i false)) in
-      record { canonical = both.0; bits = both.1 }
+      ∙ sym (get_or-drop at (unpacking n xs w) i false))
 
   -- with the last one stored behind the others
-  pub IsRest-last : (ys : List ℕ) (k last y : ℕ) → length ys ≡ need (n - at) w
+  pub Stores-cut_last : (ys : List ℕ) (k last y : ℕ) → length ys ≡ need (n - at) w
       → All (λ x. x < 2 ^ w) ys → y < 2 ^ w → AreCut w at xs ys k → k ≡ last → last + 1
       ≡ need (n - at) w
-      → HasPlaces w y (λ j. bit_at xs w (at + (last * w + j))) → IsRest w n at xs (set ys last y)
-  IsRest-last ys k last y count within small cut same end places =
+      → HasPlaces w y (λ j. bit_at xs w (at + (last * w + j)))
+      → Stores w (n - at) (set ys last y) (drop at (unpacking n xs w))
+  Stores-cut_last ys k last y count within small cut same end places =
       let long : length (set ys last y) ≡ length ys = length-set ys last y in
-      IsRest-cut (set ys last y) (last + 1) (long ∙ count)
+      Stores-cut (set ys last y) (last + 1) (long ∙ count)
       (All-set (λ x. x < 2 ^ w) ys last y small within)
       (AreCut-more ys last y (subst (AreCut w at xs ys) same cut) (omega arith) places)
       (omega (arith, long))
@@ -143,10 +142,11 @@ module _ (w : ℕ) (wide : 0 < w) (n at : ℕ) (xs : List ℕ) (h : IsCanonical 
       need_few : need (n - at) w * w < n - at + w
       need_few = need-lt w wide (n - at)
 
-  pub IsRest-whole : at % w ≡ 0 → at < n → IsRest w n at xs (drop (at / w) xs)
-  IsRest-whole whole inside =
+  pub Stores-cut_whole : at % w ≡ 0 → at < n
+      → Stores w (n - at) (drop (at / w) xs) (drop at (unpacking n xs w))
+  Stores-cut_whole whole inside =
       let ys = drop (at / w) xs in
-      IsRest-cut ys (length ys) (length-drop_need whole inside)
+      Stores-cut ys (length ys) (length-drop_need whole inside)
       (All-drop (λ x. x < 2 ^ w) (at / w) xs h.within)
       (record {
         laid = record {

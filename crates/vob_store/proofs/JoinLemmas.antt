@@ -1,5 +1,5 @@
 -- Blocks stored one after another so that they hold wanted bits, and joining at a plain width.
-use Rattle.std.specs.Prelude.{All, Some, slice_get, map}
+use Rattle.std.specs.Prelude.{All}
 use Rattle.std.proofs.Common.{◌≡◌, ◌≢◌, ℕ, ◌+◌, ◌-◌, ◌*◌, ◌/◌, ◌%◌, ◌^◌, ◌<◌, ◌≤◌, Bool, false, ◌&&◌, cond, List, ◌++◌, length, get_or, set, ltb, leb, refl, sym, ap, ◌∙◌, subst, arith, inl, inr, mod-lt, div-add-mod', add-mul, suc-mul, add-one, one-mul, add-zero}
 use Rattle.std.proofs.lemmas.Bool.{cases_lt, cases_eq, lt-ltb, le-ltb, le-leb, cond-true, cond-false, and_left}
 use Rattle.std.proofs.lemmas.List.{length-set, length-append, get_or_append_left, get_or-append_right, get_or_past}
@@ -8,7 +8,7 @@ use Rattle.std.proofs.lemmas.Nat.{le-div}
 use Rattle.vob_block.specs.Places.{place, HasPlaces}
 use Rattle.vob_block.specs.Packing.{item, bit_at, unpacking}
 use Rattle.vob_block.proofs.NeedLemmas.{need_enough, need_least, lt-need, mul-lt_from_need, div-lt-need}
-use Rattle.vob_block.proofs.PackingLemmas.{bit_at-in_block, bit_at-past, bit_at-set_same, bit_at-set_other, length-unpacking, get_or-unpacking, bit_at-is_item, canonical_from_items}
+use Rattle.vob_block.proofs.PackingLemmas.{bit_at-in_block, bit_at-past, bit_at-set_same, bit_at-set_other, length-unpacking, get_or-unpacking, bit_at-is_item, stores_from_items}
 use Rattle.vob_store.specs.Joining.{HaveRoom, IsJoined}
 
 -- the first k blocks hold the wanted bits
@@ -266,10 +266,9 @@ module _ (w : ℕ) (wide : 0 < w) (n m : ℕ) (olds others : List ℕ)
       let long : length bits ≡ n + m = length-append (unpacking n olds w) (unpacking m others w)
       ∙ ap (λ a. a + length (unpacking m others w)) (length-unpacking n olds w)
       ∙ ap (λ a. n + a) (length-unpacking m others w) in
-      let both = canonical_from_items w wide bits (n + m) xs long (count ∙ room.count) within
+      stores_from_items w wide bits (n + m) xs long (count ∙ room.count) within
       (bit_at-laid w joined xs k laid all (λ i past.
-      joined-past i (subst (λ (l : ℕ). l ≤ i / w) count past))) in
-      record { canonical = both.0; bits = both.1 }
+      joined-past i (subst (λ (l : ℕ). l ≤ i / w) count past)))
 
   module _ (from : ℕ) (rest : from + n % w ≡ w) where
     -- with the last block behind them, where there is one

@@ -6,9 +6,9 @@ use Rattle.std.proofs.lemmas.List.{nil_from_length, get_or_past, get_or-take, ge
 use Rattle.std.proofs.lemmas.List.Elements.{All-push}
 use Rattle.std.proofs.lemmas.Nat.{mul-le}
 use Rattle.vob_block.specs.Places.{place, HasPlaces}
-use Rattle.vob_block.specs.Packing.{item, need, unpacking, IsCanonical}
+use Rattle.vob_block.specs.Packing.{item, need, Stores}
 use Rattle.vob_block.proofs.NeedLemmas.{need_enough, need_least, lt-need}
-use Rattle.vob_block.proofs.PackingLemmas.{bit_at-is_place, bit_at-past, canonical_from_items}
+use Rattle.vob_block.proofs.PackingLemmas.{bit_at-is_place, bit_at-past, stores_from_items}
 use Rattle.vob_block.proofs.PlaceLemmas.{place-zero, place-pow}
 
 -- ---- one block from the bits at hand
@@ -116,9 +116,9 @@ lays_more w bits xs y h small places = record {
 
 module _ (w : ℕ) (wide : 0 < w) (bits : List Bool) where
   -- as many blocks as the bits need are their packing
-  pub canonical_from_laid : (xs : List ℕ) → Lays w bits xs → length xs ≡ need (length bits) w
-      → IsCanonical (length bits) xs w × (unpacking (length bits) xs w ≡ bits)
-  canonical_from_laid xs h count = canonical_from_items w wide bits (length bits) xs refl count
+  pub stores_from_laid : (xs : List ℕ) → Lays w bits xs → length xs ≡ need (length bits) w
+      → Stores w (length bits) xs bits
+  stores_from_laid xs h count = stores_from_items w wide bits (length bits) xs refl count
       h.within (λ i. elim (cases_lt (i / w) (length xs)) [
         | inl inside ↦ bit_at-is_place xs w i ∙ (h.each (i / w) inside).each (i % w) (mod-lt i wide)
             ∙ ap (item bits) (div-add-mod' i w)

@@ -6,9 +6,9 @@ use Rattle.std.proofs.lemmas.List.{get_or-map, map-set, length-map, get_or_past,
 use Rattle.std.proofs.lemmas.List.Elements.{All-push, All-set}
 use Rattle.std.proofs.lemmas.Nat.{mul-le, pow_pos, pow_below}
 use Rattle.vob_block.specs.Places.{place, HasPlaces}
-use Rattle.vob_block.specs.Packing.{item, need, bit_at, unpacking, IsCanonical}
+use Rattle.vob_block.specs.Packing.{item, need, bit_at, unpacking, IsCanonical, Stores}
 use Rattle.vob_block.proofs.NeedLemmas.{need_at_full, need_at_open}
-use Rattle.vob_block.proofs.PackingLemmas.{bit_at-is_place, bit_at-past, bit_at-set_same, bit_at-set_other, bit_at-push_same, bit_at-push_other, length-unpacking, bit_at-is_item, canonical_from_items}
+use Rattle.vob_block.proofs.PackingLemmas.{bit_at-is_place, bit_at-past, bit_at-set_same, bit_at-set_other, bit_at-push_same, bit_at-push_other, length-unpacking, bit_at-is_item, stores_from_items}
 use Rattle.vob_block.proofs.PlaceLemmas.{place-pow, place-zero}
 use Rattle.vob_store.proofs.LaidLemmas.{mark-places}
 
@@ -71,10 +71,10 @@ module _ (w : ℕ) (wide : 0 < w) (n : ℕ) (xs : List ℕ) (h : IsCanonical n x
   -- storage with bit n changed to v stores the bits with v behind them
   from_bit_at : (v : Bool) (ys : List ℕ) → length ys ≡ need (n + 1) w → All (λ x. x < 2 ^ w) ys
       → ((i : ℕ) → bit_at ys w i ≡ (bit_at xs w i || (v && eqb i n)))
-      → IsCanonical (n + 1) ys w × (unpacking (n + 1) ys w ≡ unpacking n xs w ++ v ∷ [])
+      → Stores w (n + 1) ys (unpacking n xs w ++ v ∷ [])
   from_bit_at v ys count within same =
       let bits = unpacking n xs w in
-      canonical_from_items w wide (bits ++ v ∷ []) (n + 1) ys
+      stores_from_items w wide (bits ++ v ∷ []) (n + 1) ys
       (omega (arith, length_push bits v, length-unpacking n xs w)) count within
       (λ i. same i ∙ ap (λ b. b || (v && eqb i n)) (bit_at-is_item w wide n xs h i)
       ∙ sym (item-push bits n v i (length-unpacking n xs w)))
@@ -86,8 +86,7 @@ module _ (w : ℕ) (wide : 0 < w) (n : ℕ) (xs : List ℕ) (h : IsCanonical n x
 
   -- where every block is full, a new one takes the bit
   pub push_block : (v : Bool) (y : ℕ) → n % w ≡ 0 → y ≡ cond v 1 0
-      → IsCanonical (n + 1) (xs ++ y ∷ []) w × (unpacking (n + 1) (xs ++ y ∷ []) w
-      ≡ unpacking n xs w ++ v ∷ [])
+      → Stores w (n + 1) (xs ++ y ∷ []) (unpacking n xs w ++ v ∷ [])
   push_block v y full first =
       let needs = need_at_full w wide n full in
       let last = h.count ∙ needs.0 in
@@ -112,8 +111,7 @@ module _ (w : ℕ) (wide : 0 < w) (n : ℕ) (xs : List ℕ) (h : IsCanonical n x
   -- and the bit is marked there
   pub push_mark : (v : Bool) (y : ℕ) → n % w ≢ 0 → y < 2 ^ w
       → ((j : ℕ) → j < w → place j y ≡ (place j (get_or xs (n / w) 0) || (v && eqb j (n % w))))
-      → IsCanonical (n + 1) (set xs (n / w) y) w
-      × (unpacking (n + 1) (set xs (n / w) y) w ≡ unpacking n xs w ++ v ∷ [])
+      → Stores w (n + 1) (set xs (n / w) y) (unpacking n xs w ++ v ∷ [])
   push_mark v y partial small places =
       let needs = need_at_open w wide n partial in
       from_bit_at v (set xs (n / w) y) (length-set xs (n / w) y ∙ h.count ∙ needs.0 ∙ sym needs.1)
@@ -143,9 +141,8 @@ module _ {X : Type 0} (number : X → ℕ) (w : ℕ) (wide : 0 < w) (n : ℕ) (i
     (h : IsCanonical n (map number items) w) (partial : n % w ≢ 0) where
   mark_at_width : (b : Bool) (x y : X) → x ≡ get_or items (n / w) x → number y < 2 ^ w
       → ((j : ℕ) → j < w → place j (number y) ≡ (place j (number x) || (b && eqb j (n % w))))
-      → IsCanonical (n + 1) (map number (set items (n / w) y)) w
-      × (unpacking (n + 1) (map number (set items (n / w) y)) w
-      ≡ unpacking n (map number items) w ++ b ∷ [])
+      → Stores w (n + 1) (map number (set items (n / w) y))
+      (unpacking n (map number items) w ++ b ∷ [])
   mark_at_width b x y read small places =
       let xs = map number items in
       let there : n / w < length items = omega
@@ -159,9 +156,8 @@ module _ {X : Type 0} (number : X → ℕ) (w : ℕ) (wide : 0 < w) (n : ℕ) (i
   pub mark_last : (v : ℕ) → v ≡ w → (b : Bool) (x y : X) → x ≡ get_or items (n / v) x
       → number y < 2 ^ w
       → ((j : ℕ) → j < w → place j (number y) ≡ (place j (number x) || (b && eqb j (n % w))))
-      → IsCanonical (n + 1) (map number (set items (n / v) y)) w
-      × (unpacking (n + 1) (map number (set items (n / v) y)) w
-      ≡ unpacking n (map number items) w ++ b ∷ [])
+      → Stores w (n + 1) (map number (set items (n / v) y))
+      (unpacking n (map number items) w ++ b ∷ [])
   mark_last v same b x y read small places =
       rw same (mark_at_width b x y (rw same at read) small places)
 

@@ -6,7 +6,7 @@ use Rattle.std.proofs.Common.{◌≡◌, ◌≢◌, ◌↔◌, ℕ, ◌/◌, ◌
 use Rattle.std.proofs.lemmas.List.{get_or-map, map-set, length-map, get_or-set_same}
 use Rattle.std.proofs.Math.Seq.{map-set_same}
 use Rattle.vob_block.specs.Places.{place, HasPlaces}
-use Rattle.vob_block.specs.Packing.{need, unpacking, IsCanonical}
+use Rattle.vob_block.specs.Packing.{need, unpacking, IsCanonical, Stores}
 use Rattle.vob_store.proofs.CutLemmas.{canonical_at_full_width, last_in_items, mask_last_at}
 use Rattle.vob_block.proofs.PointwiseLemmas.{same_from_lists}
 use Rattle.vob_block.proofs.NeedLemmas.{need-is-div_ceil}
@@ -50,20 +50,19 @@ module _ {X : Type 0} (number : X → ℕ) (w : ℕ) (wide : 0 < w) (n : ℕ) (i
       last_is : number x ≡ get_or (map number items) (n / u) 0
       last_is = ap number read ∙ sym (get_or-map number items (n / u) x 0 there)
 
-      masked : IsCanonical n (map number (set items (n / u) y)) w
-          × (unpacking n (map number (set items (n / u) y)) w ≡ unpacking n (map number items) w)
+      masked : Stores w n (map number (set items (n / u) y)) (unpacking n (map number items) w)
       masked = mask_last_at number w wide n items (fit ∙ needed) u same within partial x y m read
           small places mask
 
       same_canonical : number y ≡ number x → IsCanonical n (map number items) w
       same_canonical e = subst (λ (ys : List ℕ). IsCanonical n ys w)
-          (map-set_same number items (n / u) y x (e ∙ ap number read)) masked.0
+          (map-set_same number items (n / u) y x (e ∙ ap number read)) masked.canonical
 
       canonical_same : IsCanonical n (map number items) w → number y ≡ number x
       canonical_same h =
           let same_blocks = sym (map-set number items (n / u) y)
           ∙ same_from_lists w wide n (map number (set items (n / u) y)) (map number items)
-          masked.0 h masked.1 in
+          masked.canonical h masked.bits in
           sym (get_or-set_same (map number items) (n / u) (number y) 0
           (subst (λ k. n / u < k) (sym (length-map items number)) there))
           ∙ ap (λ ys. get_or ys (n / u) 0) same_blocks ∙ sym last_is

@@ -8,9 +8,9 @@ use Rattle.std.proofs.lemmas.Bool.{cases_eq, eq-eqb, ne_eqb, cond-true, cond-fal
 use Rattle.std.proofs.lemmas.List.{get_or-map, map-set, length-map, length-set, get_or-set_same, get_or-set_other}
 use Rattle.std.proofs.lemmas.List.Elements.{All-set}
 use Rattle.vob_block.specs.Places.{place, HasPlaces}
-use Rattle.vob_block.specs.Packing.{item, bit_at, unpacking, IsCanonical}
+use Rattle.vob_block.specs.Packing.{item, bit_at, unpacking, IsCanonical, Stores}
 use Rattle.vob_block.proofs.NeedLemmas.{div-lt-need}
-use Rattle.vob_block.proofs.PackingLemmas.{bit_at-is_place, bit_at-set_same, bit_at-set_other, length-unpacking, bit_at-is_item, canonical_from_items}
+use Rattle.vob_block.proofs.PackingLemmas.{bit_at-is_place, bit_at-set_same, bit_at-set_other, length-unpacking, bit_at-is_item, stores_from_items}
 use Rattle.vob_block.proofs.PlaceLemmas.{place-pow}
 use Rattle.vob_store.proofs.PushLemmas.{eqb-places, eqb-blocks}
 
@@ -81,13 +81,12 @@ module _ (w : ℕ) (wide : 0 < w) (xs : List ℕ) (index : ℕ) (v : Bool) (y : 
   pub write_place : (n : ℕ) → IsCanonical n xs w → index < n → y < 2 ^ w
       → ((j : ℕ) → j < w → place j y ≡ cond (eqb j (index % w)) v
       (place j (get_or xs (index / w) 0)))
-      → IsCanonical n (set xs (index / w) y) w
-      × (unpacking n (set xs (index / w) y) w ≡ set (unpacking n xs w) index v)
+      → Stores w n (set xs (index / w) y) (set (unpacking n xs w) index v)
   write_place n h inside small places =
       let bits = unpacking n xs w in
       let there : index / w < length xs = omega
       (arith, h.count, div-lt-need w wide n index inside) in
-      canonical_from_items w wide (set bits index v) n (set xs (index / w) y)
+      stores_from_items w wide (set bits index v) n (set xs (index / w) y)
       (length-set bits index v ∙ length-unpacking n xs w)
       (length-set xs (index / w) y ∙ h.count)
       (All-set (λ x. x < 2 ^ w) xs (index / w) y small h.within)
@@ -99,9 +98,8 @@ module _ {X : Type 0} (number : X → ℕ) (w : ℕ) (wide : 0 < w) (n : ℕ) (i
     (h : IsCanonical n (map number items) w) (index : ℕ) (inside : index < n) where
   write_at_width : (v : Bool) (x y : X) → x ≡ get_or items (index / w) x → number y < 2 ^ w
       → HasPlaces w (number y) (λ j. cond (eqb j (index % w)) v (place j (number x)))
-      → IsCanonical n (map number (set items (index / w) y)) w
-      × (unpacking n (map number (set items (index / w) y)) w
-      ≡ set (unpacking n (map number items) w) index v)
+      → Stores w n (map number (set items (index / w) y))
+      (set (unpacking n (map number items) w) index v)
   write_at_width v x y read small places =
       let xs = map number items in
       let there : index / w < length items = omega
@@ -114,9 +112,8 @@ module _ {X : Type 0} (number : X → ℕ) (w : ℕ) (wide : 0 < w) (n : ℕ) (i
   pub write_at : (u : ℕ) → u ≡ w → (v : Bool) (x y : X) → x ≡ get_or items (index / u) x
       → number y < 2 ^ w → HasPlaces w (number y)
       (λ j. cond (eqb j (index % u)) v (place j (number x)))
-      → IsCanonical n (map number (set items (index / u) y)) w
-      × (unpacking n (map number (set items (index / u) y)) w
-      ≡ set (unpacking n (map number items) w) index v)
+      → Stores w n (map number (set items (index / u) y))
+      (set (unpacking n (map number items) w) index v)
   write_at u same v x y read small places = rw same
       (write_at_width v x y (rw same at read) small (rw same at places))
 

@@ -1,6 +1,6 @@
--- Blocks of bits joined behind the bits of others, and cut off from them.
-use Rattle.std.specs.Prelude.{◌≡◌, ℕ, ◌+◌, ◌-◌, ◌^◌, ◌<◌, List, ◌++◌, length, drop, All}
-use Rattle.vob_block.specs.Packing.{need, unpacking, IsCanonical}
+-- Blocks of bits joined behind the bits of others.
+use Rattle.std.specs.Prelude.{◌≡◌, ℕ, ◌+◌, ◌^◌, ◌<◌, List, ◌++◌, length, All}
+use Rattle.vob_block.specs.Packing.{need, unpacking, IsCanonical, Stores}
 
 -- blocks with room for n bits and as many more as the others store
 pub record HaveRoom (width n more : ℕ) (blocks others : List ℕ) : Type 0 where
@@ -9,11 +9,6 @@ pub record HaveRoom (width n more : ℕ) (blocks others : List ℕ) : Type 0 whe
   pub other : IsCanonical more others width
 
 -- the first n bits of some blocks, and behind them those of the others
-pub record IsJoined (width n more : ℕ) (blocks others after : List ℕ) : Type 0 where
-  pub canonical : IsCanonical (n + more) after width
-  pub bits : unpacking (n + more) after width ≡ unpacking n blocks width ++ unpacking more others width
-
--- the bits from index at on, of the n bits of some blocks
-pub record IsRest (width n at : ℕ) (blocks after : List ℕ) : Type 0 where
-  pub canonical : IsCanonical (n - at) after width
-  pub bits : unpacking (n - at) after width ≡ drop at (unpacking n blocks width)
+abbrev pub IsJoined : ℕ → ℕ → ℕ → List ℕ → List ℕ → List ℕ → Type 0
+IsJoined width n more blocks others after =
+    Stores width (n + more) after (unpacking n blocks width ++ unpacking more others width)

@@ -1,7 +1,7 @@
 //! The blocks of some bytes.
 ghost use Rattle.std.specs.Prelude.{◌≡◌, ℕ, ◌+◌, ◌-◌, ◌*◌, ◌/◌, ◌%◌, ◌^◌, ◌<◌, ◌≤◌, ◌&&◌, ◌||◌, nat_le, nat_lt, [], length, slice_index, IsOk, IfOk};
 ghost use Rattle.vob_block.specs.Places.{place, HasPlaces};
-ghost use Rattle.vob_block.specs.Packing.{item, unpacking, IsCanonical};
+ghost use Rattle.vob_block.specs.Packing.{item, Stores};
 ghost use Rattle.vob_block.specs.Bytes.{bytes_list};
 
 use std::alloc::{AllocError, Global};
@@ -49,10 +49,8 @@ fn eight_bytes(bytes: &[u8]) -> [u8; 8]
 
 /// The blocks of some bytes.
 pub fn byte_blocks(alloc: Global, bytes: &[u8]) -> Result<Vec<usize>, AllocError>
-    ensures canonical { IfOk result (λ blocks.
-        IsCanonical (8 * length bytes.now) blocks.items 64) }
-    ensures bits { IfOk result (λ blocks.
-        unpacking (8 * length bytes.now) blocks.items 64 ≡ bytes_list bytes.now) }
+    ensures stores { IfOk result (λ blocks.
+        Stores 64 (8 * length bytes.now) blocks.items (bytes_list bytes.now)) }
     ensures nothing { bytes.now ≡ [] → IsOk result }
 {
     let mut blocks = Vec::with_capacity(alloc, bytes.len().div_ceil(8))?;

@@ -1,6 +1,6 @@
 //! Bits of one value: a block of them, all bits made it, and others of it added behind them.
 ghost use Rattle.std.specs.Prelude.{◌≡◌, ◌+◌, ◌-◌, ◌*◌, ◌^◌, ◌≤◌, ◌<◌, ◌++◌, if◌then◌else◌, map, length, replicate, All, vec_capacity, IsOk, IfOk};
-ghost use Rattle.vob_block.specs.Packing.{need, unpacking, IsCanonical};
+ghost use Rattle.vob_block.specs.Packing.{need, unpacking, IsCanonical, Stores};
 
 use crate::mask::mask_last;
 use std::alloc::{AllocError, Global};
@@ -38,8 +38,7 @@ fn fill_blocks<T: Block>(blocks: &mut [T], value: bool)
 /// Makes each of the `len` bits `value`.
 pub fn fill<T: Block>(blocks: &mut [T], len: usize, value: bool)
     requires { IsCanonical len (map T.number blocks.old) T.BITS }
-    ensures canonical { IsCanonical len (map T.number blocks.new) T.BITS }
-    ensures bits { unpacking len (map T.number blocks.new) T.BITS ≡ replicate len value }
+    ensures { Stores T.BITS len (map T.number blocks.new) (replicate len value) }
 {
     fill_blocks(blocks, value);
     mask_last(blocks, len);
@@ -66,9 +65,8 @@ pub fn append_fill<T: Block>(blocks: &mut Vec<T>, len: usize, new_len: usize, va
     requires canonical { IsCanonical len (map T.number blocks.old.items) T.BITS }
     requires longer { len ≤ new_len }
     requires room { need new_len T.BITS ≤ vec_capacity blocks.old }
-    ensures canonical { IsCanonical new_len (map T.number blocks.new.items) T.BITS }
-    ensures bits { unpacking new_len (map T.number blocks.new.items) T.BITS
-        ≡ unpacking len (map T.number blocks.old.items) T.BITS ++ replicate (new_len - len) value }
+    ensures stores { Stores T.BITS new_len (map T.number blocks.new.items)
+        (unpacking len (map T.number blocks.old.items) T.BITS ++ replicate (new_len - len) value) }
     ensures capacity { vec_capacity blocks.old ≤ vec_capacity blocks.new }
 {
     fill_last(blocks, len, value);
@@ -79,9 +77,8 @@ pub fn append_fill<T: Block>(blocks: &mut Vec<T>, len: usize, new_len: usize, va
 
 /// The blocks of `len` times `value`.
 pub fn filled_blocks<T: Block>(alloc: Global, value: bool, len: usize) -> Result<Vec<T>, AllocError>
-    ensures canonical { IfOk result (λ blocks. IsCanonical len (map T.number blocks.items) T.BITS) }
-    ensures bits { IfOk result (λ blocks.
-        unpacking len (map T.number blocks.items) T.BITS ≡ replicate len value) }
+    ensures stores { IfOk result (λ blocks.
+        Stores T.BITS len (map T.number blocks.items) (replicate len value)) }
     ensures nothing { len ≡ 0 → IsOk result }
 {
     let count = len.div_ceil(T::BITS);

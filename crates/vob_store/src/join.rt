@@ -2,6 +2,7 @@
 //! neighbours where the offset lies within a block.
 ghost use Rattle.std.specs.Prelude.{◌≡◌, ◌≢◌, ◌+◌, ◌-◌, ◌*◌, ◌%◌, ◌<◌, ◌≤◌, map, length, vec_capacity};
 ghost use Rattle.vob_block.specs.Packing.{IsCanonical};
+ghost use Rattle.vob_block.specs.Reading.{AreReadOnce};
 ghost use Rattle.vob_store.specs.Joining.{HaveRoom, IsJoined};
 
 use crate::room::block_count;
@@ -13,8 +14,7 @@ fn join_whole<T: Block>(own: &mut [T], len: usize, other: &mut Blocks<'_, T>, mo
     requires full { len % T.BITS ≡ 0 }
     ensures joined { IsJoined T.BITS len more (map T.number own.old) (map T.number other.old.items)
         (map T.number own.new) }
-    ensures items { other.new.items ≡ other.old.items }
-    ensures reads { other.new.reads ≡ other.old.reads + length other.old.items }
+    ensures read { AreReadOnce other.old other.new }
 {
     let width = T::BITS;
     let at = len / width;
@@ -32,8 +32,7 @@ fn join_shifted<T: Block>(own: &mut [T], len: usize, other: &mut Blocks<'_, T>, 
     requires partial { len % T.BITS ≢ 0 }
     ensures joined { IsJoined T.BITS len more (map T.number own.old) (map T.number other.old.items)
         (map T.number own.new) }
-    ensures items { other.new.items ≡ other.old.items }
-    ensures reads { other.new.reads ≡ other.old.reads + length other.old.items }
+    ensures read { AreReadOnce other.old other.new }
 {
     let width = T::BITS;
     let at = len / width;
@@ -55,8 +54,7 @@ fn join_into<T: Block>(own: &mut [T], len: usize, other: &mut Blocks<'_, T>, mor
     requires room { HaveRoom T.BITS len more (map T.number own.old) (map T.number other.old.items) }
     ensures joined { IsJoined T.BITS len more (map T.number own.old) (map T.number other.old.items)
         (map T.number own.new) }
-    ensures items { other.new.items ≡ other.old.items }
-    ensures reads { other.new.reads ≡ other.old.reads + length other.old.items }
+    ensures read { AreReadOnce other.old other.new }
 {
     if len % T::BITS == 0 {
         join_whole(own, len, other, more);
@@ -74,8 +72,7 @@ pub fn join<T: Block>(blocks: &mut Vec<T>, len: usize, other: &mut Blocks<'_, T>
     ensures joined { IsJoined T.BITS len more (map T.number blocks.old.items)
         (map T.number other.old.items) (map T.number blocks.new.items) }
     ensures capacity { vec_capacity blocks.old ≤ vec_capacity blocks.new }
-    ensures items { other.new.items ≡ other.old.items }
-    ensures reads { other.new.reads ≡ other.old.reads + length other.old.items }
+    ensures read { AreReadOnce other.old other.new }
 {
     // There is room, so this isn't refused.
     let _ = blocks.resize(block_count::<T>(len + more), T::ZERO);

@@ -1,6 +1,6 @@
 //! Blocks made canonical: the last one masked, the bits negated or cut, and the test of both.
 ghost use Rattle.std.specs.Prelude.{◌≡◌, not, ◌^◌, ◌<◌, ◌≤◌, map, length, take, All, vec_capacity};
-ghost use Rattle.vob_block.specs.Packing.{need, unpacking, IsCanonical};
+ghost use Rattle.vob_block.specs.Packing.{need, unpacking, IsCanonical, Stores};
 
 use vob_block::Block;
 
@@ -9,9 +9,8 @@ use vob_block::Block;
 pub fn mask_last<T: Block>(blocks: &mut [T], len: usize)
     requires count { length blocks.old ≡ need len T.BITS }
     requires within { All (λ x. x < 2 ^ T.BITS) (map T.number blocks.old) }
-    ensures canonical { IsCanonical len (map T.number blocks.new) T.BITS }
-    ensures bits { unpacking len (map T.number blocks.new) T.BITS
-        ≡ unpacking len (map T.number blocks.old) T.BITS }
+    ensures { Stores T.BITS len (map T.number blocks.new)
+        (unpacking len (map T.number blocks.old) T.BITS) }
 {
     let width = T::BITS;
     let used = len % width;
@@ -25,9 +24,8 @@ pub fn mask_last<T: Block>(blocks: &mut [T], len: usize)
 /// Negates each of the `len` bits.
 pub fn negate<T: Block>(blocks: &mut [T], len: usize)
     requires { IsCanonical len (map T.number blocks.old) T.BITS }
-    ensures canonical { IsCanonical len (map T.number blocks.new) T.BITS }
-    ensures bits { unpacking len (map T.number blocks.new) T.BITS
-        ≡ map not (unpacking len (map T.number blocks.old) T.BITS) }
+    ensures { Stores T.BITS len (map T.number blocks.new)
+        (map not (unpacking len (map T.number blocks.old) T.BITS)) }
 {
     for k in 0..blocks.len() {
         let block = blocks[k];
@@ -40,9 +38,8 @@ pub fn negate<T: Block>(blocks: &mut [T], len: usize)
 pub fn truncate_to<T: Block>(blocks: &mut Vec<T>, len: usize, new_len: usize)
     requires canonical { IsCanonical len (map T.number blocks.old.items) T.BITS }
     requires shorter { new_len ≤ len }
-    ensures canonical { IsCanonical new_len (map T.number blocks.new.items) T.BITS }
-    ensures bits { unpacking new_len (map T.number blocks.new.items) T.BITS
-        ≡ take new_len (unpacking len (map T.number blocks.old.items) T.BITS) }
+    ensures stores { Stores T.BITS new_len (map T.number blocks.new.items)
+        (take new_len (unpacking len (map T.number blocks.old.items) T.BITS)) }
     ensures capacity { vec_capacity blocks.new ≡ vec_capacity blocks.old }
 {
     blocks.truncate(new_len.div_ceil(T::BITS));

@@ -1,7 +1,7 @@
 //! Bits of a slice put into blocks: as many as a block holds are packed first, and then stored.
 ghost use Rattle.std.specs.Prelude.{◌≡◌, ◌≢◌, ◌+◌, ◌%◌, ◌^◌, ◌<◌, ◌≤◌, ◌++◌, map, length, vec_capacity, ◌-◌, [], IsOk, IfOk};
 ghost use Rattle.vob_block.specs.Places.{HasPlaces};
-ghost use Rattle.vob_block.specs.Packing.{item, need, packing, unpacking, IsCanonical};
+ghost use Rattle.vob_block.specs.Packing.{item, need, packing, unpacking, IsCanonical, Stores};
 
 use crate::single::first_place;
 use std::alloc::{AllocError, Global};
@@ -42,9 +42,8 @@ fn top_up<T: Block>(blocks: &mut [T], len: usize, bits: &[bool])
     requires canonical { IsCanonical len (map T.number blocks.old) T.BITS }
     requires partial { len % T.BITS ≢ 0 }
     requires fits { len % T.BITS + length bits.now ≤ T.BITS }
-    ensures canonical { IsCanonical (len + length bits.now) (map T.number blocks.new) T.BITS }
-    ensures bits { unpacking (len + length bits.now) (map T.number blocks.new) T.BITS
-        ≡ unpacking len (map T.number blocks.old) T.BITS ++ bits.now }
+    ensures { Stores T.BITS (len + length bits.now) (map T.number blocks.new)
+        (unpacking len (map T.number blocks.old) T.BITS ++ bits.now) }
 {
     let width = T::BITS;
     let last = len / width;
@@ -57,9 +56,8 @@ fn top_up<T: Block>(blocks: &mut [T], len: usize, bits: &[bool])
 pub fn append_slice<T: Block>(blocks: &mut Vec<T>, len: usize, bits: &[bool])
     requires canonical { IsCanonical len (map T.number blocks.old.items) T.BITS }
     requires room { need (len + length bits.now) T.BITS ≤ vec_capacity blocks.old }
-    ensures canonical { IsCanonical (len + length bits.now) (map T.number blocks.new.items) T.BITS }
-    ensures bits { unpacking (len + length bits.now) (map T.number blocks.new.items) T.BITS
-        ≡ unpacking len (map T.number blocks.old.items) T.BITS ++ bits.now }
+    ensures stores { Stores T.BITS (len + length bits.now) (map T.number blocks.new.items)
+        (unpacking len (map T.number blocks.old.items) T.BITS ++ bits.now) }
     ensures capacity { vec_capacity blocks.new ≡ vec_capacity blocks.old }
 {
     let used = len % T::BITS;
@@ -74,10 +72,8 @@ pub fn append_slice<T: Block>(blocks: &mut Vec<T>, len: usize, bits: &[bool])
 
 /// The blocks of some bits.
 pub fn packed_blocks<T: Block>(alloc: Global, bits: &[bool]) -> Result<Vec<T>, AllocError>
-    ensures canonical { IfOk result (λ blocks.
-        IsCanonical (length bits.now) (map T.number blocks.items) T.BITS) }
-    ensures bits { IfOk result (λ blocks.
-        unpacking (length bits.now) (map T.number blocks.items) T.BITS ≡ bits.now) }
+    ensures stores { IfOk result (λ blocks.
+        Stores T.BITS (length bits.now) (map T.number blocks.items) bits.now) }
     ensures nothing { bits.now ≡ [] → IsOk result }
 {
     let mut blocks = Vec::with_capacity(alloc, bits.len().div_ceil(T::BITS))?;

@@ -1,6 +1,6 @@
 //! Single bits of the blocks that store some bits: read, written, and added at the end.
 ghost use Rattle.std.specs.Prelude.{◌≡◌, if◌then◌else◌, ◌+◌, ◌*◌, ◌<◌, ◌≤◌, [], ◌∷◌, ◌++◌, map, length, slice_get, Some, OnOk, OnErr, vec_capacity, ◌≢◌, ◌==◌, ◌↔◌, ◌^◌, slice_set, IsTrue};
-ghost use Rattle.vob_block.specs.Packing.{need, bit_at, unpacking, IsCanonical};
+ghost use Rattle.vob_block.specs.Packing.{need, bit_at, unpacking, IsCanonical, Stores};
 ghost use Rattle.vob_block.specs.Places.{place, HasPlaces};
 
 use std::alloc::AllocError;
@@ -34,9 +34,8 @@ pub fn first_place<T: Block>(value: bool) -> T
 /// Adds a bit behind the last one, with a block more where the last one is full.
 pub fn append_bit<T: Block>(blocks: &mut Vec<T>, len: usize, value: bool) -> Result<(), AllocError>
     requires { IsCanonical len (map T.number blocks.old.items) T.BITS }
-    ensures canonical { OnOk result (IsCanonical (len + 1) (map T.number blocks.new.items) T.BITS) }
-    ensures bits { OnOk result (unpacking (len + 1) (map T.number blocks.new.items) T.BITS
-        ≡ unpacking len (map T.number blocks.old.items) T.BITS ++ value ∷ []) }
+    ensures stores { OnOk result (Stores T.BITS (len + 1) (map T.number blocks.new.items)
+        (unpacking len (map T.number blocks.old.items) T.BITS ++ value ∷ [])) }
 
     // Memory is asked for only where the blocks have no room for the bit.
     ensures err { OnErr result (blocks.new.items ≡ blocks.old.items) }
@@ -77,9 +76,8 @@ fn with_place<T: Block>(block: T, j: usize, value: bool) -> T
 pub fn write_bit<T: Block>(blocks: &mut [T], len: usize, index: usize, value: bool) -> bool
     requires canonical { IsCanonical len (map T.number blocks.old) T.BITS }
     requires in_range { index < len }
-    ensures canonical { IsCanonical len (map T.number blocks.new) T.BITS }
-    ensures bits { unpacking len (map T.number blocks.new) T.BITS
-        ≡ slice_set (unpacking len (map T.number blocks.old) T.BITS) index value }
+    ensures stores { Stores T.BITS len (map T.number blocks.new)
+        (slice_set (unpacking len (map T.number blocks.old) T.BITS) index value) }
     ensures changed { IsTrue result
         ↔ (slice_get (unpacking len (map T.number blocks.old) T.BITS) index ≢ Some value) }
 {

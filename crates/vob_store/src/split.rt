@@ -1,8 +1,7 @@
 //! Splitting: the blocks of the bits from an index on, each made of two neighbours where the index
 //! lies within a block.
-ghost use Rattle.std.specs.Prelude.{◌≡◌, ◌≢◌, ◌+◌, ◌-◌, ◌%◌, ◌^◌, ◌<◌, map, length, All, IfOk};
-ghost use Rattle.vob_block.specs.Packing.{need, IsCanonical};
-ghost use Rattle.vob_store.specs.Joining.{IsRest};
+ghost use Rattle.std.specs.Prelude.{◌≡◌, ◌≢◌, ◌+◌, ◌-◌, ◌%◌, ◌^◌, ◌<◌, map, length, drop, All, IfOk};
+ghost use Rattle.vob_block.specs.Packing.{need, unpacking, IsCanonical, Stores};
 
 use crate::room::block_count;
 use std::alloc::{AllocError, Global};
@@ -15,7 +14,8 @@ fn split_shifted<T: Block>(rest: &mut [T], blocks: &[T], len: usize, at: usize)
     requires count { length rest.old ≡ need (len - at) T.BITS }
     requires within { All (λ n. n < 2 ^ T.BITS) (map T.number rest.old) }
     requires partial { at % T.BITS ≢ 0 }
-    ensures { IsRest T.BITS len at (map T.number blocks.now) (map T.number rest.new) }
+    ensures { Stores T.BITS (len - at) (map T.number rest.new)
+        (drop at (unpacking len (map T.number blocks.now) T.BITS)) }
 {
     let width = T::BITS;
     let from = at % width;
@@ -38,7 +38,8 @@ fn split_whole<T: Block>(rest: &mut [T], blocks: &[T], len: usize, at: usize)
     requires inside { at < len }
     requires count { length rest.old ≡ need (len - at) T.BITS }
     requires whole { at % T.BITS ≡ 0 }
-    ensures { IsRest T.BITS len at (map T.number blocks.now) (map T.number rest.new) }
+    ensures { Stores T.BITS (len - at) (map T.number rest.new)
+        (drop at (unpacking len (map T.number blocks.now) T.BITS)) }
 {
     rest.copy_from_slice(&blocks[at / T::BITS..]);
 }
@@ -49,7 +50,8 @@ fn split_into<T: Block>(rest: &mut [T], blocks: &[T], len: usize, at: usize)
     requires inside { at < len }
     requires count { length rest.old ≡ need (len - at) T.BITS }
     requires within { All (λ n. n < 2 ^ T.BITS) (map T.number rest.old) }
-    ensures { IsRest T.BITS len at (map T.number blocks.now) (map T.number rest.new) }
+    ensures { Stores T.BITS (len - at) (map T.number rest.new)
+        (drop at (unpacking len (map T.number blocks.now) T.BITS)) }
 {
     if at % T::BITS == 0 {
         split_whole(rest, blocks, len, at);
@@ -67,7 +69,8 @@ pub fn split_blocks<T: Block>(
 ) -> Result<Vec<T>, AllocError>
     requires canonical { IsCanonical len (map T.number blocks.now) T.BITS }
     requires inside { at < len }
-    ensures { IfOk result (λ rest. IsRest T.BITS len at (map T.number blocks.now) (map T.number rest.items)) }
+    ensures { IfOk result (λ rest. Stores T.BITS (len - at) (map T.number rest.items)
+        (drop at (unpacking len (map T.number blocks.now) T.BITS))) }
 {
     let count = block_count::<T>(len - at);
     let mut rest = Vec::with_capacity(alloc, count)?;

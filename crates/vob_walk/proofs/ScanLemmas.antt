@@ -1,6 +1,6 @@
 -- Blocks that a scan reads one after another, from either end, over a plain width.
-use Rattle.std.proofs.Common.{◌≡◌, ◌≢◌, ◌↔◌, ℕ, ◌+◌, ◌-◌, ◌*◌, ◌^◌, ◌<◌, ◌≤◌, Bool, true, false, not, ◌&&◌, List, [], ◌++◌, append-nil, append_assoc, get_or, ltb, leb, refl, sym, ap, ◌∙◌, arith, add-mul, suc-mul, zero-mul, add-one, inl, inr}
-use Rattle.std.proofs.lemmas.Bool.{cases_lt, cases_eq, and_left, and_right, false≢true, le-leb, lt-leb}
+use Rattle.std.proofs.Common.{◌≡◌, ℕ, ◌+◌, ◌-◌, ◌*◌, ◌^◌, ◌<◌, ◌≤◌, Bool, true, false, not, ◌&&◌, List, [], ◌++◌, append-nil, append_assoc, get_or, ltb, leb, refl, sym, ap, ◌∙◌, arith, add-mul, suc-mul, zero-mul, add-one, inl, inr}
+use Rattle.std.proofs.lemmas.Bool.{cases_lt, and_left, and_right, false≢true, le-leb, lt-leb}
 use Rattle.vob_block.specs.Places.{place, HasPlaces}
 use Rattle.vob_block.specs.Packing.{bit_at}
 use Rattle.vob_block.proofs.PlaceLemmas.{place-ones}

@@ -2,7 +2,7 @@
 use Rattle.std.proofs.Common.{◌≡◌, ◌+◌, ◌%◌, ◌∷◌, ◌++◌, [], ◌∙◌, sym, ap, refl, arith, length, map}
 use Rattle.std.proofs.iter.Next.{Yields-more}
 use Rattle.std.proofs.lemmas.List.{map_push, length_push}
-use Rattle.vob.proofs.ItemLemmas.{yields_from, packs_none, packs_open, packs_full, canonical_without, canonical_with}
+use Rattle.vob.proofs.ItemLemmas.{yields_from, packs_none, packs_open, packs_full, stored_without, stored_with}
 use Rattle.vob_store.proofs.PushLemmas.{mark_at}
 use Rattle.vob.proofs.vob.pack_items.Goals as goal
 use Rattle.vob.proofs.vob.pack_items.Goals.{then-place-width+in_ok-push_block, else-place-width}
@@ -77,13 +77,12 @@ returns-in_ok-push_block-2-clause-ok g c =
     c.loop-bit.bit-iterator it.ensures.into_iter_gives c.loop-bit.yielded_by in
     let partial = λ (e : length xs % w ≡ 0). c.if-len-width-ne0.true
     (ap (λ v. c.loop-bit.len % v) c.BITS-width.ensures ∙ ap (λ n. n % w) h.length ∙ e) in
-    let both = canonical_with w g.met.T.Block.wide_law xs (map number c.loop-bit.blocks.items)
+    let stored = stored_with w g.met.T.Block.wide_law xs (map number c.loop-bit.blocks.items)
     (number c.loop-bit.block) h.gathers partial in (
       xs,
       (c.next.new.self, (c.loop-bit.bit-iterator, came, c.in-None.ensures.steps)),
       h.length,
-      rw (h.length, c.in_ok-push_block-2.ensures, map_push) both.0,
-      rw (h.length, c.in_ok-push_block-2.ensures, map_push) both.1,
+      rw (h.length, c.in_ok-push_block-2.ensures, map_push) stored,
     )
 
 pub returns-else-len-width-ne0-clause-ok : goal.returns-else-len-width-ne0-clause-ok
@@ -97,11 +96,10 @@ returns-else-len-width-ne0-clause-ok g c =
     c.loop-bit.bit-iterator it.ensures.into_iter_gives c.loop-bit.yielded_by in
     let full = ap (λ n. n % w) (sym h.length)
     ∙ ap (λ v. c.loop-bit.len % v) (sym c.BITS-width.ensures) ∙ c.if-len-width-ne0.false in
-    let both = canonical_without w g.met.T.Block.wide_law xs (map number c.loop-bit.blocks.items)
+    let stored = stored_without w g.met.T.Block.wide_law xs (map number c.loop-bit.blocks.items)
     (number c.loop-bit.block) h.gathers full in (
       xs,
       (c.next.new.self, (c.loop-bit.bit-iterator, came, c.in-None.ensures.steps)),
       h.length,
-      rw h.length both.0,
-      rw h.length both.1,
+      rw h.length stored,
     )

@@ -5,7 +5,7 @@ use Rattle.vob_block.specs.Packing.{need}
 use Rattle.vob_block.specs.Bytes.{bytes_list}
 use Rattle.vob_block.proofs.ByteLemmas.{length-bytes_list, bytes_list-take, bytes_list-drop}
 use Rattle.vob_store.proofs.RoomLemmas.{need_in_bytes}
-use Rattle.vob_store.proofs.LaidLemmas.{lays_none, lays_more, canonical_from_laid, rest_more, piece-places, more_needed, all_needed, last_needed, last-places, some_left, none_left}
+use Rattle.vob_store.proofs.LaidLemmas.{lays_none, lays_more, stores_from_laid, rest_more, piece-places, more_needed, all_needed, last_needed, last-places, some_left, none_left}
 use Rattle.vob_store.proofs.ReverseLemmas.{places_from_same}
 use Rattle.vob_store.proofs.bytes.byte_blocks.Goals as goal
 use Rattle.vob_store.proofs.bytes.byte_blocks.Goals.{then-not-is_empty, else-not-is_empty}
@@ -70,8 +70,8 @@ push_reserved-requires-then-not-is_empty c =
     (omega (arith, some, length-bytes_list rest)) in
     omega (arith, more, h.room)
 
-pub returns-clause-canonical : goal.returns-clause-canonical
-returns-clause-canonical c =
+pub returns-clause-stores : goal.returns-clause-stores
+returns-clause-stores c =
     let h = c.loop-first.invariant in
     let bits = bytes_list c.args.bytes.now in
     let m = length c.loop-first.blocks.items in
@@ -91,47 +91,14 @@ returns-clause-canonical c =
           word.ensures.within (last-places 64 (omega arith) bits m word.result
           (bytes_list rest) h.left places) in
           rw (u.blocks-is, u.push_reserved-then-not-is_empty.ensures.items)
-          ((canonical_from_laid 64 (omega arith) bits
+          ((stores_from_laid 64 (omega arith) bits
           (c.loop-first.blocks.items ++ word.result ∷ []) lays
-          (length_push c.loop-first.blocks.items word.result ∙ all)).0)
+          (length_push c.loop-first.blocks.items word.result ∙ all)))
       | else-not-is_empty u ↦
           let none = none_left (length rest) c.is_empty.result c.is_empty.ensures
           u.if-not-is_empty.false in
           let all = all_needed 64 (omega arith) bits m (bytes_list rest) h.left
           (omega (arith, none, length-bytes_list rest)) h.few in
-          rw u.blocks-is ((canonical_from_laid 64 (omega arith) bits c.loop-first.blocks.items
-          h.lays all).0)
-    ])
-
-pub returns-clause-bits : goal.returns-clause-bits
-returns-clause-bits c =
-    let h = c.loop-first.invariant in
-    let bits = bytes_list c.args.bytes.now in
-    let m = length c.loop-first.blocks.items in
-    let rest = c.loop-first.rest.now in
-    let short : length rest ≤ 8 = search rules in
-    rw (← length-bytes_list) (elim c.if-not-is_empty.branch [
-      | then-not-is_empty u ↦
-          let some = some_left (length rest) c.is_empty.result c.is_empty.ensures
-          u.if-not-is_empty.true in
-          let word = u.word_of_bytes-then-not-is_empty in
-          let places = places_from_same 64 word.result u.eight_bytes.result rest
-          u.eight_bytes.ensures word.ensures.places in
-          let all = last_needed 64 (omega arith) bits m (bytes_list rest) h.left
-          (omega (arith, some, length-bytes_list rest))
-          (omega (arith, short, length-bytes_list rest)) in
-          let lays = lays_more 64 bits c.loop-first.blocks.items word.result h.lays
-          word.ensures.within (last-places 64 (omega arith) bits m word.result
-          (bytes_list rest) h.left places) in
-          rw (u.blocks-is, u.push_reserved-then-not-is_empty.ensures.items)
-          ((canonical_from_laid 64 (omega arith) bits
-          (c.loop-first.blocks.items ++ word.result ∷ []) lays
-          (length_push c.loop-first.blocks.items word.result ∙ all)).1)
-      | else-not-is_empty u ↦
-          let none = none_left (length rest) c.is_empty.result c.is_empty.ensures
-          u.if-not-is_empty.false in
-          let all = all_needed 64 (omega arith) bits m (bytes_list rest) h.left
-          (omega (arith, none, length-bytes_list rest)) h.few in
-          rw u.blocks-is ((canonical_from_laid 64 (omega arith) bits c.loop-first.blocks.items
-          h.lays all).1)
+          rw u.blocks-is ((stores_from_laid 64 (omega arith) bits c.loop-first.blocks.items
+          h.lays all))
     ])

@@ -38,8 +38,8 @@ mask_last-requires-clause-within g c =
     rw c.deref_mut-2.ensures.value (resized-within number g.met.T.Block.wide_law resized
     c.args.value c.splat.ensures c.fill_last.ensures.within)
 
-pub returns-clause-bits : goal.returns-clause-bits
-returns-clause-bits g c =
+pub returns-clause-stores : goal.returns-clause-stores
+returns-clause-stores g c =
     let w = g.T.Block.BITS in
     let number = g.T.Block.number in
     let wanted = c.div_ceil.ensures ∙ need-is-div_ceil w g.met.T.Block.wide_law c.args.new_len
@@ -57,5 +57,8 @@ returns-clause-bits g c =
     filled in
     rw (take_at c.mask_last.new.blocks _ c.resize.new.self.len
     (c.mask_last.auto.blocks ∙ c.deref_mut-2.ensures.len))
-    (c.mask_last.ensures.bits ∙ ap (λ zs. unpacking c.args.new_len (map number zs) w)
-    c.deref_mut-2.ensures.value ∙ unpacking_new)
+    (record {
+      canonical = c.mask_last.ensures.canonical;
+      bits = c.mask_last.ensures.bits ∙ ap (λ zs. unpacking c.args.new_len (map number zs) w)
+          c.deref_mut-2.ensures.value ∙ unpacking_new;
+    })

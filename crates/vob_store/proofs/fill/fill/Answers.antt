@@ -13,12 +13,15 @@ mask_last-requires-clause-within g c =
     rw (splat.1, count) (splat-within number g.T.Block.BITS g.met.T.Block.wide_law c.args.len
     c.args.value splat.0 splat.2)
 
-pub returns-clause-bits : goal.returns-clause-bits
-returns-clause-bits g c =
+pub returns : goal.returns
+returns g c =
     let w = g.T.Block.BITS in
     let number = g.T.Block.number in
     let splat = c.fill_blocks.ensures in
     let count = sym (length-map c.args.blocks.now number) ∙ c.requires.count in
-    c.mask_last.ensures.bits ∙ ap (λ xs. unpacking c.args.len (map number xs) w)
-    (splat.1 ∙ ap (λ k. replicate k splat.0) count)
-    ∙ unpacking-splat number w g.met.T.Block.wide_law c.args.len c.args.value splat.0 splat.2
+    record {
+      canonical = c.mask_last.ensures.canonical;
+      bits = c.mask_last.ensures.bits ∙ ap (λ xs. unpacking c.args.len (map number xs) w)
+          (splat.1 ∙ ap (λ k. replicate k splat.0) count)
+          ∙ unpacking-splat number w g.met.T.Block.wide_law c.args.len c.args.value splat.0 splat.2;
+    }

@@ -30,8 +30,8 @@ mask_last-requires-clause-within g c =
     rw (c.deref_mut.ensures.value ∙ items) (splat-within g.T.Block.number w g.met.T.Block.wide_law
     c.args.len c.args.value c.splat.result c.splat.ensures)
 
-pub returns-clause-bits : goal.returns-clause-bits
-returns-clause-bits g c =
+pub returns-clause-stores : goal.returns-clause-stores
+returns-clause-stores g c =
     let w = g.T.Block.BITS in
     let number = g.T.Block.number in
     let wanted = c.div_ceil-count.ensures ∙ need-is-div_ceil w g.met.T.Block.wide_law c.args.len
@@ -43,6 +43,9 @@ returns-clause-bits g c =
     let long : length c.mask_last.new.blocks ≡ c.resize.new.self.len =
     omega (arith, c.mask_last.auto.blocks, c.deref_mut.ensures.len) in
     rw (take_at c.mask_last.new.blocks _ c.resize.new.self.len long)
-    (c.mask_last.ensures.bits ∙ ap (λ xs. unpacking c.args.len (map number xs) w)
-    (c.deref_mut.ensures.value ∙ items) ∙ unpacking-splat number w g.met.T.Block.wide_law
-    c.args.len c.args.value c.splat.result c.splat.ensures)
+    (record {
+      canonical = c.mask_last.ensures.canonical;
+      bits = c.mask_last.ensures.bits ∙ ap (λ xs. unpacking c.args.len (map number xs) w)
+          (c.deref_mut.ensures.value ∙ items) ∙ unpacking-splat number w g.met.T.Block.wide_law
+          c.args.len c.args.value c.splat.result c.splat.ensures;
+    })

@@ -1,4 +1,5 @@
 -- A full last block has no bit past the length, and elsewhere the mask takes those off.
+use Rattle.std.proofs.Common.{refl}
 use Rattle.vob_store.proofs.CutLemmas.{canonical_at_full_width, last_in_items, mask_last_at}
 use Rattle.vob_store.proofs.WriteLemmas.{offset_fits}
 use Rattle.vob_store.proofs.mask.mask_last.Goals as goal
@@ -27,17 +28,19 @@ bounds-blocks-last-then-used-ne0 g c =
     c.args.blocks.now c.requires.count c.BITS-width.result c.BITS-width.ensures
     c.if-used-ne0.true
 
-pub returns-else-used-ne0-clause-canonical : goal.returns-else-used-ne0-clause-canonical
-returns-else-used-ne0-clause-canonical g c =
-    canonical_at_full_width g.T.Block.number g.T.Block.BITS g.met.T.Block.wide_law c.args.len
-    c.args.blocks.now c.requires.count c.BITS-width.result c.BITS-width.ensures
-    c.requires.within c.if-used-ne0.false
+pub returns-else-used-ne0 : goal.returns-else-used-ne0
+returns-else-used-ne0 g c = record {
+  canonical = canonical_at_full_width g.T.Block.number g.T.Block.BITS g.met.T.Block.wide_law
+      c.args.len
+      c.args.blocks.now c.requires.count c.BITS-width.result c.BITS-width.ensures
+      c.requires.within c.if-used-ne0.false;
+  bits = refl;
+}
 
 pub returns-then-used-ne0 : goal.returns-then-used-ne0
 returns-then-used-ne0 g c =
-    let both = mask_last_at g.T.Block.number g.T.Block.BITS g.met.T.Block.wide_law c.args.len
+    mask_last_at g.T.Block.number g.T.Block.BITS g.met.T.Block.wide_law c.args.len
     c.args.blocks.now c.requires.count c.BITS-width.result c.BITS-width.ensures
     c.requires.within c.if-used-ne0.true c.index-blocks-last.result c.band.result
     (g.T.Block.number c.low_mask.result) c.index-blocks-last.is c.band.ensures.within
-    c.band.ensures.places c.low_mask.ensures.places in
-    record { canonical = both.0; bits = both.1 }
+    c.band.ensures.places c.low_mask.ensures.places

@@ -36,16 +36,19 @@ loop-k-preserved g c =
           (λ e. absurd (omega arith)) ∙ h.rest i (omega arith));
     }
 
-pub returns-clause-bits : goal.returns-clause-bits
-returns-clause-bits g c =
+pub returns : goal.returns
+returns g c =
     let w = g.T.Block.BITS in
     let number = g.T.Block.number in
-    c.mask_last.ensures.bits
-    ∙ unpacking-negated w g.met.T.Block.wide_law c.args.len (map number c.args.blocks.now)
-    (map number c.loop-k.blocks) c.loop-k.k
-    (omega (
-      arith,
-      c.requires.count,
-      length-map c.args.blocks.now number,
-      c.loop-k-test.false,
-    )) c.loop-k.invariant.laid
+    record {
+      canonical = c.mask_last.ensures.canonical;
+      bits = c.mask_last.ensures.bits
+          ∙ unpacking-negated w g.met.T.Block.wide_law c.args.len (map number c.args.blocks.now)
+          (map number c.loop-k.blocks) c.loop-k.k
+          (omega (
+            arith,
+            c.requires.count,
+            length-map c.args.blocks.now number,
+            c.loop-k-test.false,
+          )) c.loop-k.invariant.laid;
+    }

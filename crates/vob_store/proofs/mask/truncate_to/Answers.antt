@@ -19,8 +19,8 @@ mask_last-requires-clause-within g c =
     c.args.blocks.now.items c.requires.canonical c.args.new_len c.requires.shorter
     c.BITS.result c.div_ceil.result c.BITS.ensures c.div_ceil.ensures)
 
-pub returns-clause-bits : goal.returns-clause-bits
-returns-clause-bits g c =
+pub returns-clause-stores : goal.returns-clause-stores
+returns-clause-stores g c =
     let number = g.T.Block.number in
     let w = g.T.Block.BITS in
     let long : length c.mask_last.new.blocks ≡ c.truncate.new.self.len =
@@ -29,5 +29,8 @@ returns-clause-bits g c =
     c.requires.canonical c.args.new_len c.requires.shorter c.BITS.result c.div_ceil.result
     c.BITS.ensures c.div_ceil.ensures in
     rw (take_at c.mask_last.new.blocks _ c.truncate.new.self.len long)
-    (c.mask_last.ensures.bits ∙ ap (λ xs. unpacking c.args.new_len (map number xs) w)
-    (c.deref_mut.ensures.value ∙ c.truncate.ensures.items) ∙ kept)
+    (record {
+      canonical = c.mask_last.ensures.canonical;
+      bits = c.mask_last.ensures.bits ∙ ap (λ xs. unpacking c.args.new_len (map number xs) w)
+          (c.deref_mut.ensures.value ∙ c.truncate.ensures.items) ∙ kept;
+    })

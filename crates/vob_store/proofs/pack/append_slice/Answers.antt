@@ -12,12 +12,12 @@ push_packed-requires g c =
     let number = g.T.Block.number in
     let full = ap (λ v. c.args.len % v) (sym c.BITS.ensures) ∙ c.if-used-eq0.true in
     let blocks = map number c.args.blocks.now.items in
-    let both = append_packing w g.met.T.Block.wide_law c.args.len blocks c.requires.canonical
+    let stored = append_packing w g.met.T.Block.wide_law c.args.len blocks c.requires.canonical
     c.args.bits.now (inl full) in
     record {
       room = omega (
         arith,
-        both.0.count,
+        stored.canonical.count,
         length-append blocks (packing c.args.bits.now w),
         length-packing w g.met.T.Block.wide_law c.args.bits.now,
         length-map c.args.blocks.now.items number,
@@ -29,13 +29,11 @@ pub returns-then-used-eq0 : goal.returns-then-used-eq0
 returns-then-used-eq0 g c =
     let w = g.T.Block.BITS in
     let full = ap (λ v. c.args.len % v) (sym c.BITS.ensures) ∙ c.if-used-eq0.true in
-    let both = append_packing w g.met.T.Block.wide_law c.args.len
+    let stored = append_packing w g.met.T.Block.wide_law c.args.len
     (map g.T.Block.number c.args.blocks.now.items) c.requires.canonical c.args.bits.now
     (inl full) in
     record {
-      canonical = rw c.push_packed.ensures.blocks both.0;
-      bits =
-          rw c.push_packed.ensures.blocks both.1;
+      stores = rw c.push_packed.ensures.blocks stored;
       capacity = c.push_packed.ensures.capacity;
     }
 
@@ -73,14 +71,14 @@ push_packed-requires-else-used-eq0 g c =
     let left = take_at c.top_up.new.blocks (drop (length c.top_up.new.blocks)
     c.args.blocks.now.items) c.args.blocks.now.len
     (c.top_up.auto.blocks ∙ c.deref_mut.ensures.len) in
-    let both = append_parts w g.met.T.Block.wide_law c.args.len _ c.args.bits.now
+    let stored = append_parts w g.met.T.Block.wide_law c.args.len _ c.args.bits.now
     c.split_at.result.0.now c.split_at.result.1.now c.min.result
     (map number c.top_up.new.blocks) partial size c.split_at.ensures.front
-    c.split_at.ensures.back c.top_up.ensures.canonical c.top_up.ensures.bits in
+    c.split_at.ensures.back c.top_up.ensures in
     record {
       room = rw left (omega (
         arith,
-        both.0.count,
+        stored.canonical.count,
         length-append (map number c.top_up.new.blocks) (packing c.split_at.result.1.now w),
         length-packing w g.met.T.Block.wide_law c.split_at.result.1.now,
         length-map c.top_up.new.blocks number,
@@ -101,15 +99,13 @@ returns-else-used-eq0 g c =
     let left = take_at c.top_up.new.blocks (drop (length c.top_up.new.blocks)
     c.args.blocks.now.items) c.args.blocks.now.len
     (c.top_up.auto.blocks ∙ c.deref_mut.ensures.len) in
-    let both = append_parts w g.met.T.Block.wide_law c.args.len _ c.args.bits.now
+    let stored = append_parts w g.met.T.Block.wide_law c.args.len _ c.args.bits.now
     c.split_at.result.0.now c.split_at.result.1.now c.min.result
     (map number c.top_up.new.blocks) partial size c.split_at.ensures.front
-    c.split_at.ensures.back c.top_up.ensures.canonical
-    (rw c.deref_mut.ensures.value at c.top_up.ensures.bits) in
+    c.split_at.ensures.back (rw c.deref_mut.ensures.value at c.top_up.ensures) in
     let pushed = rw left at c.push_packed-else-used-eq0.ensures.blocks in
     record {
-      canonical = rw pushed both.0;
-      bits = rw pushed both.1;
+      stores = rw pushed stored;
       capacity =
           c.push_packed-else-used-eq0.ensures.capacity;
     }

@@ -20,20 +20,11 @@ push_packed-requires g c =
       );
     }
 
-pub returns-clause-canonical : goal.returns-clause-canonical
-returns-clause-canonical g c =
+pub returns-clause-stores : goal.returns-clause-stores
+returns-clause-stores g c =
     let w = g.T.Block.BITS in
     let number = g.T.Block.number in
     let blocks = c.push_packed.ensures.blocks
     ∙ ap (λ xs. map number xs ++ packing c.args.bits.now w) c.in_ok-blocks.ensures.items in
-    (packing_is w g.met.T.Block.wide_law c.args.bits.now (length c.args.bits.now)
-    (map number c.push_packed.new.blocks.items) blocks refl).0
-
-pub returns-clause-bits : goal.returns-clause-bits
-returns-clause-bits g c =
-    let w = g.T.Block.BITS in
-    let number = g.T.Block.number in
-    let blocks = c.push_packed.ensures.blocks
-    ∙ ap (λ xs. map number xs ++ packing c.args.bits.now w) c.in_ok-blocks.ensures.items in
-    (packing_is w g.met.T.Block.wide_law c.args.bits.now (length c.args.bits.now)
-    (map number c.push_packed.new.blocks.items) blocks refl).1
+    packing_is w g.met.T.Block.wide_law c.args.bits.now (length c.args.bits.now)
+    (map number c.push_packed.new.blocks.items) blocks refl

@@ -37,8 +37,8 @@ returns g c =
     c.requires.canonical c.BITS-width.result c.BITS-width.ensures c.requires.partial
     c.index-blocks-last.result (number c.pack_block-more.result) (number c.up.result)
     (number c.bor.result) c.index-blocks-last.is c.up.ensures.places c.bor.ensures.places in
-    let both = append_in_last w g.met.T.Block.wide_law c.args.len (map number c.args.blocks.now)
+    let stored = append_in_last w g.met.T.Block.wide_law c.args.len (map number c.args.blocks.now)
     c.requires.canonical c.requires.partial (number c.bor.result)
     (number c.pack_block-more.result) topped c.args.bits.now c.requires.fits
     c.bor.ensures.within c.pack_block-more.ensures.places in
-    rw (c.BITS-width.ensures, map-set) (record { canonical = both.0; bits = both.1 })
+    rw (c.BITS-width.ensures, map-set) stored

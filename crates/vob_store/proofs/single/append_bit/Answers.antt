@@ -39,12 +39,11 @@ returns-in_ok-push g c =
     let full = ap (λ w. c.args.len % w) (sym c.BITS-width.ensures) ∙ c.if-place-eq0.true in
     let items = ap (map number) c.in_ok-push.ensures.items
     ∙ map_push number c.args.blocks.now.items c.first_place.result in
-    let both = push_block g.T.Block.BITS g.met.T.Block.wide_law c.args.len
+    let stored = push_block g.T.Block.BITS g.met.T.Block.wide_law c.args.len
     (map number c.args.blocks.now.items) c.requires c.args.value (number c.first_place.result)
     full c.first_place.ensures in
     record {
-      canonical = rw items both.0;
-      bits = rw items both.1;
+      stores = rw items stored;
       err = search rules;
       full = search rules;
       capacity = search rules;
@@ -74,12 +73,11 @@ returns-else-place-eq0 g c =
     (number c.up.result) (number c.first_place-mark.result) (c.args.len % v) (c.args.len % w)
     c.args.value c.first_place-mark.ensures (ap (λ u. c.args.len % u) c.BITS-width.ensures)
     c.up.ensures.places c.bor.ensures.places in
-    let both = mark_last number w g.met.T.Block.wide_law c.args.len c.args.blocks.now.items
+    let stored = mark_last number w g.met.T.Block.wide_law c.args.len c.args.blocks.now.items
     c.requires partial v c.BITS-width.ensures c.args.value c.index-block.result.now
     c.bor.result c.index-block.ensures c.bor.ensures.within places in
     record {
-      canonical = both.0;
-      bits = both.1;
+      stores = stored;
       err = search rules;
       full = search rules;
       capacity = search rules;

@@ -29,7 +29,7 @@ bounds-blocks-k-2 g c =
 
 pub returns : goal.returns
 returns g c =
-    let both = write_at g.T.Block.number g.T.Block.BITS g.met.T.Block.wide_law c.args.len
+    let stored = write_at g.T.Block.number g.T.Block.BITS g.met.T.Block.wide_law c.args.len
     c.args.blocks.now c.requires.canonical c.args.index c.requires.in_range
     c.BITS-width.result c.BITS-width.ensures c.args.value c.index-blocks-k.result
     c.with_place.result c.index-blocks-k.is c.with_place.ensures.within
@@ -39,8 +39,7 @@ returns g c =
     c.BITS-width.ensures c.requires.in_range c.index-blocks-k.result c.bit.result
     c.index-blocks-k.is c.bit.ensures in
     record {
-      canonical = both.0;
-      bits = both.1;
+      stores = stored;
       changed =
           changed_from _ c.bit.result c.args.value bit;
     }

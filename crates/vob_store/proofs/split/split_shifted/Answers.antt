@@ -4,7 +4,7 @@ use Rattle.std.proofs.lemmas.List.{length-map, map-set, get_or-map}
 use Rattle.std.proofs.lemmas.List.Elements.{All-set}
 use Rattle.vob_block.specs.Packing.{need}
 use Rattle.vob_block.proofs.NeedLemmas.{lt-need}
-use Rattle.vob_store.proofs.FunnelLemmas.{AreCut-none, AreCut-more, HasPlaces-cut, HasPlaces-cut_last, IsRest-last, cut_in_range, item_in_range, last_in_range}
+use Rattle.vob_store.proofs.FunnelLemmas.{AreCut-none, AreCut-more, HasPlaces-cut, HasPlaces-cut_last, Stores-cut_last, cut_in_range, item_in_range, last_in_range}
 use Rattle.vob_store.proofs.split.split_shifted.Goals as goal
 
 pub overflow_sub-last : goal.overflow_sub-last
@@ -151,7 +151,8 @@ returns-then-first-last g c =
     (number c.index-blocks-first-then-first-last.result) one two places in
     let some = lt-need w g.met.T.Block.wide_law (c.args.len - c.args.at) 0
     (omega (arith, c.requires.inside)) in
-    rw map-set (IsRest-last w g.met.T.Block.wide_law c.args.len c.args.at xs c.requires.canonical
+    rw map-set (Stores-cut_last w g.met.T.Block.wide_law c.args.len c.args.at xs
+    c.requires.canonical
     ys c.loop-k.k last y
     (omega (arith, length-map c.loop-k.rest number, c.loop-k.auto.rest, c.requires.count))
     h.within c.funnel_down-then-first-last.ensures.within h.cut
@@ -182,7 +183,8 @@ returns-else-first-last g c =
     let bit_at = HasPlaces-cut_last w g.met.T.Block.wide_law c.args.len c.args.at xs
     c.requires.canonical last y (number c.index-blocks-first-2.result) one
     (omega (arith, none, length-map c.args.blocks.now number)) places in
-    rw map-set (IsRest-last w g.met.T.Block.wide_law c.args.len c.args.at xs c.requires.canonical
+    rw map-set (Stores-cut_last w g.met.T.Block.wide_law c.args.len c.args.at xs
+    c.requires.canonical
     ys c.loop-k.k last y
     (omega (arith, length-map c.loop-k.rest number, c.loop-k.auto.rest, c.requires.count))
     h.within c.down.ensures.within h.cut

@@ -1,8 +1,8 @@
 -- The rest is the blocks from that of the index on.
-use Rattle.std.proofs.Common.{◌≡◌, ◌≤◌, ◌/◌, map, length, drop, arith, rules, sym, ap, ◌∙◌, subst}
+use Rattle.std.proofs.Common.{◌≡◌, ◌≤◌, ◌-◌, ◌/◌, map, length, drop, arith, rules, sym, ap, ◌∙◌, subst}
 use Rattle.std.proofs.lemmas.List.{length-map, take_rest, drop-map}
-use Rattle.vob_store.proofs.FunnelLemmas.{IsRest-whole, length-drop_need, start-le}
-use Rattle.vob_store.specs.Joining.{IsRest}
+use Rattle.vob_block.specs.Packing.{unpacking, Stores}
+use Rattle.vob_store.proofs.FunnelLemmas.{Stores-cut_whole, length-drop_need, start-le}
 use Rattle.vob_store.proofs.split.split_whole.Goals as goal
 
 pub offset_bounds-blocks-at : goal.offset_bounds-blocks-at
@@ -52,6 +52,8 @@ returns g c =
     let copied = ap (map number) (rw (c.BITS.ensures, take_rest) at
     c.copy_from_slice.ensures.after) ∙ sym
     (drop-map number (c.args.at / w) c.args.blocks.now) in
-    subst (λ (ys : _). IsRest w c.args.len c.args.at xs ys) (sym copied)
-    (IsRest-whole w g.met.T.Block.wide_law c.args.len c.args.at xs c.requires.canonical
+    subst (λ (ys : _). Stores w (c.args.len - c.args.at) ys
+    (drop c.args.at (unpacking c.args.len xs w)))
+    (sym copied)
+    (Stores-cut_whole w g.met.T.Block.wide_law c.args.len c.args.at xs c.requires.canonical
     c.requires.whole c.requires.inside)

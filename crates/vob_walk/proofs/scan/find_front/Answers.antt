@@ -3,7 +3,7 @@ use Rattle.std.proofs.Common.{◌≡◌, ◌+◌, ◌*◌, ◌++◌, ◌∙◌, 
 use Rattle.vob_block.proofs.NumberLemmas.{number_read}
 use Rattle.vob_walk.specs.Cursor.{block_indices, unread}
 use Rattle.vob_walk.proofs.BlockBitsLemmas.{some_index}
-use Rattle.vob_walk.proofs.ScanLemmas.{unread-first_block_indices, unread-first_skipped, unread-first_end}
+use Rattle.vob_walk.proofs.ScanLemmas.{unread-first_block_indices, unread-first_skipped}
 use Rattle.vob_walk.proofs.scan.find_front.Goals as goal
 
 pub loop-k-preserved : goal.loop-k-preserved

@@ -9,7 +9,7 @@ append_blocks-requires-clause-other g c =
     let long : length c.args.other.now.bits ≡ c.other.inside.len =
     rw (← c.other.view_is) (length-unpacking _ _ _) in
     (packing_is g.T.Block.BITS g.met.T.Block.wide_law c.args.other.now.bits c.other.inside.len _
-    c.blocks-then-self-BITS-ne0.ensures.blocks long).0
+    c.blocks-then-self-BITS-ne0.ensures.blocks long).canonical
 
 pub append_blocks-requires-clause-room : goal.append_blocks-requires-clause-room
 append_blocks-requires-clause-room g c =
@@ -23,7 +23,7 @@ returns-then-self-BITS-ne0-clause-bits g c =
     rw (← c.other.view_is) (length-unpacking _ _ _) in
     c.append_blocks.ensures.bits ∙ ap (λ o. c.args.self.now.bits ++ o)
     (packing_is g.T.Block.BITS g.met.T.Block.wide_law c.args.other.now.bits c.other.inside.len
-    _ c.blocks-then-self-BITS-ne0.ensures.blocks long).1
+    _ c.blocks-then-self-BITS-ne0.ensures.blocks long).bits
 
 pub join_copied-requires-clause-room : goal.join_copied-requires-clause-room
 join_copied-requires-clause-room g c = let room =

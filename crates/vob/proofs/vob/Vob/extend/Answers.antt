@@ -14,7 +14,7 @@ returns-in_err-reserve-clause-extended g c =
     let e = c.in_err-reserve.ensures in
     let refused = hint_refused c.args.self.now c.size_hint-hint.result.0
     (Err c.in_err-reserve.field-0.0) g.T.Block.BITS c.in_err-reserve.field-0.0 refl e.nothing
-    e.too_long e.memory in (
+    e.refused in (
       c.into_iter-items.result,
       c.size_hint-hint.result.0,
       c.into_iter-items.ensures.into_iter_gives,
@@ -22,7 +22,7 @@ returns-in_err-reserve-clause-extended g c =
       rw (p.1, p.2) (record {
         ok = tt;
         err = inl (refused.0, refused.1, e.bits);
-        too_long = λ h. e.too_long.1 h;
+        too_long = λ h. e.refused.too_long.1 h;
       }),
     )
 
@@ -31,7 +31,7 @@ loop-bit-init g c = record {
   bits = c.in_ok-reserve.ensures.bits ∙ sym (append-nil c.args.self.now.bits);
   hinted = c.in_ok-reserve.ensures.ok;
   fits = elim (cases_lt (2 ^ 64 - 1) (length c.args.self.now.bits + c.size_hint-hint.result.0)) [
-    | inl far ↦ let refused = c.in_ok-reserve.ensures.too_long.1 far in absurd (cc)
+    | inl far ↦ let refused = c.in_ok-reserve.ensures.refused.too_long.1 far in absurd (cc)
     | inr near ↦ near
   ];
   capacity = c.in_ok-reserve.ensures.capacity;
@@ -62,7 +62,7 @@ returns-in_err-push-clause-extended g c =
     let long = ap length h.bits ∙ length-append c.args.self.now.bits xs in
     let refused = item_refused c.args.self.now c.size_hint-hint.result.0
     (Err c.in_err-push.field-0.0) g.T.Block.BITS c.loop-bit.self (length xs)
-    c.in_err-push.field-0.0 refl long h.capacity h.hinted h.fits e.too_long e.memory in (
+    c.in_err-push.field-0.0 refl long h.capacity h.hinted h.fits e.refused in (
       c.into_iter-items.result,
       c.size_hint-hint.result.0,
       c.into_iter-items.ensures.into_iter_gives,

@@ -13,7 +13,7 @@ over-requires g c =
     sym (length-map c.blocks-2.result.items number)
     ∙ (packing_is w g.met.T.Block.wide_law c.args.self.now.bits c.len.result
     (map number c.blocks-2.result.items) c.blocks-2.ensures.blocks
-    (sym c.len.ensures.len)).0.count
+    (sym c.len.ensures.len)).canonical.count
 
 pub returns-clause-fresh : goal.returns-clause-fresh
 returns-clause-fresh g c = λ in_range.
@@ -22,7 +22,7 @@ returns-clause-fresh g c = λ in_range.
     let low = g.R.RangeBounds.start_bound c.args.range in
     let high = g.R.RangeBounds.end_bound c.args.range in
     let bits = (packing_is w g.met.T.Block.wide_law c.args.self.now.bits c.len.result
-    (map number c.blocks-2.result.items) c.blocks-2.ensures.blocks (sym c.len.ensures.len)).1 in
+    (map number c.blocks-2.result.items) c.blocks-2.ensures.blocks (sym c.len.ensures.len)).bits in
     subst (λ bs. IsFresh c.over.result bs false low high w) bits (c.over.ensures.fresh in_range)
 
 pub returns-clause-runs : goal.returns-clause-runs

@@ -25,4 +25,4 @@ returns-clause-last g c =
     (rw c.as_slice.ensures.value at c.stored_bit-value.ensures))
 
 pub returns-clause-bits : goal.returns-clause-bits
-returns-clause-bits g c = rw (← c.self.view_is, length-unpacking) c.truncate_to.ensures.bits
+returns-clause-bits g c = rw (← c.self.view_is, length-unpacking) c.truncate_to.ensures.stores.bits

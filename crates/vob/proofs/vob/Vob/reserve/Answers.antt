@@ -7,34 +7,35 @@ use Rattle.vob_block.proofs.PackingLemmas.{length-unpacking}
 use Rattle.vob_store.proofs.RoomLemmas.{room_from_need, need_from_room, no_room}
 use Rattle.vob.proofs.vob.Vob.reserve.Goals as goal
 
-pub returns-then-additional-self-clause-too_long :
-    goal.returns-then-additional-self-clause-too_long
-returns-then-additional-self-clause-too_long g c =
-    rw (← c.self.view_is, length-unpacking) (
-      (λ _.
-          omega (arith, c.if-additional-self.true, c.self.ranges)),
-      (λ _. refl),
-    )
+pub returns-then-additional-self-clause-refused : goal.returns-then-additional-self-clause-refused
+returns-then-additional-self-clause-refused g c =
+    record {
+      too_long = rw (← c.self.view_is, length-unpacking)
+          ((λ _. omega (arith, c.if-additional-self.true, c.self.ranges)), (λ _. refl));
+      memory = λ e. cc;
+    }
 
 pub returns-then-additional-self-clause-room : goal.returns-then-additional-self-clause-room
 returns-then-additional-self-clause-room g c =
     rw (← c.self.view_is, length-unpacking) (λ h.
     absurd (omega (arith, c.if-additional-self.true, c.self.ranges)))
 
-pub returns-in_err-reserve_bits-clause-too_long : goal.returns-in_err-reserve_bits-clause-too_long
-returns-in_err-reserve_bits-clause-too_long g c =
+pub returns-in_err-reserve_bits-clause-refused : goal.returns-in_err-reserve_bits-clause-refused
+returns-in_err-reserve_bits-clause-refused g c =
     let p = err_from_is_err_and c.from_residual.result c.from_residual.ensures.1 in
-    rw (p.1, p.2, ← c.self.view_is, length-unpacking)
-    ((λ e. cc), (λ h. absurd (omega (arith, c.if-additional-self.false, c.self.ranges))))
-
-pub returns-in_err-reserve_bits-clause-memory : goal.returns-in_err-reserve_bits-clause-memory
-returns-in_err-reserve_bits-clause-memory g c =
     let full = c.in_err-reserve_bits.ensures.full in
     let vec = c.self.inside.vec in
     let count = sym (length-map vec.items g.T.Block.number) ∙ c.self.invariant.count in
     let short = no_room g.T.Block.BITS g.met.T.Block.wide_law
     (c.self.inside.len + c.args.additional) vec.cap full in
-    rw (← c.self.view_is, length-unpacking) (λ _. (short, omega (arith, full, count, vec.ok)))
+    rw (p.1, p.2) (record {
+      too_long = rw (← c.self.view_is, length-unpacking) (
+        (λ e. cc),
+        (λ h. absurd (omega (arith, c.if-additional-self.false, c.self.ranges))),
+      );
+      memory = rw (← c.self.view_is, length-unpacking)
+          (λ _. (short, omega (arith, full, count, vec.ok)));
+    })
 
 pub returns-in_err-reserve_bits-clause-room : goal.returns-in_err-reserve_bits-clause-room
 returns-in_err-reserve_bits-clause-room g c =
@@ -50,20 +51,26 @@ returns-clause-ok g c =
     _ c.in_ok-reserve_bits.ensures.ok (omega
     (arith, c.if-additional-self.false, c.self.ranges)))
 
-pub returns-clause-too_long : goal.returns-clause-too_long
-returns-clause-too_long g c =
-    rw (← c.self.view_is, length-unpacking) (
-      (λ e. cc),
-      (λ h. absurd (omega (arith, c.if-additional-self.false, c.self.ranges))),
-    )
+pub returns-clause-refused : goal.returns-clause-refused
+returns-clause-refused g c =
+    record {
+      too_long = rw (← c.self.view_is, length-unpacking) (
+        (λ e. cc),
+        (λ h. absurd (omega (arith, c.if-additional-self.false, c.self.ranges))),
+      );
+      memory = λ e. cc;
+    }
 
-pub returns-clause-stays : goal.returns-clause-stays
-returns-clause-stays g c =
+pub returns-clause-room : goal.returns-clause-room
+returns-clause-room g c =
     let w = g.T.Block.BITS in
     rw (← c.self.view_is, length-unpacking)
-    (λ h. ap (λ k. min (k * w) (2 ^ 64 - 1)) (c.in_ok-reserve_bits.ensures.stays
-    (need_from_room w g.met.T.Block.wide_law (c.self.inside.len + c.args.additional)
-    c.self.inside.vec.cap h)))
+    (λ h. (
+      refl,
+      ap (λ k. min (k * w) (2 ^ 64 - 1)) (c.in_ok-reserve_bits.ensures.stays
+          (need_from_room w g.met.T.Block.wide_law (c.self.inside.len + c.args.additional)
+          c.self.inside.vec.cap h)),
+    ))
 
 pub returns-then-additional-self-clause-nothing : goal.returns-then-additional-self-clause-nothing
 returns-then-additional-self-clause-nothing g c =

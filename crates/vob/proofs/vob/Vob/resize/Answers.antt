@@ -35,5 +35,5 @@ returns-clause-ok g c =
     c.in_ok-reserve_bits.ensures.items ∙ ap (λ v. v.bits) c.self.view_is in
     let all = take_all c.args.new_len c.args.self.now.bits
     (omega (arith, long, c.if-new_len-self.false)) in
-    rw (all, long) (c.append_fill.ensures.bits
+    rw (all, long) (c.append_fill.ensures.stores.bits
     ∙ ap (λ bs. bs ++ replicate (c.args.new_len - c.self.inside.len) c.args.value) own)

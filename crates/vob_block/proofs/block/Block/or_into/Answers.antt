@@ -1,8 +1,7 @@
 -- By the lemmas on a loop that takes blocks together.
-use Rattle.std.proofs.Common.{◌≡◌, ◌<◌, ◌^◌, ◌||◌, ap, map, length, arith, rules, sym, ◌∙◌}
+use Rattle.std.proofs.Common.{◌≡◌, ◌||◌, ap, map, length, arith, rules, sym, ◌∙◌}
 use Rattle.std.proofs.lemmas.List.{length-map}
-use Rattle.std.proofs.lemmas.List.Elements.{All-from_get_or}
-use Rattle.vob_block.proofs.KernelLemmas.{AreTaken-none, item-more, IsPointwise-taken, within-taken, flag-taken}
+use Rattle.vob_block.proofs.KernelLemmas.{AreTaken-none, item-more, IsCombined-taken}
 use Rattle.vob_block.proofs.block.Block.or_into.Goals as goal
 
 pub loop-k-init : goal.loop-k-init
@@ -48,20 +47,18 @@ returns g c =
     let zero = ap number c.ZERO.ensures ∙ g.met.Self.Block.zero_number_law in
     let test = g.met.Self.Block.equal_law c.loop-k.changed c.ZERO.result in
     record {
-      blocks = IsPointwise-taken w ◌||◌ olds others news c.loop-k.k (number c.loop-k.changed)
-          taken whole;
-      within = All-from_get_or (λ n. n < 2 ^ w) news 0
-          (within-taken w ◌||◌ olds others news c.loop-k.k (number c.loop-k.changed) taken whole);
-      changed = rw c.ne.ensures (flag-taken w ◌||◌ olds others news c.loop-k.k
+      combined = rw c.ne.ensures (IsCombined-taken w ◌||◌ olds others news c.loop-k.k
           (number c.loop-k.changed) taken whole
           (g.Self.PartialEq.eq c.loop-k.changed c.ZERO.result)
           ((λ e. test.0 e ∙ zero), (λ e. test.1 (e ∙ sym zero))));
-      items = c.loop-k.invariant.items;
-      reads = omega (
-        arith,
-        c.loop-k.invariant.reads,
-        c.requires,
-        c.loop-k.auto.own,
-        c.loop-k.auto.k-end,
-      );
+      read = record {
+        items = c.loop-k.invariant.items;
+        reads = omega (
+          arith,
+          c.loop-k.invariant.reads,
+          c.requires,
+          c.loop-k.auto.own,
+          c.loop-k.auto.k-end,
+        );
+      };
     }

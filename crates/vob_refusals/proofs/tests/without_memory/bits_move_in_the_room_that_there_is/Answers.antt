@@ -5,4 +5,5 @@ use Rattle.vob_refusals.proofs.tests.without_memory.bits_move_in_the_room_that_t
 
 pub append_blocks-requires-clause-other : goal.append_blocks-requires-clause-other
 append_blocks-requires-clause-other g c =
-    (packing_is 8 (omega arith) c.in-Ok-vob_of.other.bits _ _ c.blocks-2.ensures.blocks (sym c.len-4.ensures.len)).0
+    (packing_is 8 (omega arith) c.in-Ok-vob_of.other.bits _ _ c.blocks-2.ensures.blocks
+    (sym c.len-4.ensures.len)).canonical

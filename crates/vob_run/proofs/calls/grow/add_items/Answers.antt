@@ -19,7 +19,7 @@ returns g c =
     ap (λ s. length s.iter.rest.now) did.2 ∙ ap (λ i. length i.rest.now) source ∙ ap length rest in
     let lower : did.1 ≤ length bits = omega (arith, did.3 tt, count) in
     let not : 2 ^ 64 - 1 < length vob.bits + length bits → ⊥ = λ e.
-    let wrong = reserved.too_long.1 e in cc in
+    let wrong = reserved.refused.too_long.1 e in cc in
     let same = ap length reserved.bits in
     let all = all_added _ did.0 bits road did.1 c.reserve.new.self c.extend.new.self lower
     (omega (arith, reserved.ok, same)) (omega (arith, not, same)) c.extend.result did.4 in

@@ -15,4 +15,4 @@ returns g c =
     rw (← c.deref.ensures.value)
     (extended_step g.T.Block.BITS _ _ _ vob (ExtendSlice c.args.which more) more
     (record { told = reply.ok; refusal = reply.err; ok = call.ok; err = call.err })
-    refl call.too_long (λ t. t) (λ e. (call.memory e).1))
+    refl call.refused.too_long (λ t. t) (λ e. (call.refused.memory e).1))

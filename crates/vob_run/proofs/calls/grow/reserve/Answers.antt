@@ -26,4 +26,5 @@ returns g c =
     asked_step g.T.Block.BITS _ _ _ vob (Reserve c.args.which c.args.additional)
     (length old.bits + c.args.additional)
     (record { told = reply.ok; refusal = reply.err; ok = same.0; err = same.1 })
-    (rw (list_at vob, kept) refl) call.too_long (λ e. rw (list_at vob) (call.memory e).1)
+    (rw (list_at vob, kept) refl) call.refused.too_long
+    (λ e. rw (list_at vob) (call.refused.memory e).1)

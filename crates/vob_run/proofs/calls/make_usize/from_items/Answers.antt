@@ -19,7 +19,7 @@ returns c =
     let source = YieldsList-from_copied (YieldsList-at c.copied.ensures.source slice) in
     let short : length bits ≤ 2 ^ 64 - 1 = omega (arith, c.iter.ensures.bound) in
     let not_long : result ≡ Err TooLong → ⊥ = λ e.
-    let long = taken.too_long e in
+    let long = taken.refused.too_long e in
     let more = long.2 in
     let road = YieldsList-at long.1 source in
     omega (arith, short, more.3, none_more _ long.0 bits road more.0 more.1 more.2) in

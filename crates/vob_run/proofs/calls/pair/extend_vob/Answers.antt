@@ -23,4 +23,5 @@ returns g c =
     (asked_step g.T.Block.BITS items c.args.which old lent.first
     (ExtendVob c.args.which c.args.other) (length old.bits + length more)
     (record { told = reply.ok; refusal = reply.err; ok = call.ok; err = call.err })
-    (on_two-found lent _) call.too_long (λ e. rw (list_at lent.first, read) (call.memory e).1))
+    (on_two-found lent _) call.refused.too_long
+    (λ e. rw (list_at lent.first, read) (call.refused.memory e).1))

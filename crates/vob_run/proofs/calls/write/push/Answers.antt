@@ -16,4 +16,5 @@ returns g c =
     let reply = c.reply_to.ensures in
     asked_step width _ _ _ vob call (length bits + 1)
     (record { told = reply.ok; refusal = reply.err; ok = push.ok; err = push.err })
-    (step-push width vob c.args.value) push.too_long (λ e. rw (list_at vob) (push.memory e).1)
+    (step-push width vob c.args.value) push.refused.too_long
+    (λ e. rw (list_at vob) (push.refused.memory e).1)

@@ -1,6 +1,6 @@
 -- The front is filled, and gives its first index.
 use Rattle.std.specs.Prelude.{None}
-use Rattle.std.proofs.Common.{◌≡◌, refl, arith}
+use Rattle.std.proofs.Common.{◌≡◌, refl}
 use Rattle.vob_walk.proofs.CursorLemmas.{reads-pulled, first-none}
 use Rattle.vob_walk.proofs.cursor.Cursor.next.Goals as goal
 

@@ -1,5 +1,5 @@
 -- Nothing is in hand at either end, so all is in the unread blocks.
-use Rattle.std.proofs.Common.{◌∙◌, map, length, sym, ap, arith}
+use Rattle.std.proofs.Common.{◌∙◌, map, length, ap, arith}
 use Rattle.vob_block.proofs.PackingLemmas.{length-unpacking}
 use Rattle.vob_walk.specs.Matches.{blocks_met}
 use Rattle.vob_walk.specs.Cursor.{has_index}

@@ -1,5 +1,5 @@
 -- Where nothing was found, no block is unread.
-use Rattle.std.proofs.Common.{map, arith}
+use Rattle.std.proofs.Common.{arith}
 use Rattle.vob_walk.proofs.ScanLemmas.{unread-none}
 use Rattle.vob_walk.proofs.scan.Unread.next_bits.Goals as goal
 

@@ -1,5 +1,5 @@
 -- The window of the range, and the blocks that it meets.
-use Rattle.std.proofs.Common.{map, length, arith}
+use Rattle.std.proofs.Common.{map, arith}
 use Rattle.std.proofs.lemmas.List.{length-map}
 use Rattle.vob_block.proofs.NeedLemmas.{need-le-need}
 use Rattle.vob_walk.proofs.WindowLemmas.{IsWindow-cut, length-unread-le}
