@@ -1,11 +1,29 @@
 -- Why an `extend` is refused, by what its calls say.
-use Rattle.std.specs.Prelude.{Err, Result, ⊤, IsOk, is_ok}
+use Rattle.std.specs.Prelude.{Ok, Err, Result, ⊤, IsOk, is_ok}
 use Rattle.std.proofs.Common.{◌≡◌, ℕ, ◌+◌, ◌-◌, ◌^◌, ◌<◌, ◌≤◌, length, zero, suc, refl, sym, ap, ◌∙◌, arith}
 use Rattle.std.proofs.lemmas.Bool.{false≢true}
 use Rattle.vob.specs.declared.error.VobError.{VobError}
 use Rattle.vob.specs.declared.error.VobError.TheVariants.{TooLong, Memory}
-use Rattle.vob.specs.Vob.{BitVector}
+use Rattle.vob.specs.Vob.{BitVector, IsTooLong, NeedsMemory}
 use Rattle.vob.specs.Extending.{MayRefuse, RefusesMore}
+
+-- the three answers of a call for n bits more
+module _ (w : ℕ) (vob : BitVector) (n : ℕ) where
+  pub RefusesMore-long : IsTooLong vob n → RefusesMore w vob n (Err TooLong)
+  RefusesMore-long far = record { too_long = ((λ _. far), (λ _. refl)); memory = λ e. cc }
+
+  pub RefusesMore-memory : (IsTooLong vob n → ⊥) → NeedsMemory w vob n
+      → RefusesMore w vob n (Err Memory)
+  RefusesMore-memory near needs = record {
+    too_long = ((λ e. cc), (λ far. absurd (near far)));
+    memory = λ _. needs;
+  }
+
+  pub RefusesMore-nothing : (IsTooLong vob n → ⊥) → RefusesMore w vob n (Ok tt)
+  RefusesMore-nothing near = record {
+    too_long = ((λ e. cc), (λ far. absurd (near far)));
+    memory = λ e. cc;
+  }
 
 -- what is refused was asked for some bits, where a call for none isn't refused
 some_asked : (n : ℕ) (result : Result ⊤ VobError) (r : VobError) → result ≡ Err r

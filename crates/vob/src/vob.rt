@@ -110,13 +110,12 @@ impl<T: Block> Vob<T> {
     }
 
     /// Makes room for `additional` bits more than there are. Where there is that room already,
-    /// nothing changes. vob 4.0.1 counts the missing blocks from the capacity, and so may make too
-    /// little room; it panics where the sum passes `usize::MAX`.
+    /// nothing changes; a length that can't be is refused first. vob 4.0.1 counts the missing blocks
+    /// from the capacity, and so may make too little room; it panics where the sum passes
+    /// `usize::MAX`.
     pub fn reserve(&mut self, additional: usize) -> Result<(), VobError>
         ensures ok { OnOk result (length self.old.bits + additional ≤ self.new.capacity) }
         ensures bits { self.new.bits ≡ self.old.bits }
-
-        // A length that can't be is refused first, and memory only where there is no room.
         ensures refused { RefusesMore T.BITS self.old additional result }
         ensures err { OnErr result (self.new.capacity ≡ self.old.capacity) }
         ensures capacity { self.old.capacity ≤ self.new.capacity }

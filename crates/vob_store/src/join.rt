@@ -64,19 +64,19 @@ fn join_into<T: Block>(own: &mut [T], len: usize, other: &mut Blocks<'_, T>, mor
 }
 
 /// Joins the `more` bits of `other` behind `len` bits, in the room that is there.
-pub fn join<T: Block>(blocks: &mut Vec<T>, len: usize, other: &mut Blocks<'_, T>, more: usize)
-    requires canonical { IsCanonical len (map T.number blocks.old.items) T.BITS }
+pub fn join<T: Block>(own: &mut Vec<T>, len: usize, other: &mut Blocks<'_, T>, more: usize)
+    requires canonical { IsCanonical len (map T.number own.old.items) T.BITS }
     requires other { IsCanonical more (map T.number other.old.items) T.BITS }
     requires longest { len + more ≤ usize.MAX }
-    requires room { len + more ≤ vec_capacity blocks.old * T.BITS }
-    ensures joined { IsJoined T.BITS len more (map T.number blocks.old.items)
-        (map T.number other.old.items) (map T.number blocks.new.items) }
-    ensures capacity { vec_capacity blocks.old ≤ vec_capacity blocks.new }
+    requires room { len + more ≤ vec_capacity own.old * T.BITS }
+    ensures joined { IsJoined T.BITS len more (map T.number own.old.items)
+        (map T.number other.old.items) (map T.number own.new.items) }
+    ensures capacity { vec_capacity own.old ≤ vec_capacity own.new }
     ensures read { AreReadOnce other.old other.new }
 {
     // There is room, so this isn't refused.
-    let _ = blocks.resize(block_count::<T>(len + more), T::ZERO);
-    join_into(blocks, len, other, more);
+    let _ = own.resize(block_count::<T>(len + more), T::ZERO);
+    join_into(own, len, other, more);
 }
 
 /// Copies the blocks of `more` bits behind `len` bits that fill theirs, in the room that is there.

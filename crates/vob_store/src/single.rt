@@ -31,13 +31,12 @@ pub fn first_place<T: Block>(value: bool) -> T
     if value { T::ONE } else { T::ZERO }
 }
 
-/// Adds a bit behind the last one, with a block more where the last one is full.
+/// Adds a bit behind the last one, with a block more where the last one is full. Memory is asked for
+/// only where there is no room for it.
 pub fn append_bit<T: Block>(blocks: &mut Vec<T>, len: usize, value: bool) -> Result<(), AllocError>
     requires { IsCanonical len (map T.number blocks.old.items) T.BITS }
     ensures stores { OnOk result (Stores T.BITS (len + 1) (map T.number blocks.new.items)
         (unpacking len (map T.number blocks.old.items) T.BITS ++ value ∷ [])) }
-
-    // Memory is asked for only where the blocks have no room for the bit.
     ensures err { OnErr result (blocks.new.items ≡ blocks.old.items) }
     ensures full { OnErr result ((vec_capacity blocks.old * T.BITS ≤ len)
         × (need len T.BITS < need (len + 1) T.BITS)) }

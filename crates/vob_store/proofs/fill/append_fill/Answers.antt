@@ -11,8 +11,8 @@ use Rattle.vob_store.proofs.fill.append_fill.Goals as goal
 pub fill_last-requires : goal.fill_last-requires
 fill_last-requires g c = rw c.deref_mut.ensures.value c.requires.canonical
 
-pub mask_last-requires-clause-count : goal.mask_last-requires-clause-count
-mask_last-requires-clause-count g c =
+pub mask_last-requires : goal.mask_last-requires
+mask_last-requires g c =
     let w = g.T.Block.BITS in
     let number = g.T.Block.number in
     let wanted = c.div_ceil.ensures ∙ need-is-div_ceil w g.met.T.Block.wide_law c.args.new_len
@@ -22,21 +22,12 @@ mask_last-requires-clause-count g c =
     c.requires.longer c.deref_mut.ensures.value c.deref_mut.ensures.len
     c.fill_last.auto.blocks wanted (c.resize.ensures.succeeds
     (omega (arith, wanted, c.requires.room))) c.resize.ensures.items in
-    ap length c.deref_mut-2.ensures.value ∙ length-resized number g.met.T.Block.wide_law resized
-
-pub mask_last-requires-clause-within : goal.mask_last-requires-clause-within
-mask_last-requires-clause-within g c =
-    let w = g.T.Block.BITS in
-    let number = g.T.Block.number in
-    let wanted = c.div_ceil.ensures ∙ need-is-div_ceil w g.met.T.Block.wide_law c.args.new_len
-    c.BITS.result c.BITS.ensures in
-    let resized = IsResized-changed number c.args.blocks.now.items _ c.fill_last.new.blocks
-    c.resize.new.self.items c.splat.result (is_ok c.resize.result) c.requires.canonical
-    c.requires.longer c.deref_mut.ensures.value c.deref_mut.ensures.len
-    c.fill_last.auto.blocks wanted (c.resize.ensures.succeeds
-    (omega (arith, wanted, c.requires.room))) c.resize.ensures.items in
-    rw c.deref_mut-2.ensures.value (resized-within number g.met.T.Block.wide_law resized
-    c.args.value c.splat.ensures c.fill_last.ensures.within)
+    record {
+      count = ap length c.deref_mut-2.ensures.value
+          ∙ length-resized number g.met.T.Block.wide_law resized;
+      within = rw c.deref_mut-2.ensures.value (resized-within number g.met.T.Block.wide_law resized
+          c.args.value c.splat.ensures c.fill_last.ensures.within);
+    }
 
 pub returns-clause-stores : goal.returns-clause-stores
 returns-clause-stores g c =

@@ -6,8 +6,8 @@ use Rattle.vob_block.proofs.NeedLemmas.{need-is-div_ceil}
 use Rattle.vob_store.proofs.SplatLemmas.{filled_items, splat-within, unpacking-splat}
 use Rattle.vob_store.proofs.fill.filled_blocks.Goals as goal
 
-pub mask_last-requires-clause-count : goal.mask_last-requires-clause-count
-mask_last-requires-clause-count g c =
+pub mask_last-requires : goal.mask_last-requires
+mask_last-requires g c =
     let w = g.T.Block.BITS in
     let wanted = c.div_ceil-count.ensures ∙ need-is-div_ceil w g.met.T.Block.wide_law c.args.len
     c.BITS.result c.BITS.ensures in
@@ -15,20 +15,12 @@ mask_last-requires-clause-count g c =
     c.in_ok-blocks.blocks.len c.div_ceil-count.result (need c.args.len w) c.splat.result
     c.in_ok-blocks.ensures.items c.in_ok-blocks.ensures.len wanted
     c.in_ok-resize.ensures.items in
-    ap length (c.deref_mut.ensures.value ∙ items)
-    ∙ length-replicate (need c.args.len w) c.splat.result
-
-pub mask_last-requires-clause-within : goal.mask_last-requires-clause-within
-mask_last-requires-clause-within g c =
-    let w = g.T.Block.BITS in
-    let wanted = c.div_ceil-count.ensures ∙ need-is-div_ceil w g.met.T.Block.wide_law c.args.len
-    c.BITS.result c.BITS.ensures in
-    let items = filled_items c.in_ok-blocks.blocks.items c.resize.new.self.items
-    c.in_ok-blocks.blocks.len c.div_ceil-count.result (need c.args.len w) c.splat.result
-    c.in_ok-blocks.ensures.items c.in_ok-blocks.ensures.len wanted
-    c.in_ok-resize.ensures.items in
-    rw (c.deref_mut.ensures.value ∙ items) (splat-within g.T.Block.number w g.met.T.Block.wide_law
-    c.args.len c.args.value c.splat.result c.splat.ensures)
+    record {
+      count = ap length (c.deref_mut.ensures.value ∙ items)
+          ∙ length-replicate (need c.args.len w) c.splat.result;
+      within = rw (c.deref_mut.ensures.value ∙ items) (splat-within g.T.Block.number w g.met.T.Block.wide_law
+          c.args.len c.args.value c.splat.result c.splat.ensures);
+    }
 
 pub returns-clause-stores : goal.returns-clause-stores
 returns-clause-stores g c =

@@ -12,17 +12,17 @@ join_into-requires g c =
     let w = g.T.Block.BITS in
     let number = g.T.Block.number in
     let fits = need_least w g.met.T.Block.wide_law (c.args.len + c.args.more)
-    c.args.blocks.now.cap c.requires.room in
+    c.args.own.now.cap c.requires.room in
     let done = c.resize.ensures.succeeds (omega (arith, fits, c.block_count.ensures)) in
-    let items = resized_is c.args.blocks.now.items c.resize.new.self.items c.ZERO.result
-    c.block_count.result c.args.blocks.now.len (need (c.args.len + c.args.more) w)
+    let items = resized_is c.args.own.now.items c.resize.new.self.items c.ZERO.result
+    c.block_count.result c.args.own.now.len (need (c.args.len + c.args.more) w)
     (is_ok c.resize.result) c.resize.ensures.items done c.block_count.ensures
-    c.args.blocks.now.ok.0 in
+    c.args.own.now.ok.0 in
     let zero = ap number c.ZERO.ensures ∙ g.met.T.Block.zero_number_law in
     record {
       room = rw c.deref_mut.ensures.value
           (HaveRoom-filled number w g.met.T.Block.wide_law c.args.len c.args.more
-          c.args.blocks.now.items c.resize.new.self.items (map number c.args.other.now.items)
+          c.args.own.now.items c.resize.new.self.items (map number c.args.other.now.items)
           c.ZERO.result c.requires.canonical zero items c.requires.other);
     }
 
@@ -31,16 +31,16 @@ returns-clause-joined g c =
     let w = g.T.Block.BITS in
     let number = g.T.Block.number in
     let fits = need_least w g.met.T.Block.wide_law (c.args.len + c.args.more)
-    c.args.blocks.now.cap c.requires.room in
+    c.args.own.now.cap c.requires.room in
     let done = c.resize.ensures.succeeds (omega (arith, fits, c.block_count.ensures)) in
-    let items = resized_is c.args.blocks.now.items c.resize.new.self.items c.ZERO.result
-    c.block_count.result c.args.blocks.now.len (need (c.args.len + c.args.more) w)
+    let items = resized_is c.args.own.now.items c.resize.new.self.items c.ZERO.result
+    c.block_count.result c.args.own.now.len (need (c.args.len + c.args.more) w)
     (is_ok c.resize.result) c.resize.ensures.items done c.block_count.ensures
-    c.args.blocks.now.ok.0 in
+    c.args.own.now.ok.0 in
     let zero = ap number c.ZERO.ensures ∙ g.met.T.Block.zero_number_law in
     let whole = with_items_is c.resize.new.self c.join_into.new.own
     (omega (arith, c.join_into.auto.own, c.deref_mut.ensures.len)) in
     rw whole (IsJoined-filled number w g.met.T.Block.wide_law c.args.len c.args.more
-    c.args.blocks.now.items c.resize.new.self.items (map number c.args.other.now.items)
+    c.args.own.now.items c.resize.new.self.items (map number c.args.other.now.items)
     c.ZERO.result c.requires.canonical zero items
     (map number c.join_into.new.own) (rw c.deref_mut.ensures.value at c.join_into.ensures.joined))

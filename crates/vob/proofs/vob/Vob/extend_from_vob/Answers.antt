@@ -4,15 +4,13 @@ use Rattle.std.proofs.lemmas.List.{length-map}
 use Rattle.std.proofs.lemmas.Result.{err_from_is_err_and}
 use Rattle.vob_block.proofs.PackingLemmas.{length-unpacking}
 use Rattle.vob_store.proofs.RoomLemmas.{room_from_need, no_room}
+use Rattle.vob.proofs.ExtendingLemmas.{RefusesMore-long, RefusesMore-memory, RefusesMore-nothing}
 use Rattle.vob.proofs.vob.Vob.extend_from_vob.Goals as goal
 
 pub returns-then-self-other-clause-refused : goal.returns-then-self-other-clause-refused
 returns-then-self-other-clause-refused g c =
-    record {
-      too_long = rw (← c.self.view_is, ← c.other.view_is, length-unpacking, length-unpacking)
-          ((λ _. omega (arith, c.if-self-other.true)), (λ _. refl));
-      memory = λ e. cc;
-    }
+    RefusesMore-long _ _ _ (rw (← c.self.view_is, ← c.other.view_is, length-unpacking, length-unpacking)
+    (omega (arith, c.if-self-other.true)))
 
 pub returns-in_err-reserve_bits-clause-refused : goal.returns-in_err-reserve_bits-clause-refused
 returns-in_err-reserve_bits-clause-refused g c =
@@ -22,12 +20,10 @@ returns-in_err-reserve_bits-clause-refused g c =
     let count = sym (length-map vec.items g.T.Block.number) ∙ c.self.invariant.count in
     let short = no_room g.T.Block.BITS g.met.T.Block.wide_law
     (c.self.inside.len + c.other.inside.len) vec.cap full in
-    rw (p.1, p.2) (record {
-      too_long = rw (← c.self.view_is, ← c.other.view_is, length-unpacking, length-unpacking)
-          ((λ e. cc), (λ h. absurd (omega (arith, c.if-self-other.false))));
-      memory = rw (← c.self.view_is, ← c.other.view_is, length-unpacking, length-unpacking)
-          (λ _. (short, omega (arith, full, count, vec.ok)));
-    })
+    rw (p.1, p.2) (RefusesMore-memory _ _ _
+    (rw (← c.self.view_is, ← c.other.view_is, length-unpacking, length-unpacking) (λ far.
+    absurd (omega (arith, far, c.if-self-other.false))))
+    (rw (← c.self.view_is, ← c.other.view_is, length-unpacking, length-unpacking) (short, omega (arith, full, count, vec.ok))))
 
 pub append_vob-requires : goal.append_vob-requires
 append_vob-requires g c =
@@ -40,8 +36,5 @@ append_vob-requires g c =
 
 pub returns-clause-refused : goal.returns-clause-refused
 returns-clause-refused g c =
-    record {
-      too_long = rw (← c.self.view_is, ← c.other.view_is, length-unpacking, length-unpacking)
-          ((λ e. cc), (λ h. absurd (omega (arith, c.if-self-other.false))));
-      memory = λ e. cc;
-    }
+    RefusesMore-nothing _ _ _ (rw (← c.self.view_is, ← c.other.view_is, length-unpacking, length-unpacking) (λ far.
+    absurd (omega (arith, far, c.if-self-other.false))))

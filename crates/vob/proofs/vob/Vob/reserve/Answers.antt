@@ -5,15 +5,13 @@ use Rattle.std.proofs.lemmas.Result.{err_from_is_err_and}
 use Rattle.vob_block.specs.Packing.{need}
 use Rattle.vob_block.proofs.PackingLemmas.{length-unpacking}
 use Rattle.vob_store.proofs.RoomLemmas.{room_from_need, need_from_room, no_room}
+use Rattle.vob.proofs.ExtendingLemmas.{RefusesMore-long, RefusesMore-memory, RefusesMore-nothing}
 use Rattle.vob.proofs.vob.Vob.reserve.Goals as goal
 
 pub returns-then-additional-self-clause-refused : goal.returns-then-additional-self-clause-refused
 returns-then-additional-self-clause-refused g c =
-    record {
-      too_long = rw (← c.self.view_is, length-unpacking)
-          ((λ _. omega (arith, c.if-additional-self.true, c.self.ranges)), (λ _. refl));
-      memory = λ e. cc;
-    }
+    RefusesMore-long _ _ _ (rw (← c.self.view_is, length-unpacking)
+    (omega (arith, c.if-additional-self.true, c.self.ranges)))
 
 pub returns-then-additional-self-clause-room : goal.returns-then-additional-self-clause-room
 returns-then-additional-self-clause-room g c =
@@ -28,14 +26,10 @@ returns-in_err-reserve_bits-clause-refused g c =
     let count = sym (length-map vec.items g.T.Block.number) ∙ c.self.invariant.count in
     let short = no_room g.T.Block.BITS g.met.T.Block.wide_law
     (c.self.inside.len + c.args.additional) vec.cap full in
-    rw (p.1, p.2) (record {
-      too_long = rw (← c.self.view_is, length-unpacking) (
-        (λ e. cc),
-        (λ h. absurd (omega (arith, c.if-additional-self.false, c.self.ranges))),
-      );
-      memory = rw (← c.self.view_is, length-unpacking)
-          (λ _. (short, omega (arith, full, count, vec.ok)));
-    })
+    rw (p.1, p.2) (RefusesMore-memory _ _ _
+    (rw (← c.self.view_is, length-unpacking) (λ far.
+    absurd (omega (arith, far, c.if-additional-self.false, c.self.ranges))))
+    (rw (← c.self.view_is, length-unpacking) (short, omega (arith, full, count, vec.ok))))
 
 pub returns-in_err-reserve_bits-clause-room : goal.returns-in_err-reserve_bits-clause-room
 returns-in_err-reserve_bits-clause-room g c =
@@ -53,13 +47,8 @@ returns-clause-ok g c =
 
 pub returns-clause-refused : goal.returns-clause-refused
 returns-clause-refused g c =
-    record {
-      too_long = rw (← c.self.view_is, length-unpacking) (
-        (λ e. cc),
-        (λ h. absurd (omega (arith, c.if-additional-self.false, c.self.ranges))),
-      );
-      memory = λ e. cc;
-    }
+    RefusesMore-nothing _ _ _ (rw (← c.self.view_is, length-unpacking) (λ far.
+    absurd (omega (arith, far, c.if-additional-self.false, c.self.ranges))))
 
 pub returns-clause-room : goal.returns-clause-room
 returns-clause-room g c =

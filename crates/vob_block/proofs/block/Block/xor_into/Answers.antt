@@ -37,14 +37,10 @@ returns g c =
     let olds = map number c.args.own.now in
     let others = map number c.args.other.now.items in
     let news = map number c.loop-k.own in
-    let taken = c.loop-k.invariant.taken in
-    let whole : c.loop-k.k ≡ length olds = omega (
-      arith,
-      taken.count,
-      length-map c.loop-k.own number,
-      c.loop-k.auto.own,
-      c.loop-k.auto.k-end,
-    ) in
+    let h = c.loop-k in
+    let taken = h.invariant.taken in
+    let whole : h.k ≡ length olds =
+    omega (arith, taken.count, length-map h.own number, h.auto.own, h.auto.k-end) in
     let zero = ap number c.ZERO.ensures ∙ g.met.Self.Block.zero_number_law in
     let test = g.met.Self.Block.equal_law c.loop-k.changed c.ZERO.result in
     record {
@@ -53,13 +49,7 @@ returns g c =
           (g.Self.PartialEq.eq c.loop-k.changed c.ZERO.result)
           ((λ e. test.0 e ∙ zero), (λ e. test.1 (e ∙ sym zero))));
       read = record {
-        items = c.loop-k.invariant.items;
-        reads = omega (
-          arith,
-          c.loop-k.invariant.reads,
-          c.requires,
-          c.loop-k.auto.own,
-          c.loop-k.auto.k-end,
-        );
+        items = h.invariant.items;
+        reads = omega (arith, h.invariant.reads, c.requires, h.auto.own, h.auto.k-end);
       };
     }
