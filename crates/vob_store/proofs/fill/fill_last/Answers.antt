@@ -7,14 +7,6 @@ use Rattle.vob_store.proofs.WriteLemmas.{offset_fits}
 use Rattle.vob_store.proofs.fill.fill_last.Goals as goal
 use Rattle.vob_store.proofs.fill.fill_last.Goals.{else-value-via-then-value+else-used-ne0, else-value-via-else-value}
 
-pub offset_bounds-blocks-last : goal.offset_bounds-blocks-last
-offset_bounds-blocks-last g c =
-    let partial = λ (e : c.args.len % g.T.Block.BITS ≡ 0).
-    c.if-used-ne0.true (ap (λ v. c.args.len % v) c.BITS-width.ensures ∙ e) in
-    offset_fits _ _ _ (last_in_canonical g.T.Block.number g.T.Block.BITS g.met.T.Block.wide_law
-    c.args.len c.args.blocks.now c.requires c.BITS-width.result c.BITS-width.ensures partial)
-    c.well_formed.0.1
-
 pub bounds-blocks-last : goal.bounds-blocks-last
 bounds-blocks-last g c =
     let partial = λ (e : c.args.len % g.T.Block.BITS ≡ 0).
@@ -22,20 +14,18 @@ bounds-blocks-last g c =
     last_in_canonical g.T.Block.number g.T.Block.BITS g.met.T.Block.wide_law c.args.len
     c.args.blocks.now c.requires c.BITS-width.result c.BITS-width.ensures partial
 
-pub offset_bounds-blocks-last-then-used-ne0 : goal.offset_bounds-blocks-last-then-used-ne0
-offset_bounds-blocks-last-then-used-ne0 g c =
-    let partial = λ (e : c.args.len % g.T.Block.BITS ≡ 0).
-    c.if-used-ne0.true (ap (λ v. c.args.len % v) c.BITS-width.ensures ∙ e) in
-    offset_fits _ _ _ (last_in_canonical g.T.Block.number g.T.Block.BITS g.met.T.Block.wide_law
-    c.args.len c.args.blocks.now c.requires c.BITS-width.result c.BITS-width.ensures partial)
-    c.well_formed.0.1
+pub offset_bounds-blocks-last : goal.offset_bounds-blocks-last
+offset_bounds-blocks-last g c = offset_fits _ _ _ (bounds-blocks-last g c) c.well_formed.0.1
 
 pub bounds-blocks-last-then-used-ne0 : goal.bounds-blocks-last-then-used-ne0
 bounds-blocks-last-then-used-ne0 g c =
     let partial = λ (e : c.args.len % g.T.Block.BITS ≡ 0).
     c.if-used-ne0.true (ap (λ v. c.args.len % v) c.BITS-width.ensures ∙ e) in
-    last_in_canonical g.T.Block.number g.T.Block.BITS g.met.T.Block.wide_law c.args.len
-    c.args.blocks.now c.requires c.BITS-width.result c.BITS-width.ensures partial
+    last_in_canonical _ _ g.met.T.Block.wide_law _ _ c.requires _ c.BITS-width.ensures partial
+
+pub offset_bounds-blocks-last-then-used-ne0 : goal.offset_bounds-blocks-last-then-used-ne0
+offset_bounds-blocks-last-then-used-ne0 g c =
+    offset_fits _ _ _ (bounds-blocks-last-then-used-ne0 g c) c.well_formed.0.1
 
 pub returns-then-used-ne0 : goal.returns-then-used-ne0
 returns-then-used-ne0 g c =

@@ -4,29 +4,24 @@ use Rattle.vob_store.proofs.CutLemmas.{canonical_at_full_width, last_in_items, m
 use Rattle.vob_store.proofs.WriteLemmas.{offset_fits}
 use Rattle.vob_store.proofs.mask.mask_last.Goals as goal
 
-pub offset_bounds-blocks-last : goal.offset_bounds-blocks-last
-offset_bounds-blocks-last g c =
-    offset_fits _ _ _ (last_in_items g.T.Block.number g.T.Block.BITS g.met.T.Block.wide_law
-    c.args.len c.args.blocks.now c.requires.count c.BITS-width.result c.BITS-width.ensures
-    c.if-used-ne0.true) c.well_formed.0.1
-
 pub bounds-blocks-last : goal.bounds-blocks-last
 bounds-blocks-last g c =
     last_in_items g.T.Block.number g.T.Block.BITS g.met.T.Block.wide_law c.args.len
     c.args.blocks.now c.requires.count c.BITS-width.result c.BITS-width.ensures
     c.if-used-ne0.true
 
-pub offset_bounds-blocks-last-then-used-ne0 : goal.offset_bounds-blocks-last-then-used-ne0
-offset_bounds-blocks-last-then-used-ne0 g c =
-    offset_fits _ _ _ (last_in_items g.T.Block.number g.T.Block.BITS g.met.T.Block.wide_law
-    c.args.len c.args.blocks.now c.requires.count c.BITS-width.result c.BITS-width.ensures
-    c.if-used-ne0.true) c.well_formed.0.1
+pub offset_bounds-blocks-last : goal.offset_bounds-blocks-last
+offset_bounds-blocks-last g c = offset_fits _ _ _ (bounds-blocks-last g c) c.well_formed.0.1
 
 pub bounds-blocks-last-then-used-ne0 : goal.bounds-blocks-last-then-used-ne0
 bounds-blocks-last-then-used-ne0 g c =
-    last_in_items g.T.Block.number g.T.Block.BITS g.met.T.Block.wide_law c.args.len
-    c.args.blocks.now c.requires.count c.BITS-width.result c.BITS-width.ensures
+    last_in_items g.T.Block.number _ g.met.T.Block.wide_law _ _ c.requires.count _
+    c.BITS-width.ensures
     c.if-used-ne0.true
+
+pub offset_bounds-blocks-last-then-used-ne0 : goal.offset_bounds-blocks-last-then-used-ne0
+offset_bounds-blocks-last-then-used-ne0 g c =
+    offset_fits _ _ _ (bounds-blocks-last-then-used-ne0 g c) c.well_formed.0.1
 
 pub returns-else-used-ne0 : goal.returns-else-used-ne0
 returns-else-used-ne0 g c = record {

@@ -5,29 +5,23 @@ use Rattle.vob_store.proofs.AppendLemmas.{append_in_last, last_in_canonical, Has
 use Rattle.vob_store.proofs.WriteLemmas.{offset_fits}
 use Rattle.vob_store.proofs.pack.top_up.Goals as goal
 
-pub offset_bounds-blocks-last : goal.offset_bounds-blocks-last
-offset_bounds-blocks-last g c =
-    offset_fits _ _ _ (last_in_canonical g.T.Block.number g.T.Block.BITS g.met.T.Block.wide_law
-    c.args.len c.args.blocks.now c.requires.canonical c.BITS-width.result c.BITS-width.ensures
-    c.requires.partial) c.well_formed.0.1
-
 pub bounds-blocks-last : goal.bounds-blocks-last
 bounds-blocks-last g c =
     last_in_canonical g.T.Block.number g.T.Block.BITS g.met.T.Block.wide_law c.args.len
     c.args.blocks.now c.requires.canonical c.BITS-width.result c.BITS-width.ensures
     c.requires.partial
 
-pub offset_bounds-blocks-last-2 : goal.offset_bounds-blocks-last-2
-offset_bounds-blocks-last-2 g c =
-    offset_fits _ _ _ (last_in_canonical g.T.Block.number g.T.Block.BITS g.met.T.Block.wide_law
-    c.args.len c.args.blocks.now c.requires.canonical c.BITS-width.result c.BITS-width.ensures
-    c.requires.partial) c.well_formed.0.1
+pub offset_bounds-blocks-last : goal.offset_bounds-blocks-last
+offset_bounds-blocks-last g c = offset_fits _ _ _ (bounds-blocks-last g c) c.well_formed.0.1
 
 pub bounds-blocks-last-2 : goal.bounds-blocks-last-2
 bounds-blocks-last-2 g c =
-    last_in_canonical g.T.Block.number g.T.Block.BITS g.met.T.Block.wide_law c.args.len
-    c.args.blocks.now c.requires.canonical c.BITS-width.result c.BITS-width.ensures
+    last_in_canonical _ _ g.met.T.Block.wide_law _ _ c.requires.canonical _ c.BITS-width.ensures
     c.requires.partial
+
+pub offset_bounds-blocks-last-2 : goal.offset_bounds-blocks-last-2
+offset_bounds-blocks-last-2 g c =
+    offset_fits _ _ _ (bounds-blocks-last-2 g c) c.well_formed.0.1
 
 pub returns : goal.returns
 returns g c =

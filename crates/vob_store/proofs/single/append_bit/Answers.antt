@@ -11,14 +11,9 @@ pub index-block-requires : goal.index-block-requires
 index-block-requires g c =
     let partial = λ (e : c.args.len % g.T.Block.BITS ≡ 0).
     c.if-place-eq0.false (ap (λ w. c.args.len % w) c.BITS-width.ensures ∙ e) in
-    let there = last_in_range g.T.Block.BITS g.met.T.Block.wide_law c.args.len
-    (map g.T.Block.number c.args.blocks.now.items) c.requires partial in
-    rw c.BITS-width.ensures (omega (
-      arith,
-      there,
-      length-map c.args.blocks.now.items g.T.Block.number,
-      c.args.blocks.now.ok.0,
-    ))
+    let there = last_in_range _ g.met.T.Block.wide_law _ _ c.requires partial in
+    let blocks = length-map c.args.blocks.now.items g.T.Block.number in
+    rw c.BITS-width.ensures (omega (arith, there, blocks, c.args.blocks.now.ok.0))
 
 pub returns-in_err-push-clause-full : goal.returns-in_err-push-clause-full
 returns-in_err-push-clause-full g c =
@@ -53,14 +48,9 @@ pub index_mut-requires : goal.index_mut-requires
 index_mut-requires g c =
     let partial = λ (e : c.args.len % g.T.Block.BITS ≡ 0).
     c.if-place-eq0.false (ap (λ w. c.args.len % w) c.BITS-width.ensures ∙ e) in
-    let there = last_in_range g.T.Block.BITS g.met.T.Block.wide_law c.args.len
-    (map g.T.Block.number c.args.blocks.now.items) c.requires partial in
-    rw c.BITS-width.ensures (omega (
-      arith,
-      there,
-      length-map c.args.blocks.now.items g.T.Block.number,
-      c.args.blocks.now.ok.0,
-    ))
+    let there = last_in_range _ g.met.T.Block.wide_law _ _ c.requires partial in
+    let blocks = length-map c.args.blocks.now.items g.T.Block.number in
+    rw c.BITS-width.ensures (omega (arith, there, blocks, c.args.blocks.now.ok.0))
 
 pub returns-else-place-eq0 : goal.returns-else-place-eq0
 returns-else-place-eq0 g c =

@@ -3,29 +3,23 @@ use Rattle.vob_store.proofs.StorageLemmas.{block_in_range, bit_is_place}
 use Rattle.vob_store.proofs.WriteLemmas.{write_at, offset_fits, changed_from}
 use Rattle.vob_store.proofs.single.write_bit.Goals as goal
 
-pub offset_bounds-blocks-k : goal.offset_bounds-blocks-k
-offset_bounds-blocks-k g c =
-    offset_fits _ _ _ (block_in_range g.T.Block.number g.T.Block.BITS g.met.T.Block.wide_law
-    c.args.len c.args.blocks.now c.requires.canonical c.args.index c.BITS-width.result
-    c.BITS-width.ensures c.requires.in_range) c.well_formed.0.1
-
 pub bounds-blocks-k : goal.bounds-blocks-k
 bounds-blocks-k g c =
     block_in_range g.T.Block.number g.T.Block.BITS g.met.T.Block.wide_law c.args.len
     c.args.blocks.now c.requires.canonical c.args.index c.BITS-width.result
     c.BITS-width.ensures c.requires.in_range
 
-pub offset_bounds-blocks-k-2 : goal.offset_bounds-blocks-k-2
-offset_bounds-blocks-k-2 g c =
-    offset_fits _ _ _ (block_in_range g.T.Block.number g.T.Block.BITS g.met.T.Block.wide_law
-    c.args.len c.args.blocks.now c.requires.canonical c.args.index c.BITS-width.result
-    c.BITS-width.ensures c.requires.in_range) c.well_formed.0.1
+pub offset_bounds-blocks-k : goal.offset_bounds-blocks-k
+offset_bounds-blocks-k g c = offset_fits _ _ _ (bounds-blocks-k g c) c.well_formed.0.1
 
 pub bounds-blocks-k-2 : goal.bounds-blocks-k-2
 bounds-blocks-k-2 g c =
-    block_in_range g.T.Block.number g.T.Block.BITS g.met.T.Block.wide_law c.args.len
-    c.args.blocks.now c.requires.canonical c.args.index c.BITS-width.result
-    c.BITS-width.ensures c.requires.in_range
+    block_in_range _ _ g.met.T.Block.wide_law _ _ c.requires.canonical _ _ c.BITS-width.ensures
+    c.requires.in_range
+
+pub offset_bounds-blocks-k-2 : goal.offset_bounds-blocks-k-2
+offset_bounds-blocks-k-2 g c =
+    offset_fits _ _ _ (bounds-blocks-k-2 g c) c.well_formed.0.1
 
 pub returns : goal.returns
 returns g c =

@@ -38,9 +38,8 @@ offset_bounds-blocks-first g c = le_of_lt (bounds-blocks-first g c)
 
 pub overflow_add-first-in-loop-k : goal.overflow_add-first-in-loop-k
 overflow_add-first-in-loop-k g c =
-    let there = item_in_range g.T.Block.number g.met.T.Block.wide_law c.args.at c.args.blocks.now
-    c.requires.canonical c.requires.inside c.block_count-last.ensures c.BITS-width.ensures
-    c.loop-k.k (omega arith) in
+    let there = item_in_range _ g.met.T.Block.wide_law _ _ c.requires.canonical c.requires.inside
+    c.block_count-last.ensures c.BITS-width.ensures c.loop-k.k (omega arith) in
     omega (arith, there, c.well_formed.1.0.0)
 
 pub overflow_add-first-in-loop-k-2 : goal.overflow_add-first-in-loop-k-2
@@ -105,14 +104,14 @@ offset_bounds-blocks-first-2 g c = le_of_lt (bounds-blocks-first-2 g c)
 
 pub overflow_add-first-2 : goal.overflow_add-first-2
 overflow_add-first-2 g c =
-    let there = last_in_range g.T.Block.number g.met.T.Block.wide_law c.args.at c.args.blocks.now
-    c.requires.canonical c.requires.inside c.block_count-last.ensures c.BITS-width.ensures in
+    let there = last_in_range _ g.met.T.Block.wide_law _ _ c.requires.canonical c.requires.inside
+    c.block_count-last.ensures c.BITS-width.ensures in
     omega (arith, there, c.well_formed.1.0.0)
 
 pub overflow_add-first-3 : goal.overflow_add-first-3
 overflow_add-first-3 g c =
-    let there = last_in_range g.T.Block.number g.met.T.Block.wide_law c.args.at c.args.blocks.now
-    c.requires.canonical c.requires.inside c.block_count-last.ensures c.BITS-width.ensures in
+    let there = last_in_range _ g.met.T.Block.wide_law _ _ c.requires.canonical c.requires.inside
+    c.block_count-last.ensures c.BITS-width.ensures in
     omega (arith, there, c.well_formed.1.0.0)
 
 pub bounds-rest-last : goal.bounds-rest-last
