@@ -1,3 +1,4 @@
+pub mod BitsLemmas
 pub mod ChangeLemmas
 pub mod ExtendingLemmas
 pub mod HashLemmas

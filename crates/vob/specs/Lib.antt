@@ -1,3 +1,4 @@
+pub mod Bits
 pub mod Extending
 pub mod Fed
 pub mod Laws

@@ -2,6 +2,7 @@
 use Rattle.std.specs.Prelude.{◌≡◌, ℕ, ◌+◌, ◌-◌, ◌^◌, ◌<◌, ◌≤◌, List, Bool, length}
 use Rattle.vob_block.specs.Packing.{need}
 use Rattle.vob_block.specs.Pointwise.{pointwise}
+use Rattle.vob.specs.Bits.{AreCombined}
 
 -- the bits, index 0 first, and how many bits there is room for without memory
 pub record BitVector : Type 0 where
@@ -29,4 +30,5 @@ HaveSameLength vob other = length vob.bits ≡ length other.bits
 -- the bits of two Vobs combined by f, in the room that the first had
 pub record BecomesPointwise (f : Bool → Bool → Bool) (vob other after : BitVector) : Type 0 where
   pub bits : after.bits ≡ pointwise f vob.bits other.bits
+  pub each : AreCombined f vob.bits other.bits after.bits
   pub capacity : after.capacity ≡ vob.capacity

@@ -1,10 +1,11 @@
 //! Calls on all bits at once: made one value, negated, compared, or combined with another Vob's.
-ghost use Rattle.std.specs.Prelude.{◌≡◌, ◌≢◌, ◌↔◌, ◌&&◌, ◌||◌, not, map, length, replicate, IsTrue, IfOk};
+ghost use Rattle.std.specs.Prelude.{◌≡◌, ◌≢◌, ◌↔◌, ◌&&◌, ◌||◌, false, not, map, length, replicate, IsTrue, IfOk};
 ghost use Rattle.std.proofs.Common.{rules, ap};
 ghost use Rattle.std.specs.Cmp.{booleans_Decides};
 ghost use Rattle.std.specs.Cmp.Lexicographic.{pointwise_decides};
 ghost use Rattle.std.specs.Cmp.Rules.{comparing};
 ghost use Rattle.vob_block.specs.Pointwise.{differ, pointwise};
+ghost use Rattle.vob.specs.Bits.{AreCombined, GainsBits, IsChanged, LosesBits};
 ghost use Rattle.vob.specs.Fed.{hash_words};
 ghost use Rattle.vob.specs.Same.{same_bits};
 ghost use Rattle.vob.specs.Vob.{HaveSameLength, BecomesPointwise};
@@ -22,6 +23,7 @@ impl<T: Block> Vob<T> {
     /// Makes every bit `value`.
     pub fn set_all(&mut self, value: bool)
         ensures bits { self.new.bits ≡ replicate (length self.old.bits) value }
+        ensures each { IsChanged (λ _. value) self.old.bits self.new.bits }
         ensures capacity { self.new.capacity ≡ self.old.capacity }
     {
         fill(&mut self.vec, self.len, value);
@@ -30,6 +32,7 @@ impl<T: Block> Vob<T> {
     /// Negates every bit.
     pub fn negate(&mut self)
         ensures bits { self.new.bits ≡ map not self.old.bits }
+        ensures each { IsChanged not self.old.bits self.new.bits }
         ensures capacity { self.new.capacity ≡ self.old.capacity }
     {
         negate(&mut self.vec, self.len);
@@ -38,9 +41,11 @@ impl<T: Block> Vob<T> {
     /// Keeps the bits that both have, and answers whether a bit changed. vob 4.0.1 panics on
     /// unequal lengths.
     pub fn and(&mut self, other: &Vob<T>) -> bool
-        requires { length self.old.bits ≡ length other.now.bits }
+        requires { HaveSameLength self.old other.now }
         ensures bits { self.new.bits ≡ pointwise ◌&&◌ self.old.bits other.now.bits }
+        ensures each { AreCombined ◌&&◌ self.old.bits other.now.bits self.new.bits }
         ensures changed { IsTrue result ↔ (self.new.bits ≢ self.old.bits) }
+        ensures fewer { LosesBits result self.old.bits self.new.bits }
         ensures capacity { self.new.capacity ≡ self.old.capacity }
     {
         T::and_into(self.vec.as_mut_slice(), &mut other.blocks())
@@ -49,9 +54,11 @@ impl<T: Block> Vob<T> {
     /// Gets the bits that either has, and answers whether a bit changed. vob 4.0.1 panics on
     /// unequal lengths.
     pub fn or(&mut self, other: &Vob<T>) -> bool
-        requires { length self.old.bits ≡ length other.now.bits }
+        requires { HaveSameLength self.old other.now }
         ensures bits { self.new.bits ≡ pointwise ◌||◌ self.old.bits other.now.bits }
+        ensures each { AreCombined ◌||◌ self.old.bits other.now.bits self.new.bits }
         ensures changed { IsTrue result ↔ (self.new.bits ≢ self.old.bits) }
+        ensures more { GainsBits result self.old.bits self.new.bits }
         ensures capacity { self.new.capacity ≡ self.old.capacity }
     {
         T::or_into(self.vec.as_mut_slice(), &mut other.blocks())
@@ -60,9 +67,11 @@ impl<T: Block> Vob<T> {
     /// Gets the bits that one has and the other hasn't, and answers whether a bit changed. vob
     /// 4.0.1 panics on unequal lengths.
     pub fn xor(&mut self, other: &Vob<T>) -> bool
-        requires { length self.old.bits ≡ length other.now.bits }
+        requires { HaveSameLength self.old other.now }
         ensures bits { self.new.bits ≡ pointwise differ self.old.bits other.now.bits }
+        ensures each { AreCombined differ self.old.bits other.now.bits self.new.bits }
         ensures changed { IsTrue result ↔ (self.new.bits ≢ self.old.bits) }
+        ensures same { result ≡ false → self.new.bits ≡ self.old.bits }
         ensures capacity { self.new.capacity ≡ self.old.capacity }
     {
         T::xor_into(self.vec.as_mut_slice(), &mut other.blocks())

@@ -1,10 +1,12 @@
 //! The vector of bits, seen by contracts as its list of bits and its capacity.
 ghost use Rattle.std.specs.Prelude.{◌≡◌, ◌↔◌, ◌+◌, ◌<◌, ◌≤◌, [], ◌∷◌, ◌++◌, map, length, slice_get, IsOk, IfOk, IfErr, OnOk, OnErr, Err, ◌≢◌, ◌==◌, ◌-◌, take, slice_set, IsTrue, Some, vec_capacity, ◌^◌, List, Bool, replicate, ℕ, ◌⊎◌, ◌*◌, ◌/◌, ◌%◌};
-ghost use Rattle.vob_block.specs.Packing.{packing, unpacking, IsCanonical, Stores};
+ghost use Rattle.vob_block.specs.Packing.{item, packing, unpacking, IsCanonical, Stores};
 ghost use Rattle.vob_block.specs.Places.{place};
 ghost use Rattle.vob_block.specs.Bytes.{bytes_list};
 ghost use Rattle.std.specs.Iterator.{IsFinite, Yields, Drains};
 ghost use Rattle.std.specs.Iterator.SizeHint.{IsWithinCount};
+ghost use Rattle.vob_block.specs.Pointwise.{differ};
+ghost use Rattle.vob.specs.Bits.{IsWritten};
 ghost use Rattle.vob.specs.Extending.{GivesAll, RefusesItems, RefusesMore};
 ghost use Rattle.vob.specs.Refusal.{MayRefuseItems};
 ghost use Rattle.vob.specs.Vob.{HasRoomFor};
@@ -161,7 +163,9 @@ impl<T: Block> Vob<T> {
     pub fn set(&mut self, index: usize, value: bool) -> bool
         requires in_range { index < length self.old.bits }
         ensures bits { self.new.bits ≡ slice_set self.old.bits index value }
+        ensures written { IsWritten self.old.bits index value self.new.bits }
         ensures changed { IsTrue result ↔ (slice_get self.old.bits index ≢ Some value) }
+        ensures differs { result ≡ differ (item self.old.bits index) value }
         ensures capacity { self.new.capacity ≡ self.old.capacity }
     {
         write_bit(&mut self.vec, self.len, index, value)
@@ -172,7 +176,9 @@ impl<T: Block> Vob<T> {
     pub fn set_unchecked(&mut self, index: usize, value: bool) -> bool
         requires in_range { index < length self.old.bits }
         ensures bits { self.new.bits ≡ slice_set self.old.bits index value }
+        ensures written { IsWritten self.old.bits index value self.new.bits }
         ensures changed { IsTrue result ↔ (slice_get self.old.bits index ≢ Some value) }
+        ensures differs { result ≡ differ (item self.old.bits index) value }
         ensures capacity { self.new.capacity ≡ self.old.capacity }
     {
         self.set(index, value)

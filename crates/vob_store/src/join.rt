@@ -67,7 +67,7 @@ fn join_into<T: Block>(own: &mut [T], len: usize, other: &mut Blocks<'_, T>, mor
 pub fn join<T: Block>(own: &mut Vec<T>, len: usize, other: &mut Blocks<'_, T>, more: usize)
     requires canonical { IsCanonical len (map T.number own.old.items) T.BITS }
     requires other { IsCanonical more (map T.number other.old.items) T.BITS }
-    requires longest { len + more ≤ usize.MAX }
+    requires fits { len + more ≤ usize.MAX }
     requires room { len + more ≤ vec_capacity own.old * T.BITS }
     ensures joined { IsJoined T.BITS len more (map T.number own.old.items)
         (map T.number other.old.items) (map T.number own.new.items) }

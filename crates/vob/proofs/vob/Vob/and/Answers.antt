@@ -1,8 +1,10 @@
 -- By the lemma on storage combined, at the kernel's clauses.
-use Rattle.std.proofs.Common.{◌&&◌, ap, sym, length, refl, drop, ◌∙◌}
+use Rattle.std.proofs.Common.{◌≡◌, ◌⊎◌, ◌<◌, true, subst, ◌&&◌, ap, sym, length, refl, drop, ◌∙◌}
 use Rattle.std.proofs.lemmas.List.{take_at}
 use Rattle.vob_block.proofs.PackingLemmas.{length-unpacking}
 use Rattle.vob_block.proofs.PointwiseLemmas.{same_count, combined}
+use Rattle.vob.specs.Bits.{AreCombined, count_of}
+use Rattle.vob.proofs.BitsLemmas.{LosesBits-by, and_fewer, AreCombined-pointwise}
 use Rattle.vob.proofs.vob.Vob.and.Goals as goal
 
 pub and_into-requires : goal.and_into-requires
@@ -45,3 +47,18 @@ returns-clause-changed g c =
     (len ∙ c.requires) c.blocks-2.ensures.blocks ◌&&◌ refl c.and_into.new.own c.and_into.result
     (rw c.as_mut_slice.ensures.value at c.and_into.ensures.combined) in
     rw (left, ← c.self.view_is) after.1
+
+pub returns-clause-each : goal.returns-clause-each
+returns-clause-each g c =
+    let bits = c.args.self.now.bits in
+    let others = c.args.other.now.bits in
+    subst (λ after. AreCombined ◌&&◌ bits others after) (sym (returns-clause-bits g c))
+    (AreCombined-pointwise ◌&&◌ bits others c.requires refl)
+
+pub returns-clause-fewer : goal.returns-clause-fewer
+returns-clause-fewer g c =
+    let bits = c.args.self.now.bits in
+    let others = c.args.other.now.bits in
+    LosesBits-by _ _ _ (returns-clause-changed g c)
+    (subst (λ after. (after ≡ bits) ⊎ (count_of true after < count_of true bits))
+    (sym (returns-clause-bits g c)) (and_fewer bits others c.requires))

@@ -3,8 +3,8 @@ use Rattle.std.proofs.Common.{arith}
 use Rattle.vob_block.proofs.PackingLemmas.{length-unpacking}
 use Rattle.vob.proofs.vob.Vob.append_blocks.Goals as goal
 
-pub join-requires-clause-longest : goal.join-requires-clause-longest
-join-requires-clause-longest g c = let room =
+pub join-requires-clause-fits : goal.join-requires-clause-fits
+join-requires-clause-fits g c = let room =
     rw (← c.self.view_is, length-unpacking) at c.requires.room in omega (arith, room)
 
 pub join-requires-clause-room : goal.join-requires-clause-room

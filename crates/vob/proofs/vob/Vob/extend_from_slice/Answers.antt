@@ -1,5 +1,5 @@
 -- The room for bits is the room for the blocks that they need.
-use Rattle.std.proofs.Common.{◌+◌, ◌∙◌, refl, sym, arith, length}
+use Rattle.std.proofs.Common.{◌+◌, ◌∙◌, sym, arith, length}
 use Rattle.std.proofs.lemmas.List.{length-map}
 use Rattle.std.proofs.lemmas.Result.{err_from_is_err_and}
 use Rattle.vob_block.proofs.PackingLemmas.{length-unpacking}

@@ -1,5 +1,5 @@
 -- The fields' clauses, read as the values'; the other's blocks are the packing of its bits.
-use Rattle.std.proofs.Common.{◌+◌, arith, refl, sym, ◌∙◌}
+use Rattle.std.proofs.Common.{◌+◌, arith, sym, ◌∙◌}
 use Rattle.std.proofs.lemmas.List.{length-map}
 use Rattle.std.proofs.lemmas.Result.{err_from_is_err_and}
 use Rattle.vob_block.proofs.PackingLemmas.{length-unpacking}

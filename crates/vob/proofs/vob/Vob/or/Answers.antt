@@ -1,8 +1,10 @@
 -- By the lemma on storage combined, at the kernel's clauses.
-use Rattle.std.proofs.Common.{◌||◌, ap, sym, length, refl, drop, ◌∙◌}
+use Rattle.std.proofs.Common.{◌≡◌, ◌⊎◌, ◌<◌, true, subst, ◌||◌, ap, sym, length, refl, drop, ◌∙◌}
 use Rattle.std.proofs.lemmas.List.{take_at}
 use Rattle.vob_block.proofs.PackingLemmas.{length-unpacking}
 use Rattle.vob_block.proofs.PointwiseLemmas.{same_count, combined}
+use Rattle.vob.specs.Bits.{AreCombined, count_of}
+use Rattle.vob.proofs.BitsLemmas.{GainsBits-by, or_more, AreCombined-pointwise}
 use Rattle.vob.proofs.vob.Vob.or.Goals as goal
 
 pub or_into-requires : goal.or_into-requires
@@ -45,3 +47,18 @@ returns-clause-changed g c =
     (len ∙ c.requires) c.blocks-2.ensures.blocks ◌||◌ refl c.or_into.new.own c.or_into.result
     (rw c.as_mut_slice.ensures.value at c.or_into.ensures.combined) in
     rw (left, ← c.self.view_is) after.1
+
+pub returns-clause-each : goal.returns-clause-each
+returns-clause-each g c =
+    let bits = c.args.self.now.bits in
+    let others = c.args.other.now.bits in
+    subst (λ after. AreCombined ◌||◌ bits others after) (sym (returns-clause-bits g c))
+    (AreCombined-pointwise ◌||◌ bits others c.requires refl)
+
+pub returns-clause-more : goal.returns-clause-more
+returns-clause-more g c =
+    let bits = c.args.self.now.bits in
+    let others = c.args.other.now.bits in
+    GainsBits-by _ _ _ (returns-clause-changed g c)
+    (subst (λ after. (after ≡ bits) ⊎ (count_of true bits < count_of true after))
+    (sym (returns-clause-bits g c)) (or_more bits others c.requires))

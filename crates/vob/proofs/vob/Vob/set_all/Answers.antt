@@ -1,7 +1,9 @@
 -- As often the value as there were bits.
-use Rattle.std.proofs.Common.{◌≡◌, ◌∙◌, sym, ap, length}
+use Rattle.std.proofs.Common.{subst, ◌≡◌, ◌∙◌, sym, ap, length}
 use Rattle.std.proofs.lemmas.List.{take_at}
 use Rattle.vob_block.proofs.PackingLemmas.{length-unpacking}
+use Rattle.vob.specs.Bits.{IsChanged}
+use Rattle.vob.proofs.BitsLemmas.{IsChanged-replicate}
 use Rattle.vob.proofs.vob.Vob.set_all.Goals as goal
 
 pub returns-clause-bits : goal.returns-clause-bits
@@ -13,3 +15,8 @@ returns-clause-bits g c =
           (c.fill.auto.blocks ∙ c.deref_mut.ensures.len),
       long,
     ) c.fill.ensures.bits
+
+pub returns-clause-each : goal.returns-clause-each
+returns-clause-each g c =
+    subst (λ after. IsChanged (λ _. c.args.value) c.args.self.now.bits after)
+    (sym (returns-clause-bits g c)) (IsChanged-replicate c.args.value c.args.self.now.bits)

@@ -1,9 +1,11 @@
 -- By the lemma on storage combined, at the kernel's clauses.
-use Rattle.std.proofs.Common.{ap, sym, length, refl, drop, ◌∙◌}
+use Rattle.std.proofs.Common.{subst, ap, sym, length, refl, drop, ◌∙◌}
 use Rattle.std.proofs.lemmas.List.{take_at}
 use Rattle.vob_block.specs.Pointwise.{differ}
 use Rattle.vob_block.proofs.PackingLemmas.{length-unpacking}
 use Rattle.vob_block.proofs.PointwiseLemmas.{same_count, combined}
+use Rattle.vob.specs.Bits.{AreCombined}
+use Rattle.vob.proofs.BitsLemmas.{AreCombined-pointwise, same_by_flag}
 use Rattle.vob.proofs.vob.Vob.xor.Goals as goal
 
 pub xor_into-requires : goal.xor_into-requires
@@ -46,3 +48,13 @@ returns-clause-changed g c =
     (len ∙ c.requires) c.blocks-2.ensures.blocks differ refl c.xor_into.new.own c.xor_into.result
     (rw c.as_mut_slice.ensures.value at c.xor_into.ensures.combined) in
     rw (left, ← c.self.view_is) after.1
+
+pub returns-clause-each : goal.returns-clause-each
+returns-clause-each g c =
+    let bits = c.args.self.now.bits in
+    let others = c.args.other.now.bits in
+    subst (λ after. AreCombined differ bits others after) (sym (returns-clause-bits g c))
+    (AreCombined-pointwise differ bits others c.requires refl)
+
+pub returns-clause-same : goal.returns-clause-same
+returns-clause-same g c = same_by_flag _ _ _ (returns-clause-changed g c)
