@@ -1,6 +1,6 @@
 //! The laws of the operations on lists of bits. Each function does nothing: its contract is the law.
 ghost use Rattle.vob.specs.Laws.{JoinUndoesCut, JoinIsPushes, EqualWhereListsAre, EqualWhereStorageIs, UnequalWherePlacesDiffer, PointwiseChangesBits, SetChangesBit, NegateTwice, XorOfEqual, NegatedAnd};
-ghost use Rattle.vob_walk.specs.Laws.{MatchesShareNoIndex, MatchesFillTheRange, MatchesAddUp};
+ghost use Rattle.vob_walk.specs.Laws.{MatchesShareNoIndex, MatchesFillTheRange, MatchesAddUp, MatchesExactly, MatchesRise, FirstMatchIsLeast, NoMatchIsNone, MatchesAreCounted, MatchesAreFew};
 ghost use Rattle.vob_walk.specs.Laws.{NoneIsForGood};
 
 /// Cutting a list and joining the parts gives it back, so a `split_off` and an `extend_from_vob` of
@@ -73,6 +73,37 @@ pub fn matches_fill_the_range()
 /// So the indices that match either value are as many as those within the range.
 pub fn matches_add_up()
     ensures { MatchesAddUp }
+{}
+
+/// An index is given where it is below the length and within the range, and its bit has the value.
+pub fn matches_exactly()
+    ensures { MatchesExactly }
+{}
+
+/// Each index that is given is above those before it.
+pub fn matches_rise()
+    ensures { MatchesRise }
+{}
+
+/// The first index that is given is that of a bit of the value, and no such bit of the range is
+/// before it.
+pub fn first_match_is_least()
+    ensures { FirstMatchIsLeast }
+{}
+
+/// Where no index is given, no bit within the range has the value.
+pub fn no_match_is_none()
+    ensures { NoMatchIsNone }
+{}
+
+/// Over all indices, as many are given as bits have the value.
+pub fn matches_are_counted()
+    ensures { MatchesAreCounted }
+{}
+
+/// No more indices are given than there are bits, so a count of them is no overflow.
+pub fn matches_are_few()
+    ensures { MatchesAreFew }
 {}
 
 /// A walk over indices that answered None at either end answers None at both, for good: no pull gives

@@ -1,6 +1,7 @@
 pub mod BlockBitsLemmas
 pub mod CountLemmas
 pub mod CursorLemmas
+pub mod IndexLemmas
 pub mod MatchesLemmas
 pub mod PullLemmas
 pub mod ScanLemmas
