@@ -1,8 +1,9 @@
 -- The blocks are the packing of the bits.
-use Rattle.std.proofs.Common.{◌∙◌, true, map, sym, subst}
+use Rattle.std.proofs.Common.{◌∙◌, ap, arith, length, true, map, sym, subst}
 use Rattle.std.proofs.lemmas.List.{length-map}
 use Rattle.vob_block.proofs.PackingLemmas.{packing_is}
 use Rattle.vob_walk.specs.Walk.{IsFresh}
+use Rattle.vob_walk.proofs.MatchesLemmas.{length-matches-le}
 use Rattle.vob_walk.proofs.WalkLemmas.{walk_runs, walk_runs_back}
 use Rattle.vob.proofs.vob.Vob.iter_set_bits.Goals as goal
 
@@ -24,6 +25,13 @@ returns-clause-fresh g c = λ in_range.
     let bits = (packing_is w g.met.T.Block.wide_law c.args.self.now.bits c.len.result
     (map number c.blocks-2.result.items) c.blocks-2.ensures.blocks (sym c.len.ensures.len)).bits in
     subst (λ bs. IsFresh c.over.result bs true low high w) bits (c.over.ensures.fresh in_range)
+
+pub returns-clause-longest : goal.returns-clause-longest
+returns-clause-longest g c = λ in_range.
+    let low = g.R.RangeBounds.start_bound c.args.range in
+    let high = g.R.RangeBounds.end_bound c.args.range in
+    let few = length-matches-le c.args.self.now.bits low high true in
+    omega (arith, ap length (returns-clause-fresh g c in_range).rest, few)
 
 pub returns-clause-runs : goal.returns-clause-runs
 returns-clause-runs g c = walk_runs
