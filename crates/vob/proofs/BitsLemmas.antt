@@ -1,7 +1,7 @@
 -- A page for users: what calls in place do to a list of bits, index by index, and how often a bit is in it.
 use Rattle.std.specs.Prelude.{Some, slice_get, slice_set}
 use Rattle.std.specs.Bool.{Decides}
-use Rattle.std.proofs.Common.{◌≡◌, ◌≢◌, ◌↔◌, ◌⊎◌, ℕ, zero, suc, ◌+◌, ◌<◌, Bool, true, false, ◌&&◌, ◌||◌, cond, List, [], ◌∷◌, length, map, replicate, refl, sym, ap, ◌∙◌, arith, inl, inr}
+use Rattle.std.proofs.Common.{not, ◌≡◌, ◌≢◌, ◌↔◌, ◌⊎◌, ℕ, zero, suc, ◌+◌, ◌<◌, Bool, true, false, ◌&&◌, ◌||◌, cond, List, [], ◌∷◌, length, map, replicate, refl, sym, ap, ◌∙◌, arith, inl, inr}
 use Rattle.std.proofs.lemmas.Bool.{false≢true}
 use Rattle.std.proofs.lemmas.List.{length-map, length-set, length-replicate, get_or-replicate, get_or-set_same, get_or-set_other, get_or-map}
 use Rattle.std.proofs.lemmas.List.Sums.{sum_by-set, sum_by-cons}
@@ -41,6 +41,15 @@ differ-is true true false h = refl
 differ-is false true false h = h.1 (λ e. cc)
 differ-is true false true h = refl
 differ-is false false true h = h.1 (λ e. cc)
+
+-- what a bit was, where a write of false or of true tells whether it changed
+pub differ-false : (b : Bool) → differ b false ≡ b
+differ-false true = refl
+differ-false false = refl
+
+pub differ-true : (b : Bool) → differ b true ≡ not b
+differ-true true = refl
+differ-true false = refl
 
 pub differ-at : (bits : List Bool) (index : ℕ) (value r : Bool) → index < length bits
     → ((r ≡ true) ↔ (slice_get bits index ≢ Some value)) → r ≡ differ (item bits index) value

@@ -1,13 +1,97 @@
-//! Slots that are free or taken: a user of the walk over unset bits.
+//! Slots that are free or taken: a user of the walk over unset bits, and of the flag of `set`.
+ghost use Rattle.std.specs.Prelude.{◌≡◌, ◌+◌, ◌++◌, false, length, replicate, slice_set, IfOk, IfSome, OnOk, OnErr};
+ghost use Rattle.vob.specs.Bits.{count_of};
+ghost use Rattle.vob_block.specs.Packing.{item};
 ghost use Rattle.vob_users.specs.Slots.{IsTaken};
 
-use vob::Vob;
+use std::alloc::{AllocError, Global};
+use std::marker::Model;
+use vob::{Vob, VobError};
 
 /// Takes the first free slot, if one is free. A set bit is a slot that is taken.
 pub fn take_slot(slots: &mut Vob) -> Option<usize>
-    ensures { IsTaken slots.old.bits result slots.new.bits }
+    ensures taken { IsTaken slots.old.bits result slots.new.bits }
+    ensures fewer { IfSome result (λ _.
+        count_of false slots.old.bits ≡ count_of false slots.new.bits + 1) }
 {
     let slot = slots.iter_unset_bits(..).next()?;
     slots.set(slot, true);
     Some(slot)
+}
+
+/// Numbered slots, each free or taken. Contracts see the list of whether each is taken.
+#[derive(Drop)]
+pub struct Slots {
+    taken: Vob,
+    free: usize,
+}
+
+impl Model for Slots {
+    ghost use Rattle.std.specs.Prelude.{◌≡◌, Bool, List, false};
+    ghost use Rattle.vob.specs.Bits.{count_of};
+
+    ghost Value = { List Bool };
+
+    ghost view = { λ slots. slots.taken.bits };
+
+    ghost invariant = { λ slots. slots.free ≡ count_of false slots.taken.bits };
+}
+
+impl Slots {
+    /// So many free slots.
+    pub fn new(alloc: Global, count: usize) -> Result<Slots, AllocError>
+        ensures { IfOk result (λ slots. slots ≡ replicate count false) }
+    {
+        let taken = Vob::from_elem(alloc, false, count)?;
+        Ok(Slots { taken, free: count })
+    }
+
+    /// How many slots there are.
+    pub fn len(&self) -> usize
+        ensures { result ≡ length self.now }
+    {
+        self.taken.len()
+    }
+
+    /// How many slots are free.
+    pub fn free_count(&self) -> usize
+        ensures { result ≡ count_of false self.now }
+    {
+        self.free
+    }
+
+    /// Takes the first free slot, if one is free.
+    pub fn alloc(&mut self) -> Option<usize>
+        ensures { IsTaken self.old result self.new }
+    {
+        let slot = take_slot(&mut self.taken)?;
+        self.free -= 1;
+        Some(slot)
+    }
+
+    /// Takes a slot back, and answers whether it was taken. From the number of slots on none is.
+    pub fn free(&mut self, slot: usize) -> bool
+        ensures slots { self.new ≡ slice_set self.old slot false }
+        ensures taken { result ≡ item self.old slot }
+    {
+        if slot >= self.taken.len() || !self.taken.set(slot, false) {
+            return false;
+        }
+        self.free += 1;
+        true
+    }
+
+    /// Adds so many free slots behind the others.
+    pub fn grow(&mut self, more: usize) -> Result<(), VobError>
+        ensures ok { OnOk result (self.new ≡ self.old ++ replicate more false) }
+        ensures err { OnErr result (self.new ≡ self.old) }
+    {
+        let len = self.taken.len();
+        if more > usize::MAX - len {
+            return Err(VobError::TooLong);
+        }
+        self.taken.resize(len + more, false)?;
+        self.free += more;
+        Ok(())
+    }
 }

@@ -8,7 +8,6 @@ use Rattle.std.proofs.lemmas.Bool.{cases_eq, false≢true}
 use Rattle.std.proofs.lemmas.List.FromFn.{get_or-range_with_len, length-range_with_len}
 use Rattle.std.proofs.lemmas.List.Kept.{AllPairs-filter}
 use Rattle.std.proofs.lemmas.List.Sums.{length-filter, sum_by-cons}
-use Rattle.std.proofs.lemmas.Option.{get_or_from_slice_get}
 use Rattle.vob_block.specs.Packing.{item}
 use Rattle.vob_walk.specs.Matches.{within, has_value, matches}
 use Rattle.vob_walk.proofs.MatchesLemmas.{matches-only, matches-has}
@@ -24,23 +23,15 @@ has_value-same false bit e = ap not e
 
 -- ---- the first of a list that rises
 
-first_there : (xs : List ℕ) (i : ℕ) → slice_get xs 0 ≡ Some i → 0 < length xs
-first_there [] i e = cc
-first_there (x ∷ xs) i e = omega arith
-
-first_least : (xs : List ℕ) → AllPairs (λ i j. i < j) xs → (i : ℕ) → slice_get xs 0 ≡ Some i
+first_least : (xs : List ℕ) → AllPairs (λ i j. i < j) xs → (i : ℕ) (rest : List ℕ) → xs ≡ i ∷ rest
     → (j : ℕ) → Contains xs j → i ≤ j
-first_least xs rise i e j h =
-    let first = get_or_from_slice_get xs 0 i j e in
+first_least xs rise i rest e j h =
+    let first : get_or xs 0 j ≡ i = ap (λ ys. get_or ys 0 j) e in
     elim (cases_eq h.0 0) [
       | inl here ↦ omega (arith, first, ap (λ k. get_or xs k j) here, h.2)
       | inr later ↦
           let less = rise 0 h.0 j (omega (arith, later)) h.1 in omega (arith, less, first, h.2)
     ]
-
-none_there : (xs : List ℕ) → slice_get xs 0 ≡ None → (j : ℕ) → Contains xs j → ⊥
-none_there [] e j h = let inside = h.1 in omega arith
-none_there (x ∷ xs) e j h = cc
 
 -- ---- how many bits have a value
 
@@ -96,24 +87,24 @@ module _ (bits : List Bool) (value : Bool) (low high : Bound ℕ) where
       (rising 0 (length bits))
 
   -- the first index that is given is the least one
-  pub matches-first : (i : ℕ) → slice_get (matches bits value low high) 0 ≡ Some i
+  pub matches-first : (i : ℕ) (rest : List ℕ) → matches bits value low high ≡ i ∷ rest
       → (i < length bits) × IsTrue (within low high i) × (item bits i ≡ value)
       × ((j : ℕ) → j < i → IsTrue (within low high j) → item bits j ≢ value)
-  matches-first i e =
+  matches-first i rest e =
       let all = matches bits value low high in
-      let there = (matches-exactly i).0 (0, first_there all i e, get_or_from_slice_get all 0 i i e) in (
+      let there = (matches-exactly i).0 (0, omega (arith, ap length e), ap (λ xs. get_or xs 0 i) e) in (
         there.0,
         there.1,
         there.2,
         (λ j less in_range equal.
-            let least = first_least all matches-rise i e j
+            let least = first_least all matches-rise i rest e j
             ((matches-exactly j).1 (omega (arith, less, there.0), in_range, equal)) in
             absurd (omega (arith, least, less))),
       )
 
   -- where none is given, no bit within the range has the value
-  pub matches-none : slice_get (matches bits value low high) 0 ≡ None → (i : ℕ) → i < length bits
+  pub matches-none : matches bits value low high ≡ [] → (i : ℕ) → i < length bits
       → IsTrue (within low high i) → item bits i ≢ value
   matches-none e i inside in_range equal =
-      none_there (matches bits value low high) e i
-      ((matches-exactly i).1 (inside, in_range, equal))
+      let there = (matches-exactly i).1 (inside, in_range, equal) in
+      omega (arith, there.1, ap length e)

@@ -1,5 +1,5 @@
 -- What the indices within a range obey, for both values and at both ends of a walk.
-use Rattle.std.specs.Prelude.{◌≡◌, ◌≢◌, ◌↔◌, ◌⊎◌, ℕ, ◌+◌, ◌<◌, ◌≤◌, Bool, true, false, List, length, replicate, slice_get, None, Some, IsTrue, Contains, AllPairs, count_by}
+use Rattle.std.specs.Prelude.{◌≡◌, ◌≢◌, ◌↔◌, ◌⊎◌, ℕ, ◌+◌, ◌<◌, ◌≤◌, Bool, true, false, List, [], ◌∷◌, length, replicate, None, IsTrue, Contains, AllPairs, count_by}
 use Rattle.std.specs.List.{range_with_len}
 use Rattle.std.specs.declared.ops.Bound.{Bound}
 use Rattle.std.specs.declared.ops.Bound.TheVariants.{Unbounded}
@@ -50,16 +50,15 @@ MatchesRise =
 -- the first index that is given is that of a bit of the value, and the least one
 abbrev pub FirstMatchIsLeast : Type 0
 FirstMatchIsLeast =
-    (bits : List Bool) (value : Bool) (low high : Bound ℕ) (i : ℕ)
-    → slice_get (matches bits value low high) 0 ≡ Some i
+    (bits : List Bool) (value : Bool) (low high : Bound ℕ) (i : ℕ) (rest : List ℕ)
+    → matches bits value low high ≡ i ∷ rest
     → (i < length bits) × IsTrue (within low high i) × (item bits i ≡ value)
     × ((j : ℕ) → j < i → IsTrue (within low high j) → item bits j ≢ value)
 
 -- where none is given, no bit within the range has the value
 abbrev pub NoMatchIsNone : Type 0
 NoMatchIsNone =
-    (bits : List Bool) (value : Bool) (low high : Bound ℕ)
-    → slice_get (matches bits value low high) 0 ≡ None
+    (bits : List Bool) (value : Bool) (low high : Bound ℕ) → matches bits value low high ≡ []
     → (i : ℕ) → i < length bits → IsTrue (within low high i) → item bits i ≢ value
 
 -- over all indices, as many are given as bits have the value

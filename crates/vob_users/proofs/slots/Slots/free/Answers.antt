@@ -1,0 +1,15 @@
+-- The slot was taken, so one more is free than before, and no more are than there are.
+use Rattle.std.specs.Prelude.{false}
+use Rattle.std.proofs.Common.{sym, ◌∙◌, arith}
+use Rattle.std.proofs.lemmas.List.Sums.{count_by-le-length}
+use Rattle.vob_walk.specs.Matches.{has_value}
+use Rattle.vob.proofs.BitsLemmas.{differ-false}
+use Rattle.vob_users.proofs.slots.Slots.free.Goals as goal
+
+pub overflow_add-self : goal.overflow_add-self
+overflow_add-self c =
+    let taken = sym (differ-false _) ∙ sym c.set.ensures.differs ∙ c.if-not-set.false in
+    let more = rw taken at c.set.ensures.written.count false in
+    let few = count_by-le-length (has_value false) c.set.new.self.bits in
+    let len = c.set.ensures.written.len in
+    omega (arith, more, few, len, c.self.invariant, c.len.ensures.len, c.len.ensures.greatest)
