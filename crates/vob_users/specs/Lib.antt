@@ -1,2 +1,3 @@
 pub mod Reachable
+pub mod Rows
 pub mod Slots

@@ -1,10 +1,35 @@
-//! The rows of a table that a filter keeps: a user of the walk over set bits.
+//! The rows of a table that a filter keeps, a bit each: a user of the calls on all bits, and of walks
+//! over set bits.
 ghost use Rattle.std.specs.Prelude.{◌≡◌, true, IfOk};
 ghost use Rattle.std.specs.declared.ops.Bound.TheVariants.{Unbounded};
+ghost use Rattle.vob.specs.Bits.{count_of};
+ghost use Rattle.vob.specs.Vob.{HaveSameLength};
+ghost use Rattle.vob_users.specs.Rows.{IsSelected};
 ghost use Rattle.vob_walk.specs.Matches.{matches};
 
 use std::alloc::{AllocError, Global};
 use vob::Vob;
+
+/// The rows that `first` and `second` keep and `without` doesn't.
+pub fn select(first: &Vob, second: &Vob, without: &Vob) -> Result<Vob, AllocError>
+    requires both { HaveSameLength first.now second.now }
+    requires third { HaveSameLength first.now without.now }
+    ensures { IfOk result (λ rows.
+        IsSelected first.now.bits second.now.bits without.now.bits rows.bits) }
+{
+    let mut rows = without.clone()?;
+    rows.negate();
+    rows.and(first);
+    rows.and(second);
+    Ok(rows)
+}
+
+/// How many rows are kept.
+pub fn count_rows(filter: &Vob) -> usize
+    ensures { result ≡ count_of true filter.now.bits }
+{
+    filter.iter_set_bits(..).count()
+}
 
 /// The numbers of the rows that a filter keeps, in order. Bit `i` says whether row `i` is kept.
 pub fn kept_rows(alloc: Global, filter: &Vob) -> Result<Vec<usize>, AllocError>
