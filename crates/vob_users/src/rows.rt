@@ -1,7 +1,7 @@
 //! The rows of a table that a filter keeps, a bit each: a user of the calls on all bits, and of walks
 //! over set bits.
-ghost use Rattle.std.specs.Prelude.{◌≡◌, true, IfOk};
-ghost use Rattle.std.specs.declared.ops.Bound.TheVariants.{Unbounded};
+ghost use Rattle.std.specs.Prelude.{◌≡◌, true, length, IfOk};
+ghost use Rattle.std.specs.declared.ops.Bound.TheVariants.{Included, Excluded, Unbounded};
 ghost use Rattle.vob.specs.Bits.{count_of};
 ghost use Rattle.vob.specs.Vob.{HaveSameLength};
 ghost use Rattle.vob_users.specs.Rows.{IsSelected};
@@ -36,4 +36,15 @@ pub fn kept_rows(alloc: Global, filter: &Vob) -> Result<Vec<usize>, AllocError>
     ensures { IfOk result (λ rows. rows.items ≡ matches filter.now.bits true Unbounded Unbounded) }
 {
     filter.iter_set_bits(..).collect(alloc)
+}
+
+/// How many rows from `start` to below `end` are kept, by a loop over them.
+pub fn count_between(filter: &Vob, start: usize, end: usize) -> usize
+    ensures { result ≡ length (matches filter.now.bits true (Included start) (Excluded end)) }
+{
+    let mut count = 0;
+    for _row in filter.iter_set_bits(start..end) {
+        count += 1;
+    }
+    count
 }

@@ -31,7 +31,8 @@ returns-clause-longest g c = λ in_range.
     let low = g.R.RangeBounds.start_bound c.args.range in
     let high = g.R.RangeBounds.end_bound c.args.range in
     let few = length-matches-le c.args.self.now.bits low high true in
-    omega (arith, ap length (returns-clause-fresh g c in_range).rest, few)
+    let all = ap length (returns-clause-fresh g c in_range).rest in
+    omega (arith, all, few, c.len.ensures.len, c.len.ensures.greatest)
 
 pub returns-clause-runs : goal.returns-clause-runs
 returns-clause-runs g c = walk_runs
