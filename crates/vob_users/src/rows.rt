@@ -1,6 +1,6 @@
 //! The rows of a table that a filter keeps, a bit each: a user of the calls on all bits, and of walks
 //! over set bits.
-ghost use Rattle.std.specs.Prelude.{◌≡◌, true, length, IfOk};
+ghost use Rattle.std.specs.Prelude.{◌≡◌, true, drop, length, reverse, take, IfOk};
 ghost use Rattle.std.specs.declared.ops.Bound.TheVariants.{Included, Excluded, Unbounded};
 ghost use Rattle.vob.specs.Bits.{count_of};
 ghost use Rattle.vob.specs.Vob.{HaveSameLength};
@@ -47,4 +47,39 @@ pub fn count_between(filter: &Vob, start: usize, end: usize) -> usize
         count += 1;
     }
     count
+}
+
+/// The numbers of at most `count` kept rows, in order, behind the first `skip` of them.
+pub fn page(
+    alloc: Global,
+    filter: &Vob,
+    skip: usize,
+    count: usize,
+) -> Result<Vec<usize>, AllocError>
+    ensures { IfOk result (λ rows. rows.items
+        ≡ take count (drop skip (matches filter.now.bits true Unbounded Unbounded))) }
+{
+    filter
+        .iter_set_bits(..)
+        .skip(skip)
+        .take(count)
+        .collect(alloc)
+}
+
+/// The same from the end: the last row first, before the last `skip` of them.
+pub fn page_back(
+    alloc: Global,
+    filter: &Vob,
+    skip: usize,
+    count: usize,
+) -> Result<Vec<usize>, AllocError>
+    ensures { IfOk result (λ rows. rows.items
+        ≡ take count (drop skip (reverse (matches filter.now.bits true Unbounded Unbounded)))) }
+{
+    filter
+        .iter_set_bits(..)
+        .rev()
+        .skip(skip)
+        .take(count)
+        .collect(alloc)
 }

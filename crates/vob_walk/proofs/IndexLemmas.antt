@@ -1,15 +1,21 @@
 -- A page for users: which indices a walk gives, in which order, and how many.
-use Rattle.std.specs.Prelude.{Some, None, slice_get, AllPairs}
+use Rattle.std.specs.Prelude.{AllPairs}
+use Rattle.std.specs.Iterator.Adapters.{rev_source, rev_steps}
 use Rattle.std.specs.List.{range_with_len}
+use Rattle.std.specs.declared.iter.Rev.{Rev}
 use Rattle.std.specs.declared.ops.Bound.{Bound}
 use Rattle.std.specs.declared.ops.Bound.TheVariants.{Unbounded}
-use Rattle.std.proofs.Common.{◌≡◌, ◌≢◌, ◌↔◌, ℕ, suc, ◌+◌, ◌<◌, ◌≤◌, Bool, true, false, not, ◌&&◌, cond, IsTrue, List, [], ◌∷◌, length, get_or, count_by, Contains, refl, sym, ap, ◌∙◌, arith, inl, inr}
+use Rattle.std.proofs.Common.{◌≡◌, ◌≢◌, reverse, subst, ◌↔◌, ℕ, suc, ◌+◌, ◌<◌, ◌≤◌, Bool, true, false, not, ◌&&◌, cond, IsTrue, List, [], ◌∷◌, length, get_or, count_by, Contains, refl, sym, ap, ◌∙◌, arith, inl, inr}
+use Rattle.std.proofs.lemmas.Iterator.{YieldsList}
+use Rattle.std.proofs.lemmas.Iterator.Consumers.{YieldsList-from_shown}
 use Rattle.std.proofs.lemmas.Bool.{cases_eq, false≢true}
+use Rattle.std.proofs.lemmas.List.{length-reverse, reverse-append}
 use Rattle.std.proofs.lemmas.List.FromFn.{get_or-range_with_len, length-range_with_len}
 use Rattle.std.proofs.lemmas.List.Kept.{AllPairs-filter}
 use Rattle.std.proofs.lemmas.List.Sums.{length-filter, sum_by-cons}
 use Rattle.vob_block.specs.Packing.{item}
 use Rattle.vob_walk.specs.Matches.{within, has_value, matches}
+use Rattle.vob_walk.specs.Walk.{Walk, GivesFirst, GivesLast}
 use Rattle.vob_walk.proofs.MatchesLemmas.{matches-only, matches-has}
 
 value_is : (value bit : Bool) → IsTrue (has_value value bit) → bit ≡ value
@@ -108,3 +114,20 @@ module _ (bits : List Bool) (value : Bool) (low high : Bound ℕ) where
   matches-none e i inside in_range equal =
       let there = (matches-exactly i).1 (inside, in_range, equal) in
       omega (arith, there.1, ap length e)
+
+-- ---- a walk as the source of other iterators, which std's lemmas on them start from
+
+pub YieldsList-from_walk : {walk : Walk} (xs : List ℕ) → walk.rest ≡ xs
+    → YieldsList GivesFirst (λ i. i) walk xs
+YieldsList-from_walk {walk} xs e =
+    subst (YieldsList GivesFirst (λ i. i) walk) e
+    (YieldsList-from_shown GivesFirst (λ i. i) (λ w. w.rest) (λ w v h. ap length h.gives.0)
+    (λ w i v h. h.gives) walk)
+
+pub YieldsList-from_rev_walk : {walk : Rev Walk} (xs : List ℕ) → (rev_source walk).rest ≡ xs
+    → YieldsList (rev_steps GivesLast) (λ i. i) walk (reverse xs)
+YieldsList-from_rev_walk {walk} xs e =
+    subst (λ ys. YieldsList (rev_steps GivesLast) (λ i. i) walk (reverse ys)) e
+    (YieldsList-from_shown (rev_steps GivesLast) (λ i. i) (λ w. reverse (rev_source w).rest)
+    (λ w v h. length-reverse (rev_source w).rest ∙ ap length h.gives.0)
+    (λ w i v h. ap reverse h.gives ∙ reverse-append (rev_source v).rest (i ∷ [])) walk)
