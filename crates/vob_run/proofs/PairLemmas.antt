@@ -1,23 +1,24 @@
 -- Two items of a list that is cut between them, and two Vobs of which one changes.
-use Rattle.std.specs.Prelude.{Some, slice_get}
-use Rattle.std.proofs.Common.{◌≡◌, ◌-◌, ◌<◌, ◌≢◌, ◌↔◌, ℕ, List, ◌++◌, Bool, true, false, not, Decides, Option, None, IsSomeAnd, length, take, drop, set, get_or, ap, sym, refl, ◌∙◌, arith, length-append}
-use Rattle.std.proofs.lemmas.List.{set-append_left, set-append_right, set_comm, set-get_or, take_at, length-set, length-map, get_or_append_left, get_or-append_right}
-use Rattle.std.proofs.lemmas.Bool.{ne_eqb, eq-eqb}
-use Rattle.std.proofs.lemmas.Option.{slice_get-get_or, slice_get_within, get_or_from_slice_get}
+use Rattle.std.specs.Prelude.{Some, slice_get, ◌==◌, if◌then◌else◌}
+use Rattle.std.proofs.Common.{◌≡◌, ◌-◌, ◌<◌, ◌≢◌, ◌↔◌, ℕ, List, ◌++◌, Bool, true, false, not, Decides, Option, None, length, take, drop, set, get_or, ap, sym, refl, ◌∙◌, inl, inr, arith, length-append}
+use Rattle.std.proofs.lemmas.List.{set-append_left, set-append_right, set_comm, set-get_or, take_at, length-set, get_or_append_left, get_or-append_right}
+use Rattle.std.specs.Option.{option_map_or}
+use Rattle.std.proofs.lemmas.Bool.{ne_eqb, eq-eqb, cases_lt}
+use Rattle.std.proofs.lemmas.Option.{slice_get-get_or, get_or_from_slice_get}
 use Rattle.vob.specs.Vob.{BitVector}
 use Rattle.vob.specs.Same.{same_bits}
 use Rattle.vob.proofs.SameLemmas.{same_bits_decides}
 use Rattle.vob_block.specs.Pointwise.{pointwise}
 use Rattle.vob_run.specs.declared.calls.pair.Connective.{Connective}
 use Rattle.vob_run.specs.declared.calls.pair.Connective.TheVariants.{And, Or, Xor}
-use Rattle.vob_run.specs.Answer.{Outcome}
+use Rattle.vob_run.specs.Answer.{Outcome, skipped}
 use Rattle.vob_run.specs.Changes.{combined}
 use Rattle.vob_run.specs.Memory.{TakesMemory}
-use Rattle.vob_run.specs.Outcomes.{on_two, on_same_length, makes}
-use Rattle.vob_run.specs.Pairs.{operator, combining, combining_new, HaveSameLength}
+use Rattle.vob_run.specs.Outcomes.{on_two, on_same_length, tells, makes}
+use Rattle.vob_run.specs.Pairs.{operator, combining, combining_new}
 use Rattle.vob_run.specs.Run.{lists}
 use Rattle.vob_run.specs.Step.{step}
-use Rattle.vob_run.proofs.StepLemmas.{IsLent, list_at}
+use Rattle.vob_run.proofs.StepLemmas.{IsLent, lent, list_at, no_list}
 
 module _ {X : Type 0} (xs front back : List X) (i j : ℕ) (cut : xs ≡ front ++ back)
     (at : length front ≡ j) (lt : i < j) where
@@ -51,6 +52,18 @@ pub record AreLent (items : List BitVector) (which other : ℕ) (old more : BitV
   pub different : which ≢ other
   pub first : IsLent items which old
   pub second : IsLent items other more
+
+-- from two reads
+pub both_lent : (items : List BitVector) (which other : ℕ) (old more : BitVector)
+    → (which ≢ other) × (which < length items) × (other < length items)
+    → old ≡ get_or items which old → more ≡ get_or items other more
+    → AreLent items which other old more
+both_lent items which other old more two first second =
+    record {
+      different = two.0;
+      first = lent items which old two.1 first;
+      second = lent items other more two.2 second;
+    }
 
 -- from the slice of a Vec
 pub are_lent : (items slice : List BitVector) → slice ≡ items → {which other : ℕ}
@@ -90,32 +103,47 @@ pub on_two-found : {items : List BitVector} {which other : ℕ} {old more : BitV
 on_two-found {which = which} {other = other} two f =
     rw (ne_eqb which other two.different, list_at two.first, list_at two.second) refl
 
--- what a call says of two lists of one length
-pub on_same_length-found : {items : List BitVector} {which other : ℕ} {old more : BitVector}
-    → AreLent items which other old more → HaveSameLength (lists items) which other
+-- and where there aren't two
+anyhow : (o : Outcome) (test : Bool) (found : Option (List Bool))
+    → (if test then o else option_map_or (λ bits. o) found o) ≡ o
+anyhow o true found = refl
+anyhow o false None = refl
+anyhow o false (Some bits) = refl
+
+pub on_two-missing : (items : List BitVector) (which other : ℕ)
+    → ((which ≢ other) × (which < length items) × (other < length items) → ⊥)
     → (f : List Bool → List Bool → Outcome)
-    → on_same_length (lists items) which other f ≡ f old.bits more.bits
-on_same_length-found {items} {which} {other} {old} {more} two same f =
-    let long : length old.bits ≡ length more.bits =
-    rw (list_at two.first, list_at two.second) at same in
-    on_two-found two _ ∙ rw (eq-eqb (length old.bits) (length more.bits) long) refl
+    → on_two (lists items) which other f ≡ tells (lists items) skipped
+on_two-missing items which other not_two f =
+    let all = lists items in
+    elim (cases_lt which (length items)) [
+      | inr past ↦ rw (no_list items which past) (anyhow (tells all skipped) (which == other) None)
+      | inl inside ↦ elim (cases_lt other (length items)) [
+        | inr past ↦ rw (no_list items other past)
+            (anyhow (tells all skipped) (which == other) (slice_get all which))
+        | inl too ↦
+            elim (cases_lt which other) [
+              | inl less ↦ absurd (not_two (omega (arith, less), inside, too))
+              | inr least ↦ elim (cases_lt other which) [
+                | inl less ↦ absurd (not_two (omega (arith, less), inside, too))
+                | inr most ↦ rw (eq-eqb which other (omega (arith, least, most))) refl
+              ]
+            ]
+      ]
+    ]
 
-some_there : {X : Type 0} (P : X → Type 0) (found : Option X) → IsSomeAnd found P
-    → (x : X) × (found ≡ Some x) × P x
-some_there P None holds = absurd holds
-some_there P (Some x) holds = (x, refl, holds)
+-- what a call says of two lists, by their lengths
+module _ {items : List BitVector} {which other : ℕ} {old more : BitVector}
+    (two : AreLent items which other old more) (f : List Bool → List Bool → Outcome) where
+  pub on_same_length-found : length old.bits ≡ length more.bits
+      → on_same_length (lists items) which other f ≡ f old.bits more.bits
+  on_same_length-found long =
+      on_two-found two _ ∙ rw (eq-eqb (length old.bits) (length more.bits) long) refl
 
-pub within_lists : (items : List BitVector) (which other : ℕ)
-    → HaveSameLength (lists items) which other → (which < length items) × (other < length items)
-within_lists items which other same =
-    let its = slice_get (lists items) other in
-    let first = some_there (λ bits. IsSomeAnd its (λ others. length bits ≡ length others))
-    (slice_get (lists items) which) same in
-    let second = some_there (λ others. length first.0 ≡ length others) its first.2 in
-    let count = length-map items (λ (v : BitVector). v.bits) in (
-      omega (arith, slice_get_within (lists items) which first.0 first.1, count),
-      omega (arith, slice_get_within (lists items) other second.0 second.1, count),
-    )
+  pub on_same_length-apart : length old.bits ≢ length more.bits
+      → on_same_length (lists items) which other f ≡ tells (lists items) skipped
+  on_same_length-apart apart =
+      on_two-found two _ ∙ rw (ne_eqb (length old.bits) (length more.bits) apart) refl
 
 -- the steps of the three connectives
 module _ (width : ℕ) (all : List (List Bool)) (which other : ℕ) where

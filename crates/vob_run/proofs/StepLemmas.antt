@@ -1,12 +1,12 @@
 -- What a call on one Vob, or its refusal, is as a step.
-use Rattle.std.specs.Prelude.{Some, slice_get}
-use Rattle.std.proofs.Common.{◌≡◌, ◌<◌, ◌≤◌, ◌≢◌, ℕ, List, Bool, true, false, ◌↔◌, length, get_or, set, ap, sym, refl, ◌∙◌, inl}
+use Rattle.std.specs.Prelude.{Some, None, slice_get}
+use Rattle.std.proofs.Common.{◌≡◌, ◌<◌, ◌≤◌, ◌≢◌, ℕ, List, Bool, true, false, ◌↔◌, length, get_or, set, ap, sym, refl, ◌∙◌, inl, inr}
 use Rattle.std.proofs.lemmas.List.{map-set, set-get_or}
 use Rattle.std.proofs.lemmas.Option.{slice_get_read, slice_get-map, slice_get-get_or, slice_get_past, get_or_from_slice_get}
 use Rattle.vob_block.specs.Pointwise.{differ}
 use Rattle.vob.specs.Vob.{BitVector}
 use Rattle.vob_run.specs.Call.{Call}
-use Rattle.vob_run.specs.Answer.{outcome, done, flag, skipped}
+use Rattle.vob_run.specs.Answer.{Answer, outcome, done, flag, skipped, refused}
 use Rattle.vob_run.specs.Changes.{written}
 use Rattle.vob_run.specs.Memory.{TakesMemory, MayRefuse}
 use Rattle.vob_run.specs.Outcomes.{on}
@@ -26,6 +26,11 @@ lent items which old inside read =
 pub list_at : {items : List BitVector} {which : ℕ} {old : BitVector} → IsLent items which old
     → slice_get (lists items) which ≡ Some old.bits
 list_at vob = rw (slice_get-map, vob.there)
+
+-- there is no list with a number past the last
+pub no_list : (items : List BitVector) (which : ℕ) → length items ≤ which
+    → slice_get (lists items) which ≡ None
+no_list items which past = rw (slice_get-map, slice_get_past items which past) refl
 
 -- a Vob whose bits have become others leaves the lists with that one changed
 pub lists-set : (items : List BitVector) (which : ℕ) (new : BitVector)
@@ -47,6 +52,14 @@ pub MayRefuse-done : (width : ℕ) (all after : List (List Bool)) (call : Call)
 MayRefuse-done width all after call is takes =
     let answers : (step width all call).answer ≡ done = ap (λ o. o.answer) is in
     (takes, (λ e. cc), (λ e. cc))
+
+-- a call that only tells something may be refused where it takes memory
+pub refused_telling : (width : ℕ) (all : List (List Bool)) (call : Call) (told : Answer)
+    → step width all call ≡ outcome told all → told ≢ skipped → told ≢ refused 1
+    → TakesMemory width all call → IsStep width all call (refused 2) all
+refused_telling width all call told is made short takes =
+    let answers : (step width all call).answer ≡ told = ap (λ o. o.answer) is in
+    inr ((takes, rw answers made, rw answers short), refl, refl)
 
 -- whether a bit changed, as a step tells it
 flag-differ : (changed old value : Bool) → ((changed ≡ true) ↔ (Some old ≢ Some value))

@@ -3,9 +3,11 @@ pub mod Blocks
 pub mod Call
 pub mod Changes
 pub mod Commands
+pub mod Groups
 pub mod Memory
 pub mod Outcomes
 pub mod Pairs
+pub mod Placed
 pub mod Run
 pub mod Step
 pub mod Widths

@@ -1,5 +1,5 @@
 -- The calls that combine two lists, by connective: words of inner functions, in no public contract.
-use Rattle.std.specs.Prelude.{◌≡◌, ℕ, List, length, slice_get, Bool, ◌&&◌, ◌||◌, IsSomeAnd}
+use Rattle.std.specs.Prelude.{ℕ, Bool, ◌&&◌, ◌||◌}
 use Rattle.vob_block.specs.Pointwise.{differ}
 use Rattle.vob_run.specs.Call.{Call}
 use Rattle.vob_run.specs.Call as call
@@ -23,9 +23,3 @@ abbrev pub combining_new : Connective → ℕ → ℕ → Call
 combining_new And = call.AndNew
 combining_new Or = call.OrNew
 combining_new Xor = call.XorNew
-
--- the lists with these numbers are there, and of one length
-abbrev pub HaveSameLength : List (List Bool) → ℕ → ℕ → Type 0
-HaveSameLength lists which other =
-    IsSomeAnd (slice_get lists which) (λ bits.
-    IsSomeAnd (slice_get lists other) (λ others. length bits ≡ length others))

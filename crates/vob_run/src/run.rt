@@ -2,6 +2,7 @@
 ghost use Rattle.std.specs.Prelude.{◌≡◌, [], ◌++◌, map, OnOk, OnErr, IsOk};
 ghost use Rattle.vob_run.specs.Answer.{Answer, answer_of, usize_answer_of};
 ghost use Rattle.vob_run.specs.Commands.{call_of, usize_call_of};
+ghost use Rattle.vob_run.specs.Groups.{IsOnOne, IsRead};
 ghost use Rattle.vob_run.specs.Run.{lists, IsStep, IsRun};
 
 use crate::calls::pair::Connective;
@@ -26,11 +27,28 @@ fn run_one<T: Block>(alloc: Global, vobs: &mut Vec<Vob<T>>, command: &Command<T>
             mask,
             ref blocks,
         } => raw::from_raw(alloc, vobs, len, mask, blocks),
+        Command::SplitOff { which, index } => make::split_off(vobs, which, index),
+        Command::ExtendVob { which, other } => pair::extend_vob(vobs, which, other),
+        Command::And { which, other } => pair::combine(vobs, Connective::And, which, other),
+        Command::Or { which, other } => pair::combine(vobs, Connective::Or, which, other),
+        Command::Xor { which, other } => pair::combine(vobs, Connective::Xor, which, other),
+        Command::AndNew { which, other } => pair::combine_new(vobs, Connective::And, which, other),
+        Command::OrNew { which, other } => pair::combine_new(vobs, Connective::Or, which, other),
+        Command::XorNew { which, other } => pair::combine_new(vobs, Connective::Xor, which, other),
+        Command::Equal { which, other } => pair::equal(vobs, which, other),
+        _ => run_on_one(alloc, vobs, command),
+    }
+}
+
+// Runs one command that changes a Vob, or reads one.
+fn run_on_one<T: Block>(alloc: Global, vobs: &mut Vec<Vob<T>>, command: &Command<T>) -> Reply<T>
+    requires { IsOnOne command.now }
+    ensures { IsStep T.BITS (lists vobs.old.items) (call_of T.number command.now)
+        (answer_of T.number result) (lists vobs.new.items) }
+{
+    match *command {
         Command::Push { which, value } => write::push(vobs, which, value),
         Command::Pop { which } => write::pop(vobs, which),
-        Command::GetBit { which, index } => read::get_bit(vobs, which, index),
-        Command::GetUnchecked { which, index } => read::get_unchecked(vobs, which, index),
-        Command::IndexBit { which, index } => read::index_bit(vobs, which, index),
         Command::SetBit {
             which,
             index,
@@ -40,9 +58,7 @@ fn run_one<T: Block>(alloc: Global, vobs: &mut Vec<Vob<T>>, command: &Command<T>
             which,
             index,
             value,
-        } => { write::set_unchecked(vobs, which, index, value) }
-        Command::Length { which } => read::length(vobs, which),
-        Command::IsEmpty { which } => read::is_empty(vobs, which),
+        } => write::set_unchecked(vobs, which, index, value),
         Command::Truncate { which, len } => write::truncate(vobs, which, len),
         Command::Clear { which } => write::clear(vobs, which),
         Command::SetAll { which, value } => write::set_all(vobs, which, value),
@@ -50,17 +66,24 @@ fn run_one<T: Block>(alloc: Global, vobs: &mut Vec<Vob<T>>, command: &Command<T>
         Command::Resize { which, len, value } => grow::resize(vobs, which, len, value),
         Command::ExtendSlice { which, ref bits } => grow::extend_slice(vobs, which, bits),
         Command::ExtendItems { which, ref bits } => grow::extend_items(vobs, which, bits),
-        Command::ExtendVob { which, other } => pair::extend_vob(vobs, which, other),
-        Command::SplitOff { which, index } => make::split_off(vobs, which, index),
-        Command::And { which, other } => pair::combine(vobs, Connective::And, which, other),
-        Command::Or { which, other } => pair::combine(vobs, Connective::Or, which, other),
-        Command::Xor { which, other } => pair::combine(vobs, Connective::Xor, which, other),
-        Command::AndNew { which, other } => pair::combine_new(vobs, Connective::And, which, other),
-        Command::OrNew { which, other } => pair::combine_new(vobs, Connective::Or, which, other),
-        Command::XorNew { which, other } => pair::combine_new(vobs, Connective::Xor, which, other),
-        Command::Equal { which, other } => pair::equal(vobs, which, other),
         Command::Reserve { which, additional } => grow::reserve(vobs, which, additional),
         Command::Shrink { which } => grow::shrink(vobs, which),
+        _ => run_read(alloc, vobs, command),
+    }
+}
+
+// Runs one command that reads a Vob.
+fn run_read<T: Block>(alloc: Global, vobs: &[Vob<T>], command: &Command<T>) -> Reply<T>
+    requires { IsRead command.now }
+    ensures { IsStep T.BITS (lists vobs.now) (call_of T.number command.now)
+        (answer_of T.number result) (lists vobs.now) }
+{
+    match *command {
+        Command::GetBit { which, index } => read::get_bit(vobs, which, index),
+        Command::GetUnchecked { which, index } => read::get_unchecked(vobs, which, index),
+        Command::IndexBit { which, index } => read::index_bit(vobs, which, index),
+        Command::Length { which } => read::length(vobs, which),
+        Command::IsEmpty { which } => read::is_empty(vobs, which),
         Command::Bits { which } => read::bits(alloc, vobs, which),
         Command::Storage { which } => read::storage(alloc, vobs, which),
         Command::Walk {
@@ -68,12 +91,13 @@ fn run_one<T: Block>(alloc: Global, vobs: &mut Vec<Vob<T>>, command: &Command<T>
             value,
             bounds,
             ref pulls,
-        } => { walk::walk(alloc, vobs, which, Selection { value, bounds }, pulls) }
+        } => walk::walk(alloc, vobs, which, Selection { value, bounds }, pulls),
         Command::Count {
             which,
             value,
             bounds,
-        } => { walk::count(vobs, which, Selection { value, bounds }) }
+        } => walk::count(vobs, which, Selection { value, bounds }),
+        _ => unreachable!(),
     }
 }
 

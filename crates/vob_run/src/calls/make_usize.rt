@@ -1,29 +1,28 @@
 //! The commands that make a Vob of the default block type.
-ghost use Rattle.std.specs.Prelude.{◌≡◌, ◌⊎◌, ◌++◌, [], ◌∷◌, length, IfOk, IfErr};
+ghost use Rattle.std.specs.Prelude.{◌≡◌, IfOk, IfErr};
 ghost use Rattle.vob.specs.Refusal.{refusal_number};
-ghost use Rattle.vob_run.specs.Answer.{usize_answer_of, made, refused};
+ghost use Rattle.vob_run.specs.Answer.{usize_answer_of, refused};
 ghost use Rattle.vob_run.specs.Call.{Fresh, WithCapacity, Fill, FromBytes, FromSlice, FromItems, FromRecord};
+ghost use Rattle.vob_run.specs.Placed.{IsPlaced};
 ghost use Rattle.vob_run.specs.Run.{lists, IsStep};
 
-use crate::calls::make::placed;
+use crate::calls::make::{made, placed};
 use crate::calls::raw::{copied, taken};
 use crate::calls::refused;
 use crate::command::Reply;
 use std::alloc::Global;
 use vob::{Vob, VobError, VobRecord};
 
-// Puts a Vob that was made at the end of the list, once there is room for it.
+// Puts a Vob at the end of the list, if it was made.
 fn added(vobs: &mut Vec<Vob<usize>>, vob: Result<Vob<usize>, VobError>) -> Reply<usize>
-    ensures ok { IfOk vob (λ v. ((usize_answer_of result ≡ made (length vobs.old.items))
-        × (vobs.new.items ≡ vobs.old.items ++ v ∷ []))
-        ⊎ ((usize_answer_of result ≡ refused 2) × (vobs.new.items ≡ vobs.old.items))) }
+    ensures ok { IfOk vob (λ v.
+        IsPlaced vobs.old.items v (usize_answer_of result) vobs.new.items) }
     ensures err { IfErr vob (λ refusal.
         (usize_answer_of result ≡ refused (refusal_number refusal))
         × (vobs.new.items ≡ vobs.old.items)) }
 {
     match vob {
-        Ok(vob) if vobs.reserve(1).is_ok() => placed(vobs, Ok(vob)),
-        Ok(_) => refused(VobError::Memory),
+        Ok(vob) => placed(vobs, vob),
         Err(refusal) => refused(refusal),
     }
 }
@@ -32,10 +31,7 @@ pub(crate) fn fresh(alloc: Global, vobs: &mut Vec<Vob<usize>>) -> Reply<usize>
     ensures { IsStep 64 (lists vobs.old.items) Fresh (usize_answer_of result)
         (lists vobs.new.items) }
 {
-    if vobs.reserve(1).is_err() {
-        return refused(VobError::Memory);
-    }
-    placed(vobs, Ok(Vob::new(alloc)))
+    placed(vobs, Vob::new(alloc))
 }
 
 pub(crate) fn with_capacity(
@@ -46,10 +42,7 @@ pub(crate) fn with_capacity(
     ensures { IsStep 64 (lists vobs.old.items) (WithCapacity capacity)
         (usize_answer_of result) (lists vobs.new.items) }
 {
-    if vobs.reserve(1).is_err() {
-        return refused(VobError::Memory);
-    }
-    placed(vobs, Vob::with_capacity(alloc, capacity))
+    made(vobs, Vob::with_capacity(alloc, capacity))
 }
 
 pub(crate) fn fill(
@@ -61,10 +54,7 @@ pub(crate) fn fill(
     ensures { IsStep 64 (lists vobs.old.items) (Fill value len) (usize_answer_of result)
         (lists vobs.new.items) }
 {
-    if vobs.reserve(1).is_err() {
-        return refused(VobError::Memory);
-    }
-    placed(vobs, Vob::from_elem(alloc, value, len))
+    made(vobs, Vob::from_elem(alloc, value, len))
 }
 
 pub(crate) fn from_bytes(alloc: Global, vobs: &mut Vec<Vob<usize>>, bytes: &[u8]) -> Reply<usize>
@@ -78,10 +68,7 @@ pub(crate) fn from_slice(alloc: Global, vobs: &mut Vec<Vob<usize>>, bits: &[bool
     ensures { IsStep 64 (lists vobs.old.items) (FromSlice bits.now)
         (usize_answer_of result) (lists vobs.new.items) }
 {
-    if vobs.reserve(1).is_err() {
-        return refused(VobError::Memory);
-    }
-    placed(vobs, Vob::from_slice(alloc, bits))
+    made(vobs, Vob::from_slice(alloc, bits))
 }
 
 pub(crate) fn from_items(alloc: Global, vobs: &mut Vec<Vob<usize>>, bits: &[bool]) -> Reply<usize>
@@ -100,9 +87,6 @@ pub(crate) fn from_record(
     ensures { IsStep 64 (lists vobs.old.items) (FromRecord len blocks.now)
         (usize_answer_of result) (lists vobs.new.items) }
 {
-    if vobs.reserve(1).is_err() {
-        return refused(VobError::Memory);
-    }
     match copied(alloc, blocks) {
         Ok(vec) => taken(vobs, VobRecord { len, vec }.into_vob()),
         Err(refusal) => refused(VobError::from(refusal)),

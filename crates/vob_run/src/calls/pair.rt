@@ -3,15 +3,15 @@ ghost use Rattle.std.specs.Prelude.{◌≡◌, ◌≢◌, ◌↔◌, ◌<◌, le
 ghost use Rattle.std.specs.Borrow.{sem, LendsBoth, Array};
 ghost use Rattle.vob_block.specs.Pointwise.{pointwise};
 ghost use Rattle.vob_run.specs.Answer.{answer_of};
-ghost use Rattle.vob_run.specs.Pairs.{operator, combining, combining_new, HaveSameLength};
+ghost use Rattle.vob_run.specs.Pairs.{operator, combining, combining_new};
 ghost use Rattle.vob_run.specs.Call.{ExtendVob, Equal};
 ghost use Rattle.vob_run.specs.Run.{lists, IsStep};
 
-use crate::calls::make::placed;
-use crate::calls::{refused, reply_to};
+use crate::calls::make::made;
+use crate::calls::reply_to;
 use crate::command::Reply;
 use std::alloc::AllocError;
-use vob::{Vob, VobError};
+use vob::Vob;
 use vob_block::Block;
 
 /// How the bits of two Vobs are combined.
@@ -77,13 +77,6 @@ fn are_two<T: Block>(vobs: &[Vob<T>], which: usize, other: usize) -> bool
     which != other && which < vobs.len() && other < vobs.len()
 }
 
-// Whether these are the numbers of two Vobs of one length, which can be combined.
-fn can_combine<T: Block>(vobs: &[Vob<T>], which: usize, other: usize) -> bool
-    ensures { IsTrue result ↔ (which ≢ other) × HaveSameLength (lists vobs.now) which other }
-{
-    are_two(vobs, which, other) && vobs[which].len() == vobs[other].len()
-}
-
 pub(crate) fn extend_vob<T: Block>(vobs: &mut Vec<Vob<T>>, which: usize, other: usize) -> Reply<T>
     ensures { IsStep T.BITS (lists vobs.old.items) (ExtendVob which other)
         (answer_of T.number result) (lists vobs.new.items) }
@@ -104,10 +97,13 @@ pub(crate) fn combine<T: Block>(
     ensures { IsStep T.BITS (lists vobs.old.items) (combining how which other)
         (answer_of T.number result) (lists vobs.new.items) }
 {
-    if !can_combine(vobs, which, other) {
+    if !are_two(vobs, which, other) {
         return Reply::Skipped;
     }
     let (vob, other) = two_of(vobs, which, other);
+    if vob.len() != other.len() {
+        return Reply::Skipped;
+    }
     Reply::Flag(how.change(vob, other))
 }
 
@@ -120,19 +116,21 @@ pub(crate) fn combine_new<T: Block>(
     ensures { IsStep T.BITS (lists vobs.old.items) (combining_new how which other)
         (answer_of T.number result) (lists vobs.new.items) }
 {
-    if !can_combine(vobs, which, other) {
+    if !are_two(vobs, which, other) {
         return Reply::Skipped;
     }
-    if vobs.reserve(1).is_err() {
-        return refused(VobError::Memory);
+    let first = &vobs[which];
+    let second = &vobs[other];
+    if first.len() != second.len() {
+        return Reply::Skipped;
     }
-    let made = how.made_of(&vobs[which], &vobs[other]);
-    placed(vobs, made)
+    let combined = how.made_of(first, second);
+    made(vobs, combined)
 }
 
-pub(crate) fn equal<T: Block>(vobs: &Vec<Vob<T>>, which: usize, other: usize) -> Reply<T>
-    ensures { IsStep T.BITS (lists vobs.now.items) (Equal which other)
-        (answer_of T.number result) (lists vobs.now.items) }
+pub(crate) fn equal<T: Block>(vobs: &[Vob<T>], which: usize, other: usize) -> Reply<T>
+    ensures { IsStep T.BITS (lists vobs.now) (Equal which other)
+        (answer_of T.number result) (lists vobs.now) }
 {
     if !are_two(vobs, which, other) {
         return Reply::Skipped;

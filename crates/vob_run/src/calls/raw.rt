@@ -1,11 +1,13 @@
 //! The commands that take blocks as they come: they are taken only where they are canonical.
-ghost use Rattle.std.specs.Prelude.{◌≡◌, ◌==◌, ◌<◌, ◌++◌, [], ◌∷◌, true, map, length, IfOk, OnErr, vec_len, vec_capacity};
+ghost use Rattle.std.specs.Prelude.{◌≡◌, ◌==◌, ◌&&◌, not, true, map, length, IfOk, OnErr};
 ghost use Rattle.vob_block.specs.Packing.{need};
-ghost use Rattle.vob_run.specs.Answer.{answer_of, made, refused};
+ghost use Rattle.vob_run.specs.Answer.{answer_of, refused};
 ghost use Rattle.vob_run.specs.Call.{FromRaw};
 ghost use Rattle.vob_run.specs.Blocks.{masked};
+ghost use Rattle.vob_run.specs.Placed.{IsPlaced};
 ghost use Rattle.vob_run.specs.Run.{lists, IsStep};
 
+use crate::calls::make::placed;
 use crate::calls::refused;
 use crate::command::Reply;
 use std::alloc::{AllocError, Global};
@@ -19,20 +21,15 @@ pub(super) fn copied<T: Block>(alloc: Global, blocks: &[T]) -> Result<Vec<T>, Al
     blocks.iter().copied().collect(alloc)
 }
 
-// Puts a Vob whose blocks were taken at the end of the list, in the room that there is.
+// Puts a Vob at the end of the list, if its blocks were taken.
 pub(super) fn taken<T: Block, E: Drop>(vobs: &mut Vec<Vob<T>>, vob: Result<Vob<T>, E>) -> Reply<T>
-    requires { vec_len vobs.old < vec_capacity vobs.old }
-    ensures ok { IfOk vob (λ v. (answer_of T.number result ≡ made (length vobs.old.items))
-        × (vobs.new.items ≡ vobs.old.items ++ v ∷ [])) }
+    ensures ok { IfOk vob (λ v.
+        IsPlaced vobs.old.items v (answer_of T.number result) vobs.new.items) }
     ensures err { OnErr vob ((answer_of T.number result ≡ refused 3)
         × (vobs.new.items ≡ vobs.old.items)) }
 {
-    let which = vobs.len();
     match vob {
-        Ok(vob) => {
-            vobs.push_reserved(vob);
-            Reply::Made(which)
-        }
+        Ok(vob) => placed(vobs, vob),
         Err(_) => Reply::Refused(3),
     }
 }
@@ -51,11 +48,11 @@ fn masked_raw<T: Block>(raw: RawVob<T>, mask: bool) -> RawVob<T>
     raw
 }
 
-// Whether the blocks are as many as the bits need.
-fn are_as_many<T: Block>(blocks: &[T], len: usize) -> bool
-    ensures { result ≡ (length blocks.now == need len T.BITS) }
+// Whether the blocks are as many as the bits need, or aren't to be masked.
+fn can_take<T: Block>(blocks: &[T], len: usize, mask: bool) -> bool
+    ensures { not result ≡ (mask && not (length blocks.now == need len T.BITS)) }
 {
-    blocks.len() == len.div_ceil(T::BITS)
+    !mask || blocks.len() == len.div_ceil(T::BITS)
 }
 
 pub(crate) fn from_raw<T: Block>(
@@ -68,11 +65,8 @@ pub(crate) fn from_raw<T: Block>(
     ensures { IsStep T.BITS (lists vobs.old.items) (FromRaw len mask (map T.number blocks.now))
         (answer_of T.number result) (lists vobs.new.items) }
 {
-    if mask && !are_as_many(blocks, len) {
+    if !can_take(blocks, len, mask) {
         return Reply::Skipped;
-    }
-    if vobs.reserve(1).is_err() {
-        return refused(VobError::Memory);
     }
     match copied(alloc, blocks) {
         Ok(copy) => taken(

@@ -11,9 +11,9 @@ use std::alloc::{AllocError, Global};
 use vob::{Vob, VobError};
 use vob_block::Block;
 
-pub(crate) fn get_bit<T: Block>(vobs: &Vec<Vob<T>>, which: usize, index: usize) -> Reply<T>
-    ensures { IsStep T.BITS (lists vobs.now.items) (GetBit which index)
-        (answer_of T.number result) (lists vobs.now.items) }
+pub(crate) fn get_bit<T: Block>(vobs: &[Vob<T>], which: usize, index: usize) -> Reply<T>
+    ensures { IsStep T.BITS (lists vobs.now) (GetBit which index)
+        (answer_of T.number result) (lists vobs.now) }
 {
     match vobs.get(which) {
         Some(vob) => Reply::Bit(vob.get(index)),
@@ -21,29 +21,35 @@ pub(crate) fn get_bit<T: Block>(vobs: &Vec<Vob<T>>, which: usize, index: usize) 
     }
 }
 
-pub(crate) fn get_unchecked<T: Block>(vobs: &Vec<Vob<T>>, which: usize, index: usize) -> Reply<T>
-    ensures { IsStep T.BITS (lists vobs.now.items) (GetUnchecked which index)
-        (answer_of T.number result) (lists vobs.now.items) }
+pub(crate) fn get_unchecked<T: Block>(vobs: &[Vob<T>], which: usize, index: usize) -> Reply<T>
+    ensures { IsStep T.BITS (lists vobs.now) (GetUnchecked which index)
+        (answer_of T.number result) (lists vobs.now) }
 {
-    match vobs.get(which) {
-        Some(vob) if index < vob.len() => Reply::Flag(vob.get_unchecked(index)),
-        _ => Reply::Skipped,
+    let Some(vob) = vobs.get(which) else {
+        return Reply::Skipped;
+    };
+    if index >= vob.len() {
+        return Reply::Skipped;
     }
+    Reply::Flag(vob.get_unchecked(index))
 }
 
-pub(crate) fn index_bit<T: Block>(vobs: &Vec<Vob<T>>, which: usize, index: usize) -> Reply<T>
-    ensures { IsStep T.BITS (lists vobs.now.items) (IndexBit which index)
-        (answer_of T.number result) (lists vobs.now.items) }
+pub(crate) fn index_bit<T: Block>(vobs: &[Vob<T>], which: usize, index: usize) -> Reply<T>
+    ensures { IsStep T.BITS (lists vobs.now) (IndexBit which index)
+        (answer_of T.number result) (lists vobs.now) }
 {
-    match vobs.get(which) {
-        Some(vob) if index < vob.len() => Reply::Flag(vob[index]),
-        _ => Reply::Skipped,
+    let Some(vob) = vobs.get(which) else {
+        return Reply::Skipped;
+    };
+    if index >= vob.len() {
+        return Reply::Skipped;
     }
+    Reply::Flag(vob[index])
 }
 
-pub(crate) fn length<T: Block>(vobs: &Vec<Vob<T>>, which: usize) -> Reply<T>
-    ensures { IsStep T.BITS (lists vobs.now.items) (Length which)
-        (answer_of T.number result) (lists vobs.now.items) }
+pub(crate) fn length<T: Block>(vobs: &[Vob<T>], which: usize) -> Reply<T>
+    ensures { IsStep T.BITS (lists vobs.now) (Length which)
+        (answer_of T.number result) (lists vobs.now) }
 {
     match vobs.get(which) {
         Some(vob) => Reply::Number(vob.len()),
@@ -51,9 +57,9 @@ pub(crate) fn length<T: Block>(vobs: &Vec<Vob<T>>, which: usize) -> Reply<T>
     }
 }
 
-pub(crate) fn is_empty<T: Block>(vobs: &Vec<Vob<T>>, which: usize) -> Reply<T>
-    ensures { IsStep T.BITS (lists vobs.now.items) (IsEmpty which)
-        (answer_of T.number result) (lists vobs.now.items) }
+pub(crate) fn is_empty<T: Block>(vobs: &[Vob<T>], which: usize) -> Reply<T>
+    ensures { IsStep T.BITS (lists vobs.now) (IsEmpty which)
+        (answer_of T.number result) (lists vobs.now) }
 {
     match vobs.get(which) {
         Some(vob) => Reply::Flag(vob.is_empty()),
@@ -68,9 +74,9 @@ fn bits_of<T: Block>(alloc: Global, vob: &Vob<T>) -> Result<Vec<bool>, AllocErro
     vob.iter().collect(alloc)
 }
 
-pub(crate) fn bits<T: Block>(alloc: Global, vobs: &Vec<Vob<T>>, which: usize) -> Reply<T>
-    ensures { IsStep T.BITS (lists vobs.now.items) (Bits which)
-        (answer_of T.number result) (lists vobs.now.items) }
+pub(crate) fn bits<T: Block>(alloc: Global, vobs: &[Vob<T>], which: usize) -> Reply<T>
+    ensures { IsStep T.BITS (lists vobs.now) (Bits which)
+        (answer_of T.number result) (lists vobs.now) }
 {
     let Some(vob) = vobs.get(which) else {
         return Reply::Skipped;
@@ -88,9 +94,9 @@ fn blocks_of<T: Block>(alloc: Global, vob: &Vob<T>) -> Result<Vec<T>, AllocError
     vob.iter_storage().collect(alloc)
 }
 
-pub(crate) fn storage<T: Block>(alloc: Global, vobs: &Vec<Vob<T>>, which: usize) -> Reply<T>
-    ensures { IsStep T.BITS (lists vobs.now.items) (Storage which)
-        (answer_of T.number result) (lists vobs.now.items) }
+pub(crate) fn storage<T: Block>(alloc: Global, vobs: &[Vob<T>], which: usize) -> Reply<T>
+    ensures { IsStep T.BITS (lists vobs.now) (Storage which)
+        (answer_of T.number result) (lists vobs.now) }
 {
     let Some(vob) = vobs.get(which) else {
         return Reply::Skipped;

@@ -49,14 +49,14 @@ fn dealt<T: Block>(
 
 pub(crate) fn walk<T: Block>(
     alloc: Global,
-    vobs: &Vec<Vob<T>>,
+    vobs: &[Vob<T>],
     which: usize,
     selection: Selection,
     pulls: &[End],
 ) -> Reply<T>
-    ensures { IsStep T.BITS (lists vobs.now.items)
+    ensures { IsStep T.BITS (lists vobs.now)
         (Walk which selection.value selection.bounds.0 selection.bounds.1 pulls.now)
-        (answer_of T.number result) (lists vobs.now.items) }
+        (answer_of T.number result) (lists vobs.now) }
 {
     let Some(vob) = vobs.get(which) else {
         return Reply::Skipped;
@@ -79,10 +79,10 @@ fn matching<T: Block>(vob: &Vob<T>, selection: Selection) -> usize
     }
 }
 
-pub(crate) fn count<T: Block>(vobs: &Vec<Vob<T>>, which: usize, selection: Selection) -> Reply<T>
-    ensures { IsStep T.BITS (lists vobs.now.items)
+pub(crate) fn count<T: Block>(vobs: &[Vob<T>], which: usize, selection: Selection) -> Reply<T>
+    ensures { IsStep T.BITS (lists vobs.now)
         (Count which selection.value selection.bounds.0 selection.bounds.1)
-        (answer_of T.number result) (lists vobs.now.items) }
+        (answer_of T.number result) (lists vobs.now) }
 {
     match vobs.get(which) {
         Some(vob) => Reply::Number(matching(vob, selection)),

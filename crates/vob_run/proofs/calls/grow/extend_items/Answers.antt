@@ -1,9 +1,14 @@
 -- The Vob with this number has the bits behind its own, or is as it was.
-use Rattle.std.proofs.Common.{refl}
+use Rattle.std.proofs.Common.{refl, inl}
 use Rattle.vob_run.specs.Call.{ExtendItems}
-use Rattle.vob_run.proofs.StepLemmas.{lent}
+use Rattle.vob_run.proofs.StepLemmas.{lent, no_list}
 use Rattle.vob_run.proofs.GrowLemmas.{extended_step}
 use Rattle.vob_run.proofs.calls.grow.extend_items.Goals as goal
+
+pub returns-in_default : goal.returns-in_default
+returns-in_default g c =
+    let past = c.in_default.ensures.item.3 in
+    inl (rw (no_list c.args.vobs.now.items c.args.which past) refl)
 
 pub returns : goal.returns
 returns g c =

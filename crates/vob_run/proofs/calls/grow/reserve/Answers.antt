@@ -1,9 +1,9 @@
 -- The Vob has the room, or is as it was.
-use Rattle.std.proofs.Common.{◌≡◌, ◌+◌, Result, Ok, Err, OnOk, OnErr, length, set, refl, sym, ◌∙◌}
+use Rattle.std.proofs.Common.{◌≡◌, ◌+◌, Result, Ok, Err, OnOk, OnErr, length, set, refl, sym, ◌∙◌, inl}
 use Rattle.vob.specs.declared.error.VobError.{VobError}
 use Rattle.vob_run.specs.Call.{Reserve}
 use Rattle.vob_run.specs.Run.{lists}
-use Rattle.vob_run.proofs.StepLemmas.{lent, list_at, lists-set, lists-same}
+use Rattle.vob_run.proofs.StepLemmas.{lent, list_at, lists-set, lists-same, no_list}
 use Rattle.vob_run.proofs.GrowLemmas.{asked_step}
 use Rattle.vob_run.proofs.calls.grow.reserve.Goals as goal
 
@@ -11,6 +11,11 @@ use Rattle.vob_run.proofs.calls.grow.reserve.Goals as goal
 either : (P : Type 0) (result : Result Unit VobError) → P → OnOk result P × OnErr result P
 either P (Ok u) holds = (holds, tt)
 either P (Err refusal) holds = (tt, holds)
+
+pub returns-in_default : goal.returns-in_default
+returns-in_default g c =
+    let past = c.in_default.ensures.item.3 in
+    inl (rw (no_list c.args.vobs.now.items c.args.which past) refl)
 
 pub returns : goal.returns
 returns g c =

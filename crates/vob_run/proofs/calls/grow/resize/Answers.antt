@@ -1,10 +1,15 @@
 -- The Vob with this number has that many bits, or is as it was; no length is too long for it.
-use Rattle.std.proofs.Common.{arith, ◌≡◌, ◌↔◌, ◌^◌, ◌-◌, ◌<◌, Err, refl}
+use Rattle.std.proofs.Common.{arith, ◌≡◌, ◌↔◌, ◌^◌, ◌-◌, ◌<◌, Err, refl, inl}
 use Rattle.vob.specs.declared.error.VobError.TheVariants.{TooLong}
 use Rattle.vob_run.specs.Call.{Resize}
-use Rattle.vob_run.proofs.StepLemmas.{lent, list_at}
+use Rattle.vob_run.proofs.StepLemmas.{lent, list_at, no_list}
 use Rattle.vob_run.proofs.GrowLemmas.{asked_step}
 use Rattle.vob_run.proofs.calls.grow.resize.Goals as goal
+
+pub returns-in_default : goal.returns-in_default
+returns-in_default g c =
+    let past = c.in_default.ensures.item.3 in
+    inl (rw (no_list c.args.vobs.now.items c.args.which past) refl)
 
 pub returns : goal.returns
 returns g c =

@@ -10,6 +10,6 @@ returns-in-Ok c =
     let blocks = c.args.blocks.now in
     let canonical = rw c.in-Ok.ensures at c.into_vob.ensures.taken in
     let bits = rw c.in-Ok.ensures at c.into_vob.ensures.bits in
-    taken_step 64 (omega arith) items (FromRecord c.args.len blocks) c.args.len blocks refl
-    c.reserve.ensures.items c.into_vob.result canonical bits
-    (record { ok = c.taken.ensures.ok; err = c.taken.ensures.err })
+    taken_step 64 (omega arith) items (FromRecord c.args.len blocks) c.args.len blocks refl tt
+    c.into_vob.result _ c.taken.new.vobs.items canonical bits c.taken.ensures.ok
+    c.taken.ensures.err

@@ -1,12 +1,19 @@
 -- The Vob with the first number has the other's bits behind its own, or is as it was.
-use Rattle.std.proofs.Common.{[], ◌+◌, length, refl}
+use Rattle.std.proofs.Common.{[], ◌+◌, length, refl, inl}
 use Rattle.std.proofs.lemmas.Option.{get_or_from_slice_get}
 use Rattle.vob_run.specs.Call.{ExtendVob}
 use Rattle.vob_run.specs.Run.{lists}
 use Rattle.vob_run.proofs.StepLemmas.{list_at}
-use Rattle.vob_run.proofs.PairLemmas.{are_lent, lent_back, on_two-found}
+use Rattle.vob_run.proofs.PairLemmas.{are_lent, lent_back, on_two-found, on_two-missing}
 use Rattle.vob_run.proofs.GrowLemmas.{asked_step}
 use Rattle.vob_run.proofs.calls.pair.extend_vob.Goals as goal
+
+pub returns-then-not-are_two : goal.returns-then-not-are_two
+returns-then-not-are_two g c =
+    let items = c.args.vobs.now.items in
+    let two = rw c.deref.ensures.value at c.if-not-are_two.ensures in
+    let none = on_two-missing items c.args.which c.args.other (λ t. let wrong = two.1 t in cc) _ in
+    inl (none)
 
 pub returns : goal.returns
 returns g c =

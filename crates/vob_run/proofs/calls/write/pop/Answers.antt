@@ -1,7 +1,12 @@
 -- The Vob with this number has lost its last bit, which is told.
 use Rattle.std.proofs.Common.{refl, inl}
-use Rattle.vob_run.proofs.StepLemmas.{lent, list_at, lists-set}
+use Rattle.vob_run.proofs.StepLemmas.{lent, list_at, lists-set, no_list}
 use Rattle.vob_run.proofs.calls.write.pop.Goals as goal
+
+pub returns-in_default : goal.returns-in_default
+returns-in_default g c =
+    let past = c.in_default.ensures.item.3 in
+    inl (rw (no_list c.args.vobs.now.items c.args.which past) refl)
 
 pub returns : goal.returns
 returns g c =

@@ -1,9 +1,14 @@
 -- The Vob with this number has the bit, or is as it was.
-use Rattle.std.proofs.Common.{◌+◌, length}
+use Rattle.std.proofs.Common.{◌+◌, length, refl, inl}
 use Rattle.vob_run.specs.Call.{Push}
-use Rattle.vob_run.proofs.StepLemmas.{lent, list_at}
+use Rattle.vob_run.proofs.StepLemmas.{lent, list_at, no_list}
 use Rattle.vob_run.proofs.GrowLemmas.{asked_step, step-push}
 use Rattle.vob_run.proofs.calls.write.push.Goals as goal
+
+pub returns-in_default : goal.returns-in_default
+returns-in_default g c =
+    let past = c.in_default.ensures.item.3 in
+    inl (rw (no_list c.args.vobs.now.items c.args.which past) refl)
 
 pub returns : goal.returns
 returns g c =

@@ -1,8 +1,13 @@
 -- The Vob with this number has the bit, and whether it changed is told; or it has no such bit.
-use Rattle.std.proofs.Common.{arith, refl}
+use Rattle.std.proofs.Common.{arith, refl, inl}
 use Rattle.vob_run.specs.Call.{SetUnchecked}
-use Rattle.vob_run.proofs.StepLemmas.{lent, written_past, written_inside}
+use Rattle.vob_run.proofs.StepLemmas.{lent, written_past, written_inside, no_list}
 use Rattle.vob_run.proofs.calls.write.set_unchecked.Goals as goal
+
+pub returns-in_default : goal.returns-in_default
+returns-in_default g c =
+    let past = c.in_default.ensures.item.3 in
+    inl (rw (no_list c.args.vobs.now.items c.args.which past) refl)
 
 pub returns-then-index-len : goal.returns-then-index-len
 returns-then-index-len g c =

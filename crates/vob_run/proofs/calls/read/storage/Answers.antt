@@ -1,0 +1,28 @@
+-- The blocks are told.
+use Rattle.std.proofs.Common.{refl, inl}
+use Rattle.vob_block.specs.Packing.{packing}
+use Rattle.vob_run.specs.Answer.{block_list}
+use Rattle.vob_run.specs.Call.{Storage}
+use Rattle.vob_run.specs.Run.{lists}
+use Rattle.vob_run.proofs.StepLemmas.{lent, list_at, no_list, refused_telling}
+use Rattle.vob_run.proofs.calls.read.storage.Goals as goal
+
+pub returns-in_default : goal.returns-in_default
+returns-in_default g c =
+    let past = c.in_default.ensures.lookup.3 in
+    inl (rw (no_list c.args.vobs.now c.args.which past) refl)
+
+pub returns-in-Ok : goal.returns-in-Ok
+returns-in-Ok g c =
+    let found = c.in-Some.ensures.lookup in
+    let vob = lent c.args.vobs.now c.args.which c.in-Some.vob.now found.3.0 found.1 in
+    inl (rw (list_at vob, c.in-Ok.ensures) refl)
+
+pub returns-in-Err : goal.returns-in-Err
+returns-in-Err g c =
+    let found = c.in-Some.ensures.lookup in
+    let old = c.in-Some.vob.now in
+    let vob = lent c.args.vobs.now c.args.which old found.3.0 found.1 in
+    rw (c.refused.ensures, c.from.ensures)
+    (refused_telling g.T.Block.BITS (lists c.args.vobs.now) (Storage c.args.which)
+    (block_list (packing old.bits g.T.Block.BITS)) (rw (list_at vob) refl) (λ e. cc) (λ e. cc) tt)
