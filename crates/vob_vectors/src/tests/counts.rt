@@ -112,8 +112,8 @@ fn check_counts_from<T: Block>(
     }
 }
 
-/// All four walks of a pattern, the two over indices between each two bounds.
-fn check_counts<T: Block>(rt: &(impl Abort + AllocGlobal), vob: &Vob<T>) {
+/// The walks over bits and over blocks.
+fn check_bit_counts<T: Block>(rt: &(impl Abort + AllocGlobal), vob: &Vob<T>) {
     let bits = listed(rt, vob.iter()).len();
     same(rt, "bits", vob.len(), vob.iter().count(), bits);
     let blocks = listed(rt, vob.iter_storage()).len();
@@ -124,6 +124,11 @@ fn check_counts<T: Block>(rt: &(impl Abort + AllocGlobal), vob: &Vob<T>) {
         vob.iter_storage().count(),
         blocks,
     );
+}
+
+/// All four walks of a pattern, the two over indices between each two bounds.
+fn check_counts<T: Block>(rt: &(impl Abort + AllocGlobal), vob: &Vob<T>) {
+    check_bit_counts(rt, vob);
     for from in 0..=vob.len() {
         check_counts_from(rt, vob, true, from);
         check_counts_from(rt, vob, false, from);

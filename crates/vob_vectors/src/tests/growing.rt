@@ -1,38 +1,39 @@
 //! Growing, joining, cutting and filling: worked rows, and patterns against a push of each bit.
 use super::hints::Hinted;
-use super::support::{check_blocks, check_made, check_same, pattern, push, same, vob_of};
+use super::support::{
+    check_blocks, check_made, check_same, copy_of, cut, filled, join, pattern, push, resize, same,
+    vob_of,
+};
 use std::process::Abort;
 use vob::Vob;
 use vob_block::Block;
 
 #[test]
 fn false_bits_become_true_ones_behind_them(rt: HostRuntime) {
-    let mut bytes = Vob::<u8>::from_elem_with_storage_type(rt.alloc(), false, 8).expect(
-        &rt, "memory",
-    );
-    bytes.resize(9, true).expect(&rt, "memory");
+    let mut bytes = filled::<u8>(&rt, false, 8);
+    resize(&rt, &mut bytes, 9, true);
     check_blocks(&rt, &bytes, 9, &[0, 1]);
     let mut words = vob_of::<usize>(&rt, "0");
-    words.resize(129, true).expect(&rt, "memory");
+    resize(&rt, &mut words, 129, true);
     check_blocks(&rt, &words, 129, &[usize::MAX - 1, usize::MAX, 1]);
-    words.resize(1, true).expect(&rt, "memory");
+    resize(&rt, &mut words, 1, true);
     check_blocks(&rt, &words, 1, &[0]);
-    words.resize(2, true).expect(&rt, "memory");
+    resize(&rt, &mut words, 2, true);
     check_blocks(&rt, &words, 2, &[2]);
     let mut one = Vob::new(rt.alloc());
-    one.resize(1, true).expect(&rt, "memory");
+    resize(&rt, &mut one, 1, true);
     check_blocks(&rt, &one, 1, &[1]);
 }
 
 #[test]
 fn resized_bytes_are_negated(rt: HostRuntime) {
-    let mut bytes = Vob::<u8>::new_with_storage_type(rt.alloc(), 0).expect(&rt, "memory");
+    let mut bytes = vob_of::<u8>(&rt, "");
     bytes
         .extend_from_slice(&[true, false, true, true, false])
         .expect(&rt, "memory");
-    bytes.resize(8, true).expect(&rt, "memory");
+    resize(&rt, &mut bytes, 8, true);
     check_blocks(&rt, &bytes, 8, &[237]);
-    bytes.resize(17, true).expect(&rt, "memory");
+    resize(&rt, &mut bytes, 17, true);
     check_blocks(&rt, &bytes, 17, &[237, 255, 1]);
     bytes.negate();
     check_blocks(&rt, &bytes, 17, &[18, 0, 0]);
@@ -45,9 +46,7 @@ fn resized_bytes_are_negated(rt: HostRuntime) {
 
 #[test]
 fn all_bits_are_set_and_negated(rt: HostRuntime) {
-    let mut bytes = Vob::<u8>::from_elem_with_storage_type(rt.alloc(), false, 10).expect(
-        &rt, "memory",
-    );
+    let mut bytes = filled::<u8>(&rt, false, 10);
     bytes.set_all(true);
     check_blocks(&rt, &bytes, 10, &[255, 3]);
     bytes.negate();
@@ -56,7 +55,7 @@ fn all_bits_are_set_and_negated(rt: HostRuntime) {
 
 #[test]
 fn what_is_taken_off_leaves_its_room(rt: HostRuntime) {
-    let mut vob = Vob::from_elem(rt.alloc(), true, 200).expect(&rt, "memory");
+    let mut vob = filled::<usize>(&rt, true, 200);
     let room = vob.capacity();
     vob.truncate(65);
     same(&rt, "capacity after a cut", 65, vob.capacity(), room);
@@ -68,8 +67,7 @@ fn what_is_taken_off_leaves_its_room(rt: HostRuntime) {
 #[test]
 fn joined_bits_are_cut_apart_again(rt: HostRuntime) {
     let mut vob = vob_of::<u8>(&rt, "10110");
-    vob.extend_from_vob(&vob_of(&rt, "11101"))
-        .expect(&rt, "memory");
+    join(&rt, &mut vob, &vob_of(&rt, "11101"));
     check_blocks(&rt, &vob, 10, &[237, 2]);
     check_same(&rt, &vob, &vob_of(&rt, "1011011101"));
     check_made(&rt, vob.split_off(5), 5, &[23]);
@@ -87,28 +85,27 @@ fn a_cut_past_the_end_gives_no_bits(rt: HostRuntime) {
 #[test]
 fn false_bits_are_joined_behind_a_full_block(rt: HostRuntime) {
     let mut vob = vob_of::<u8>(&rt, "11111111");
-    vob.extend_from_vob(&vob_of(&rt, "000000000"))
-        .expect(&rt, "memory");
+    join(&rt, &mut vob, &vob_of(&rt, "000000000"));
     check_blocks(&rt, &vob, 17, &[255, 0, 0]);
 }
 
-/// A Vob with the same bits.
-fn copy_of<T: Block>(rt: &impl Abort, vob: &Vob<T>) -> Vob<T> {
-    vob.clone().expect(rt, "memory")
+/// A Vob with the bits of another pushed behind its own.
+fn pushed_behind<T: Block>(rt: &impl Abort, vob: &Vob<T>, other: &Vob<T>) -> Vob<T> {
+    let mut pushed = copy_of(rt, vob);
+    for bit in other {
+        push(rt, &mut pushed, bit);
+    }
+    pushed
 }
 
 /// Two patterns that are joined are what pushes leave; cut apart, they are both again.
 fn check_join<T: Block>(rt: &(impl Abort + AllocGlobal), seed: usize, first: usize, second: usize) {
     let one = pattern::<T>(rt, seed, first);
     let two = pattern::<T>(rt, seed, second);
-    let mut pushed = copy_of(rt, &one);
-    for bit in &two {
-        push(rt, &mut pushed, bit);
-    }
     let mut joined = copy_of(rt, &one);
-    joined.extend_from_vob(&two).expect(rt, "memory");
-    check_same(rt, &joined, &pushed);
-    let rest = joined.split_off(first).expect(rt, "memory");
+    join(rt, &mut joined, &two);
+    check_same(rt, &joined, &pushed_behind(rt, &one, &two));
+    let rest = cut(rt, &mut joined, first);
     check_same(rt, &joined, &one);
     check_same(rt, &rest, &two);
 }
@@ -183,9 +180,9 @@ fn check_resize<T: Block>(rt: &(impl Abort + AllocGlobal), value: bool, first: u
         push(rt, &mut pushed, value);
     }
     let mut resized = copy_of(rt, &before);
-    resized.resize(pushed.len(), value).expect(rt, "memory");
+    resize(rt, &mut resized, pushed.len(), value);
     check_same(rt, &resized, &pushed);
-    resized.resize(first, !value).expect(rt, "memory");
+    resize(rt, &mut resized, first, !value);
     check_same(rt, &resized, &before);
 }
 

@@ -51,32 +51,48 @@ fn a_call_says_whether_a_bit_changed(rt: HostRuntime) {
     }
 }
 
+/// What an operator makes of two Vobs.
+fn made(rt: &impl Abort, call: Call, vob: &Vob, other: &Vob) -> Vob {
+    assert!(rt; vob.len() == other.len());
+    let made = match call {
+        Call::And => vob & other,
+        Call::Or => vob | other,
+        Call::Xor => vob ^ other,
+    };
+    made.expect(rt, "memory")
+}
+
+/// What an operator makes of its left side.
+fn moved(rt: &impl Abort, call: Call, vob: Vob, other: &Vob) -> Vob {
+    assert!(rt; vob.len() == other.len());
+    match call {
+        Call::And => vob & other,
+        Call::Or => vob | other,
+        Call::Xor => vob ^ other,
+    }
+}
+
+/// Changes the left side by an operator.
+fn assign(rt: &impl Abort, call: Call, vob: &mut Vob, other: &Vob) {
+    assert!(rt; vob.len() == other.len());
+    match call {
+        Call::And => *vob &= other,
+        Call::Or => *vob |= other,
+        Call::Xor => *vob ^= other,
+    }
+}
+
 /// The three forms of an operator.
 fn check_forms(rt: &(impl Abort + AllocGlobal), call: Call, left: &str, right: &str, after: &str) {
     let wanted = vob_of::<usize>(rt, after);
     let vob = vob_of::<usize>(rt, left);
     let other = vob_of::<usize>(rt, right);
-    let mut assigned = vob_of::<usize>(rt, left);
-    assert!(rt; vob.len() == other.len() && assigned.len() == other.len());
-    let made = match call {
-        Call::And => &vob & &other,
-        Call::Or => &vob | &other,
-        Call::Xor => &vob ^ &other,
-    };
-    check_same(rt, &made.expect(rt, "memory"), &wanted);
-    match call {
-        Call::And => assigned &= &other,
-        Call::Or => assigned |= &other,
-        Call::Xor => assigned ^= &other,
-    }
-    check_same(rt, &assigned, &wanted);
+    check_same(rt, &made(rt, call, &vob, &other), &wanted);
     check_same(rt, &vob, &vob_of(rt, left));
-    let changed = match call {
-        Call::And => vob & &other,
-        Call::Or => vob | &other,
-        Call::Xor => vob ^ &other,
-    };
-    check_same(rt, &changed, &wanted);
+    let mut assigned = vob_of::<usize>(rt, left);
+    assign(rt, call, &mut assigned, &other);
+    check_same(rt, &assigned, &wanted);
+    check_same(rt, &moved(rt, call, vob, &other), &wanted);
 }
 
 #[test]
@@ -159,7 +175,7 @@ fn check_patterns<T: Block>(
     len: usize,
 ) {
     let (left, right) = seeds;
-    let mut wanted = Vob::<T>::new_with_storage_type(rt.alloc(), 0).expect(rt, "memory");
+    let mut wanted = vob_of::<T>(rt, "");
     let mut changed = false;
     for index in 0..len {
         let bit = pattern_bit(left, index);

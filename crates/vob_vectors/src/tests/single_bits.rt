@@ -1,7 +1,7 @@
 //! Single bits: rows and patterns of pushes, reads, writes and cuts.
 use super::support::{
-    at_each_block_type, check_bits, check_blocks, listed, pattern, push, same, same_text, vob_of,
-    write,
+    at_each_block_type, check_bits, check_blocks, filled, listed, pattern, push, same, same_text,
+    vob_of, write,
 };
 use std::process::Abort;
 use vob::Vob;
@@ -86,12 +86,22 @@ fn reads<T: Block>(rt: &impl Abort, vob: &Vob<T>, index: usize, wanted: Option<b
     same(rt, "bit", index, read(rt, vob, index), wanted);
 }
 
+/// Writes the bit at `next`, the first of its block, and no bit before it.
+fn check_first_bit<T: Block>(rt: &impl Abort, vob: &mut Vob<T>, next: usize) {
+    reads(rt, vob, next, Some(true));
+    reads(rt, vob, next.saturating_add(1), None);
+    same(rt, "clears", next, write(vob, next, false), Some(true));
+    reads(rt, vob, next, Some(false));
+    same(rt, "sets", next, write(vob, next, true), Some(true));
+    same(rt, "stays", next, write(vob, next, true), Some(false));
+}
+
 /// As many true bits as a block has places, `width`, and one more in a block of its own.
 fn check_word<T: Block>(rt: &(impl Abort + AllocGlobal), width: u8) {
     let next = width as usize;
     let last = next.saturating_sub(1);
     let before = next.saturating_sub(2);
-    let mut vob = Vob::<T>::new_with_storage_type(rt.alloc(), 0).expect(rt, "memory");
+    let mut vob = vob_of::<T>(rt, "");
     for _ in 0..width {
         push(rt, &mut vob, true);
     }
@@ -100,19 +110,8 @@ fn check_word<T: Block>(rt: &(impl Abort + AllocGlobal), width: u8) {
     reads(rt, &vob, next, None);
     same(rt, "blocks of bits", next, vob.get_storage().len(), 1);
     push(rt, &mut vob, true);
-    same(rt, "blocks of a bit past", next, vob.get_storage().len(), 2);
-    reads(rt, &vob, next, Some(true));
-    same(rt, "clears", next, write(&mut vob, next, false), Some(true));
-    reads(rt, &vob, next, Some(false));
-    reads(rt, &vob, next.saturating_add(1), None);
-    same(rt, "sets", next, write(&mut vob, next, true), Some(true));
-    same(
-        rt,
-        "sets again",
-        next,
-        write(&mut vob, next, true),
-        Some(false),
-    );
+    same(rt, "blocks behind", next, vob.get_storage().len(), 2);
+    check_first_bit(rt, &mut vob, next);
     reads(rt, &vob, last, Some(true));
     reads(rt, &vob, before, Some(true));
     let changed = write_unchecked(&mut vob, before, true);
@@ -167,8 +166,7 @@ fn truncated_bits_are_gone_from_the_blocks(rt: HostRuntime) {
 
 /// 129 true bits, cut at their length, past it and at 0.
 fn check_cuts<T: Block>(rt: &(impl Abort + AllocGlobal), blocks: &[T]) {
-    let made = Vob::<T>::from_elem_with_storage_type(rt.alloc(), true, 129);
-    let mut many = made.expect(rt, "memory");
+    let mut many = filled::<T>(rt, true, 129);
     many.truncate(129);
     check_blocks(rt, &many, 129, blocks);
     many.truncate(193);
@@ -184,19 +182,29 @@ fn a_cut_past_the_end_changes_nothing(rt: HostRuntime) {
     check_cuts::<u64>(&rt, &[u64::MAX, u64::MAX, 1]);
 }
 
+/// Writes a bit of two equal Vobs, each by one of both calls.
+fn check_writes<T: Block>(
+    rt: &impl Abort,
+    one: &mut Vob<T>,
+    other: &mut Vob<T>,
+    index: usize,
+    value: bool,
+) {
+    let changed = Some(read(rt, one, index) != Some(value));
+    same(rt, "set", index, write(one, index, value), changed);
+    let unchecked = write_unchecked(other, index, value);
+    same(rt, "set_unchecked", index, unchecked, changed);
+    reads(rt, one, index, Some(value));
+    reads(rt, other, index, Some(value));
+}
+
 /// Two equal Vobs by the pattern: each index read, and written by both calls.
 fn check_pattern<T: Block>(rt: &(impl Abort + AllocGlobal), seed: usize, len: usize) {
     let mut one = pattern::<T>(rt, seed, len);
     let mut other = pattern::<T>(rt, seed, len);
     for index in 0..len {
-        for value in [false, true] {
-            let changed = Some(read(rt, &one, index) != Some(value));
-            same(rt, "set", index, write(&mut one, index, value), changed);
-            let unchecked = write_unchecked(&mut other, index, value);
-            same(rt, "set_unchecked", index, unchecked, changed);
-            reads(rt, &one, index, Some(value));
-            reads(rt, &other, index, Some(value));
-        }
+        check_writes(rt, &mut one, &mut other, index, false);
+        check_writes(rt, &mut one, &mut other, index, true);
     }
 }
 

@@ -1,6 +1,6 @@
-//! What the tests share: Vobs of digits and of patterns, what is compared, and a check at each block
-//! type. An assertion takes its function's proof seconds and a call takes it little, so `same` asserts
-//! for most of them.
+//! What the tests share: Vobs of digits and of patterns, what is compared, and a check at each
+//! block type. An assertion, and a call with a long contract, cost the proof of a function far more
+//! than a call of a function without one: so most tests assert, and take memory, by these.
 ghost use Rattle.std.specs.Iterator.{IsFinite};
 
 use std::fmt::Debug;
@@ -52,6 +52,32 @@ pub fn listed<V: Drop, W: Iterator<Item = V>>(rt: &(impl Abort + AllocGlobal), w
 /// Adds a bit behind the last one.
 pub fn push<T: Block>(rt: &impl Abort, vob: &mut Vob<T>, value: bool) {
     vob.push(value).expect(rt, "memory");
+}
+
+/// Makes the length `len`, by bits of this value.
+pub fn resize<T: Block>(rt: &impl Abort, vob: &mut Vob<T>, len: usize, value: bool) {
+    vob.resize(len, value).expect(rt, "memory");
+}
+
+/// Adds the bits of another Vob behind the last one.
+pub fn join<T: Block>(rt: &impl Abort, vob: &mut Vob<T>, other: &Vob<T>) {
+    vob.extend_from_vob(other).expect(rt, "memory");
+}
+
+/// The bits from `index` on, which leave the Vob.
+pub fn cut<T: Block>(rt: &impl Abort, vob: &mut Vob<T>, index: usize) -> Vob<T> {
+    vob.split_off(index).expect(rt, "memory")
+}
+
+/// A Vob with the same bits.
+pub fn copy_of<T: Block>(rt: &impl Abort, vob: &Vob<T>) -> Vob<T> {
+    vob.clone().expect(rt, "memory")
+}
+
+/// A Vob of one bit many times.
+pub fn filled<T: Block>(rt: &(impl Abort + AllocGlobal), value: bool, len: usize) -> Vob<T> {
+    let made = Vob::<T>::from_elem_with_storage_type(rt.alloc(), value, len);
+    made.expect(rt, "memory")
 }
 
 /// The Vob of these digits, index 0 first.

@@ -36,7 +36,8 @@ fn reached_from(rt: &(impl Abort + AllocGlobal), rows: &[Vob], start: usize) -> 
     reached
 }
 
-/// The nodes that `start` leads to, one edge further at a time, by as many edges as there are nodes.
+/// The nodes that `start` leads to, one edge further at a time, by as many edges as there are
+/// nodes.
 fn plainly_reached(rt: &(impl Abort + AllocGlobal), rows: &[Vob], start: usize) -> Vec<bool> {
     let mut reached = Vec::new(rt.alloc());
     for node in 0..NODES {

@@ -43,8 +43,8 @@ fn plain_pull(rest: &mut &[usize], side: End) -> Option<usize> {
     Some(*index)
 }
 
-/// Pulls dealt out at once, and at a like walk pull by pull, give what the ends of the list give, up
-/// to None at both ends.
+/// Pulls dealt out at once, and at a like walk pull by pull, give what the ends of the list give,
+/// up to None at both ends.
 fn check_order<W: IndexWalk>(
     rt: &(impl Abort + AllocGlobal),
     walk: &mut W,

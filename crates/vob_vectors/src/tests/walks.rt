@@ -1,6 +1,9 @@
 //! Walks over the indices of set bits and of unset bits: worked rows.
+ghost use Rattle.std.specs.Iterator.{IsFinite};
+
 use super::support::{
-    at_each_block_type, listed, push, same, same_indices, same_text, vob_of, write,
+    at_each_block_type, filled, join, listed, push, resize, same, same_indices, same_text, vob_of,
+    write,
 };
 use std::ops::Bound::{Excluded, Included, Unbounded};
 use std::ops::{Bound, RangeBounds};
@@ -28,6 +31,16 @@ pub fn indices_of<T: Block>(
     }
 }
 
+/// All that a walk over indices gives, the last one first.
+fn listed_back<W: DoubleEndedIterator<Item = usize>>(
+    rt: &(impl Abort + AllocGlobal),
+    walk: W,
+) -> Vec<usize>
+    requires ends { W.can_next_back walk × IsFinite (W.remaining walk) }
+{
+    listed(rt, walk.rev())
+}
+
 /// The same indices, the last one first.
 fn indices_back<T: Block>(
     rt: &(impl Abort + AllocGlobal),
@@ -36,9 +49,9 @@ fn indices_back<T: Block>(
     range: Bounds,
 ) -> Vec<usize> {
     if value {
-        listed(rt, vob.iter_set_bits(range).rev())
+        listed_back(rt, vob.iter_set_bits(range))
     } else {
-        listed(rt, vob.iter_unset_bits(range).rev())
+        listed_back(rt, vob.iter_unset_bits(range))
     }
 }
 
@@ -65,8 +78,8 @@ fn listed_bits_are_found(rt: HostRuntime) {
     check_indices(&rt, &three, false, ALL, &[0]);
 }
 
-/// Compares what pulls at a walk answer, as text: F is a pull at the front, and any other letter one
-/// at the back.
+/// Compares what pulls at a walk answer, as text: F is a pull at the front, and any other letter
+/// one at the back.
 pub fn check_pulls<W: IndexWalk>(
     rt: &(impl Abort + AllocGlobal),
     walk: &mut W,
@@ -126,8 +139,7 @@ fn check_unset<T: Block, R: RangeBounds<usize>>(
 /// Ten bits, joined of two parts, whose walks are pulled at from both ends in turn.
 fn check_turns<T: Block>(rt: &(impl Abort + AllocGlobal)) {
     let mut ten = vob_of::<T>(rt, "10110");
-    ten.extend_from_vob(&vob_of(rt, "11101"))
-        .expect(rt, "memory");
+    join(rt, &mut ten, &vob_of(rt, "11101"));
     check_set(rt, &ten, .., "FBFBFBFB", "0 9 2 7 3 6 5 none");
     check_unset(rt, &ten, .., "BFBF", "8 1 4 none");
 }
@@ -161,8 +173,7 @@ fn three_items<T: Block>(walk: &mut IterSetBits<'_, T>) -> [Option<usize>; 3] {
 
 /// A walk of a Vob without a match answers None, again and from both ends.
 fn check_nothing<T: Block>(rt: &(impl Abort + AllocGlobal), len: usize) {
-    let made = Vob::<T>::from_elem_with_storage_type(rt.alloc(), false, len);
-    let vob = made.expect(rt, "memory");
+    let vob = filled::<T>(rt, false, len);
     let mut walk = vob.iter_set_bits(..);
     same(rt, "hint at false bits", len, walk.size_hint(), (0, None));
     same(rt, "false bits", len, three_items(&mut walk), [None; 3]);
@@ -210,9 +221,8 @@ fn blocks_are_walked_up_to_a_length(rt: HostRuntime) {
 
 /// As many bits of one value as `len`, whose walk gives all indices.
 fn check_all<T: Block>(rt: &(impl Abort + AllocGlobal), value: bool, len: usize) {
-    let made = Vob::<T>::from_elem_with_storage_type(rt.alloc(), value, len);
-    let vob = made.expect(rt, "memory");
-    let indices: Vec<usize> = (0..len).collect(rt.alloc()).expect(rt, "memory");
+    let vob = filled::<T>(rt, value, len);
+    let indices = listed(rt, 0..len);
     check_indices(rt, &vob, value, ALL, &indices);
     check_indices(rt, &vob, !value, ALL, &[]);
 }
@@ -289,12 +299,12 @@ fn every_pair_of_bounds_is_accepted(rt: HostRuntime) {
 /// 257 bits of which few have the value `wanted`, in blocks far from one another.
 fn far_apart<T: Block>(rt: &(impl Abort + AllocGlobal), wanted: bool) -> Vob<T> {
     let mut vob = vob_of::<T>(rt, if wanted { "0101" } else { "0100" });
-    vob.resize(127, !wanted).expect(rt, "memory");
+    resize(rt, &mut vob, 127, !wanted);
     push(rt, &mut vob, wanted);
     push(rt, &mut vob, !wanted);
     push(rt, &mut vob, wanted);
     push(rt, &mut vob, wanted);
-    vob.resize(256, !wanted).expect(rt, "memory");
+    resize(rt, &mut vob, 256, !wanted);
     push(rt, &mut vob, wanted);
     same(rt, "the length", 257, vob.len(), 257);
     vob
