@@ -82,7 +82,10 @@ fn check_command(rt: &(impl Abort + AllocGlobal), pair: &mut Pair, command: Comm
     let commands = slice::from_ref(&command);
     run(rt.alloc(), commands, &mut pair.vobs, &mut replies).expect(rt, "memory");
     let wanted = plain_reply(rt, &mut pair.bits, &command);
-    assert_eq!(rt; replies.as_slice(), slice::from_ref(&wanted), "{command:?}");
+    assert!(rt;
+        replies.as_slice() == slice::from_ref(&wanted),
+        "{command:?}: {replies:?} is {wanted:?}"
+    );
 }
 
 /// A pair of the lowest `len` places of a number, the lowest first.
@@ -162,11 +165,13 @@ fn check_changes(rt: &(impl Abort + AllocGlobal), pair: &mut Pair, len: usize) {
 
 #[test]
 fn packed_and_plain_replies_agree(rt: HostRuntime) {
-    for (len, numbers) in (0..11).zip([1u32, 2, 4, 8, 16, 32, 64, 128, 256, 512, 1024]) {
+    let mut numbers = 1u32;
+    for len in 0..11 {
         for number in 0..numbers {
             let mut pair = pair_of(&rt, len, number);
             check_reads(&rt, &mut pair);
             check_changes(&rt, &mut pair, len);
         }
+        numbers = numbers.saturating_mul(2);
     }
 }

@@ -1,4 +1,5 @@
 //! Runs of commands at block types that the program's lines don't reach.
+use super::support::same_text;
 use std::ops::Bound::Unbounded;
 use std::process::Abort;
 use vob::{End, Vob};
@@ -12,58 +13,79 @@ fn check_run<T: Block>(rt: &(impl Abort + AllocGlobal), commands: &[Command<T>],
     let mut answered: Vec<Reply<T>> = Vec::new(rt.alloc());
     run(rt.alloc(), commands, &mut vobs, &mut answered).expect(rt, "memory");
     let text = format!(in rt.alloc(); "{answered:?}").expect(rt, "memory");
-    assert_eq!(rt; text.as_str(), replies);
+    same_text(rt, "replies", &text, replies);
+}
+
+/// Adds a command that makes a bit true.
+fn add_set<T: Block>(
+    rt: &(impl Abort + AllocGlobal),
+    commands: &mut Vec<Command<T>>,
+    which: usize,
+    index: usize,
+) {
+    let value = true;
+    let set = Command::SetBit {
+        which,
+        index,
+        value,
+    };
+    add(rt, commands, set);
+}
+
+/// Adds a command.
+fn add<T: Block>(
+    rt: &(impl Abort + AllocGlobal),
+    commands: &mut Vec<Command<T>>,
+    command: Command<T>,
+) {
+    commands.push(command).expect(rt, "memory");
+}
+
+/// Adds commands that walk over Vob 0 and count in it.
+fn add_walks<T: Block>(rt: &(impl Abort + AllocGlobal), commands: &mut Vec<Command<T>>) {
+    let which = 0;
+    let bounds = (Unbounded, Unbounded);
+    let mut pulls = Vec::new(rt.alloc());
+    for _ in 0..4 {
+        pulls.push(End::Front).expect(rt, "memory");
+        pulls.push(End::Back).expect(rt, "memory");
+    }
+    let value = true;
+    let walk = Command::Walk {
+        which,
+        value,
+        bounds,
+        pulls,
+    };
+    add(rt, commands, walk);
+    let value = false;
+    let count = Command::Count {
+        which,
+        value,
+        bounds,
+    };
+    add(rt, commands, count);
 }
 
 /// Makes a Vob of ten bits, walks over it, and cuts and joins it.
 fn check_mixed<T: Block>(rt: &(impl Abort + AllocGlobal)) {
     let which = 0;
     let mut commands: Vec<Command<T>> = Vec::new(rt.alloc());
-    let made = Command::FromElem {
-        value: false,
-        len: 10,
-    };
-    commands.push(made).expect(rt, "memory");
+    let value = false;
+    add(rt, &mut commands, Command::FromElem { value, len: 10 });
     for index in [0, 2, 3, 5, 6, 7, 9] {
-        let set = Command::SetBit {
-            which,
-            index,
-            value: true,
-        };
-        commands.push(set).expect(rt, "memory");
+        add_set(rt, &mut commands, which, index);
     }
-    let turns = [End::Front, End::Back, End::Front, End::Back];
-    let mut pulls = turns.to_vec(rt.alloc()).expect(rt, "memory");
-    pulls.extend_from_slice(&turns).expect(rt, "memory");
-    let bounds = (Unbounded, Unbounded);
-    for command in [
-        Command::Walk {
-            which,
-            value: true,
-            bounds,
-            pulls,
-        },
-        Command::Count {
-            which,
-            value: false,
-            bounds,
-        },
-        Command::SplitOff { which, index: 5 },
-        Command::Bits { which },
-        Command::Bits { which: 1 },
-        Command::ExtendVob { which, other: 1 },
-        Command::Bits { which },
-        Command::And { which, other: 0 },
-        Command::SetBit {
-            which: 1,
-            index: 9,
-            value: true,
-        },
-        Command::GetBit { which: 7, index: 0 },
-        Command::And { which, other: 1 },
-    ] {
-        commands.push(command).expect(rt, "memory");
-    }
+    add_walks(rt, &mut commands);
+    add(rt, &mut commands, Command::SplitOff { which, index: 5 });
+    add(rt, &mut commands, Command::Bits { which });
+    add(rt, &mut commands, Command::Bits { which: 1 });
+    add(rt, &mut commands, Command::ExtendVob { which, other: 1 });
+    add(rt, &mut commands, Command::Bits { which });
+    add(rt, &mut commands, Command::And { which, other: 0 });
+    add_set(rt, &mut commands, 1, 9);
+    add(rt, &mut commands, Command::GetBit { which: 7, index: 0 });
+    add(rt, &mut commands, Command::And { which, other: 1 });
     check_run(
         rt,
         &commands,
@@ -83,17 +105,15 @@ fn commands_answer_alike_at_two_block_types(rt: HostRuntime) {
 
 #[test]
 fn numbers_that_no_vob_has_are_skipped(rt: HostRuntime) {
-    let commands = [
-        Command::<u8>::New { capacity: 9 },
-        Command::Push {
-            which: 1,
-            value: true,
-        },
-        Command::GetBit { which: 1, index: 0 },
-        Command::Length { which: usize::MAX },
-        Command::Bits { which: 2 },
-        Command::Storage { which: 1 },
-    ];
+    let mut commands: Vec<Command<u8>> = Vec::new(rt.alloc());
+    let which = 1;
+    let value = true;
+    add(&rt, &mut commands, Command::New { capacity: 9 });
+    add(&rt, &mut commands, Command::Push { which, value });
+    add(&rt, &mut commands, Command::GetBit { which, index: 0 });
+    add(&rt, &mut commands, Command::Length { which: usize::MAX });
+    add(&rt, &mut commands, Command::Bits { which: 2 });
+    add(&rt, &mut commands, Command::Storage { which });
     let replies = "[Made(0), Skipped, Skipped, Skipped, Skipped, Skipped]";
     check_run(&rt, &commands, replies);
 }

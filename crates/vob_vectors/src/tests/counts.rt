@@ -1,12 +1,11 @@
 //! Counts: of the items that a walk has left, and of the true places of blocks.
 ghost use Rattle.std.specs.Prelude.{◌≡◌, ◌+◌, ◌∷◌, []};
 
-use super::support::{pattern, vob_of};
+use super::support::{listed, pattern, same, vob_of};
 use super::walks::indices_of;
 use std::mem::size_of;
 use std::ops::Bound::{Included, Unbounded};
 use std::process::Abort;
-use std::test::Fail;
 use vob::{Vob, count_ones_in};
 use vob_block::{Block, Blocks};
 
@@ -26,15 +25,14 @@ fn a_range_that_ends_before_its_start_holds_nothing(rt: HostRuntime) {
 }
 
 #[test]
-fn the_bits_that_both_have_are_counted(rt: HostRuntime) -> Result<(), Fail> {
-    let mut one = Vob::from_elem(rt.alloc(), false, 256)?;
-    let mut other = Vob::from_elem(rt.alloc(), false, 256)?;
+fn the_bits_that_both_have_are_counted(rt: HostRuntime) {
+    let mut one = Vob::from_elem(rt.alloc(), false, 256).expect(&rt, "memory");
+    let mut other = Vob::from_elem(rt.alloc(), false, 256).expect(&rt, "memory");
     one.set(67, true);
     other.set(67, true);
     one.set(188, true);
     assert!(rt; one.and(&other));
     assert_eq!(rt; one.iter_set_bits(..).count(), 1);
-    Ok(())
 }
 
 /// From index 3 to below 10: five true places, in two reads.
@@ -101,10 +99,12 @@ fn check_counts_from<T: Block>(
     let indices = indices_of(rt, vob, value, (Included(from), Unbounded));
     let mut given = 0usize;
     for to in from..=vob.len() {
-        assert_eq!(rt;
+        same(
+            rt,
+            "bits from any index to",
+            to,
             count_of(vob, value, from, to),
             given,
-            "{value} bits, {from}..{to}"
         );
         if indices.get(given) == Some(&to) {
             given = given.saturating_add(1);
@@ -112,16 +112,23 @@ fn check_counts_from<T: Block>(
     }
 }
 
+/// The walks over bits and over blocks.
+fn check_bit_counts<T: Block>(rt: &(impl Abort + AllocGlobal), vob: &Vob<T>) {
+    let bits = listed(rt, vob.iter()).len();
+    same(rt, "bits", vob.len(), vob.iter().count(), bits);
+    let blocks = listed(rt, vob.iter_storage()).len();
+    same(
+        rt,
+        "blocks of bits",
+        vob.len(),
+        vob.iter_storage().count(),
+        blocks,
+    );
+}
+
 /// All four walks of a pattern, the two over indices between each two bounds.
 fn check_counts<T: Block>(rt: &(impl Abort + AllocGlobal), vob: &Vob<T>) {
-    let bits: Vec<bool> = vob.iter().collect(rt.alloc()).expect(rt, "memory");
-    assert_eq!(rt; vob.iter().count(), bits.len(), "bits of {vob:?}");
-    let blocks: Vec<T> = vob.iter_storage().collect(rt.alloc()).expect(rt, "memory");
-    assert_eq!(rt;
-        vob.iter_storage().count(),
-        blocks.len(),
-        "blocks of {vob:?}"
-    );
+    check_bit_counts(rt, vob);
     for from in 0..=vob.len() {
         check_counts_from(rt, vob, true, from);
         check_counts_from(rt, vob, false, from);
@@ -150,6 +157,30 @@ fn a_count_over_other_blocks_is_what_next_gives(rt: HostRuntime) {
     }
 }
 
+/// How many set bits are left after so many pulls at the front and then at the back.
+fn set_left<T: Block>(vob: &Vob<T>, front: usize, back: usize) -> usize {
+    let mut walk = vob.iter_set_bits(..);
+    for _ in 0..front {
+        walk.next();
+    }
+    for _ in 0..back {
+        walk.next_back();
+    }
+    walk.count()
+}
+
+/// How many unset bits are left after so many pulls at the front and then at the back.
+fn unset_left<T: Block>(vob: &Vob<T>, front: usize, back: usize) -> usize {
+    let mut walk = vob.iter_unset_bits(..);
+    for _ in 0..front {
+        walk.next();
+    }
+    for _ in 0..back {
+        walk.next_back();
+    }
+    walk.count()
+}
+
 /// Both walks over the indices of a pattern, after so many pulls at the front and then at the back.
 fn check_counts_after<T: Block>(
     rt: &(impl Abort + AllocGlobal),
@@ -158,28 +189,23 @@ fn check_counts_after<T: Block>(
     back: usize,
 ) {
     let vob = pattern::<T>(rt, 0, len);
-    let mut set = vob.iter_set_bits(..);
-    let mut unset = vob.iter_unset_bits(..);
-    let wanted = [
-        vob.iter_set_bits(..)
-            .count()
-            .saturating_sub(front)
-            .saturating_sub(back),
-        vob.iter_unset_bits(..)
-            .count()
-            .saturating_sub(front)
-            .saturating_sub(back),
-    ];
-    for _ in 0..front {
-        set.next();
-        unset.next();
-    }
-    for _ in 0..back {
-        set.next_back();
-        unset.next_back();
-    }
-    let counts = [set.count(), unset.count()];
-    assert_eq!(rt; counts, wanted, "of {len}, after {front} and {back} pulls");
+    let pulled = front.saturating_add(back);
+    let set = set_left(&vob, 0, 0).saturating_sub(pulled);
+    same(
+        rt,
+        "set bits left of",
+        len,
+        set_left(&vob, front, back),
+        set,
+    );
+    let unset = unset_left(&vob, 0, 0).saturating_sub(pulled);
+    same(
+        rt,
+        "unset bits left of",
+        len,
+        unset_left(&vob, front, back),
+        unset,
+    );
 }
 
 #[test]

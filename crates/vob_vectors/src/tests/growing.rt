@@ -1,108 +1,111 @@
 //! Growing, joining, cutting and filling: worked rows, and patterns against a push of each bit.
 use super::hints::Hinted;
-use super::support::{check_blocks, check_same, pattern, vob_of};
+use super::support::{
+    check_blocks, check_made, check_same, copy_of, cut, filled, join, pattern, push, resize, same,
+    vob_of,
+};
 use std::process::Abort;
-use std::test::Fail;
 use vob::Vob;
 use vob_block::Block;
 
 #[test]
-fn false_bits_become_true_ones_behind_them(rt: HostRuntime) -> Result<(), Fail> {
-    let mut bytes = Vob::<u8>::from_elem_with_storage_type(rt.alloc(), false, 8)?;
-    bytes.resize(9, true)?;
+fn false_bits_become_true_ones_behind_them(rt: HostRuntime) {
+    let mut bytes = filled::<u8>(&rt, false, 8);
+    resize(&rt, &mut bytes, 9, true);
     check_blocks(&rt, &bytes, 9, &[0, 1]);
     let mut words = vob_of::<usize>(&rt, "0");
-    words.resize(129, true)?;
+    resize(&rt, &mut words, 129, true);
     check_blocks(&rt, &words, 129, &[usize::MAX - 1, usize::MAX, 1]);
-    words.resize(1, true)?;
+    resize(&rt, &mut words, 1, true);
     check_blocks(&rt, &words, 1, &[0]);
-    words.resize(2, true)?;
+    resize(&rt, &mut words, 2, true);
     check_blocks(&rt, &words, 2, &[2]);
     let mut one = Vob::new(rt.alloc());
-    one.resize(1, true)?;
+    resize(&rt, &mut one, 1, true);
     check_blocks(&rt, &one, 1, &[1]);
-    Ok(())
 }
 
 #[test]
-fn resized_bytes_are_negated(rt: HostRuntime) -> Result<(), Fail> {
-    let mut bytes = Vob::<u8>::new_with_storage_type(rt.alloc(), 0)?;
-    bytes.extend_from_slice(&[true, false, true, true, false])?;
-    bytes.resize(8, true)?;
+fn resized_bytes_are_negated(rt: HostRuntime) {
+    let mut bytes = vob_of::<u8>(&rt, "");
+    bytes
+        .extend_from_slice(&[true, false, true, true, false])
+        .expect(&rt, "memory");
+    resize(&rt, &mut bytes, 8, true);
     check_blocks(&rt, &bytes, 8, &[237]);
-    bytes.resize(17, true)?;
+    resize(&rt, &mut bytes, 17, true);
     check_blocks(&rt, &bytes, 17, &[237, 255, 1]);
     bytes.negate();
     check_blocks(&rt, &bytes, 17, &[18, 0, 0]);
     let mut words = Vob::new(rt.alloc());
-    words.extend_from_slice(&[true, true, false])?;
+    words
+        .extend_from_slice(&[true, true, false])
+        .expect(&rt, "memory");
     check_blocks(&rt, &words, 3, &[3]);
-    Ok(())
 }
 
 #[test]
-fn all_bits_are_set_and_negated(rt: HostRuntime) -> Result<(), Fail> {
-    let mut bytes = Vob::<u8>::from_elem_with_storage_type(rt.alloc(), false, 10)?;
+fn all_bits_are_set_and_negated(rt: HostRuntime) {
+    let mut bytes = filled::<u8>(&rt, false, 10);
     bytes.set_all(true);
     check_blocks(&rt, &bytes, 10, &[255, 3]);
     bytes.negate();
     check_blocks(&rt, &bytes, 10, &[0, 0]);
-    Ok(())
 }
 
 #[test]
-fn what_is_taken_off_leaves_its_room(rt: HostRuntime) -> Result<(), Fail> {
-    let mut vob = Vob::from_elem(rt.alloc(), true, 200)?;
+fn what_is_taken_off_leaves_its_room(rt: HostRuntime) {
+    let mut vob = filled::<usize>(&rt, true, 200);
     let room = vob.capacity();
     vob.truncate(65);
-    assert_eq!(rt; vob.capacity(), room, "after a cut");
+    same(&rt, "capacity after a cut", 65, vob.capacity(), room);
     vob.clear();
-    assert_eq!(rt; vob.capacity(), room, "after a clear");
+    same(&rt, "capacity after a clear", 0, vob.capacity(), room);
     check_blocks(&rt, &vob, 0, &[]);
-    Ok(())
 }
 
 #[test]
-fn joined_bits_are_cut_apart_again(rt: HostRuntime) -> Result<(), Fail> {
+fn joined_bits_are_cut_apart_again(rt: HostRuntime) {
     let mut vob = vob_of::<u8>(&rt, "10110");
-    vob.extend_from_vob(&vob_of(&rt, "11101"))?;
+    join(&rt, &mut vob, &vob_of(&rt, "11101"));
     check_blocks(&rt, &vob, 10, &[237, 2]);
     check_same(&rt, &vob, &vob_of(&rt, "1011011101"));
-    let rest = vob.split_off(5)?;
+    check_made(&rt, vob.split_off(5), 5, &[23]);
     check_blocks(&rt, &vob, 5, &[13]);
-    check_blocks(&rt, &rest, 5, &[23]);
-    Ok(())
 }
 
 #[test]
-fn a_cut_past_the_end_gives_no_bits(rt: HostRuntime) -> Result<(), Fail> {
+fn a_cut_past_the_end_gives_no_bits(rt: HostRuntime) {
     let mut vob = vob_of::<u8>(&rt, "101");
-    check_blocks(&rt, &vob.split_off(5)?, 0, &[]);
-    check_blocks(&rt, &vob.split_off(3)?, 0, &[]);
+    check_made(&rt, vob.split_off(5), 0, &[]);
+    check_made(&rt, vob.split_off(3), 0, &[]);
     check_blocks(&rt, &vob, 3, &[5]);
-    Ok(())
 }
 
 #[test]
-fn false_bits_are_joined_behind_a_full_block(rt: HostRuntime) -> Result<(), Fail> {
+fn false_bits_are_joined_behind_a_full_block(rt: HostRuntime) {
     let mut vob = vob_of::<u8>(&rt, "11111111");
-    vob.extend_from_vob(&vob_of(&rt, "000000000"))?;
+    join(&rt, &mut vob, &vob_of(&rt, "000000000"));
     check_blocks(&rt, &vob, 17, &[255, 0, 0]);
-    Ok(())
+}
+
+/// A Vob with the bits of another pushed behind its own.
+fn pushed_behind<T: Block>(rt: &impl Abort, vob: &Vob<T>, other: &Vob<T>) -> Vob<T> {
+    let mut pushed = copy_of(rt, vob);
+    for bit in other {
+        push(rt, &mut pushed, bit);
+    }
+    pushed
 }
 
 /// Two patterns that are joined are what pushes leave; cut apart, they are both again.
 fn check_join<T: Block>(rt: &(impl Abort + AllocGlobal), seed: usize, first: usize, second: usize) {
     let one = pattern::<T>(rt, seed, first);
     let two = pattern::<T>(rt, seed, second);
-    let mut pushed = one.clone().expect(rt, "memory");
-    for bit in &two {
-        pushed.push(bit).expect(rt, "memory");
-    }
-    let mut joined = one.clone().expect(rt, "memory");
-    joined.extend_from_vob(&two).expect(rt, "memory");
-    check_same(rt, &joined, &pushed);
-    let rest = joined.split_off(first).expect(rt, "memory");
+    let mut joined = copy_of(rt, &one);
+    join(rt, &mut joined, &two);
+    check_same(rt, &joined, &pushed_behind(rt, &one, &two));
+    let rest = cut(rt, &mut joined, first);
     check_same(rt, &joined, &one);
     check_same(rt, &rest, &two);
 }
@@ -138,23 +141,21 @@ fn check_growth<T: Block>(
     items: &[bool],
 ) {
     let mut pushed = pattern::<T>(rt, seed, first);
-    let mut sliced = pushed.clone().expect(rt, "memory");
-    let mut extended = pushed.clone().expect(rt, "memory");
+    let mut sliced = copy_of(rt, &pushed);
+    let mut extended = copy_of(rt, &pushed);
     for bit in items {
-        pushed.push(*bit).expect(rt, "memory");
+        push(rt, &mut pushed, *bit);
     }
     sliced.extend_from_slice(items).expect(rt, "memory");
     check_same(rt, &sliced, &pushed);
-    let hinted = Hinted {
-        rest: items,
-        lower: 0,
-    };
+    let lower = 0;
+    let hinted = Hinted { rest: items, lower };
     extended.extend(hinted).expect(rt, "memory");
     check_same(rt, &extended, &pushed);
 }
 
 #[test]
-fn growth_leaves_what_pushes_leave(rt: HostRuntime) -> Result<(), Fail> {
+fn growth_leaves_what_pushes_leave(rt: HostRuntime) {
     let mut items = Vec::new(rt.alloc());
     for count in 0..150 {
         for first in 0..40 {
@@ -167,22 +168,21 @@ fn growth_leaves_what_pushes_leave(rt: HostRuntime) -> Result<(), Fail> {
         for first in 60..68 {
             check_growth::<usize>(&rt, 2, first, &items);
         }
-        items.push(count % 5 < 2)?;
+        items.push(count % 5 < 2).expect(&rt, "memory");
     }
-    Ok(())
 }
 
 /// As many equal bits behind a pattern are what pushes leave; cut off, what was there is left.
 fn check_resize<T: Block>(rt: &(impl Abort + AllocGlobal), value: bool, first: usize, more: usize) {
     let before = pattern::<T>(rt, 1, first);
-    let mut pushed = before.clone().expect(rt, "memory");
+    let mut pushed = copy_of(rt, &before);
     for _ in 0..more {
-        pushed.push(value).expect(rt, "memory");
+        push(rt, &mut pushed, value);
     }
-    let mut resized = before.clone().expect(rt, "memory");
-    resized.resize(pushed.len(), value).expect(rt, "memory");
+    let mut resized = copy_of(rt, &before);
+    resize(rt, &mut resized, pushed.len(), value);
     check_same(rt, &resized, &pushed);
-    resized.resize(first, !value).expect(rt, "memory");
+    resize(rt, &mut resized, first, !value);
     check_same(rt, &resized, &before);
 }
 

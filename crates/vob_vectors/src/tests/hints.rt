@@ -1,9 +1,8 @@
 //! Iterators with size hints of their own, and what growing by their items leaves.
 ghost use Rattle.std.specs.Iterator.{YieldsFirst, item_count};
 
-use super::support::{check_blocks, vob_of};
+use super::support::{check_blocks, same, vob_of};
 use std::marker::Model;
-use std::test::Fail;
 use vob::{Vob, VobError};
 
 /// The items of a slice, with a lower bound of its own as the hint.
@@ -74,44 +73,45 @@ impl Iterator for Countdown {
 }
 
 #[test]
-fn items_come_behind_the_bits(rt: HostRuntime) -> Result<(), Fail> {
+fn items_come_behind_the_bits(rt: HostRuntime) {
     let items = [true, true, false];
     let mut vob = vob_of::<usize>(&rt, "101");
     vob.extend(Hinted {
         rest: &items,
         lower: 0,
-    })?;
+    })
+    .expect(&rt, "memory");
     check_blocks(&rt, &vob, 6, &[29]);
     vob.truncate(9);
     check_blocks(&rt, &vob, 6, &[29]);
     vob.truncate(4);
     check_blocks(&rt, &vob, 4, &[13]);
-    Ok(())
 }
 
 #[test]
-fn more_items_come_than_the_hint_promised(rt: HostRuntime) -> Result<(), Fail> {
+fn more_items_come_than_the_hint_promised(rt: HostRuntime) {
     let items = [true; 5];
     let mut vob = Vob::new(rt.alloc());
     vob.extend(Hinted {
         rest: &items,
         lower: 2,
-    })?;
+    })
+    .expect(&rt, "memory");
     check_blocks(&rt, &vob, 5, &[31]);
-    Ok(())
 }
 
 #[test]
-fn a_hint_that_cannot_be_met_is_refused_first(rt: HostRuntime) -> Result<(), Fail> {
+fn a_hint_that_cannot_be_met_is_refused_first(rt: HostRuntime) {
     let left = usize::MAX;
     let mut one = vob_of::<usize>(&rt, "1");
-    assert_eq!(rt; one.extend(Countdown { left }), Err(VobError::TooLong));
+    let refused = one.extend(Countdown { left });
+    same(&rt, "behind a bit", left, refused, Err(VobError::TooLong));
     check_blocks(&rt, &one, 1, &[1]);
     let mut none = Vob::new(rt.alloc());
-    assert_eq!(rt; none.extend(Countdown { left }), Err(VobError::Memory));
+    let refused = none.extend(Countdown { left });
+    same(&rt, "alone", left, refused, Err(VobError::Memory));
     check_blocks(&rt, &none, 0, &[]);
-    none.extend(Countdown { left: 3 })?;
+    none.extend(Countdown { left: 3 }).expect(&rt, "memory");
     check_blocks(&rt, &none, 3, &[7]);
     assert!(rt; Vob::from_iter(rt.alloc(), Countdown { left }).is_err());
-    Ok(())
 }

@@ -1,6 +1,6 @@
 //! The paths by which users name types and calls, each used once.
-use super::support::vob_of;
-use std::test::Fail;
+use super::support::{same, vob_of};
+use std::slice;
 use vob::iter::{End, IndexWalk, count_ones_in, deal};
 use vob::vob_block::{Block, Blocks};
 use vob::{Vob, VobError};
@@ -11,16 +11,28 @@ fn walks_are_named_at_the_root_and_in_their_module(rt: HostRuntime) {
     let three: Vob<u8> = vob_of(&rt, "101");
     let bits: vob::Iter<'_, u8> = three.iter();
     let same_bits: vob::iter::Iter<'_, u8> = three.iter();
-    assert_eq!(rt; [bits.count(), same_bits.count()], [3, 3]);
+    same(&rt, "bits", 0, [bits.count(), same_bits.count()], [3, 3]);
     let set: vob::IterSetBits<'_, u8> = three.iter_set_bits(..);
     let same_set: vob::iter::IterSetBits<'_, u8> = three.iter_set_bits(..);
-    assert_eq!(rt; [set.count(), same_set.count()], [2, 2]);
+    same(&rt, "set bits", 0, [set.count(), same_set.count()], [2, 2]);
     let unset: vob::IterUnsetBits<'_, u8> = three.iter_unset_bits(..);
     let same_unset: vob::iter::IterUnsetBits<'_, u8> = three.iter_unset_bits(..);
-    assert_eq!(rt; [unset.count(), same_unset.count()], [1, 1]);
+    same(
+        &rt,
+        "unset bits",
+        0,
+        [unset.count(), same_unset.count()],
+        [1, 1],
+    );
     let blocks: vob::StorageIter<'_, u8> = three.iter_storage();
     let same_blocks: vob::iter::StorageIter<'_, u8> = three.iter_storage();
-    assert_eq!(rt; [blocks.count(), same_blocks.count()], [1, 1]);
+    same(
+        &rt,
+        "blocks",
+        0,
+        [blocks.count(), same_blocks.count()],
+        [1, 1],
+    );
 }
 
 /// One pull at each end.
@@ -29,13 +41,13 @@ fn both_ends<W: IndexWalk>(walk: &mut W) -> [Option<usize>; 2] {
 }
 
 #[test]
-fn pulls_are_named_in_the_module_of_walks(rt: HostRuntime) -> Result<(), Fail> {
+fn pulls_are_named_in_the_module_of_walks(rt: HostRuntime) {
     let three: Vob<u8> = vob_of(&rt, "101");
     let mut answers = Vec::new(rt.alloc());
-    deal(&mut three.iter_set_bits(..), &[End::Back], &mut answers)?;
-    assert_eq!(rt; answers.as_slice(), [Some(2)].as_slice());
-    assert_eq!(rt; both_ends(&mut three.iter_unset_bits(..)), [Some(1), None]);
-    Ok(())
+    deal(&mut three.iter_set_bits(..), &[End::Back], &mut answers).expect(&rt, "memory");
+    same(&rt, "answer", 0, answers.pop(), Some(Some(2)));
+    let ends = both_ends(&mut three.iter_unset_bits(..));
+    same(&rt, "both ends", 0, ends, [Some(1), None]);
 }
 
 #[test]
@@ -48,19 +60,16 @@ fn counts_and_blocks_are_named_by_their_modules(rt: HostRuntime) {
 }
 
 #[test]
-fn commands_are_named_beside_the_calls_that_run_them(rt: HostRuntime) -> Result<(), Fail> {
+fn commands_are_named_beside_the_calls_that_run_them(rt: HostRuntime) {
     let mut vobs: Vec<Vob<u8>> = Vec::new(rt.alloc());
     let mut replies = Vec::new(rt.alloc());
-    run(
-        rt.alloc(),
-        &[Command::New { capacity: 0 }],
-        &mut vobs,
-        &mut replies,
-    )?;
-    assert_eq!(rt; replies.as_slice(), [Reply::Made(0)].as_slice());
+    let new = Command::New { capacity: 0 };
+    let commands = slice::from_ref(&new);
+    run(rt.alloc(), commands, &mut vobs, &mut replies).expect(&rt, "memory");
+    assert!(rt; replies.pop() == Some(Reply::Made(0)));
     let mut words: Vec<Vob> = Vec::new(rt.alloc());
     let mut replies = Vec::new(rt.alloc());
-    run_usize(rt.alloc(), &[UsizeCommand::Fresh], &mut words, &mut replies)?;
-    assert_eq!(rt; replies.as_slice(), [Reply::Made(0)].as_slice());
-    Ok(())
+    let commands = slice::from_ref(&UsizeCommand::Fresh);
+    run_usize(rt.alloc(), commands, &mut words, &mut replies).expect(&rt, "memory");
+    assert!(rt; replies.pop() == Some(Reply::Made(0)));
 }

@@ -1,8 +1,9 @@
 //! Vobs combined bit by bit, compared and hashed: worked rows, and patterns against lists.
-use super::support::{check_blocks, check_same, pattern, pattern_bit, vob_of};
+use super::support::{
+    check_blocks, check_equal, check_same, pattern, pattern_bit, push, same, vob_of,
+};
 use std::hash::{DefaultHasher, Hash, Hasher};
 use std::process::Abort;
-use std::test::Fail;
 use vob::Vob;
 use vob_block::Block;
 
@@ -26,7 +27,7 @@ fn combined_bit(call: Call, bit: bool, other: bool) -> bool {
 
 /// `and`, `or` or `xor` of two Vobs of one length.
 fn combine<T: Block>(rt: &impl Abort, call: Call, vob: &mut Vob<T>, other: &Vob<T>) -> bool {
-    assert_eq!(rt; vob.len(), other.len(), "{call:?}");
+    assert!(rt; vob.len() == other.len(), "{call:?}");
     match call {
         Call::And => vob.and(other),
         Call::Or => vob.or(other),
@@ -44,13 +45,40 @@ fn a_call_says_whether_a_bit_changed(rt: HostRuntime) {
     ] {
         let mut vob = vob_of::<usize>(&rt, left);
         let other = vob_of::<usize>(&rt, right);
-        assert_eq!(rt;
-            combine(&rt, call, &mut vob, &other),
-            changed,
-            "{call:?} of {left}"
-        );
+        same(&rt, left, 0, combine(&rt, call, &mut vob, &other), changed);
         check_same(&rt, &vob, &vob_of(&rt, after));
         check_same(&rt, &other, &vob_of(&rt, right));
+    }
+}
+
+/// What an operator makes of two Vobs.
+fn made(rt: &impl Abort, call: Call, vob: &Vob, other: &Vob) -> Vob {
+    assert!(rt; vob.len() == other.len());
+    let made = match call {
+        Call::And => vob & other,
+        Call::Or => vob | other,
+        Call::Xor => vob ^ other,
+    };
+    made.expect(rt, "memory")
+}
+
+/// What an operator makes of its left side.
+fn moved(rt: &impl Abort, call: Call, vob: Vob, other: &Vob) -> Vob {
+    assert!(rt; vob.len() == other.len());
+    match call {
+        Call::And => vob & other,
+        Call::Or => vob | other,
+        Call::Xor => vob ^ other,
+    }
+}
+
+/// Changes the left side by an operator.
+fn assign(rt: &impl Abort, call: Call, vob: &mut Vob, other: &Vob) {
+    assert!(rt; vob.len() == other.len());
+    match call {
+        Call::And => *vob &= other,
+        Call::Or => *vob |= other,
+        Call::Xor => *vob ^= other,
     }
 }
 
@@ -59,27 +87,12 @@ fn check_forms(rt: &(impl Abort + AllocGlobal), call: Call, left: &str, right: &
     let wanted = vob_of::<usize>(rt, after);
     let vob = vob_of::<usize>(rt, left);
     let other = vob_of::<usize>(rt, right);
-    let mut assigned = vob_of::<usize>(rt, left);
-    assert!(rt; vob.len() == other.len() && assigned.len() == other.len());
-    let made = match call {
-        Call::And => &vob & &other,
-        Call::Or => &vob | &other,
-        Call::Xor => &vob ^ &other,
-    };
-    check_same(rt, &made.expect(rt, "memory"), &wanted);
-    match call {
-        Call::And => assigned &= &other,
-        Call::Or => assigned |= &other,
-        Call::Xor => assigned ^= &other,
-    }
-    check_same(rt, &assigned, &wanted);
+    check_same(rt, &made(rt, call, &vob, &other), &wanted);
     check_same(rt, &vob, &vob_of(rt, left));
-    let changed = match call {
-        Call::And => vob & &other,
-        Call::Or => vob | &other,
-        Call::Xor => vob ^ &other,
-    };
-    check_same(rt, &changed, &wanted);
+    let mut assigned = vob_of::<usize>(rt, left);
+    assign(rt, call, &mut assigned, &other);
+    check_same(rt, &assigned, &wanted);
+    check_same(rt, &moved(rt, call, vob, &other), &wanted);
 }
 
 #[test]
@@ -90,26 +103,26 @@ fn each_operator_has_three_forms(rt: HostRuntime) {
 }
 
 #[test]
-fn vobs_are_equal_where_their_lists_are(rt: HostRuntime) -> Result<(), Fail> {
+fn vobs_are_equal_where_their_lists_are(rt: HostRuntime) {
     let two = vob_of::<usize>(&rt, "10");
-    for (digits, same) in [("10", true), ("11", false), ("101", false), ("", false)] {
-        assert_eq!(rt; two == vob_of(&rt, digits), same, "10 and {digits}");
+    for (digits, equal) in [("10", true), ("11", false), ("101", false), ("", false)] {
+        check_equal(&rt, &two, &vob_of(&rt, digits), equal);
     }
-    let mut roomy = Vob::with_capacity(rt.alloc(), 1000)?;
-    roomy.push(true)?;
-    roomy.push(false)?;
-    assert!(rt; two == roomy, "a capacity that differs doesn't matter");
-    Ok(())
+    // A capacity that differs doesn't matter.
+    let mut roomy = Vob::with_capacity(rt.alloc(), 1000).expect(&rt, "memory");
+    push(&rt, &mut roomy, true);
+    push(&rt, &mut roomy, false);
+    check_equal(&rt, &two, &roomy, true);
 }
 
 /// Two Vobs of `len` bits are equal, and differ once bit `index` of one is another.
 fn check_equality<T: Block>(rt: &(impl Abort + AllocGlobal), len: usize, index: usize) {
     let one = pattern::<T>(rt, 0, len);
     let mut other = pattern::<T>(rt, 0, len);
-    assert!(rt; one == other, "{len} bits");
+    check_equal(rt, &one, &other, true);
     if index < other.len() {
         other.set(index, !pattern_bit(0, index));
-        assert!(rt; one != other, "bit {index} of {len}");
+        check_equal(rt, &one, &other, false);
     }
 }
 
@@ -134,17 +147,24 @@ fn hash_of<T: Block>(vob: &Vob<T>) -> u64 {
 #[test]
 fn a_hasher_is_fed_the_blocks_and_not_the_length(rt: HostRuntime) {
     let two = vob_of::<usize>(&rt, "10");
-    assert_eq!(rt; hash_of(&two), hash_of(&vob_of::<usize>(&rt, "10")));
+    let like = vob_of::<usize>(&rt, "10");
+    same(&rt, "hash of 10", 0, hash_of(&two), hash_of(&like));
     let one = vob_of::<usize>(&rt, "0");
     let two = vob_of::<usize>(&rt, "00");
-    assert!(rt; one != two);
-    assert_eq!(rt; hash_of(&one), hash_of(&two));
+    check_equal(&rt, &one, &two, false);
+    same(&rt, "hash of 0 and 00", 0, hash_of(&one), hash_of(&two));
     let many = pattern::<u8>(&rt, 1, 30);
     let mut state = DefaultHasher::new();
     for block in many.get_storage() {
         state.write_u8(*block);
     }
-    assert_eq!(rt; hash_of(&many), state.finish(), "each block once, in order");
+    same(
+        &rt,
+        "each block once, in order",
+        0,
+        hash_of(&many),
+        state.finish(),
+    );
 }
 
 /// A call on patterns of `len` bits, against the bits one by one.
@@ -155,20 +175,22 @@ fn check_patterns<T: Block>(
     len: usize,
 ) {
     let (left, right) = seeds;
-    let mut wanted = Vob::<T>::new_with_storage_type(rt.alloc(), 0).expect(rt, "memory");
+    let mut wanted = vob_of::<T>(rt, "");
     let mut changed = false;
     for index in 0..len {
         let bit = pattern_bit(left, index);
         let after = combined_bit(call, bit, pattern_bit(right, index));
         changed = changed || after != bit;
-        wanted.push(after).expect(rt, "memory");
+        push(rt, &mut wanted, after);
     }
     let mut vob = pattern::<T>(rt, left, len);
     let other = pattern::<T>(rt, right, len);
-    assert_eq!(rt;
+    same(
+        rt,
+        "bits",
+        len,
         combine(rt, call, &mut vob, &other),
         changed,
-        "{call:?} of {len} bits"
     );
     check_same(rt, &vob, &wanted);
 }

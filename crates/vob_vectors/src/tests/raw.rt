@@ -1,10 +1,9 @@
 //! Raw storage: what is taken back as a Vob and what isn't, and records of it as text.
 ghost use Rattle.std.specs.Prelude.{◌≡◌, ◌++◌, ◌∷◌, [], OnOk};
 
-use super::support::{check_bits, check_blocks, vob_of};
+use super::support::{check_bits, check_blocks, same_text, vob_of};
 use std::alloc::AllocError;
 use std::process::Abort;
-use std::test::Fail;
 use vob::{RawVob, Vob, VobRecord};
 use vob_block::Block;
 
@@ -15,8 +14,10 @@ fn raw_of<T: Block>(rt: &(impl Abort + AllocGlobal), len: usize, blocks: &[T]) -
 
 /// Compares the length and the blocks.
 fn check_raw<T: Block>(rt: &impl Abort, raw: &RawVob<T>, len: usize, blocks: &[T]) {
-    assert_eq!(rt; raw.len(), len, "the length of {raw:?}");
-    assert_eq!(rt; raw.get_storage(), blocks, "the blocks of {raw:?}");
+    assert!(rt;
+        raw.len() == len && raw.get_storage() == blocks,
+        "{raw:?} has {len} bits in {blocks:?}"
+    );
 }
 
 /// Raw storage that is taken as a Vob.
@@ -88,10 +89,10 @@ fn words_are_masked_in_the_last_block_alone(rt: HostRuntime) {
 }
 
 #[test]
-fn blocks_and_length_are_changed_and_taken_back(rt: HostRuntime) -> Result<(), Fail> {
+fn blocks_and_length_are_changed_and_taken_back(rt: HostRuntime) {
     let mut raw = vob_of::<u8>(&rt, "10").into_raw();
     check_raw(&rt, &raw, 2, &[1]);
-    push_block(&mut raw, 1)?;
+    push_block(&mut raw, 1).expect(&rt, "memory");
     raw.set_len(9);
     check_taken(&rt, raw, "100000001", &[1, 1]);
     let mut raw = vob_of::<usize>(&rt, "101").into_raw();
@@ -100,54 +101,44 @@ fn blocks_and_length_are_changed_and_taken_back(rt: HostRuntime) -> Result<(), F
         *first = 7;
     }
     check_taken(&rt, raw, "111", &[7]);
-    Ok(())
+}
+
+/// The record of this text.
+fn record_of(rt: &(impl Abort + AllocGlobal), text: &str) -> VobRecord {
+    serde_json::from_str(rt.alloc(), text)
+        .ok()
+        .expect(rt, "a record")
 }
 
 /// A text that is read as a record, which isn't taken.
-fn check_refused_text(
-    rt: &(impl Abort + AllocGlobal),
-    text: &str,
-    len: usize,
-    blocks: &[usize],
-) -> Result<(), Fail> {
-    let record: VobRecord = serde_json::from_str(rt.alloc(), text)?;
-    let record = record
-        .into_vob()
-        .err()
-        .expect(rt, "this record isn't canonical");
-    assert_eq!(rt; record.len, len, "the length of {record:?}");
-    assert_eq!(rt; record.vec.as_slice(), blocks, "the blocks of {record:?}");
-    Ok(())
+fn check_refused_text(rt: &(impl Abort + AllocGlobal), text: &str, len: usize, blocks: &[usize]) {
+    let refused = record_of(rt, text).into_vob().err();
+    let record = refused.expect(rt, "this record isn't canonical");
+    assert!(rt;
+        record.len == len && record.vec.as_slice() == blocks,
+        "{record:?} has {len} bits in {blocks:?}"
+    );
 }
 
 /// A text that is read as a record, which is taken, and written again.
-fn check_taken_text(
-    rt: &(impl Abort + AllocGlobal),
-    text: &str,
-    digits: &str,
-    blocks: &[usize],
-) -> Result<(), Fail> {
-    let record: VobRecord = serde_json::from_str(rt.alloc(), text)?;
-    let vob: Vob = record
-        .into_vob()
-        .ok()
-        .expect(rt, "this record is canonical");
+fn check_taken_text(rt: &(impl Abort + AllocGlobal), text: &str, digits: &str, blocks: &[usize]) {
+    let taken = record_of(rt, text).into_vob().ok();
+    let vob = taken.expect(rt, "this record is canonical");
     check_blocks(rt, &vob, digits.len(), blocks);
     check_bits(rt, &vob, digits);
-    let written = serde_json::to_string(rt.alloc(), &vob.into_record())?;
-    assert_eq!(rt; written.as_str(), text);
-    Ok(())
+    let written = serde_json::to_string(rt.alloc(), &vob.into_record()).ok();
+    same_text(rt, "written", &written.expect(rt, "memory"), text);
 }
 
 #[test]
-fn a_record_with_dirty_storage_is_handed_back(rt: HostRuntime) -> Result<(), Fail> {
-    check_refused_text(&rt, r#"{"len":3,"vec":[13]}"#, 3, &[13])?;
+fn a_record_with_dirty_storage_is_handed_back(rt: HostRuntime) {
+    check_refused_text(&rt, r#"{"len":3,"vec":[13]}"#, 3, &[13]);
     let longest = r#"{"len":18446744073709551615,"vec":[]}"#;
-    check_refused_text(&rt, longest, usize::MAX, &[])
+    check_refused_text(&rt, longest, usize::MAX, &[]);
 }
 
 #[test]
-fn a_record_that_is_taken_is_written_as_it_was_read(rt: HostRuntime) -> Result<(), Fail> {
-    check_taken_text(&rt, r#"{"len":3,"vec":[5]}"#, "101", &[5])?;
-    check_taken_text(&rt, r#"{"len":0,"vec":[]}"#, "", &[])
+fn a_record_that_is_taken_is_written_as_it_was_read(rt: HostRuntime) {
+    check_taken_text(&rt, r#"{"len":3,"vec":[5]}"#, "101", &[5]);
+    check_taken_text(&rt, r#"{"len":0,"vec":[]}"#, "", &[]);
 }

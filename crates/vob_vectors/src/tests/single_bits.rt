@@ -1,7 +1,9 @@
 //! Single bits: rows and patterns of pushes, reads, writes and cuts.
-use super::support::{at_each_block_type, check_bits, check_blocks, pattern, vob_of, write};
+use super::support::{
+    at_each_block_type, check_bits, check_blocks, filled, listed, pattern, push, same, same_text,
+    vob_of, write,
+};
 use std::process::Abort;
-use std::test::Fail;
 use vob::Vob;
 use vob_block::Block;
 
@@ -9,12 +11,8 @@ use vob_block::Block;
 fn read<T: Block>(rt: &impl Abort, vob: &Vob<T>, index: usize) -> Option<bool> {
     let bit = vob.get(index);
     if index < vob.len() {
-        assert_eq!(rt;
-            Some(vob.get_unchecked(index)),
-            bit,
-            "bit {index} of {vob:?}"
-        );
-        assert_eq!(rt; Some(vob[index]), bit, "bit {index} of {vob:?}");
+        same(rt, "bit", index, Some(vob.get_unchecked(index)), bit);
+        same(rt, "bit", index, Some(vob[index]), bit);
     }
     bit
 }
@@ -32,9 +30,15 @@ fn write_unchecked<T: Block>(vob: &mut Vob<T>, index: usize, value: bool) -> Opt
 fn check_row<T: Block>(rt: &(impl Abort + AllocGlobal), digits: &str, blocks: &str) {
     let vob = vob_of::<T>(rt, digits);
     check_bits(rt, &vob, digits);
-    assert_eq!(rt; vob.get(digits.len()), None, "past the end of {vob:?}");
+    same(
+        rt,
+        "past the end",
+        digits.len(),
+        vob.get(digits.len()),
+        None,
+    );
     let text = format!(in rt.alloc(); "{:?}", vob.get_storage()).expect(rt, "memory");
-    assert_eq!(rt; text.as_str(), blocks, "the blocks of {vob:?}");
+    same_text(rt, digits, &text, blocks);
 }
 
 #[test]
@@ -77,41 +81,41 @@ fn one_bit_more_than_two_words_takes_one_more_block(rt: HostRuntime) {
     check_row::<usize>(&rt, ones, "[18446744073709551615, 18446744073709551615, 1]");
 }
 
+/// Compares how a bit reads.
+fn reads<T: Block>(rt: &impl Abort, vob: &Vob<T>, index: usize, wanted: Option<bool>) {
+    same(rt, "bit", index, read(rt, vob, index), wanted);
+}
+
+/// Writes the bit at `next`, the first of its block, and no bit before it.
+fn check_first_bit<T: Block>(rt: &impl Abort, vob: &mut Vob<T>, next: usize) {
+    reads(rt, vob, next, Some(true));
+    reads(rt, vob, next.saturating_add(1), None);
+    same(rt, "clears", next, write(vob, next, false), Some(true));
+    reads(rt, vob, next, Some(false));
+    same(rt, "sets", next, write(vob, next, true), Some(true));
+    same(rt, "stays", next, write(vob, next, true), Some(false));
+}
+
 /// As many true bits as a block has places, `width`, and one more in a block of its own.
 fn check_word<T: Block>(rt: &(impl Abort + AllocGlobal), width: u8) {
     let next = width as usize;
     let last = next.saturating_sub(1);
     let before = next.saturating_sub(2);
-    let mut vob = Vob::<T>::new_with_storage_type(rt.alloc(), 0).expect(rt, "memory");
+    let mut vob = vob_of::<T>(rt, "");
     for _ in 0..width {
-        vob.push(true).expect(rt, "memory");
+        push(rt, &mut vob, true);
     }
-    let full = [
-        read(rt, &vob, 0),
-        read(rt, &vob, last),
-        read(rt, &vob, next),
-    ];
-    assert_eq!(rt; full, [Some(true), Some(true), None], "a full block");
-    assert_eq!(rt; vob.get_storage().len(), 1, "a full block");
-    vob.push(true).expect(rt, "memory");
-    assert_eq!(rt; vob.get_storage().len(), 2, "one bit takes a block more");
-    assert_eq!(rt; read(rt, &vob, next), Some(true), "one bit more");
-    let cleared = [write(&mut vob, next, false), read(rt, &vob, next)];
-    assert_eq!(rt; cleared, [Some(true), Some(false)], "true becomes false");
-    assert_eq!(rt;
-        read(rt, &vob, next.saturating_add(1)),
-        None,
-        "past the end"
-    );
-    let written = [write(&mut vob, next, true), write(&mut vob, next, true)];
-    assert_eq!(rt; written, [Some(true), Some(false)], "true is written twice");
-    let below = [read(rt, &vob, last), read(rt, &vob, before)];
-    assert_eq!(rt; below, [Some(true), Some(true)], "the bits below stay");
-    assert_eq!(rt;
-        write_unchecked(&mut vob, before, true),
-        Some(false),
-        "true stays"
-    );
+    reads(rt, &vob, 0, Some(true));
+    reads(rt, &vob, last, Some(true));
+    reads(rt, &vob, next, None);
+    same(rt, "blocks of bits", next, vob.get_storage().len(), 1);
+    push(rt, &mut vob, true);
+    same(rt, "blocks behind", next, vob.get_storage().len(), 2);
+    check_first_bit(rt, &mut vob, next);
+    reads(rt, &vob, last, Some(true));
+    reads(rt, &vob, before, Some(true));
+    let changed = write_unchecked(&mut vob, before, true);
+    same(rt, "true stays", before, changed, Some(false));
 }
 
 #[test]
@@ -121,30 +125,28 @@ fn a_full_block_and_one_bit_more(rt: HostRuntime) {
 }
 
 #[test]
-fn a_popped_bit_leaves_no_trace(rt: HostRuntime) -> Result<(), Fail> {
+fn a_popped_bit_leaves_no_trace(rt: HostRuntime) {
     let mut vob = Vob::new(rt.alloc());
     assert!(rt; vob.is_empty());
-    vob.push(false)?;
+    push(&rt, &mut vob, false);
     check_blocks(&rt, &vob, 1, &[0]);
-    assert_eq!(rt; vob.pop(), Some(false));
+    same(&rt, "pop", 0, vob.pop(), Some(false));
     check_blocks(&rt, &vob, 0, &[]);
-    vob.push(true)?;
+    push(&rt, &mut vob, true);
     check_blocks(&rt, &vob, 1, &[1]);
-    assert_eq!(rt; vob.pop(), Some(true));
-    assert_eq!(rt; vob.pop(), None);
+    same(&rt, "pop", 1, vob.pop(), Some(true));
+    same(&rt, "pop", 2, vob.pop(), None);
     assert!(rt; vob.is_empty());
-    Ok(())
 }
 
 #[test]
-fn the_room_of_a_popped_bit_is_used_again(rt: HostRuntime) -> Result<(), Fail> {
+fn the_room_of_a_popped_bit_is_used_again(rt: HostRuntime) {
     let mut vob = vob_of::<u8>(&rt, "11111111");
     let room = vob.capacity();
-    assert_eq!(rt; vob.pop(), Some(true));
-    vob.push(true)?;
+    same(&rt, "pop", 0, vob.pop(), Some(true));
+    push(&rt, &mut vob, true);
     check_blocks(&rt, &vob, 8, &[255]);
-    assert_eq!(rt; vob.capacity(), room, "no memory was taken");
-    Ok(())
+    same(&rt, "no memory was taken", 0, vob.capacity(), room);
 }
 
 #[test]
@@ -164,15 +166,14 @@ fn truncated_bits_are_gone_from_the_blocks(rt: HostRuntime) {
 
 /// 129 true bits, cut at their length, past it and at 0.
 fn check_cuts<T: Block>(rt: &(impl Abort + AllocGlobal), blocks: &[T]) {
-    let made = Vob::<T>::from_elem_with_storage_type(rt.alloc(), true, 129);
-    let mut many = made.expect(rt, "memory");
+    let mut many = filled::<T>(rt, true, 129);
     many.truncate(129);
     check_blocks(rt, &many, 129, blocks);
     many.truncate(193);
     check_blocks(rt, &many, 129, blocks);
     many.truncate(0);
     check_blocks(rt, &many, 0, &[]);
-    assert!(rt; many.is_empty());
+    same(rt, "empty", 0, many.is_empty(), true);
 }
 
 #[test]
@@ -181,22 +182,29 @@ fn a_cut_past_the_end_changes_nothing(rt: HostRuntime) {
     check_cuts::<u64>(&rt, &[u64::MAX, u64::MAX, 1]);
 }
 
+/// Writes a bit of two equal Vobs, each by one of both calls.
+fn check_writes<T: Block>(
+    rt: &impl Abort,
+    one: &mut Vob<T>,
+    other: &mut Vob<T>,
+    index: usize,
+    value: bool,
+) {
+    let changed = Some(read(rt, one, index) != Some(value));
+    same(rt, "set", index, write(one, index, value), changed);
+    let unchecked = write_unchecked(other, index, value);
+    same(rt, "set_unchecked", index, unchecked, changed);
+    reads(rt, one, index, Some(value));
+    reads(rt, other, index, Some(value));
+}
+
 /// Two equal Vobs by the pattern: each index read, and written by both calls.
 fn check_pattern<T: Block>(rt: &(impl Abort + AllocGlobal), seed: usize, len: usize) {
     let mut one = pattern::<T>(rt, seed, len);
     let mut other = pattern::<T>(rt, seed, len);
     for index in 0..len {
-        for value in [false, true] {
-            let changed = read(rt, &one, index) != Some(value);
-            assert_eq!(rt;
-                write(&mut one, index, value),
-                Some(changed),
-                "bit {index} of {len}"
-            );
-            assert_eq!(rt; write_unchecked(&mut other, index, value), Some(changed));
-            let both = [read(rt, &one, index), read(rt, &other, index)];
-            assert_eq!(rt; both, [Some(value), Some(value)], "bit {index} of {len}");
-        }
+        check_writes(rt, &mut one, &mut other, index, false);
+        check_writes(rt, &mut one, &mut other, index, true);
     }
 }
 
@@ -211,38 +219,58 @@ fn both_ways_of_writing_agree(rt: HostRuntime) {
 }
 
 #[test]
-fn the_walk_gives_the_bits_from_both_ends(rt: HostRuntime) -> Result<(), Fail> {
+fn the_walk_gives_the_bits_from_both_ends(rt: HostRuntime) {
     let vob = pattern::<u8>(&rt, 1, 19);
     let mut walk = vob.iter();
-    assert_eq!(rt; walk.len(), 19);
-    assert_eq!(rt; [walk.next(), walk.next_back()], [vob.get(0), vob.get(18)]);
+    same(&rt, "left of the walk", 0, walk.len(), 19);
+    same(&rt, "bit", 0, walk.next(), vob.get(0));
+    same(&rt, "bit", 18, walk.next_back(), vob.get(18));
     let mut other = walk.clone();
-    assert_eq!(rt;
-        [other.next(), other.next_back()],
-        [vob.get(1), vob.get(17)]
+    same(&rt, "bit", 1, other.next(), vob.get(1));
+    same(&rt, "bit", 17, other.next_back(), vob.get(17));
+    same(
+        &rt,
+        "left of the clone",
+        0,
+        other.size_hint(),
+        (15, Some(15)),
     );
-    assert_eq!(rt; other.size_hint(), (15, Some(15)));
-    assert_eq!(rt; walk.len(), 17, "the first walk stays");
-    assert_eq!(rt; walk.next(), vob.get(1));
-    let bits: Vec<bool> = vob.iter().collect(rt.alloc())?;
-    assert_eq!(rt; Vob::from_slice(rt.alloc(), &bits)?.len(), 19);
-    for (index, bit) in (&vob).into_iter().enumerate() {
-        assert_eq!(rt; vob.get(index), Some(bit), "bit {index}");
-        assert_eq!(rt; bits.get(index), Some(&bit), "bit {index}");
-    }
-    Ok(())
+    same(&rt, "the first walk stays", 0, walk.len(), 17);
+    same(&rt, "bit", 1, walk.next(), vob.get(1));
 }
 
 #[test]
-fn a_cloned_walk_over_blocks_goes_on_from_the_same_place(rt: HostRuntime) -> Result<(), Fail> {
+fn collected_bits_are_those_that_get_reads(rt: HostRuntime) {
+    let vob = pattern::<u8>(&rt, 1, 19);
+    let bits = listed(&rt, vob.iter());
+    let listed = Vob::from_slice(rt.alloc(), &bits).expect(&rt, "memory");
+    same(&rt, "bits", 0, listed.len(), 19);
+    for (index, bit) in (&vob).into_iter().enumerate() {
+        same(&rt, "bit", index, vob.get(index), Some(bit));
+        same(&rt, "bit", index, bits.get(index).copied(), Some(bit));
+    }
+}
+
+#[test]
+fn a_cloned_walk_over_blocks_goes_on_from_the_same_place(rt: HostRuntime) {
     let vob = pattern::<u8>(&rt, 1, 19);
     let mut blocks = vob.iter_storage();
-    assert_eq!(rt; blocks.next(), vob.get_storage().first().copied());
+    same(
+        &rt,
+        "block",
+        0,
+        blocks.next(),
+        vob.get_storage().first().copied(),
+    );
     let others = blocks.clone();
-    assert_eq!(rt; others.size_hint(), (2, Some(2)));
-    let rest: Vec<u8> = others.collect(rt.alloc())?;
-    let left: Vec<u8> = blocks.collect(rt.alloc())?;
-    assert_eq!(rt; rest.as_slice(), left.as_slice());
-    assert_eq!(rt; rest.len(), 2);
-    Ok(())
+    same(
+        &rt,
+        "left of the clone",
+        0,
+        others.size_hint(),
+        (2, Some(2)),
+    );
+    let rest = listed(&rt, others);
+    same(&rt, "blocks left", 0, rest.len(), 2);
+    assert!(rt; rest.as_slice() == listed(&rt, blocks).as_slice());
 }

@@ -1,5 +1,9 @@
-//! What the tests share: Vobs of digits and of patterns, what is compared of a Vob, and a check at
-//! each block type.
+//! What the tests share: Vobs of digits and of patterns, what is compared, and a check at each
+//! block type. An assertion, and a call with a long contract, cost the proof of a function far more
+//! than a call of a function without one: so most tests assert, and take memory, by these.
+ghost use Rattle.std.specs.Iterator.{IsFinite};
+
+use std::fmt::Debug;
 use std::process::Abort;
 use vob::Vob;
 use vob_block::Block;
@@ -17,11 +21,70 @@ macro_rules! at_each_block_type {
 
 pub(super) use at_each_block_type;
 
+/// Compares an answer with what is wanted; the number says where: at which bit or which length.
+pub fn same<V: PartialEq + Debug + Drop>(
+    rt: &impl Abort,
+    what: &str,
+    at: usize,
+    found: V,
+    wanted: V,
+) {
+    assert_eq!(rt; found, wanted, "{what}, {at}");
+}
+
+/// Compares a list of indices with what is wanted.
+pub fn same_indices(rt: &impl Abort, what: &str, found: &[usize], wanted: &[usize]) {
+    assert_eq!(rt; found, wanted, "{what}");
+}
+
+/// Compares a text with what is wanted.
+pub fn same_text(rt: &impl Abort, what: &str, found: &str, wanted: &str) {
+    assert_eq!(rt; found, wanted, "{what}");
+}
+
+/// All that a walk gives, in its order.
+pub fn listed<V: Drop, W: Iterator<Item = V>>(rt: &(impl Abort + AllocGlobal), walk: W) -> Vec<V>
+    requires ends { W.can_next walk × IsFinite (W.remaining walk) }
+{
+    walk.collect(rt.alloc()).expect(rt, "memory")
+}
+
+/// Adds a bit behind the last one.
+pub fn push<T: Block>(rt: &impl Abort, vob: &mut Vob<T>, value: bool) {
+    vob.push(value).expect(rt, "memory");
+}
+
+/// Makes the length `len`, by bits of this value.
+pub fn resize<T: Block>(rt: &impl Abort, vob: &mut Vob<T>, len: usize, value: bool) {
+    vob.resize(len, value).expect(rt, "memory");
+}
+
+/// Adds the bits of another Vob behind the last one.
+pub fn join<T: Block>(rt: &impl Abort, vob: &mut Vob<T>, other: &Vob<T>) {
+    vob.extend_from_vob(other).expect(rt, "memory");
+}
+
+/// The bits from `index` on, which leave the Vob.
+pub fn cut<T: Block>(rt: &impl Abort, vob: &mut Vob<T>, index: usize) -> Vob<T> {
+    vob.split_off(index).expect(rt, "memory")
+}
+
+/// A Vob with the same bits.
+pub fn copy_of<T: Block>(rt: &impl Abort, vob: &Vob<T>) -> Vob<T> {
+    vob.clone().expect(rt, "memory")
+}
+
+/// A Vob of one bit many times.
+pub fn filled<T: Block>(rt: &(impl Abort + AllocGlobal), value: bool, len: usize) -> Vob<T> {
+    let made = Vob::<T>::from_elem_with_storage_type(rt.alloc(), value, len);
+    made.expect(rt, "memory")
+}
+
 /// The Vob of these digits, index 0 first.
 pub fn vob_of<T: Block>(rt: &(impl Abort + AllocGlobal), digits: &str) -> Vob<T> {
     let mut vob = Vob::<T>::new_with_storage_type(rt.alloc(), 0).expect(rt, "memory");
     for digit in digits.as_bytes() {
-        vob.push(*digit == b'1').expect(rt, "memory");
+        push(rt, &mut vob, *digit == b'1');
     }
     vob
 }
@@ -36,15 +99,27 @@ pub fn pattern_bit(seed: usize, index: usize) -> bool {
 pub fn pattern<T: Block>(rt: &(impl Abort + AllocGlobal), seed: usize, len: usize) -> Vob<T> {
     let mut vob = Vob::<T>::new_with_storage_type(rt.alloc(), 0).expect(rt, "memory");
     for index in 0..len {
-        vob.push(pattern_bit(seed, index)).expect(rt, "memory");
+        push(rt, &mut vob, pattern_bit(seed, index));
     }
     vob
 }
 
 /// Compares the length and the blocks.
 pub fn check_blocks<T: Block>(rt: &impl Abort, vob: &Vob<T>, len: usize, blocks: &[T]) {
-    assert_eq!(rt; vob.len(), len, "the length of {vob:?}");
-    assert_eq!(rt; vob.get_storage(), blocks, "the blocks of {vob:?}");
+    assert!(rt;
+        vob.len() == len && vob.get_storage() == blocks,
+        "{vob:?} has {len} bits in {blocks:?}"
+    );
+}
+
+/// Compares the length and the blocks of a Vob that was made.
+pub fn check_made<T: Block, E: Debug + Drop>(
+    rt: &impl Abort,
+    made: Result<Vob<T>, E>,
+    len: usize,
+    blocks: &[T],
+) {
+    check_blocks(rt, &made.expect(rt, "memory"), len, blocks);
 }
 
 /// Compares the length and the blocks with those of another Vob.
@@ -52,15 +127,17 @@ pub fn check_same<T: Block>(rt: &impl Abort, vob: &Vob<T>, wanted: &Vob<T>) {
     check_blocks(rt, vob, wanted.len(), wanted.get_storage());
 }
 
+/// Compares by both operators.
+pub fn check_equal<T: Block>(rt: &impl Abort, vob: &Vob<T>, other: &Vob<T>, equal: bool) {
+    same(rt, "==", vob.len(), vob == other, equal);
+    same(rt, "!=", vob.len(), vob != other, !equal);
+}
+
 /// Compares the length and each bit with these digits.
 pub fn check_bits<T: Block>(rt: &impl Abort, vob: &Vob<T>, digits: &str) {
-    assert_eq!(rt; vob.len(), digits.len(), "the length of {vob:?}");
+    same(rt, "the length", 0, vob.len(), digits.len());
     for (index, digit) in digits.as_bytes().iter().enumerate() {
-        assert_eq!(rt;
-            vob.get(index),
-            Some(*digit == b'1'),
-            "bit {index} of {vob:?}"
-        );
+        same(rt, "bit", index, vob.get(index), Some(*digit == b'1'));
     }
 }
 

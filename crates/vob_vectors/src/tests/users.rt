@@ -1,8 +1,7 @@
 //! The worked users: which nodes of small graphs lead to which, against lists of bits; slots that
 //! are taken one after another; and the rows of a filter.
-use super::support::{vob_of, write};
+use super::support::{same, same_indices, vob_of, write};
 use std::process::Abort;
-use std::test::Fail;
 use vob::Vob;
 use vob_users::reachable::{is_square, reach};
 use vob_users::rows::kept_rows;
@@ -37,7 +36,8 @@ fn reached_from(rt: &(impl Abort + AllocGlobal), rows: &[Vob], start: usize) -> 
     reached
 }
 
-/// The nodes that `start` leads to, one edge further at a time, by as many edges as there are nodes.
+/// The nodes that `start` leads to, one edge further at a time, by as many edges as there are
+/// nodes.
 fn plainly_reached(rt: &(impl Abort + AllocGlobal), rows: &[Vob], start: usize) -> Vec<bool> {
     let mut reached = Vec::new(rt.alloc());
     for node in 0..NODES {
@@ -65,10 +65,12 @@ fn every_graph_of_three_nodes_is_followed(rt: HostRuntime) {
         for start in 0..NODES {
             let reached = reached_from(&rt, &rows, start);
             for (node, wanted) in plainly_reached(&rt, &rows, start).iter().enumerate() {
-                assert_eq!(rt;
+                same(
+                    &rt,
+                    "graph",
+                    graph as usize,
                     reached.get(node),
                     Some(*wanted),
-                    "graph {graph}, {start} to {node}"
                 );
             }
         }
@@ -76,56 +78,52 @@ fn every_graph_of_three_nodes_is_followed(rt: HostRuntime) {
 }
 
 #[test]
-fn a_chain_is_followed_from_its_head(rt: HostRuntime) -> Result<(), Fail> {
+fn a_chain_is_followed_from_its_head(rt: HostRuntime) {
     // Each node leads to the one before it, so that each round reaches one node more.
     let mut rows = Vec::new(rt.alloc());
     for node in 0..200 {
         let mut row = Vob::new(rt.alloc());
         for other in 0..200 {
-            row.push(other + 1 == node)?;
+            row.push(other + 1 == node).expect(&rt, "memory");
         }
-        rows.push(row)?;
+        rows.push(row).expect(&rt, "memory");
     }
     for start in [0, 99, 199] {
-        let mut wanted = Vob::from_elem(rt.alloc(), false, 200)?;
+        let mut wanted = Vob::from_elem(rt.alloc(), false, 200).expect(&rt, "memory");
         for node in 0..200 {
             write(&mut wanted, node, node <= start);
         }
         assert!(rt; reached_from(&rt, &rows, start) == wanted, "from {start}");
     }
-    Ok(())
 }
 
 #[test]
-fn rows_of_another_length_are_seen(rt: HostRuntime) -> Result<(), Fail> {
+fn rows_of_another_length_are_seen(rt: HostRuntime) {
     let nodes = vob_of::<usize>(&rt, "00");
     let mut rows = Vec::new(rt.alloc());
-    rows.push(vob_of::<usize>(&rt, "11"))?;
+    rows.push(vob_of::<usize>(&rt, "11")).expect(&rt, "memory");
     assert!(rt; !is_square(&nodes, &rows), "a row is missing");
-    rows.push(vob_of::<usize>(&rt, "111"))?;
+    rows.push(vob_of::<usize>(&rt, "111")).expect(&rt, "memory");
     assert!(rt; !is_square(&nodes, &rows), "a row is too long");
     rows.pop();
-    rows.push(vob_of::<usize>(&rt, "11"))?;
+    rows.push(vob_of::<usize>(&rt, "11")).expect(&rt, "memory");
     assert!(rt; is_square(&nodes, &rows));
-    Ok(())
 }
 
 #[test]
 fn free_slots_are_taken_from_the_first_on(rt: HostRuntime) {
     let mut slots = vob_of::<usize>(&rt, "1010");
-    assert_eq!(rt; take_slot(&mut slots), Some(1));
-    assert_eq!(rt; take_slot(&mut slots), Some(3));
-    assert_eq!(rt; take_slot(&mut slots), None);
+    same(&rt, "slot", 0, take_slot(&mut slots), Some(1));
+    same(&rt, "slot", 1, take_slot(&mut slots), Some(3));
+    same(&rt, "slot", 2, take_slot(&mut slots), None);
     assert!(rt; slots == vob_of(&rt, "1111"));
 }
 
 #[test]
-fn a_filter_keeps_the_rows_of_its_set_bits(rt: HostRuntime) -> Result<(), Fail> {
+fn a_filter_keeps_the_rows_of_its_set_bits(rt: HostRuntime) {
     let filter = vob_of::<usize>(&rt, "01011");
-    assert_eq!(rt;
-        kept_rows(rt.alloc(), &filter)?.as_slice(),
-        [1, 3, 4].as_slice()
-    );
-    assert!(rt; kept_rows(rt.alloc(), &Vob::new(rt.alloc()))?.is_empty());
-    Ok(())
+    let rows = kept_rows(rt.alloc(), &filter).expect(&rt, "memory");
+    same_indices(&rt, "rows", &rows, &[1, 3, 4]);
+    let none = kept_rows(rt.alloc(), &Vob::new(rt.alloc())).expect(&rt, "memory");
+    same_indices(&rt, "rows of no filter", &none, &[]);
 }

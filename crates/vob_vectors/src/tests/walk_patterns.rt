@@ -1,7 +1,7 @@
 //! Walks over indices by patterns, from both ends, against one `get` after another.
 ghost use Rattle.std.specs.Prelude.{◌<◌};
 
-use super::support::pattern;
+use super::support::{pattern, same, same_indices};
 use super::walks::indices_of;
 use std::ops::Bound;
 use std::process::Abort;
@@ -43,8 +43,8 @@ fn plain_pull(rest: &mut &[usize], side: End) -> Option<usize> {
     Some(*index)
 }
 
-/// Pulls dealt out at once, and at a like walk pull by pull, give what the ends of the list give, up
-/// to None at both ends.
+/// Pulls dealt out at once, and at a like walk pull by pull, give what the ends of the list give,
+/// up to None at both ends.
 fn check_order<W: IndexWalk>(
     rt: &(impl Abort + AllocGlobal),
     walk: &mut W,
@@ -58,24 +58,20 @@ fn check_order<W: IndexWalk>(
     for _ in 0..indices.len().saturating_add(1) {
         for side in order {
             let answer = plain_pull(&mut rest, *side);
-            assert_eq!(rt; like.pull(*side), answer, "of {indices:?} by {order:?}");
+            same(rt, "indices", indices.len(), like.pull(*side), answer);
             pulls.push(*side).expect(rt, "memory");
             wanted.push(answer).expect(rt, "memory");
         }
     }
     let mut answers = Vec::new(rt.alloc());
     deal(walk, &pulls, &mut answers).expect(rt, "memory");
-    assert_eq!(rt;
-        answers.as_slice(),
-        wanted.as_slice(),
-        "of {indices:?} by {order:?}"
+    assert!(rt;
+        answers.as_slice() == wanted.as_slice(),
+        "{answers:?} is {wanted:?}"
     );
     for side in [End::Front, End::Back] {
-        assert_eq!(rt;
-            [walk.pull(side), like.pull(side)],
-            [None, None],
-            "at the end, {order:?}"
-        );
+        same(rt, "the end of the walk", 0, walk.pull(side), None);
+        same(rt, "the end of one like it", 0, like.pull(side), None);
     }
 }
 
@@ -85,10 +81,16 @@ fn check_range<T: Block>(rt: &(impl Abort + AllocGlobal), vob: &Vob<T>, from: us
     let set = plain_indices(rt, vob, true, from, to);
     let unset = plain_indices(rt, vob, false, from, to);
     for order in ORDERS {
-        let (mut walk, mut like) = (vob.iter_set_bits(range), vob.iter_set_bits(range));
-        check_order(rt, &mut walk, &mut like, order, &set);
-        let (mut walk, mut like) = (vob.iter_unset_bits(range), vob.iter_unset_bits(range));
-        check_order(rt, &mut walk, &mut like, order, &unset);
+        let mut like = vob.iter_set_bits(range);
+        check_order(rt, &mut vob.iter_set_bits(range), &mut like, order, &set);
+        let mut like = vob.iter_unset_bits(range);
+        check_order(
+            rt,
+            &mut vob.iter_unset_bits(range),
+            &mut like,
+            order,
+            &unset,
+        );
     }
 }
 
@@ -135,6 +137,19 @@ fn walks_over_other_blocks_give_what_reads_give(rt: HostRuntime) {
     }
 }
 
+/// A walk between two indices gives what reads between them give.
+fn check_between<T: Block>(
+    rt: &(impl Abort + AllocGlobal),
+    vob: &Vob<T>,
+    first: usize,
+    last: usize,
+) {
+    let between = (Bound::Excluded(first), Bound::Excluded(last));
+    let rest = indices_of(rt, vob, true, between);
+    let wanted = plain_indices(rt, vob, true, first.saturating_add(1), last);
+    same_indices(rt, "between both ends", &rest, &wanted);
+}
+
 /// A new walk between the indices that an old one gave last, front and back, gives what is left.
 fn check_resumed<T: Block>(rt: &(impl Abort + AllocGlobal), len: usize) {
     let vob = pattern::<T>(rt, 0, len);
@@ -143,14 +158,7 @@ fn check_resumed<T: Block>(rt: &(impl Abort + AllocGlobal), len: usize) {
         let (Some(first), Some(last)) = (walk.next(), walk.next_back()) else {
             return;
         };
-        let between = (Bound::Excluded(first), Bound::Excluded(last));
-        let rest = indices_of(rt, &vob, true, between);
-        let wanted = plain_indices(rt, &vob, true, first.saturating_add(1), last);
-        assert_eq!(rt;
-            rest.as_slice(),
-            wanted.as_slice(),
-            "after {first} and {last}"
-        );
+        check_between(rt, &vob, first, last);
     }
 }
 
