@@ -1,2 +1,4 @@
+pub mod Live
+pub mod LivePass
 pub mod Reachable
 pub mod Slots
