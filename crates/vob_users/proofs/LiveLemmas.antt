@@ -48,7 +48,8 @@ module _ (vars : ℕ) (nodes : List Flow) where
   }
 
   module _ (n : ℕ) (flow : Flow) (before after before' after' : List (List Bool))
-      (h : AreUnderway vars nodes before after) (s : IsStep n flow before after before' after') where
+      (h : AreUnderway vars nodes before after)
+      (s : IsStep n flow before after before' after') where
     -- the set of another node is as it was
     before_same : (k v : ℕ) → k ≢ n → item (get_or before' k []) v ≡ item (get_or before k []) v
     before_same k v other = ap (λ set. item set v) (s.before_else k other)

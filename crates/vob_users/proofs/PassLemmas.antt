@@ -5,7 +5,7 @@ use Rattle.std.proofs.lemmas.Bool.{or_cases, or_left, or_right, and_parts, and_f
 use Rattle.std.proofs.lemmas.List.{length-map, length-set, get_or-map, map-set, get_or-set_same, get_or-set_other, set-get_or}
 use Rattle.std.proofs.lemmas.List.Elements.{All-set}
 use Rattle.std.proofs.lemmas.List.Sums.{sum_by-set}
-use Rattle.std.proofs.lemmas.Option.{slice_get_within}
+use Rattle.std.proofs.lemmas.Option.{slice_get_within, slice_get-get_or}
 use Rattle.vob_block.specs.Packing.{item}
 use Rattle.vob_block.specs.Pointwise.{pointwise}
 use Rattle.vob_block.proofs.PointwiseLemmas.{item-pointwise}
@@ -20,20 +20,16 @@ use Rattle.vob_users.proofs.LiveLemmas.{IsStep, IsWalked, IsWalked-more, IsWalke
 
 -- ---- the sets of some Vobs
 
-pub bits_at : (vobs : List BitVector) (n : ℕ) (vob : BitVector) → n < length vobs →
-    vob ≡ get_or vobs n vob → get_or (bits_of vobs) n [] ≡ vob.bits
-bits_at vobs n vob inside is =
-    get_or-map (λ v. v.bits) vobs n vob [] inside ∙ ap (λ v. v.bits) (sym is)
-
-pub vob_length : (vars nodes : ℕ) (vobs : List BitVector) → AreSets vars nodes (bits_of vobs) →
-    (n : ℕ) (vob : BitVector) → n < length vobs → length (get_or vobs n vob).bits ≡ vars
-vob_length vars nodes vobs sets n vob inside =
-    sym (ap length (get_or-map (λ v. v.bits) vobs n vob [] inside))
-    ∙ sets.long n [] (omega (arith, length-map vobs (λ v. v.bits)))
-
 pub vob_count : (vars nodes : ℕ) (vobs : List BitVector) → AreSets vars nodes (bits_of vobs) →
     length vobs ≡ nodes
 vob_count vars nodes vobs sets = sym (length-map vobs (λ v. v.bits)) ∙ sets.count
+
+pub vob_length : {vars nodes : ℕ} (vobs : List BitVector) → AreSets vars nodes (bits_of vobs) →
+    (n : ℕ) (vob : BitVector) → n < nodes → length (get_or vobs n vob).bits ≡ vars
+vob_length vobs sets n vob less =
+    let inside : n < length vobs = omega (arith, less, vob_count _ _ vobs sets) in
+    sym (ap length (get_or-map (λ v. v.bits) vobs n vob [] inside))
+    ∙ sets.long n [] (omega (arith, less, sets.count))
 
 AreSets-set : (vars nodes : ℕ) (sets : List (List Bool)) (n : ℕ) (set' : List Bool) →
     AreSets vars nodes sets → length set' ≡ vars → AreSets vars nodes (set sets n set')
@@ -176,16 +172,51 @@ unwritten_at vars nodes unwritten n flow without all less is =
 
 -- ---- and the walk over the nodes goes on
 
-module _ (vars : ℕ) (nodes : List Flow) (starts : List (List Bool)) (before after : List BitVector)
-    (k : ℕ) (changed : Bool) (h : IsWalked vars nodes starts (bits_of before) (bits_of after) k changed)
-    (n : ℕ) (next_is : k ≡ n + 1) (flow : Flow) (is : slice_get nodes n ≡ Some flow)
-    (old added : BitVector) (old_is : get_or (bits_of after) n [] ≡ old.bits) (grew : Bool)
-    (a : IsNextAdded (bits_of before) flow.next.items old.bits added.bits grew) where
-  h' : IsWalked vars nodes starts (bits_of before) (bits_of after) (n + 1) changed
-  h' = subst (λ m. IsWalked vars nodes starts (bits_of before) (bits_of after) m changed) next_is h
+-- the set after node n got what is live before the nodes that come next, as the code has it
+pub record IsTurn (vars : ℕ) (nodes : List Flow) (starts : List (List Bool))
+    (before after : List BitVector) (k n : ℕ) (changed : Bool) (d : Flow) (e added : BitVector)
+    (next : List ℕ) (grew : Bool) : Type 0 where
+  pub walked : IsWalked vars nodes starts (bits_of before) (bits_of after) k changed
+  pub step : k ≡ n + 1
+  pub inside : n < length nodes
+  pub next_is : next ≡ (get_or nodes n d).next.items
+  pub adds : IsNextAdded (bits_of before) next (get_or after n e).bits added.bits grew
 
-  a' : IsNextAdded (bits_of before) flow.next.items (get_or (bits_of after) n []) added.bits grew
-  a' = subst (λ set. IsNextAdded (bits_of before) flow.next.items set added.bits grew) (sym old_is) a
+-- and the set before it what of that isn't written
+pub record IsKept (before after unwritten : List BitVector) (n : ℕ)
+    (e added row without kept : BitVector) : Type 0 where
+  pub without_is : without ≡ get_or unwritten n without
+  pub keeps : kept.bits ≡ pointwise ◌||◌ (get_or before n row).bits
+      (pointwise ◌&&◌ (get_or (set after n added) n e).bits without.bits)
+
+module _ {vars : ℕ} {nodes : List Flow} {starts : List (List Bool)} {before after : List BitVector}
+    {k n : ℕ} {changed : Bool} {d : Flow} {e added : BitVector} {next : List ℕ} {grew : Bool}
+    (turn : IsTurn vars nodes starts before after k n changed d e added next grew) where
+  walked : IsWalked vars nodes starts (bits_of before) (bits_of after) (n + 1) changed
+  walked = subst (λ m. IsWalked vars nodes starts (bits_of before) (bits_of after) m changed)
+      turn.step turn.walked
+
+  flow_is : slice_get nodes n ≡ Some (get_or nodes n d)
+  flow_is = slice_get-get_or nodes n d turn.inside
+
+  in_before : n < length before
+  in_before =
+      let count = vob_count vars (length nodes) before walked.underway.before_sets in
+      omega (arith, turn.inside, count)
+
+  in_after : n < length after
+  in_after =
+      let count = vob_count vars (length nodes) after walked.underway.after_sets in
+      omega (arith, turn.inside, count)
+
+  adds : IsNextAdded (bits_of before) (get_or nodes n d).next.items (get_or (bits_of after) n [])
+      added.bits grew
+  adds =
+      let old = get_or-map (λ v. v.bits) after n e [] in_after in
+      subst (λ set. IsNextAdded (bits_of before) (get_or nodes n d).next.items set added.bits grew)
+      (sym old)
+      (subst (λ m. IsNextAdded (bits_of before) m (get_or after n e).bits added.bits grew)
+      turn.next_is turn.adds)
 
   after_is : bits_of (set after n added) ≡ set (bits_of after) n added.bits
   after_is = map-set (λ v. v.bits) after n added
@@ -194,45 +225,61 @@ module _ (vars : ℕ) (nodes : List Flow) (starts : List (List Bool)) (before af
   pub walked_quiet : grew ≡ false →
       IsWalked vars nodes starts (bits_of before) (bits_of (set after n added)) n changed
   walked_quiet quiet =
-      let step = IsStep-quiet vars nodes (bits_of before) (bits_of after) n flow is h'.underway
-      added.bits grew a' quiet in
+      let step = IsStep-quiet vars nodes (bits_of before) (bits_of after) n (get_or nodes n d)
+      flow_is walked.underway added.bits grew adds quiet in
       subst (λ sets. IsWalked vars nodes starts (bits_of before) sets n changed) (sym after_is)
       (IsWalked-same vars nodes starts (bits_of before) (bits_of after) (bits_of before)
-      (set (bits_of after) n added.bits) n flow changed h' step refl)
+      (set (bits_of after) n added.bits) n (get_or nodes n d) changed walked step refl)
 
-  module _ (row without kept : BitVector) (row_is : get_or (bits_of before) n [] ≡ row.bits)
-      (w : IsSetWithout vars flow.writes.items without.bits)
-      (kept_is : kept.bits ≡ pointwise ◌||◌ row.bits (pointwise ◌&&◌ added.bits without.bits)) where
-    step : IsStep vars nodes n flow (bits_of before) (bits_of after)
+  module _ {unwritten : List BitVector} {e' row without kept : BitVector}
+      (all : AreUnwritten vars nodes unwritten)
+      (keep : IsKept before after unwritten n e' added row without kept) where
+    row_is : get_or (bits_of before) n [] ≡ (get_or before n row).bits
+    row_is = get_or-map (λ v. v.bits) before n row [] in_before
+
+    kept_is : kept.bits ≡ pointwise ◌||◌ (get_or before n row).bits
+        (pointwise ◌&&◌ added.bits without.bits)
+    kept_is =
+        keep.keeps
+        ∙ ap (λ v. pointwise ◌||◌ (get_or before n row).bits (pointwise ◌&&◌ v.bits without.bits))
+        (get_or-set_same after n added e' in_after)
+
+    without_set : IsSetWithout vars (get_or nodes n d).writes.items without.bits
+    without_set = unwritten_at vars nodes unwritten n d without all turn.inside keep.without_is
+
+    step : IsStep vars nodes n (get_or nodes n d) (bits_of before) (bits_of after)
         (set (bits_of before) n kept.bits) (set (bits_of after) n added.bits)
-    step = IsStep-grown vars nodes (bits_of before) (bits_of after) n flow is h'.underway
-        added.bits grew a' row.bits without.bits kept.bits row_is w kept_is
+    step = IsStep-grown vars nodes (bits_of before) (bits_of after) n (get_or nodes n d) flow_is
+        walked.underway added.bits grew adds (get_or before n row).bits without.bits kept.bits
+        row_is without_set kept_is
 
     as_sets : (flag : Bool) → IsWalked vars nodes starts (set (bits_of before) n kept.bits)
-        (set (bits_of after) n added.bits) n flag →
-        IsWalked vars nodes starts (bits_of (set before n kept)) (bits_of (set after n added)) n flag
-    as_sets flag walked =
+        (set (bits_of after) n added.bits) n flag → IsWalked vars nodes starts
+        (bits_of (set before n kept)) (bits_of (set after n added)) n flag
+    as_sets flag w =
         let before_is = map-set (λ v. v.bits) before n kept in
         subst (λ sets. IsWalked vars nodes starts sets (bits_of (set after n added)) n flag)
         (sym before_is)
         (subst (λ sets. IsWalked vars nodes starts (set (bits_of before) n kept.bits) sets n flag)
-        (sym after_is) walked)
+        (sym after_is) w)
 
     -- the set before it grew
-    pub walked_grown : kept.bits ≢ row.bits →
-        IsWalked vars nodes starts (bits_of (set before n kept)) (bits_of (set after n added)) n true
+    pub walked_grown : kept.bits ≢ (get_or before n row).bits → IsWalked vars nodes starts
+        (bits_of (set before n kept)) (bits_of (set after n added)) n true
     walked_grown differs =
         as_sets true (IsWalked-more vars nodes starts (bits_of before) (bits_of after)
-        (set (bits_of before) n kept.bits) (set (bits_of after) n added.bits) n flow changed h' step
-        (live_places-more vars nodes (bits_of before) (bits_of after) n flow is h'.underway
-        added.bits grew a' row.bits without.bits kept.bits row_is w kept_is differs))
+        (set (bits_of before) n kept.bits) (set (bits_of after) n added.bits) n (get_or nodes n d)
+        changed walked step
+        (live_places-more vars nodes (bits_of before) (bits_of after) n (get_or nodes n d) flow_is
+        walked.underway added.bits grew adds (get_or before n row).bits without.bits kept.bits
+        row_is without_set kept_is differs))
 
-    -- the set before it has all of that already
-    pub walked_still : kept.bits ≡ row.bits →
-        IsWalked vars nodes starts (bits_of (set before n kept)) (bits_of (set after n added)) n changed
+    -- the set before it had all of that already
+    pub walked_still : kept.bits ≡ (get_or before n row).bits → IsWalked vars nodes starts
+        (bits_of (set before n kept)) (bits_of (set after n added)) n changed
     walked_still same =
         let stays = ap (λ s. set (bits_of before) n s) (same ∙ sym row_is)
         ∙ set-get_or (bits_of before) n [] in
         as_sets changed (IsWalked-same vars nodes starts (bits_of before) (bits_of after)
-        (set (bits_of before) n kept.bits) (set (bits_of after) n added.bits) n flow changed h' step
-        stays)
+        (set (bits_of before) n kept.bits) (set (bits_of after) n added.bits) n (get_or nodes n d)
+        changed walked step stays)

@@ -34,7 +34,8 @@ pointwise_keeps f bits others after n e g is =
 -- a list that is emptied, gets the bits of one list and keeps those of another
 pub emptied_and_kept : (bits others kept : List Bool) → length others ≡ length bits →
     length kept ≡ length bits →
-    pointwise ◌&&◌ (pointwise ◌||◌ (pointwise ◌&&◌ bits (replicate (length bits) false)) others) kept
+    pointwise ◌&&◌
+    (pointwise ◌||◌ (pointwise ◌&&◌ bits (replicate (length bits) false)) others) kept
     ≡ pointwise ◌&&◌ others kept
 emptied_and_kept [] [] kept e f = refl
 emptied_and_kept [] (b ∷ others) kept e f = absurd (omega arith)
@@ -47,7 +48,8 @@ emptied_and_kept (false ∷ bits) (b ∷ others) (c ∷ kept) e f =
 
 -- ---- the set of some variables
 
-pub IsSetOf-none : (vars : ℕ) (members : List ℕ) → IsSetOf vars (take 0 members) (replicate vars false)
+pub IsSetOf-none : (vars : ℕ) (members : List ℕ) →
+    IsSetOf vars (take 0 members) (replicate vars false)
 IsSetOf-none vars members = record {
   count = length-replicate vars false;
   each = λ v. (

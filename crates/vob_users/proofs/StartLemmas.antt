@@ -34,8 +34,9 @@ node_at nodes n less = elim (slice_get_cases nodes n).1 [
 none_live : (sets : List (List Bool)) (m vars : ℕ) → sets ≡ replicate m (replicate vars false) →
     (n v : ℕ) → ¬ IsLive sets n v
 none_live sets m vars is n v live =
+    let inside = live_inside sets n v live in
     let less : n < m =
-    omega (arith, live_inside sets n v live, ap length is, length-replicate m (replicate vars false)) in
+    omega (arith, inside, ap length is, length-replicate m (replicate vars false)) in
     let set = ap (λ ss. get_or ss n []) is ∙ get_or-replicate m n (replicate vars false) [] less in
     false≢true (sym (ap (λ s. item s v) set ∙ item-replicate vars v) ∙ live)
 
@@ -71,9 +72,11 @@ module _ (vars : ℕ) (nodes : List Flow) (reads afters : List BitVector)
       let at = AllZip-at R nodes reads n flow no all less in
       let set = get_or-map (λ b. b.bits) reads n no []
       (omega (arith, less, AllZip-length R nodes reads all)) in
+      let node = get_or_from_slice_get nodes n flow flow is in
+      let is_set = subst (λ f. R f (get_or reads n no)) node at in
       subst (λ s. (item s v ≡ true → Contains flow.reads.items v)
       × (Contains flow.reads.items v → item s v ≡ true)) (sym set)
-      ((subst (λ f. R f (get_or reads n no)) (get_or_from_slice_get nodes n flow flow is) at).each v)
+      (is_set.each v)
 
   -- each node's reads are live before it, and nothing is live after one
   pub AreUnderway-start : AreUnderway vars nodes (bits_of reads) (bits_of afters)
@@ -118,18 +121,6 @@ live_places_le vars nodes sets h =
     let small : All (λ s. trues s ≤ vars) sets =
     λ k d less. omega (arith, trues_le (get_or sets k d), h.long k d less) in
     subst (λ m. live_places sets ≤ m * vars) h.count (sum_by-le trues vars sets small)
-
--- a pass, of sets that are the same
-pub IsPass-same : (vars vars' : ℕ) (nodes : List Flow) (starts starts' before before' after after' :
-    List BitVector) (changed : Bool) → vars ≡ vars' → starts ≡ starts' → before ≡ before' →
-    after ≡ after' →
-    IsPass vars nodes (bits_of starts) (bits_of before) (bits_of after) changed →
-    IsPass vars' nodes (bits_of starts') (bits_of before') (bits_of after') changed
-IsPass-same vars vars' nodes starts starts' before before' after after' changed e f g h pass =
-    subst (λ sets. IsPass vars' nodes (bits_of starts') (bits_of before') (bits_of sets) changed) h
-    (subst (λ sets. IsPass vars' nodes (bits_of starts') (bits_of sets) (bits_of after) changed) g
-    (subst (λ sets. IsPass vars' nodes (bits_of sets) (bits_of before) (bits_of after) changed) f
-    (subst (λ n. IsPass n nodes (bits_of starts) (bits_of before) (bits_of after) changed) e pass)))
 
 -- ---- the number of passes
 

@@ -24,7 +24,8 @@ IsLiveHere after flow n v =
     Contains flow.reads.items v ⊎ (IsLive after n v × ¬ Contains flow.writes.items v)
 
 -- sets that meet both flow equations at every node
-pub record IsSolution (vars : ℕ) (nodes : List Flow) (before after : List (List Bool)) : Type 0 where
+pub record IsSolution (vars : ℕ) (nodes : List Flow) (before after : List (List Bool))
+    : Type 0 where
   pub before_sets : AreSets vars (length nodes) before
   pub after_sets : AreSets vars (length nodes) after
   pub before_is : (n : ℕ) (flow : Flow) → slice_get nodes n ≡ Some flow →

@@ -1,9 +1,9 @@
 -- What the passes over the nodes of a flow graph keep. No public clause cites this page.
-use Rattle.std.specs.Prelude.{◌≡◌, ℕ, ◌<◌, ◌⊎◌, ◌↔◌, Bool, true, false, List, length, map, slice_get, Some, Any, Contains, sum_by}
+use Rattle.std.specs.Prelude.{◌≡◌, ℕ, ◌^◌, ◌<◌, ◌⊎◌, ◌↔◌, Bool, true, false, List, length, map, replicate, slice_get, Some, All, Any, Contains, sum_by}
 use Rattle.std.specs.List.{AllZip}
 use Rattle.vob_block.specs.Packing.{item}
 use Rattle.vob.specs.Vob.{BitVector}
-use Rattle.vob_users.specs.Live.{AreSets, IsLive, IsLiveNext, IsLiveHere, AreLeast, IsBadVariable, IsBadNext}
+use Rattle.vob_users.specs.Live.{AreSets, IsLive, IsLiveNext, IsLiveHere, AreLeast, NamesNodes, IsBadVariable, IsBadNext}
 use Rattle.vob_users.specs.Reachable.{trues}
 use Rattle.vob_users.specs.declared.live.Flow.{Flow}
 use Rattle.vob_users.specs.declared.live.LiveError.{LiveError}
@@ -47,7 +47,8 @@ pub record IsNextAdded (before : List (List Bool)) (next : List ℕ) (set after 
   pub same : grew ≡ false → after ≡ set
 
 -- sets on the way to the least solution: they meet one equation, and half of the other
-pub record AreUnderway (vars : ℕ) (nodes : List Flow) (before after : List (List Bool)) : Type 0 where
+pub record AreUnderway (vars : ℕ) (nodes : List Flow) (before after : List (List Bool))
+    : Type 0 where
   pub before_sets : AreSets vars (length nodes) before
   pub after_sets : AreSets vars (length nodes) after
   pub before_is : (n : ℕ) (flow : Flow) → slice_get nodes n ≡ Some flow →
@@ -55,6 +56,17 @@ pub record AreUnderway (vars : ℕ) (nodes : List Flow) (before after : List (Li
   pub after_has : (n : ℕ) (flow : Flow) → slice_get nodes n ≡ Some flow →
       (v : ℕ) → IsLive after n v → IsLiveNext before flow v
   pub least : AreLeast vars nodes before after
+
+-- what a pass works on: such sets of nodes that lead to nodes alone, the sets of what these don't
+-- write, a set with nothing, and one to be overwritten
+pub record AreReady (nodes : List Flow) (unwritten before after : List BitVector)
+    (none scratch : List Bool) : Type 0 where
+  pub next : All (NamesNodes (length nodes)) nodes
+  pub unwritten_sets : AreUnwritten (length none) nodes unwritten
+  pub nothing : none ≡ replicate (length none) false
+  pub vars_fit : length none < 2 ^ 64
+  pub scratch_length : length scratch ≡ length none
+  pub underway : AreUnderway (length none) nodes (bits_of before) (bits_of after)
 
 -- how many places of some sets are true
 abbrev pub live_places : List (List Bool) → ℕ

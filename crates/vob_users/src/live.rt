@@ -2,8 +2,8 @@
 //! `or`, `and` and `negate`.
 ghost use Rattle.std.specs.Prelude.{◌≡◌, ◌≢◌, ◌↔◌, ℕ, ◌+◌, ◌*◌, ◌<◌, ◌≤◌, ◌&&◌, ◌||◌, false, [], length, replicate, All, IsTrue, IfOk, IfErr, OnOk, IsOk, Err};
 ghost use Rattle.vob_block.specs.Pointwise.{pointwise};
-ghost use Rattle.vob_users.specs.Live.{AreLeast, IsBadNext, IsBadVariable, IsSolution, IsSound, NamesNodes, NamesVariables};
-ghost use Rattle.vob_users.specs.LivePass.{AreReads, AreUnderway, AreUnwritten, bits_of, IsFault, IsNextAdded, IsPass, IsSetOf};
+ghost use Rattle.vob_users.specs.Live.{AreLeast, IsBadNext, IsBadVariable, IsSolution, IsSound, NamesVariables};
+ghost use Rattle.vob_users.specs.LivePass.{AreReads, AreReady, AreUnwritten, bits_of, IsFault, IsNextAdded, IsPass, IsSetOf};
 
 use std::alloc::{AllocError, Global};
 use std::error::Error;
@@ -207,12 +207,8 @@ fn pass(
     after: &mut [Vob],
     scratch: &mut Vob,
 ) -> bool
-    requires next { All (NamesNodes (length nodes.now)) nodes.now }
-    requires unwritten { AreUnwritten (length none.now.bits) nodes.now unwritten.now }
-    requires none { none.now.bits ≡ replicate (length none.now.bits) false }
-    requires scratch { length scratch.old.bits ≡ length none.now.bits }
-    requires underway { AreUnderway (length none.now.bits) nodes.now
-        (bits_of before.old) (bits_of after.old) }
+    requires { AreReady nodes.now unwritten.now before.old after.old
+        none.now.bits scratch.old.bits }
     ensures pass { IsPass (length none.now.bits) nodes.now
         (bits_of before.old) (bits_of before.new) (bits_of after.new) result }
     ensures scratch { length scratch.new.bits ≡ length scratch.old.bits }
@@ -232,6 +228,30 @@ fn pass(
         }
     }
     changed
+}
+
+/// Goes over all nodes until no set grows, and answers how often it went.
+fn settle(
+    nodes: &[Flow],
+    unwritten: &[Vob],
+    none: &Vob,
+    before: &mut [Vob],
+    after: &mut [Vob],
+    scratch: &mut Vob,
+) -> u128
+    requires { AreReady nodes.now unwritten.now before.old after.old
+        none.now.bits scratch.old.bits }
+    ensures solution { IsSolution (length none.now.bits) nodes.now
+        (bits_of before.new) (bits_of after.new) }
+    ensures least { AreLeast (length none.now.bits) nodes.now
+        (bits_of before.new) (bits_of after.new) }
+    ensures rounds { result ≤ 1 + length nodes.now * length none.now.bits }
+{
+    let mut rounds = 1;
+    'passes: while pass(nodes, unwritten, none, before, after, scratch) {
+        rounds += 1;
+    }
+    rounds
 }
 
 /// The least sets that meet the flow equations. Where there are no nodes, no memory is asked for.
@@ -256,17 +276,14 @@ fn solve(alloc: Global, vars: usize, nodes: &[Flow]) -> Result<Live, AllocError>
     let none = Vob::from_elem(alloc, false, vars)?;
     let mut after = copies(alloc, &none, nodes.len())?;
     let mut scratch = none.clone()?;
-    let mut rounds = 1;
-    'passes: while pass(
+    let rounds = settle(
         nodes,
         &unwritten,
         &none,
         &mut before,
         &mut after,
         &mut scratch,
-    ) {
-        rounds += 1;
-    }
+    );
     Ok(Live {
         before,
         after,

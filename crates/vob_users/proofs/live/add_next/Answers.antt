@@ -22,7 +22,8 @@ loop-node-preserved c =
     let h = c.loop-node.invariant in
     let inside : m < length before = c.requires.nodes k 0 c.loop-node-test.true in
     let row_is = c.index-before-node.is in
-    let is = get_or-map (λ vob. vob.bits) before m row [] inside ∙ ap (λ vob. vob.bits) (sym row_is) in
+    let is = get_or-map (λ vob. vob.bits) before m row [] inside
+    ∙ ap (λ vob. vob.bits) (sym row_is) in
     let long = ap (λ vob. length vob.bits) row_is ∙ c.requires.vars m row inside in
     let more = IsNextAdded-more (bits_of before) next set bits row.bits after grew k m
     c.loop-node-test.true refl is (h.count ∙ sym long) c.or.ensures.bits h in
