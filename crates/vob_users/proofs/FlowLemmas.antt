@@ -5,7 +5,7 @@ use Rattle.std.proofs.lemmas.Option.{same_Some, slice_get-get_or, slice_get_with
 use Rattle.vob_users.specs.declared.live.Flow.{Flow}
 use Rattle.vob_users.specs.declared.live.LiveError.{LiveError}
 use Rattle.vob_users.specs.declared.live.LiveError.TheVariants.{Memory, BadVariable, BadNext}
-use Rattle.vob_users.specs.Live.{NamesVariables, IsSound, IsBadVariable, IsBadNext}
+use Rattle.vob_users.specs.FlowFaults.{NamesVariables, IsSound, IsBadVariable, IsBadNext}
 use Rattle.vob_users.specs.LivePass.{IsFault}
 
 -- a node is one node

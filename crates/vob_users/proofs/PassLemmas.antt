@@ -12,8 +12,8 @@ use Rattle.vob_block.proofs.PointwiseLemmas.{item-pointwise}
 use Rattle.vob.specs.Vob.{BitVector}
 use Rattle.vob_users.specs.declared.live.Flow.{Flow}
 use Rattle.vob_users.specs.Reachable.{trues}
-use Rattle.vob_users.specs.Live.{AreSets, IsLive, IsLiveNext}
-use Rattle.vob_users.specs.LivePass.{IsSetWithout, IsNextAdded, AreUnderway, AreUnwritten, live_places, bits_of}
+use Rattle.vob_users.specs.Live.{AreSets, IsLive, IsLiveNext, bits_of}
+use Rattle.vob_users.specs.LivePass.{IsSetWithout, IsNextAdded, AreUnderway, AreUnwritten, live_places}
 use Rattle.vob_users.proofs.ReachLemmas.{or_adds}
 use Rattle.vob_users.proofs.SetLemmas.{true_within, pointwise_keeps, AllZip-at, AllZip-length}
 use Rattle.vob_users.proofs.LiveLemmas.{IsStep, IsWalked, IsWalked-more, IsWalked-same}

@@ -11,8 +11,8 @@ use Rattle.vob_block.specs.Packing.{item}
 use Rattle.vob.specs.Vob.{BitVector}
 use Rattle.vob_users.specs.declared.live.Flow.{Flow}
 use Rattle.vob_users.specs.Reachable.{trues}
-use Rattle.vob_users.specs.Live.{AreSets, IsLive, IsLiveNext, IsSolution}
-use Rattle.vob_users.specs.LivePass.{IsSetOf, AreReads, AreUnderway, IsPass, live_places, bits_of}
+use Rattle.vob_users.specs.Live.{AreSets, IsLive, IsLiveNext, IsSolution, bits_of}
+use Rattle.vob_users.specs.LivePass.{IsSetOf, AreReads, AreUnderway, IsPass, live_places}
 use Rattle.vob_users.proofs.ReachLemmas.{trues_le}
 use Rattle.vob_users.proofs.SetLemmas.{item-replicate, AllZip-length, AllZip-at, AllZip-all}
 

@@ -1,9 +1,10 @@
 -- What the passes over the nodes of a flow graph keep. No public clause cites this page.
-use Rattle.std.specs.Prelude.{◌≡◌, ℕ, ◌^◌, ◌<◌, ◌⊎◌, ◌↔◌, Bool, true, false, List, length, map, replicate, slice_get, Some, All, Any, Contains, sum_by}
+use Rattle.std.specs.Prelude.{◌≡◌, ℕ, ◌^◌, ◌<◌, ◌⊎◌, ◌↔◌, Bool, true, false, List, length, replicate, slice_get, Some, All, Any, Contains, sum_by}
 use Rattle.std.specs.List.{AllZip}
 use Rattle.vob_block.specs.Packing.{item}
 use Rattle.vob.specs.Vob.{BitVector}
-use Rattle.vob_users.specs.Live.{AreSets, IsLive, IsLiveNext, IsLiveHere, AreLeast, NamesNodes, IsBadVariable, IsBadNext}
+use Rattle.vob_users.specs.FlowFaults.{NamesNodes, IsBadVariable, IsBadNext}
+use Rattle.vob_users.specs.Live.{AreSets, IsLive, IsLiveNext, IsLiveHere, AreLeast, bits_of}
 use Rattle.vob_users.specs.Reachable.{trues}
 use Rattle.vob_users.specs.declared.live.Flow.{Flow}
 use Rattle.vob_users.specs.declared.live.LiveError.{LiveError}
@@ -33,10 +34,6 @@ AreReads vars nodes sets = AllZip (λ flow set. IsSetOf vars flow.reads.items se
 abbrev pub AreUnwritten : ℕ → List Flow → List BitVector → Type 0
 AreUnwritten vars nodes sets =
     AllZip (λ flow set. IsSetWithout vars flow.writes.items set.bits) nodes sets
-
--- the bits of some Vobs
-abbrev pub bits_of : List BitVector → List (List Bool)
-bits_of vobs = map (λ vob. vob.bits) vobs
 
 -- a set with what is live before some nodes, and a flag that is false where it was in the set
 pub record IsNextAdded (before : List (List Bool)) (next : List ℕ) (set after : List Bool)

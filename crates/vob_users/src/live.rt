@@ -2,8 +2,9 @@
 //! `or`, `and` and `negate`.
 ghost use Rattle.std.specs.Prelude.{◌≡◌, ◌≢◌, ◌↔◌, ℕ, ◌+◌, ◌*◌, ◌<◌, ◌≤◌, ◌&&◌, ◌||◌, false, [], length, replicate, All, IsTrue, IfOk, IfErr, OnOk, IsOk, Err};
 ghost use Rattle.vob_block.specs.Pointwise.{pointwise};
-ghost use Rattle.vob_users.specs.Live.{AreLeast, IsBadNext, IsBadVariable, IsSolution, IsSound, NamesVariables};
-ghost use Rattle.vob_users.specs.LivePass.{AreReads, AreReady, AreUnwritten, bits_of, IsFault, IsNextAdded, IsPass, IsSetOf};
+ghost use Rattle.vob_users.specs.FlowFaults.{IsBadNext, IsBadVariable, IsSound, NamesVariables};
+ghost use Rattle.vob_users.specs.Live.{AreLeast, bits_of, IsSolution};
+ghost use Rattle.vob_users.specs.LivePass.{AreReads, AreReady, AreUnwritten, IsFault, IsNextAdded, IsPass, IsSetOf};
 
 use std::alloc::{AllocError, Global};
 use std::error::Error;
@@ -41,7 +42,7 @@ pub enum LiveError {
 
 impl LiveError {
     ghost use Rattle.std.specs.Prelude.{◌≡◌};
-    ghost use Rattle.vob_users.specs.Live.{live_error_number};
+    ghost use Rattle.vob_users.specs.FlowFaults.{live_error_number};
 
     /// The number of the refusal: 2 for `Memory`, 5 for `BadVariable`, 6 for `BadNext`.
     pub fn number(&self) -> u8

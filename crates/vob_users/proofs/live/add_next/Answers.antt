@@ -2,7 +2,7 @@
 use Rattle.std.proofs.Common.{◌<◌, ◌∙◌, true, [], length, get_or, refl, sym, ap}
 use Rattle.std.proofs.lemmas.Bool.{false≢true}
 use Rattle.std.proofs.lemmas.List.{get_or-map}
-use Rattle.vob_users.specs.LivePass.{bits_of}
+use Rattle.vob_users.specs.Live.{bits_of}
 use Rattle.vob_users.proofs.ReachLemmas.{not_unequal}
 use Rattle.vob_users.proofs.SetLemmas.{IsNextAdded-more}
 use Rattle.vob_users.proofs.live.add_next.Goals as goal

@@ -2,7 +2,7 @@
 use Rattle.std.proofs.Common.{◌∙◌, refl, sym, subst, length, arith, List, ℕ, All, ◌<◌}
 use Rattle.std.proofs.lemmas.Bool.{false≢true}
 use Rattle.std.proofs.lemmas.Option.{slice_get_read}
-use Rattle.vob_users.specs.Live.{IsSound}
+use Rattle.vob_users.specs.FlowFaults.{IsSound}
 use Rattle.vob_users.proofs.FlowLemmas.{nodes_more, nodes_all}
 use Rattle.vob_users.proofs.live.check_nodes.Goals as goal
 

@@ -1,7 +1,7 @@
 -- Nothing is wrong at the nodes so far.
 use Rattle.std.proofs.Common.{◌≡◌, ℕ, ◌<◌, Some, slice_get}
 use Rattle.vob_users.specs.declared.live.Flow.{Flow}
-use Rattle.vob_users.specs.Live.{IsSound}
+use Rattle.vob_users.specs.FlowFaults.{IsSound}
 use Rattle.vob_users.proofs.live.check_nodes.Given as goal
 
 abbrev pub invariant-loop-node : goal.invariant-loop-node

@@ -1,6 +1,6 @@
 -- The sets so far are copies.
 use Rattle.std.proofs.Common.{◌≡◌, replicate}
-use Rattle.vob_users.specs.LivePass.{bits_of}
+use Rattle.vob_users.specs.Live.{bits_of}
 use Rattle.vob_users.proofs.live.copies.Given as goal
 
 abbrev pub invariant-loop : goal.invariant-loop

@@ -1,6 +1,6 @@
 -- The nodes from the last one on were walked.
 use Rattle.std.proofs.Common.{◌≡◌, length}
-use Rattle.vob_users.specs.LivePass.{bits_of}
+use Rattle.vob_users.specs.Live.{bits_of}
 use Rattle.vob_users.proofs.LiveLemmas.{IsWalked}
 use Rattle.vob_users.proofs.live.pass.Given as goal
 

@@ -1,6 +1,6 @@
 -- A pass that goes on made a place more true, of which there are only so many.
 use Rattle.std.proofs.Common.{◌∙◌, length, arith}
-use Rattle.vob_users.specs.LivePass.{bits_of}
+use Rattle.vob_users.specs.Live.{bits_of}
 use Rattle.vob_users.proofs.StartLemmas.{IsSolution-whole, fewer_places, live_places_le, product_fits}
 use Rattle.vob_users.proofs.live.settle.Goals as goal
 

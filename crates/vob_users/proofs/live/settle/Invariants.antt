@@ -1,6 +1,7 @@
 -- The sets are on the way to the least solution, and each pass made a place more true.
 use Rattle.std.proofs.Common.{◌+◌, ◌-◌, ◌*◌, ◌≤◌, length}
-use Rattle.vob_users.specs.LivePass.{AreReady, bits_of, live_places}
+use Rattle.vob_users.specs.Live.{bits_of}
+use Rattle.vob_users.specs.LivePass.{AreReady, live_places}
 use Rattle.vob_users.proofs.live.settle.Given as goal
 
 abbrev pub invariant-passes : goal.invariant-passes

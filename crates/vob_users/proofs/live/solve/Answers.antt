@@ -2,8 +2,8 @@
 use Rattle.std.proofs.Common.{◌≡◌, ◌∙◌, ◌≤◌, ◌+◌, ◌*◌, ℕ, List, [], false, length, replicate, refl, sym, ap, subst, arith}
 use Rattle.std.proofs.lemmas.List.{length-replicate, with_items_is}
 use Rattle.vob.specs.Vob.{BitVector}
-use Rattle.vob_users.specs.Live.{IsSolution, AreLeast}
-use Rattle.vob_users.specs.LivePass.{AreUnderway, AreUnwritten, bits_of}
+use Rattle.vob_users.specs.Live.{IsSolution, AreLeast, bits_of}
+use Rattle.vob_users.specs.LivePass.{AreUnderway, AreUnwritten}
 use Rattle.vob_users.proofs.StartLemmas.{AreUnderway-start}
 use Rattle.vob_users.proofs.live.solve.Goals as goal
 

@@ -1,6 +1,6 @@
 -- A node writes variables, and the set of the others goes behind the sets so far.
 use Rattle.std.proofs.Common.{List, Bool, ℕ, subst, sym}
-use Rattle.vob_users.specs.Live.{IsSound}
+use Rattle.vob_users.specs.FlowFaults.{IsSound}
 use Rattle.vob_users.specs.LivePass.{IsSetOf, IsSetWithout}
 use Rattle.vob_users.proofs.SetLemmas.{AllZip-more, IsSetWithout-negated}
 use Rattle.vob_users.proofs.live.unwritten_sets.Goals as goal
