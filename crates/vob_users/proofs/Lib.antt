@@ -1,1 +1,6 @@
+mod FlowLemmas
+mod LiveLemmas
+mod PassLemmas
 mod ReachLemmas
+mod SetLemmas
+mod StartLemmas

@@ -27,7 +27,7 @@ or_keeps (false ∷ bits) (true ∷ row) e = omega (arith, or_keeps bits row (om
 or_keeps (false ∷ bits) (false ∷ row) e = or_keeps bits row (omega arith)
 
 -- and where it changes the list it makes a bit more true
-or_adds : (bits row : List Bool) → length bits ≡ length row → pointwise ◌||◌ bits row ≢ bits →
+pub or_adds : (bits row : List Bool) → length bits ≡ length row → pointwise ◌||◌ bits row ≢ bits →
     trues bits < trues (pointwise ◌||◌ bits row)
 or_adds [] row e changed = absurd (changed refl)
 or_adds (bit ∷ bits) [] e changed = absurd (omega arith)
@@ -60,7 +60,7 @@ by_test true bits others is test stays = is refl
 by_test false bits others is test stays =
     absurd (false≢true (stays (λ same. absurd (false≢true (test same)))))
 
-not_unequal : (bits others : List Bool) → ((bits ≢ others) → false ≡ true) → bits ≡ others
+pub not_unequal : (bits others : List Bool) → ((bits ≢ others) → false ≡ true) → bits ≡ others
 not_unequal bits others stays =
     let decides = same_bits_decides bits others in
     by_test (same_bits bits others) bits others decides.0 decides.1 stays

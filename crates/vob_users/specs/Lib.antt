@@ -1,3 +1,6 @@
+pub mod FlowFaults
+pub mod Live
+pub mod LivePass
 pub mod Reachable
 pub mod Rows
 pub mod Slots

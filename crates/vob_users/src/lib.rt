@@ -2,6 +2,7 @@
 //! makes.
 #![tactic(auto)]
 
+pub mod live;
 pub mod reachable;
 pub mod rows;
 pub mod slots;

@@ -5,6 +5,7 @@ mod constructors;
 mod counts;
 mod growing;
 mod hints;
+mod live;
 mod paths;
 mod pointwise;
 mod raw;

@@ -1,0 +1,15 @@
+-- The sets are on the way to the least solution, and each pass made a place more true.
+use Rattle.std.proofs.Common.{◌+◌, ◌-◌, ◌*◌, ◌≤◌, length}
+use Rattle.vob_users.specs.Live.{bits_of}
+use Rattle.vob_users.specs.LivePass.{AreReady, live_places}
+use Rattle.vob_users.proofs.live.settle.Given as goal
+
+abbrev pub invariant-passes : goal.invariant-passes
+invariant-passes l =
+    record {
+      ready : AreReady l.nodes l.unwritten l.before l.after l.none.bits l.scratch.bits;
+      rounds : l.rounds ≤ 1 + live_places (bits_of l.before);
+    }
+
+abbrev pub decreases-passes : goal.decreases-passes
+decreases-passes l = length l.nodes * length l.none.bits - live_places (bits_of l.before)

@@ -1,0 +1,314 @@
+//! Which variables a program still needs at each of its steps: a dataflow analysis, and a user of
+//! `or`, `and` and `negate`.
+ghost use Rattle.std.specs.Prelude.{◌≡◌, ◌≢◌, ◌↔◌, ℕ, ◌+◌, ◌*◌, ◌<◌, ◌≤◌, ◌&&◌, ◌||◌, false, [], length, replicate, All, IsTrue, IfOk, IfErr, OnOk, IsOk, Err};
+ghost use Rattle.vob_block.specs.Pointwise.{pointwise};
+ghost use Rattle.vob_users.specs.FlowFaults.{IsBadNext, IsBadVariable, IsSound, NamesVariables};
+ghost use Rattle.vob_users.specs.Live.{AreLeast, bits_of, IsSolution};
+ghost use Rattle.vob_users.specs.LivePass.{AreReads, AreReady, AreUnwritten, IsFault, IsNextAdded, IsPass, IsSetOf};
+
+use std::alloc::{AllocError, Global};
+use std::error::Error;
+use std::fmt;
+use vob::Vob;
+
+/// A node of a flow graph: the variables that it reads, those that it writes behind that, and the
+/// nodes that may come next.
+#[derive(Drop)]
+pub struct Flow {
+    pub reads: Vec<usize>,
+    pub writes: Vec<usize>,
+    pub next: Vec<usize>,
+}
+
+/// The variables that are live before each node and after it, and how many passes over all nodes
+/// found them.
+#[derive(Debug, Drop)]
+pub struct Live {
+    pub before: Vec<Vob<usize>>,
+    pub after: Vec<Vob<usize>>,
+    pub rounds: u128,
+}
+
+/// Why `liveness` was refused.
+#[derive(Clone, Copy, Debug, PartialEq, Eq)]
+pub enum LiveError {
+    /// There was no memory for the sets.
+    Memory,
+    /// A node reads or writes what isn't a variable.
+    BadVariable { node: usize },
+    /// What comes next to a node isn't a node.
+    BadNext { node: usize },
+}
+
+impl LiveError {
+    ghost use Rattle.std.specs.Prelude.{◌≡◌};
+    ghost use Rattle.vob_users.specs.FlowFaults.{live_error_number};
+
+    /// The number of the refusal: 2 for `Memory`, 5 for `BadVariable`, 6 for `BadNext`.
+    pub fn number(&self) -> u8
+        ensures { result ≡ live_error_number self.now }
+    {
+        match self {
+            LiveError::Memory => 2,
+            LiveError::BadVariable { node: _ } => 5,
+            LiveError::BadNext { node: _ } => 6,
+        }
+    }
+}
+
+impl fmt::Display for LiveError {
+    fn fmt<W: fmt::Write>(&self, f: &mut fmt::Formatter<W>) -> fmt::Result {
+        match self {
+            LiveError::Memory => write!(f, "out of memory"),
+            LiveError::BadVariable { node } => write!(f, "node {node} names no variable"),
+            LiveError::BadNext { node } => write!(f, "node {node} leads to no node"),
+        }
+    }
+}
+
+impl Error for LiveError {}
+
+impl From<AllocError> for LiveError {
+    ghost use Rattle.std.specs.Prelude.{◌≡◌};
+    ghost use Rattle.vob_users.specs.declared.live.LiveError.TheVariants.{Memory};
+
+    ghost from_gives = { λ _ refusal. refusal ≡ Memory };
+
+    fn from(_: AllocError) -> LiveError {
+        LiveError::Memory
+    }
+}
+
+/// Whether all numbers are below `end`.
+fn all_below(numbers: &[usize], end: usize) -> bool
+    ensures { IsTrue result ↔ All (λ number. number < end) numbers.now }
+{
+    numbers.iter().all(|number| *number < end)
+}
+
+/// Whether a node reads and writes variables alone.
+fn names_variables(vars: usize, flow: &Flow) -> bool
+    ensures { IsTrue result ↔ NamesVariables vars flow.now }
+{
+    all_below(&flow.reads, vars) && all_below(&flow.writes, vars)
+}
+
+/// Whether each node names variables and nodes alone, or else what is wrong with the first that
+/// doesn't.
+fn check_nodes(vars: usize, nodes: &[Flow]) -> Result<(), LiveError>
+    ensures ok { OnOk result (All (IsSound vars nodes.now) nodes.now) }
+    ensures err { IfErr result (IsFault vars nodes.now) }
+{
+    for node in 0..nodes.len() {
+        let flow = &nodes[node];
+        if !names_variables(vars, flow) {
+            return Err(LiveError::BadVariable { node });
+        }
+        if !all_below(&flow.next, nodes.len()) {
+            return Err(LiveError::BadNext { node });
+        }
+    }
+    Ok(())
+}
+
+/// The set of some variables.
+fn set_of(alloc: Global, vars: usize, members: &[usize]) -> Result<Vob, AllocError>
+    requires { All (λ member. member < vars) members.now }
+    ensures { IfOk result (λ set. IsSetOf vars members.now set.bits) }
+{
+    let mut set = Vob::from_elem(alloc, false, vars)?;
+    for member in members {
+        set.set(*member, true);
+    }
+    Ok(set)
+}
+
+/// The variables that each node reads.
+fn read_sets(alloc: Global, vars: usize, nodes: &[Flow]) -> Result<Vec<Vob>, AllocError>
+    requires { All (IsSound vars nodes.now) nodes.now }
+    ensures { IfOk result (λ sets. AreReads vars nodes.now sets.items) }
+{
+    let mut sets = Vec::with_capacity(alloc, nodes.len())?;
+    for flow in nodes {
+        sets.push(set_of(alloc, vars, &flow.reads)?)?;
+    }
+    Ok(sets)
+}
+
+/// The variables that each node doesn't write.
+fn unwritten_sets(alloc: Global, vars: usize, nodes: &[Flow]) -> Result<Vec<Vob>, AllocError>
+    requires { All (IsSound vars nodes.now) nodes.now }
+    ensures { IfOk result (λ sets. AreUnwritten vars nodes.now sets.items) }
+{
+    let mut sets = Vec::with_capacity(alloc, nodes.len())?;
+    for flow in nodes {
+        let mut set = set_of(alloc, vars, &flow.writes)?;
+        set.negate();
+        sets.push(set)?;
+    }
+    Ok(sets)
+}
+
+/// As many copies of a set as there are nodes.
+fn copies(alloc: Global, set: &Vob, count: usize) -> Result<Vec<Vob>, AllocError>
+    ensures { IfOk result (λ sets. bits_of sets.items ≡ replicate count set.now.bits) }
+{
+    let mut sets = Vec::with_capacity(alloc, count)?;
+    for _ in 0..count {
+        sets.push(set.clone()?)?;
+    }
+    Ok(sets)
+}
+
+/// Adds what is live before each node that comes next, and answers whether that added a variable.
+fn add_next(after: &mut Vob, next: &[usize], before: &[Vob]) -> bool
+    requires nodes { All (λ m. m < length before.now) next.now }
+    requires vars { All (λ set. length set.bits ≡ length after.old.bits) before.now }
+    ensures { IsNextAdded (bits_of before.now) next.now after.old.bits after.new.bits result }
+{
+    let mut grew = false;
+    for node in next {
+        if after.or(&before[*node]) {
+            grew = true;
+        }
+    }
+    grew
+}
+
+/// Adds what is live after a node and not written there, and answers whether that added a
+/// variable. `scratch` is overwritten.
+fn add_unwritten(
+    before: &mut Vob,
+    after: &Vob,
+    unwritten: &Vob,
+    none: &Vob,
+    scratch: &mut Vob,
+) -> bool
+    requires after { length after.now.bits ≡ length before.old.bits }
+    requires unwritten { length unwritten.now.bits ≡ length before.old.bits }
+    requires none { none.now.bits ≡ replicate (length before.old.bits) false }
+    requires scratch { length scratch.old.bits ≡ length before.old.bits }
+    ensures bits { before.new.bits
+        ≡ pointwise ◌||◌ before.old.bits (pointwise ◌&&◌ after.now.bits unwritten.now.bits) }
+    ensures changed { IsTrue result ↔ (before.new.bits ≢ before.old.bits) }
+    ensures scratch { length scratch.new.bits ≡ length scratch.old.bits }
+{
+    scratch.and(none);
+    scratch.or(after);
+    scratch.and(unwritten);
+    before.or(scratch)
+}
+
+/// Goes over all nodes once, the last one first, and answers whether a set before a node grew.
+fn pass(
+    nodes: &[Flow],
+    unwritten: &[Vob],
+    none: &Vob,
+    before: &mut [Vob],
+    after: &mut [Vob],
+    scratch: &mut Vob,
+) -> bool
+    requires { AreReady nodes.now unwritten.now before.old after.old
+        none.now.bits scratch.old.bits }
+    ensures pass { IsPass (length none.now.bits) nodes.now
+        (bits_of before.old) (bits_of before.new) (bits_of after.new) result }
+    ensures scratch { length scratch.new.bits ≡ length scratch.old.bits }
+{
+    let mut changed = false;
+    for node in (0..nodes.len()).rev() {
+        if add_next(&mut after[node], &nodes[node].next, before)
+            && add_unwritten(
+                &mut before[node],
+                &after[node],
+                &unwritten[node],
+                none,
+                scratch,
+            )
+        {
+            changed = true;
+        }
+    }
+    changed
+}
+
+/// Goes over all nodes until no set grows, and answers how often it went.
+fn settle(
+    nodes: &[Flow],
+    unwritten: &[Vob],
+    none: &Vob,
+    before: &mut [Vob],
+    after: &mut [Vob],
+    scratch: &mut Vob,
+) -> u128
+    requires { AreReady nodes.now unwritten.now before.old after.old
+        none.now.bits scratch.old.bits }
+    ensures solution { IsSolution (length none.now.bits) nodes.now
+        (bits_of before.new) (bits_of after.new) }
+    ensures least { AreLeast (length none.now.bits) nodes.now
+        (bits_of before.new) (bits_of after.new) }
+    ensures rounds { result ≤ 1 + length nodes.now * length none.now.bits }
+{
+    let mut rounds = 1;
+    'passes: while pass(nodes, unwritten, none, before, after, scratch) {
+        rounds += 1;
+    }
+    rounds
+}
+
+/// The least sets that meet the flow equations. Where there are no nodes, no memory is asked for.
+fn solve(alloc: Global, vars: usize, nodes: &[Flow]) -> Result<Live, AllocError>
+    requires { All (IsSound vars nodes.now) nodes.now }
+    ensures solution { IfOk result (λ live. IsSolution vars nodes.now
+        (bits_of live.before.items) (bits_of live.after.items)) }
+    ensures least { IfOk result (λ live. AreLeast vars nodes.now
+        (bits_of live.before.items) (bits_of live.after.items)) }
+    ensures rounds { IfOk result (λ live. live.rounds ≤ 1 + length nodes.now * vars) }
+    ensures nothing { nodes.now ≡ [] → IsOk result }
+{
+    if nodes.is_empty() {
+        return Ok(Live {
+            before: Vec::new(alloc),
+            after: Vec::new(alloc),
+            rounds: 0,
+        });
+    }
+    let mut before = read_sets(alloc, vars, nodes)?;
+    let unwritten = unwritten_sets(alloc, vars, nodes)?;
+    let none = Vob::from_elem(alloc, false, vars)?;
+    let mut after = copies(alloc, &none, nodes.len())?;
+    let mut scratch = none.clone()?;
+    let rounds = settle(
+        nodes,
+        &unwritten,
+        &none,
+        &mut before,
+        &mut after,
+        &mut scratch,
+    );
+    Ok(Live {
+        before,
+        after,
+        rounds,
+    })
+}
+
+/// The least sets that meet the flow equations: after a node is live what is live before a node
+/// that comes next, and before it what it reads and what is live after it and not written there.
+pub fn liveness(alloc: Global, vars: usize, nodes: &[Flow]) -> Result<Live, LiveError>
+    ensures solution { IfOk result (λ live. IsSolution vars nodes.now
+        (bits_of live.before.items) (bits_of live.after.items)) }
+    ensures least { IfOk result (λ live. AreLeast vars nodes.now
+        (bits_of live.before.items) (bits_of live.after.items)) }
+    ensures rounds { IfOk result (λ live. live.rounds ≤ 1 + length nodes.now * vars) }
+
+    // The nodes are checked first, and memory is asked for only where there are nodes.
+    ensures bad_variable { (node : ℕ)
+        → (result ≡ Err (LiveError.BadVariable node)) ↔ IsBadVariable vars nodes.now node }
+    ensures bad_next { (node : ℕ)
+        → (result ≡ Err (LiveError.BadNext node)) ↔ IsBadNext vars nodes.now node }
+    ensures memory { result ≡ Err LiveError.Memory → nodes.now ≢ [] }
+{
+    check_nodes(vars, nodes)?;
+    let live = solve(alloc, vars, nodes)?;
+    Ok(live)
+}
