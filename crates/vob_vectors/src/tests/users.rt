@@ -1,11 +1,11 @@
 //! The worked users: which nodes of small graphs lead to which, against lists of bits; slots that
 //! are taken one after another; and the rows of a filter.
-use super::support::{same, same_indices, vob_of, write};
+use super::support::{check_bits, same, same_indices, vob_of, write};
 use std::process::Abort;
 use vob::Vob;
 use vob_users::reachable::{is_square, reach};
-use vob_users::rows::kept_rows;
-use vob_users::slots::take_slot;
+use vob_users::rows::{count_between, count_rows, kept_rows, page, page_back, select};
+use vob_users::slots::{Slots, take_slot};
 
 /// How many nodes the graphs have of which each is tried.
 const NODES: usize = 3;
@@ -126,4 +126,48 @@ fn a_filter_keeps_the_rows_of_its_set_bits(rt: HostRuntime) {
     same_indices(&rt, "rows", &rows, &[1, 3, 4]);
     let none = kept_rows(rt.alloc(), &Vob::new(rt.alloc())).expect(&rt, "memory");
     same_indices(&rt, "rows of no filter", &none, &[]);
+}
+
+#[test]
+fn a_slot_that_is_given_back_comes_again(rt: HostRuntime) {
+    let mut slots = Slots::new(rt.alloc(), 3).expect(&rt, "memory");
+    same(&rt, "slot", 0, slots.alloc(), Some(0));
+    same(&rt, "slot", 1, slots.alloc(), Some(1));
+    same(&rt, "given back", 0, slots.free(0), true);
+    same(&rt, "given back twice", 0, slots.free(0), false);
+    same(&rt, "given back past the end", 3, slots.free(3), false);
+    same(&rt, "free", 0, slots.free_count(), 2);
+    same(&rt, "slot", 2, slots.alloc(), Some(0));
+    same(&rt, "slot", 3, slots.alloc(), Some(2));
+    same(&rt, "slot", 4, slots.alloc(), None);
+    slots.grow(2).expect(&rt, "memory");
+    same(&rt, "slot", 5, slots.alloc(), Some(3));
+    same(&rt, "free", 1, slots.free_count(), 1);
+    same(&rt, "slots", 0, slots.len(), 5);
+}
+
+#[test]
+fn rows_are_selected_by_columns(rt: HostRuntime) {
+    let mut first = Vob::from_elem(rt.alloc(), true, 6).expect(&rt, "memory");
+    first.set(2, false);
+    let mut second = Vob::from_elem(rt.alloc(), true, 6).expect(&rt, "memory");
+    second.set(1, false);
+    let mut without = Vob::from_elem(rt.alloc(), false, 6).expect(&rt, "memory");
+    without.set(4, true);
+    let rows = select(&first, &second, &without).expect(&rt, "memory");
+    check_bits(&rt, &rows, "100101");
+    same(&rt, "rows", 0, count_rows(&rows), 3);
+    same(
+        &rt,
+        "rows from 1 to below 5",
+        0,
+        count_between(&rows, 1, 5),
+        1,
+    );
+    let next = page(rt.alloc(), &rows, 1, 1).expect(&rt, "memory");
+    same_indices(&rt, "a page", &next, &[3]);
+    let last = page_back(rt.alloc(), &rows, 0, 2).expect(&rt, "memory");
+    same_indices(&rt, "the last page", &last, &[5, 3]);
+    let past = page(rt.alloc(), &rows, 3, 2).expect(&rt, "memory");
+    same_indices(&rt, "a page past the last row", &past, &[]);
 }
