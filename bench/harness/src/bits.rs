@@ -78,6 +78,11 @@ pub trait Bits: Sized {
     fn or(&mut self, _other: &Self) -> bool {
         unimplemented!()
     }
+
+    /// `or`, and whether the library or a test of it says that a bit was added.
+    fn or_grows(&mut self, other: &Self) -> bool {
+        self.or(other)
+    }
     fn xor(&mut self, _other: &Self) -> bool {
         unimplemented!()
     }
@@ -261,6 +266,57 @@ fn closure<B: Bits>(input: &Input, rounds: usize) -> u64 {
     checksum_all(&last, times)
 }
 
+/// One pass over the nodes of a flow graph, the last one first, as `vob_users::live` makes it.
+fn pass<B: Bits>(
+    nodes: &[&[usize]],
+    unwritten: &[B],
+    none: &B,
+    before: &mut [B],
+    after: &mut [B],
+    scratch: &mut B,
+) -> bool {
+    let mut changed = false;
+    for node in (0..nodes.len()).rev() {
+        let mut grew = false;
+        for next in &nodes[node][2..] {
+            grew |= after[node].or_grows(&before[*next]);
+        }
+        if grew {
+            scratch.and(none);
+            scratch.or(&after[node]);
+            scratch.and(&unwritten[node]);
+            changed |= before[node].or_grows(scratch);
+        }
+    }
+    changed
+}
+
+fn live<B: Bits>(input: &Input, rounds: usize) -> u64 {
+    let nodes: Vec<&[usize]> = input.indices.chunks(4).collect();
+    let vars = input.bits.len();
+    let mut times = 0;
+    let mut last = Vec::new();
+    for _ in 0..rounds {
+        let none = B::from_bytes(&vec![0; vars / 8]);
+        let set_of = |variable| {
+            let mut set = none.copied();
+            set.set(variable, true);
+            set
+        };
+        let mut before: Vec<B> = nodes.iter().map(|node| set_of(node[0])).collect();
+        let mut unwritten: Vec<B> = nodes.iter().map(|node| set_of(node[1])).collect();
+        unwritten.iter_mut().for_each(B::negate);
+        let mut after: Vec<B> = nodes.iter().map(|_| none.copied()).collect();
+        let mut scratch = none.copied();
+        times += 1;
+        while pass(&nodes, &unwritten, &none, &mut before, &mut after, &mut scratch) {
+            times += 1;
+        }
+        last = before;
+    }
+    checksum_all(&last, times)
+}
+
 pub fn run<B: Bits>(call: Call, input: &Input, rounds: usize) -> u64 {
     match call {
         Call::Push => made(rounds, || B::pushed(&input.bits)),
@@ -293,6 +349,7 @@ pub fn run<B: Bits>(call: Call, input: &Input, rounds: usize) -> u64 {
         Call::ExtendAligned => joined::<B>(input, 64, rounds),
         Call::ExtendShifted => joined::<B>(input, 64 + 13, rounds),
         Call::Closure => closure::<B>(input, rounds),
+        Call::Live => live::<B>(input, rounds),
         Call::SetBits => walked(input, rounds, B::set_bits),
         Call::SetBitsBack => walked(input, rounds, B::set_bits_back),
         Call::UnsetBits => walked(input, rounds, B::unset_bits),

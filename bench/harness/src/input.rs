@@ -11,6 +11,8 @@ pub enum Shape {
     Density(u32),
     /// All bits true but the last.
     FreeAtTheEnd,
+    /// A flow graph over as many variables as bits.
+    Flow,
 }
 
 pub struct Input {
@@ -52,6 +54,23 @@ impl Numbers {
 
 const NODES: usize = 1000;
 
+const FLOW_NODES: usize = 10_000;
+
+/// Straight code of which one node in eight branches, at most 64 nodes on or back: of each node what it
+/// reads, what it writes, and two nodes that may come next.
+fn flow(numbers: &mut Numbers, vars: usize) -> Vec<usize> {
+    let mut graph = Vec::new();
+    for node in 0..FLOW_NODES {
+        let next = (node + 1).min(FLOW_NODES - 1);
+        let branch = match numbers.below(8) {
+            0 => (node + numbers.below(129)).saturating_sub(64).min(FLOW_NODES - 1),
+            _ => next,
+        };
+        graph.extend([numbers.below(vars), numbers.below(vars), next, branch]);
+    }
+    graph
+}
+
 impl Input {
     pub fn new(bits: usize, shape: Shape) -> Input {
         let mut numbers = Numbers(bits as u64);
@@ -74,6 +93,7 @@ impl Input {
         let others = numbers.bytes(bits / 8);
         let indices = match shape {
             Shape::Indices(count) => (0..count).map(|_| numbers.below(bits)).collect(),
+            Shape::Flow => flow(&mut numbers, bits),
             _ => Vec::new(),
         };
         let bits = bytes

@@ -128,6 +128,7 @@ impl Bits for FixedBitSet {
             Call::Iterate => Offer::Other("by index"),
             Call::SetAll => Offer::Other("insert_range or clear"),
             Call::Negate => Offer::Other("toggle_range"),
+            Call::Live => Offer::Other("is_subset, then union_with"),
             Call::Get
             | Call::Clone
             | Call::Hash
@@ -198,6 +199,13 @@ impl Bits for FixedBitSet {
     fn or(&mut self, other: &FixedBitSet) -> bool {
         self.union_with(other);
         false
+    }
+    fn or_grows(&mut self, other: &FixedBitSet) -> bool {
+        let grows = !other.is_subset(self);
+        if grows {
+            self.union_with(other);
+        }
+        grows
     }
     fn xor(&mut self, other: &FixedBitSet) -> bool {
         self.symmetric_difference_with(other);

@@ -31,6 +31,7 @@ pub enum Call {
     UnsetBits,
     Count,
     FirstFree,
+    Live,
 }
 
 /// What the machine can do at most, measured on the row's own size.
@@ -85,6 +86,7 @@ impl Row {
             Call::Closure => Shape::Matrix,
             Call::Get | Call::Set => Shape::Indices(INDICES),
             Call::FirstFree => Shape::FreeAtTheEnd,
+            Call::Live => Shape::Flow,
             _ => Shape::Plain,
         };
         Row {
@@ -216,6 +218,13 @@ pub fn all() -> Vec<Row> {
             "closure 1000 x 1000",
             Call::Closure,
             1_000_000,
+            Round,
+            Limit::None,
+        ),
+        Row::over(
+            "liveness, 10000 nodes",
+            Call::Live,
+            1000,
             Round,
             Limit::None,
         ),

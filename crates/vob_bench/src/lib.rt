@@ -5,6 +5,7 @@
 #![tactic(auto)]
 
 mod checksum;
+mod flow;
 mod matrix;
 mod pair;
 mod single;
@@ -111,4 +112,15 @@ pub extern "C" fn vob_bench_closure(
     rounds: usize,
 ) -> u64 {
     answer(matrix::closure(alloc, bytes, row_bytes, rounds))
+}
+
+/// The variables of `vars` that are live at the nodes of a flow graph, which four numbers a node are.
+#[unsafe(no_mangle)]
+pub extern "C" fn vob_bench_live(
+    alloc: Global,
+    numbers: &[usize],
+    vars: usize,
+    rounds: usize,
+) -> u64 {
+    answer(flow::live(alloc, numbers, vars, rounds))
 }
