@@ -267,14 +267,7 @@ fn closure<B: Bits>(input: &Input, rounds: usize) -> u64 {
 }
 
 /// One pass over the nodes of a flow graph, the last one first, as `vob_users::live` makes it.
-fn pass<B: Bits>(
-    nodes: &[&[usize]],
-    unwritten: &[B],
-    none: &B,
-    before: &mut [B],
-    after: &mut [B],
-    scratch: &mut B,
-) -> bool {
+fn pass<B: Bits>(nodes: &[&[usize]], possible: &[B], before: &mut [B], after: &mut [B]) -> bool {
     let mut changed = false;
     for node in (0..nodes.len()).rev() {
         let mut grew = false;
@@ -282,10 +275,8 @@ fn pass<B: Bits>(
             grew |= after[node].or_grows(&before[*next]);
         }
         if grew {
-            scratch.and(none);
-            scratch.or(&after[node]);
-            scratch.and(&unwritten[node]);
-            changed |= before[node].or_grows(scratch);
+            changed |= before[node].or_grows(&after[node]);
+            before[node].and(&possible[node]);
         }
     }
     changed
@@ -303,13 +294,17 @@ fn live<B: Bits>(input: &Input, rounds: usize) -> u64 {
             set.set(variable, true);
             set
         };
+        let possible_at = |node: &&[usize]| {
+            let mut set = set_of(node[1]);
+            set.negate();
+            set.set(node[0], true);
+            set
+        };
         let mut before: Vec<B> = nodes.iter().map(|node| set_of(node[0])).collect();
-        let mut unwritten: Vec<B> = nodes.iter().map(|node| set_of(node[1])).collect();
-        unwritten.iter_mut().for_each(B::negate);
+        let possible: Vec<B> = nodes.iter().map(possible_at).collect();
         let mut after: Vec<B> = nodes.iter().map(|_| none.copied()).collect();
-        let mut scratch = none.copied();
         times += 1;
-        while pass(&nodes, &unwritten, &none, &mut before, &mut after, &mut scratch) {
+        while pass(&nodes, &possible, &mut before, &mut after) {
             times += 1;
         }
         last = before;

@@ -5,7 +5,8 @@ use Rattle.std.proofs.lemmas.Bool.{cases_eq, false≢true}
 use Rattle.std.proofs.lemmas.Option.{slice_get_within}
 use Rattle.vob_block.specs.Packing.{item}
 use Rattle.vob_users.specs.declared.live.Flow.{Flow}
-use Rattle.vob_users.specs.Live.{AreSets, IsLive, IsLiveNext, IsLiveHere, IsSolution, AreWithin}
+use Rattle.vob_users.specs.declared.live.Live.{Live}
+use Rattle.vob_users.specs.Live.{AreSets, IsLive, IsLiveNext, IsLiveHere, IsSolution, AreWithin, bits_of}
 use Rattle.vob_users.specs.LivePass.{AreUnderway, live_places, IsPass}
 use Rattle.vob_users.proofs.FlowLemmas.{same_node}
 use Rattle.vob_users.proofs.SetLemmas.{Any-map}
@@ -33,13 +34,13 @@ module _ (vars : ℕ) (nodes : List Flow) where
   pub record IsWalked (starts before after : List (List Bool)) (k : ℕ) (changed : Bool)
       : Type 0 where
     pub underway : AreUnderway vars nodes before after
-    pub grown : live_places starts ≤ live_places before
-    pub more : changed ≡ true → live_places starts < live_places before
+    pub grown : live_places starts ≤ live_places after
+    pub more : changed ≡ true → live_places starts < live_places after
     pub none : changed ≡ false → (n : ℕ) (flow : Flow) → k ≤ n → slice_get nodes n ≡ Some flow →
         (v : ℕ) → IsLiveNext before flow v → IsLive after n v
 
   pub IsWalked-start : (before after : List (List Bool)) → AreUnderway vars nodes before after →
-      IsWalked before before after (length nodes) false
+      IsWalked after before after (length nodes) false
   IsWalked-start before after h = record {
     underway = h;
     grown = omega arith;
@@ -170,11 +171,12 @@ module _ (vars : ℕ) (nodes : List Flow) where
       );
     }
 
+  -- the sets of one node more, which gained, or kept what is live before it
   module _ (starts before after before' after' : List (List Bool)) (n : ℕ) (flow : Flow)
       (changed : Bool) (h : IsWalked starts before after (n + 1) changed)
-      (s : IsStep n flow before after before' after') where
-    -- a node whose set before it grew
-    pub IsWalked-more : live_places before < live_places before' →
+      (s : IsStep n flow before after before' after')
+      (grown : live_places after ≤ live_places after') where
+    pub IsWalked-more : live_places after < live_places after' →
         IsWalked starts before' after' n true
     IsWalked-more grew = record {
       underway = AreUnderway-step n flow before after before' after' h.underway s;
@@ -183,32 +185,31 @@ module _ (vars : ℕ) (nodes : List Flow) where
       none = λ e. absurd (false≢true (sym e));
     }
 
-    -- a node whose set before it stayed
-    pub IsWalked-same : before' ≡ before → IsWalked starts before' after' n changed
-    IsWalked-same same =
-        let wider = after_wider n flow before after before' after' h.underway s in
-        record {
-          underway = AreUnderway-step n flow before after before' after' h.underway s;
-          grown = subst (λ sets. live_places starts ≤ live_places sets) (sym same) h.grown;
-          more = λ e.
-              subst (λ sets. live_places starts < live_places sets) (sym same) (h.more e);
-          none = λ e k there past is v any.
-              let any' = subst (λ sets. IsLiveNext sets there v) same any in
-              elim (cases_eq k n) [
-                | inl here ↦
-                    let this = same_node nodes k n there flow here is s.is in
-                    subst (λ j. IsLive after' j v) (sym here)
-                    ((s.after_here v).1 (inr (subst (λ f. IsLiveNext before f v) this any')))
-                | inr other ↦ wider k v (h.none e k there (omega arith) is v any')
-              ];
-        }
+    pub IsWalked-same : AreWithin before' before → IsWalked starts before' after' n changed
+    IsWalked-same same = record {
+      underway = AreUnderway-step n flow before after before' after' h.underway s;
+      grown = omega (arith, h.grown, grown);
+      more = λ e. omega (arith, h.more e, grown);
+      none = λ e k there past is v any.
+          let any' = IsLiveNext-wider before' before there v same any in
+          elim (cases_eq k n) [
+            | inl here ↦
+                let this = same_node nodes k n there flow here is s.is in
+                subst (λ j. IsLive after' j v) (sym here)
+                ((s.after_here v).1 (inr (subst (λ f. IsLiveNext before f v) this any')))
+            | inr other ↦
+                after_wider n flow before after before' after' h.underway s k v
+                (h.none e k there (omega arith) is v any')
+          ];
+    }
 
   -- all nodes were walked
-  pub IsPass-whole : (starts before after : List (List Bool)) (k : ℕ) (changed : Bool) →
-      IsWalked starts before after k changed → k ≡ 0 →
-      IsPass vars nodes starts before after changed
-  IsPass-whole starts before after k changed h whole = record {
+  pub IsPass-whole : (start end : Live) (k : ℕ) (changed : Bool) →
+      IsWalked (bits_of start.after.items) (bits_of end.before.items) (bits_of end.after.items)
+      k changed → k ≡ 0 → end.rounds ≡ start.rounds → IsPass vars nodes start end changed
+  IsPass-whole start end k changed h whole rounds = record {
     underway = h.underway;
+    rounds = rounds;
     more = h.more;
     none = λ e n flow is. h.none e n flow (omega arith) is;
   }

@@ -1,35 +1,19 @@
 -- One node of a pass, as the code leaves its sets.
-use Rattle.std.proofs.Common.{◌≡◌, ◌≢◌, ◌↔◌, ℕ, ◌+◌, ◌<◌, ◌⊎◌, ◌&&◌, ◌||◌, Bool, true, false, inl, inr, List, [], length, get_or, set, Some, slice_get, refl, sym, ap, ◌∙◌, subst, arith}
+use Rattle.std.proofs.Common.{◌≡◌, ◌↔◌, ℕ, ◌+◌, ◌<◌, ◌≤◌, ◌⊎◌, ◌&&◌, ◌||◌, Bool, true, false, inl, inr, List, [], length, get_or, set, Some, slice_get, refl, sym, ap, ◌∙◌, subst, arith}
 use Rattle.std.specs.List.{Contains}
-use Rattle.std.proofs.lemmas.Bool.{or_cases, or_left, or_right, and_parts, and_from}
-use Rattle.std.proofs.lemmas.List.{length-map, length-set, get_or-map, map-set, get_or-set_same, get_or-set_other, set-get_or}
+use Rattle.std.proofs.lemmas.Bool.{cases_eq, or_cases, or_left, or_right, and_parts, and_from}
+use Rattle.std.proofs.lemmas.List.{length-map, length-set, get_or-map, map-set, get_or-set_same, get_or-set_other}
 use Rattle.std.proofs.lemmas.List.Elements.{All-set}
 use Rattle.std.proofs.lemmas.List.Sums.{sum_by-set}
 use Rattle.std.proofs.lemmas.Option.{slice_get_within, slice_get-get_or}
 use Rattle.vob_block.specs.Packing.{item}
-use Rattle.vob_block.specs.Pointwise.{pointwise}
-use Rattle.vob_block.proofs.PointwiseLemmas.{item-pointwise}
+use Rattle.vob.specs.Bits.{count_of}
 use Rattle.vob.specs.Vob.{BitVector}
 use Rattle.vob_users.specs.declared.live.Flow.{Flow}
-use Rattle.vob_users.specs.Reachable.{trues}
-use Rattle.vob_users.specs.Live.{AreSets, IsLive, IsLiveNext, bits_of}
-use Rattle.vob_users.specs.LivePass.{IsSetWithout, IsNextAdded, AreUnderway, AreUnwritten, live_places}
-use Rattle.vob_users.proofs.ReachLemmas.{or_adds}
-use Rattle.vob_users.proofs.SetLemmas.{true_within, pointwise_keeps, AllZip-at, AllZip-length}
+use Rattle.vob_users.specs.Live.{AreSets, AreWithin, IsLive, IsLiveNext, bits_of}
+use Rattle.vob_users.specs.LivePass.{IsPossible, ArePossible, IsPossibleAdded, IsNextAdded, AreUnderway, live_places}
+use Rattle.vob_users.proofs.SetLemmas.{true_within, gained_le, AllZip-at, AllZip-length}
 use Rattle.vob_users.proofs.LiveLemmas.{IsStep, IsWalked, IsWalked-more, IsWalked-same}
-
--- ---- the sets of some Vobs
-
-pub vob_count : (vars nodes : ℕ) (vobs : List BitVector) → AreSets vars nodes (bits_of vobs) →
-    length vobs ≡ nodes
-vob_count vars nodes vobs sets = sym (length-map vobs (λ v. v.bits)) ∙ sets.count
-
-pub vob_length : {vars nodes : ℕ} (vobs : List BitVector) → AreSets vars nodes (bits_of vobs) →
-    (n : ℕ) (vob : BitVector) → n < nodes → length (get_or vobs n vob).bits ≡ vars
-vob_length vobs sets n vob less =
-    let inside : n < length vobs = omega (arith, less, vob_count _ _ vobs sets) in
-    sym (ap length (get_or-map (λ v. v.bits) vobs n vob [] inside))
-    ∙ sets.long n [] (omega (arith, less, sets.count))
 
 AreSets-set : (vars nodes : ℕ) (sets : List (List Bool)) (n : ℕ) (set' : List Bool) →
     AreSets vars nodes sets → length set' ≡ vars → AreSets vars nodes (set sets n set')
@@ -37,8 +21,6 @@ AreSets-set vars nodes sets n set' h long = record {
   count = length-set sets n set' ∙ h.count;
   long = All-set (λ s. length s ≡ vars) sets n set' long h.long;
 }
-
--- ---- the sets of one node
 
 module _ (vars : ℕ) (nodes : List Flow) (before after : List (List Bool)) (n : ℕ) (flow : Flow)
     (is : slice_get nodes n ≡ Some flow) (h : AreUnderway vars nodes before after)
@@ -66,6 +48,15 @@ module _ (vars : ℕ) (nodes : List Flow) (before after : List (List Bool)) (n :
     (λ either. after_bit v ∙ (a.each v).1 either),
   )
 
+  -- more places are true after the node, or as many
+  pub places_le : live_places after ≤ live_places (set after n added)
+  places_le =
+      omega (arith, gained_le a.gains, sum_by-set (count_of true) after n added [] after_inside)
+
+  pub places_more : grew ≡ true → live_places after < live_places (set after n added)
+  places_more up =
+      omega (arith, a.gains.more up, sum_by-set (count_of true) after n added [] after_inside)
+
   -- nothing was added to the set after it, and the set before it stays
   pub IsStep-quiet : grew ≡ false → IsStep vars nodes n flow before after before (set after n added)
   IsStep-quiet quiet = record {
@@ -79,67 +70,64 @@ module _ (vars : ℕ) (nodes : List Flow) (before after : List (List Bool)) (n :
       (λ either. elim either [
         | inl old ↦ old
         | inr kept ↦
-            let old = sym (ap (λ s. item s v) (a.same quiet)) ∙ sym (after_bit v) ∙ kept.0 in
+            let old = sym (ap (λ s. item s v) (a.gains.same quiet)) ∙ sym (after_bit v) ∙ kept.0 in
             (h.before_is n flow is v).1 (inr (old, kept.1))
       ]),
     );
     after_here = after_here;
   }
 
-  module _ (row without kept : List Bool) (row_is : get_or before n [] ≡ row)
-      (w : IsSetWithout vars flow.writes.items without)
-      (kept_is : kept ≡ pointwise ◌||◌ row (pointwise ◌&&◌ added without)) where
-    row_long : length row ≡ vars
-    row_long = sym (ap length row_is) ∙ h.before_sets.long n [] before_inside
+  module _ (possible kept : List Bool) (flag : Bool) (p : IsPossible vars flow possible)
+      (b : IsPossibleAdded (get_or before n []) added possible kept flag) where
+    before_bit : (v : ℕ) → item (get_or (set before n kept) n []) v
+        ≡ ((item (get_or before n []) v || item added v) && item possible v)
+    before_bit v =
+        ap (λ s. item s v) (get_or-set_same before n kept [] before_inside) ∙ b.each v
 
-    both_long : length (pointwise ◌&&◌ added without) ≡ vars
-    both_long = pointwise_keeps ◌&&◌ added without _ vars added_long w.count refl
-
-    kept_long : length kept ≡ vars
-    kept_long = pointwise_keeps ◌||◌ row (pointwise ◌&&◌ added without) kept vars row_long both_long
-        kept_is
-
-    kept_bit : (v : ℕ) → item kept v ≡ (item row v || (item added v && item without v))
-    kept_bit v =
-        ap (λ s. item s v) kept_is
-        ∙ item-pointwise ◌||◌ row (pointwise ◌&&◌ added without) (row_long ∙ sym both_long) refl v
-        ∙ ap (λ b. item row v || b)
-        (item-pointwise ◌&&◌ added without (added_long ∙ sym w.count) refl v)
-
-    before_bit : (v : ℕ) → item (get_or (set before n kept) n []) v ≡ item kept v
-    before_bit v = ap (λ s. item s v) (get_or-set_same before n kept [] before_inside)
-
-    row_bit : (v : ℕ) → item (get_or before n []) v ≡ item row v
-    row_bit v = ap (λ s. item s v) row_is
+    -- what is live before it is possible there
+    old_possible : (v : ℕ) → IsLive before n v → item possible v ≡ true
+    old_possible v live =
+        let row_long = h.before_sets.long n [] before_inside in
+        let less : v < vars = omega (arith, true_within (get_or before n []) v live, row_long) in
+        (p.each v less).1 (elim ((h.before_is n flow is v).0 live) [
+          | inl read ↦ inl read
+          | inr other ↦ inr other.1
+        ])
 
     before_here : (v : ℕ) → IsLive (set before n kept) n v ↔ (IsLive before n v
         ⊎ (IsLive (set after n added) n v × ¬ Contains flow.writes.items v))
-    before_here v = (
-      (λ live.
-          elim (or_cases (item row v) (item added v && item without v)
-          (sym (kept_bit v) ∙ sym (before_bit v) ∙ live)) [
-            | inl old ↦ inl (row_bit v ∙ old)
+    before_here v =
+        let row = item (get_or before n []) v in (
+          (λ live.
+              let both = and_parts (row || item added v) (item possible v)
+              (sym (before_bit v) ∙ live) in
+              elim (or_cases row (item added v) both.0) [
+                | inl old ↦ inl old
+                | inr new ↦
+                    let less : v < vars = omega (arith, true_within added v new, added_long) in
+                    elim ((p.each v less).0 both.1) [
+                      | inl read ↦ inl ((h.before_is n flow is v).1 (inl read))
+                      | inr without ↦ inr (after_bit v ∙ new, without)
+                    ]
+              ]),
+          (λ either. before_bit v ∙ elim either [
+            | inl old ↦
+                and_from (row || item added v) (item possible v) (or_left row (item added v) old)
+                (old_possible v old)
             | inr new ↦
-                let both = and_parts (item added v) (item without v) new in
-                let less : v < vars = omega (arith, true_within without v both.1, w.count) in
-                inr (after_bit v ∙ both.0, (w.each v less).0 both.1)
+                let on = sym (after_bit v) ∙ new.0 in
+                let less : v < vars = omega (arith, true_within added v on, added_long) in
+                and_from (row || item added v) (item possible v) (or_right row (item added v) on)
+                ((p.each v less).1 (inr new.1))
           ]),
-      (λ either. before_bit v ∙ kept_bit v ∙ elim either [
-        | inl old ↦
-            or_left (item row v) (item added v && item without v) (sym (row_bit v) ∙ old)
-        | inr new ↦
-            let on = sym (after_bit v) ∙ new.0 in
-            let less : v < vars = omega (arith, true_within added v on, added_long) in
-            or_right (item row v) (item added v && item without v)
-            (and_from (item added v) (item without v) on ((w.each v less).1 new.1))
-      ]),
-    )
+        )
 
-    -- the set before it got what isn't written
+    -- the set before it got what is possible
     pub IsStep-grown : IsStep vars nodes n flow before after (set before n kept) (set after n added)
     IsStep-grown = record {
       is = is;
-      before_sets = AreSets-set vars (length nodes) before n kept h.before_sets kept_long;
+      before_sets = AreSets-set vars (length nodes) before n kept h.before_sets
+          (b.count ∙ h.before_sets.long n [] before_inside);
       after_sets = AreSets-set vars (length nodes) after n added h.after_sets added_long;
       before_else = λ k other. get_or-set_other before n k kept [] other;
       after_else = λ k other. get_or-set_other after n k added [] other;
@@ -147,139 +135,132 @@ module _ (vars : ℕ) (nodes : List Flow) (before after : List (List Bool)) (n :
       after_here = after_here;
     }
 
-    -- and where it changed more places are true
-    pub live_places-more : kept ≢ row → live_places before < live_places (set before n kept)
-    live_places-more differs =
-        let adds = or_adds row (pointwise ◌&&◌ added without) (row_long ∙ sym both_long)
-        (λ same. differs (kept_is ∙ same)) in
-        let more : trues row < trues kept = subst (λ s. trues row < trues s) (sym kept_is) adds in
-        omega (arith, more, sum_by-set trues before n kept [] before_inside, ap trues row_is)
+    -- and nothing more, where what is live after it was live before it
+    pub kept_within : flag ≡ false → AreWithin (set before n kept) before
+    kept_within quiet k v live = elim (cases_eq k n) [
+      | inl here ↦
+          let row = item (get_or before n []) v in
+          let now = sym (before_bit v)
+          ∙ sym (ap (λ j. item (get_or (set before n kept) j []) v) here) ∙ live in
+          ap (λ j. item (get_or before j []) v) here ∙ elim (or_cases row (item added v)
+          (and_parts (row || item added v) (item possible v) now).0) [
+            | inl old ↦ old
+            | inr new ↦ b.within quiet v new
+          ]
+      | inr other ↦ sym (ap (λ s. item s v) (get_or-set_other before n k kept [] other)) ∙ live
+    ]
 
--- the sets of what the nodes don't write, and that of one node
-pub unwritten_count : (vars : ℕ) (nodes : List Flow) (unwritten : List BitVector) →
-    AreUnwritten vars nodes unwritten → length unwritten ≡ length nodes
-unwritten_count vars nodes unwritten all =
-    AllZip-length (λ flow set. IsSetWithout vars flow.writes.items set.bits) nodes unwritten all
+-- ---- the sets of some Vobs
 
-pub unwritten_at : (vars : ℕ) (nodes : List Flow) (unwritten : List BitVector) (n : ℕ) (flow : Flow)
-    (without : BitVector) → AreUnwritten vars nodes unwritten → n < length nodes →
-    without ≡ get_or unwritten n without →
-    IsSetWithout vars (get_or nodes n flow).writes.items without.bits
-unwritten_at vars nodes unwritten n flow without all less is =
-    let R : Flow → BitVector → Type 0 = λ f set. IsSetWithout vars f.writes.items set.bits in
-    subst (λ set. R (get_or nodes n flow) set) (sym is)
-    (AllZip-at R nodes unwritten n flow without all less)
+pub vob_count : {vars nodes : ℕ} (vobs : List BitVector) → AreSets vars nodes (bits_of vobs) →
+    length vobs ≡ nodes
+vob_count vobs sets = sym (length-map vobs (λ v. v.bits)) ∙ sets.count
+
+pub vob_length : {vars nodes : ℕ} (vobs : List BitVector) → AreSets vars nodes (bits_of vobs) →
+    (n : ℕ) (vob : BitVector) → n < nodes → length (get_or vobs n vob).bits ≡ vars
+vob_length vobs sets n vob less =
+    let inside : n < length vobs = omega (arith, less, vob_count vobs sets) in
+    sym (ap length (get_or-map (λ v. v.bits) vobs n vob [] inside))
+    ∙ sets.long n [] (omega (arith, less, sets.count))
+
+pub possible_count : (vars : ℕ) (nodes : List Flow) (possible : List BitVector) →
+    ArePossible vars nodes possible → length possible ≡ length nodes
+possible_count vars nodes possible all =
+    AllZip-length (λ flow set. IsPossible vars flow set.bits) nodes possible all
+
+pub possible_at : (vars : ℕ) (nodes : List Flow) (possible : List BitVector) (n : ℕ) (flow : Flow)
+    (may : BitVector) → ArePossible vars nodes possible → n < length nodes →
+    may ≡ get_or possible n may → IsPossible vars (get_or nodes n flow) may.bits
+possible_at vars nodes possible n flow may all less is =
+    let R : Flow → BitVector → Type 0 = λ f s. IsPossible vars f s.bits in
+    subst (λ s. R (get_or nodes n flow) s) (sym is) (AllZip-at R nodes possible n flow may all less)
 
 -- ---- and the walk over the nodes goes on
 
--- the set after node n got what is live before the nodes that come next, as the code has it
+-- the set after node n got what is live before the nodes that come next
 pub record IsTurn (vars : ℕ) (nodes : List Flow) (starts : List (List Bool))
-    (before after : List BitVector) (k n : ℕ) (changed : Bool) (d : Flow) (e added : BitVector)
-    (next : List ℕ) (grew : Bool) : Type 0 where
-  pub walked : IsWalked vars nodes starts (bits_of before) (bits_of after) k changed
-  pub step : k ≡ n + 1
-  pub inside : n < length nodes
-  pub next_is : next ≡ (get_or nodes n d).next.items
-  pub adds : IsNextAdded (bits_of before) next (get_or after n e).bits added.bits grew
-
--- and the set before it what of that isn't written
-pub record IsKept (before after unwritten : List BitVector) (n : ℕ)
-    (e added row without kept : BitVector) : Type 0 where
-  pub without_is : without ≡ get_or unwritten n without
-  pub keeps : kept.bits ≡ pointwise ◌||◌ (get_or before n row).bits
-      (pointwise ◌&&◌ (get_or (set after n added) n e).bits without.bits)
+    (before after : List BitVector) (n : ℕ) (changed : Bool) (flow : Flow) (added : List Bool)
+    (grew : Bool) : Type 0 where
+  pub walked : IsWalked vars nodes starts (bits_of before) (bits_of after) (n + 1) changed
+  pub is : slice_get nodes n ≡ Some flow
+  pub adds : IsNextAdded (bits_of before) flow.next.items (get_or (bits_of after) n []) added grew
 
 module _ {vars : ℕ} {nodes : List Flow} {starts : List (List Bool)} {before after : List BitVector}
-    {k n : ℕ} {changed : Bool} {d : Flow} {e added : BitVector} {next : List ℕ} {grew : Bool}
-    (turn : IsTurn vars nodes starts before after k n changed d e added next grew) where
-  walked : IsWalked vars nodes starts (bits_of before) (bits_of after) (n + 1) changed
-  walked = subst (λ m. IsWalked vars nodes starts (bits_of before) (bits_of after) m changed)
-      turn.step turn.walked
+    {changed : Bool} where
+  -- as the code has it
+  pub IsTurn-from : {k : ℕ} (n : ℕ) (d : Flow) (e : BitVector) {sets : List BitVector}
+      {next : List ℕ} {row added : List Bool} {grew : Bool} →
+      IsWalked vars nodes starts (bits_of before) (bits_of after) k changed → k ≡ n + 1 →
+      n < length nodes → sets ≡ before → next ≡ (get_or nodes n d).next.items →
+      row ≡ (get_or after n e).bits → IsNextAdded (bits_of sets) next row added grew →
+      IsTurn vars nodes starts before after n changed (get_or nodes n d) added grew
+  IsTurn-from n d e walked step less sets_is next_is row_is adds =
+      let count = vob_count after walked.underway.after_sets in
+      let row_bits = get_or-map (λ v. v.bits) after n e [] (omega (arith, less, count)) in
+      record {
+        walked = rw step at walked;
+        is = slice_get-get_or nodes n d less;
+        adds = rw (sets_is, next_is, row_is, sym row_bits) at adds;
+      }
 
-  flow_is : slice_get nodes n ≡ Some (get_or nodes n d)
-  flow_is = slice_get-get_or nodes n d turn.inside
+  module _ {n : ℕ} {flow : Flow} {grew : Bool} (added : BitVector)
+      (turn : IsTurn vars nodes starts before after n changed flow added.bits grew) where
+    after_is : bits_of (set after n added) ≡ set (bits_of after) n added.bits
+    after_is = map-set (λ v. v.bits) after n added
 
-  in_before : n < length before
-  in_before =
-      let count = vob_count vars (length nodes) before walked.underway.before_sets in
-      omega (arith, turn.inside, count)
+    more_places : live_places (bits_of after) ≤ live_places (set (bits_of after) n added.bits)
+    more_places = places_le vars nodes (bits_of before) (bits_of after) n flow turn.is
+        turn.walked.underway added.bits grew turn.adds
 
-  in_after : n < length after
-  in_after =
-      let count = vob_count vars (length nodes) after walked.underway.after_sets in
-      omega (arith, turn.inside, count)
+    -- nothing was added to the set after it
+    pub IsWalked-quiet : grew ≡ false →
+        IsWalked vars nodes starts (bits_of before) (bits_of (set after n added)) n changed
+    IsWalked-quiet quiet =
+        rw after_is (IsWalked-same vars nodes starts (bits_of before) (bits_of after)
+        (bits_of before) (set (bits_of after) n added.bits) n flow changed turn.walked
+        (IsStep-quiet vars nodes (bits_of before) (bits_of after) n flow turn.is
+        turn.walked.underway added.bits grew turn.adds quiet)
+        more_places (λ m v live. live))
 
-  adds : IsNextAdded (bits_of before) (get_or nodes n d).next.items (get_or (bits_of after) n [])
-      added.bits grew
-  adds =
-      let old = get_or-map (λ v. v.bits) after n e [] in_after in
-      subst (λ set. IsNextAdded (bits_of before) (get_or nodes n d).next.items set added.bits grew)
-      (sym old)
-      (subst (λ m. IsNextAdded (bits_of before) m (get_or after n e).bits added.bits grew)
-      turn.next_is turn.adds)
+    -- what the code reads before it adds to the set before it
+    pub IsPossibleAdded-from : (e e' : BitVector) {row other may kept : List Bool} {flag : Bool} →
+        row ≡ (get_or before n e).bits → other ≡ (get_or (set after n added) n e').bits →
+        IsPossibleAdded row other may kept flag →
+        IsPossibleAdded (get_or (bits_of before) n []) added.bits may kept flag
+    IsPossibleAdded-from e e' row_is other_is b =
+        let less = slice_get_within nodes n flow turn.is in
+        let sets = turn.walked.underway in
+        let in_before = vob_count before sets.before_sets in
+        let in_after = vob_count after sets.after_sets in
+        let old = get_or-map (λ v. v.bits) before n e [] (omega (arith, less, in_before)) in
+        let new = get_or-set_same after n added e' (omega (arith, less, in_after)) in
+        rw (row_is ∙ sym old, other_is ∙ ap (λ v. v.bits) new) at b
 
-  after_is : bits_of (set after n added) ≡ set (bits_of after) n added.bits
-  after_is = map-set (λ v. v.bits) after n added
+    module _ {may : List Bool} {flag : Bool} (kept : BitVector) (p : IsPossible vars flow may)
+        (b : IsPossibleAdded (get_or (bits_of before) n []) added.bits may kept.bits flag) where
+      before_is : bits_of (set before n kept) ≡ set (bits_of before) n kept.bits
+      before_is = map-set (λ v. v.bits) before n kept
 
-  -- nothing was added to the set after it
-  pub walked_quiet : grew ≡ false →
-      IsWalked vars nodes starts (bits_of before) (bits_of (set after n added)) n changed
-  walked_quiet quiet =
-      let step = IsStep-quiet vars nodes (bits_of before) (bits_of after) n (get_or nodes n d)
-      flow_is walked.underway added.bits grew adds quiet in
-      subst (λ sets. IsWalked vars nodes starts (bits_of before) sets n changed) (sym after_is)
-      (IsWalked-same vars nodes starts (bits_of before) (bits_of after) (bits_of before)
-      (set (bits_of after) n added.bits) n (get_or nodes n d) changed walked step refl)
+      step : IsStep vars nodes n flow (bits_of before) (bits_of after)
+          (set (bits_of before) n kept.bits) (set (bits_of after) n added.bits)
+      step = IsStep-grown vars nodes (bits_of before) (bits_of after) n flow turn.is
+          turn.walked.underway added.bits grew turn.adds may kept.bits flag p b
 
-  module _ {unwritten : List BitVector} {e' row without kept : BitVector}
-      (all : AreUnwritten vars nodes unwritten)
-      (keep : IsKept before after unwritten n e' added row without kept) where
-    row_is : get_or (bits_of before) n [] ≡ (get_or before n row).bits
-    row_is = get_or-map (λ v. v.bits) before n row [] in_before
+      -- what was added there may be live before it, or was live there already
+      pub IsWalked-grown : grew ≡ true → IsWalked vars nodes starts
+          (bits_of (set before n kept)) (bits_of (set after n added)) n true
+      IsWalked-grown up =
+          rw (before_is, after_is) (IsWalked-more vars nodes starts (bits_of before)
+          (bits_of after) (set (bits_of before) n kept.bits) (set (bits_of after) n added.bits) n
+          flow changed turn.walked step more_places
+          (places_more vars nodes (bits_of before) (bits_of after) n flow turn.is
+          turn.walked.underway added.bits grew turn.adds up))
 
-    kept_is : kept.bits ≡ pointwise ◌||◌ (get_or before n row).bits
-        (pointwise ◌&&◌ added.bits without.bits)
-    kept_is =
-        keep.keeps
-        ∙ ap (λ v. pointwise ◌||◌ (get_or before n row).bits (pointwise ◌&&◌ v.bits without.bits))
-        (get_or-set_same after n added e' in_after)
-
-    without_set : IsSetWithout vars (get_or nodes n d).writes.items without.bits
-    without_set = unwritten_at vars nodes unwritten n d without all turn.inside keep.without_is
-
-    step : IsStep vars nodes n (get_or nodes n d) (bits_of before) (bits_of after)
-        (set (bits_of before) n kept.bits) (set (bits_of after) n added.bits)
-    step = IsStep-grown vars nodes (bits_of before) (bits_of after) n (get_or nodes n d) flow_is
-        walked.underway added.bits grew adds (get_or before n row).bits without.bits kept.bits
-        row_is without_set kept_is
-
-    as_sets : (flag : Bool) → IsWalked vars nodes starts (set (bits_of before) n kept.bits)
-        (set (bits_of after) n added.bits) n flag → IsWalked vars nodes starts
-        (bits_of (set before n kept)) (bits_of (set after n added)) n flag
-    as_sets flag w =
-        let before_is = map-set (λ v. v.bits) before n kept in
-        subst (λ sets. IsWalked vars nodes starts sets (bits_of (set after n added)) n flag)
-        (sym before_is)
-        (subst (λ sets. IsWalked vars nodes starts (set (bits_of before) n kept.bits) sets n flag)
-        (sym after_is) w)
-
-    -- the set before it grew
-    pub walked_grown : kept.bits ≢ (get_or before n row).bits → IsWalked vars nodes starts
-        (bits_of (set before n kept)) (bits_of (set after n added)) n true
-    walked_grown differs =
-        as_sets true (IsWalked-more vars nodes starts (bits_of before) (bits_of after)
-        (set (bits_of before) n kept.bits) (set (bits_of after) n added.bits) n (get_or nodes n d)
-        changed walked step
-        (live_places-more vars nodes (bits_of before) (bits_of after) n (get_or nodes n d) flow_is
-        walked.underway added.bits grew adds (get_or before n row).bits without.bits kept.bits
-        row_is without_set kept_is differs))
-
-    -- the set before it had all of that already
-    pub walked_still : kept.bits ≡ (get_or before n row).bits → IsWalked vars nodes starts
-        (bits_of (set before n kept)) (bits_of (set after n added)) n changed
-    walked_still same =
-        let stays = ap (λ s. set (bits_of before) n s) (same ∙ sym row_is)
-        ∙ set-get_or (bits_of before) n [] in
-        as_sets changed (IsWalked-same vars nodes starts (bits_of before) (bits_of after)
-        (set (bits_of before) n kept.bits) (set (bits_of after) n added.bits) n (get_or nodes n d)
-        changed walked step stays)
+      pub IsWalked-still : flag ≡ false → IsWalked vars nodes starts
+          (bits_of (set before n kept)) (bits_of (set after n added)) n changed
+      IsWalked-still quiet =
+          rw (before_is, after_is) (IsWalked-same vars nodes starts (bits_of before)
+          (bits_of after) (set (bits_of before) n kept.bits) (set (bits_of after) n added.bits) n
+          flow changed turn.walked step more_places
+          (kept_within vars nodes (bits_of before) (bits_of after) n flow turn.is
+          turn.walked.underway added.bits grew turn.adds may kept.bits flag p b quiet))

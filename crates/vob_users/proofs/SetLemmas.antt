@@ -1,15 +1,15 @@
 -- Sets as lists of bits, and lists of sets beside the lists that they come from.
-use Rattle.std.proofs.Common.{◌≡◌, ℕ, zero, suc, ◌+◌, ◌<◌, Bool, true, false, not, ◌||◌, ◌&&◌, ◌⊎◌, ◌↔◌, inl, inr, List, [], ◌∷◌, ◌++◌, map, length, replicate, get_or, set, take, refl, sym, ap, ◌∙◌, subst, arith}
+use Rattle.std.proofs.Common.{◌≡◌, ℕ, zero, suc, ◌+◌, ◌<◌, ◌≤◌, Bool, true, false, not, ◌||◌, ◌⊎◌, ◌↔◌, inl, inr, List, [], ◌∷◌, ◌++◌, length, replicate, get_or, take, refl, sym, ap, ◌∙◌, subst, arith}
 use Rattle.std.specs.List.{All, Any, AllZip, Contains}
 use Rattle.std.proofs.lemmas.Bool.{cases_eq, cases_lt, false≢true, false_from_ne_true, not-true, not_from_false, or_cases, or_left, or_right}
-use Rattle.std.proofs.lemmas.List.{length-replicate, length-map, length-set, get_or-map, get_or-set_same, get_or-set_other, get_or_past, get_or_append_left, get_or_push, length-append, length_push, take_more}
+use Rattle.std.proofs.lemmas.List.{length-replicate, get_or_past, get_or_append_left, get_or_push, length-append, length_push, take_more}
 use Rattle.std.proofs.lemmas.List.Elements.{All-nil, All-cons, Contains-push, Contains-append_left, Contains-push_cases}
 use Rattle.std.proofs.lemmas.List.Quantifiers.{Any-push}
 use Rattle.vob_block.specs.Packing.{item}
-use Rattle.vob_block.specs.Pointwise.{pointwise}
-use Rattle.vob_block.proofs.PointwiseLemmas.{length-pointwise, item-pointwise}
+use Rattle.vob.specs.Bits.{count_of, AreCombined, GainsBits, IsChanged, IsWritten}
+use Rattle.vob_users.specs.declared.live.Flow.{Flow}
 use Rattle.vob_users.specs.Live.{IsLive}
-use Rattle.vob_users.specs.LivePass.{IsSetOf, IsSetWithout, IsNextAdded}
+use Rattle.vob_users.specs.LivePass.{AddsMembers, IsSetOf, IsPossible, IsNextAdded}
 
 -- ---- bits
 
@@ -25,81 +25,109 @@ true_within bits v e = elim (cases_lt v (length bits)) [
   | inr past ↦ absurd (false≢true (sym (get_or_past bits v false past) ∙ e))
 ]
 
--- two lists of a length combined are as long
-pub pointwise_keeps : (f : Bool → Bool → Bool) (bits others after : List Bool) (n : ℕ) →
-    length bits ≡ n → length others ≡ n → after ≡ pointwise f bits others → length after ≡ n
-pointwise_keeps f bits others after n e g is =
-    ap length is ∙ length-pointwise f bits others (e ∙ sym g) ∙ e
+-- ---- more bits
 
--- a list that is emptied, gets the bits of one list and keeps those of another
-pub emptied_and_kept : (bits others kept : List Bool) → length others ≡ length bits →
-    length kept ≡ length bits →
-    pointwise ◌&&◌
-    (pointwise ◌||◌ (pointwise ◌&&◌ bits (replicate (length bits) false)) others) kept
-    ≡ pointwise ◌&&◌ others kept
-emptied_and_kept [] [] kept e f = refl
-emptied_and_kept [] (b ∷ others) kept e f = absurd (omega arith)
-emptied_and_kept (a ∷ bits) [] kept e f = absurd (omega arith)
-emptied_and_kept (a ∷ bits) (b ∷ others) [] e f = absurd (omega arith)
-emptied_and_kept (true ∷ bits) (b ∷ others) (c ∷ kept) e f =
-    ap (λ bs. (b && c) ∷ bs) (emptied_and_kept bits others kept (omega arith) (omega arith))
-emptied_and_kept (false ∷ bits) (b ∷ others) (c ∷ kept) e f =
-    ap (λ bs. (b && c) ∷ bs) (emptied_and_kept bits others kept (omega arith) (omega arith))
+-- a list that may have gained bits has as many or more
+gains_le : (grew : Bool) (bits after : List Bool) → GainsBits grew bits after →
+    count_of true bits ≤ count_of true after
+gains_le true bits after gains = omega (arith, gains.more refl)
+gains_le false bits after gains = omega (arith, ap (count_of true) (gains.same refl))
+
+pub gained_le : {grew : Bool} {bits after : List Bool} → GainsBits grew bits after →
+    count_of true bits ≤ count_of true after
+gained_le gains = gains_le _ _ _ gains
+
+pub GainsBits-more : {grew flag : Bool} {bits mid after : List Bool} → GainsBits grew bits mid →
+    GainsBits flag mid after → flag ≡ true → GainsBits true bits after
+GainsBits-more gains more up = record {
+  same = λ e. absurd (false≢true (sym e));
+  more = λ _. omega (arith, gained_le gains, more.more up);
+}
 
 -- ---- the set of some variables
 
-pub IsSetOf-none : (vars : ℕ) (members : List ℕ) →
-    IsSetOf vars (take 0 members) (replicate vars false)
-IsSetOf-none vars members = record {
-  count = length-replicate vars false;
+pub AddsMembers-none : (set : List Bool) (members : List ℕ) →
+    AddsMembers set (take 0 members) set
+AddsMembers-none set members = record {
+  count = refl;
   each = λ v. (
-    (λ e. absurd (false≢true (sym (item-replicate vars v) ∙ e))),
-    (λ within. absurd (omega (arith, within.1))),
+    (λ e. inl e),
+    (λ either. elim either [
+      | inl e ↦ e
+      | inr within ↦ absurd (omega (arith, within.1))
+    ]),
   );
 }
 
-module _ (vars : ℕ) (members : List ℕ) (bits : List Bool) (k m : ℕ) (inside : k < length members)
-    (is : get_or members k 0 ≡ m) (small : m < vars) (h : IsSetOf vars (take k members) bits) where
+module _ (start : List Bool) (members : List ℕ) (bits after : List Bool) (k m : ℕ)
+    (inside : k < length members) (is : get_or members k 0 ≡ m) (w : IsWritten bits m true after)
+    (h : AddsMembers start (take k members) bits) where
   more : take (k + 1) members ≡ take k members ++ m ∷ []
   more = take_more members k 0 inside ∙ ap (λ x. take k members ++ x ∷ []) is
 
-  each_more : (v : ℕ) → (item (set bits m true) v ≡ true → Contains (take k members ++ m ∷ []) v)
-      × (Contains (take k members ++ m ∷ []) v → item (set bits m true) v ≡ true)
+  each_more : (v : ℕ) → item after v ≡ true
+      ↔ ((item start v ≡ true) ⊎ Contains (take k members ++ m ∷ []) v)
   each_more v = elim (cases_eq v m) [
     | inl here ↦ (
-      (λ _. subst (λ x. Contains (take k members ++ m ∷ []) x) (sym here)
-          (Contains-push (take k members) m)),
-      (λ _. ap (item (set bits m true)) here
-          ∙ get_or-set_same bits m true false (omega (arith, h.count))),
+      (λ _. inr (subst (λ x. Contains (take k members ++ m ∷ []) x) (sym here)
+          (Contains-push (take k members) m))),
+      (λ _. ap (item after) here ∙ w.there),
     )
-    | inr other ↦
-        let stays = get_or-set_other bits m v true false other in (
-          (λ e. Contains-append_left (take k members) (m ∷ []) v ((h.each v).0 (sym stays ∙ e))),
-          (λ within. elim (Contains-push_cases (take k members) m v within) [
-            | inl before ↦ stays ∙ (h.each v).1 before
-            | inr same ↦ absurd (other (sym same))
-          ]),
-        )
+    | inr other ↦ (
+      (λ e. elim ((h.each v).0 (sym (w.others v other) ∙ e)) [
+        | inl old ↦ inl old
+        | inr one ↦ inr (Contains-append_left (take k members) (m ∷ []) v one)
+      ]),
+      (λ either. w.others v other ∙ (h.each v).1 (elim either [
+        | inl old ↦ inl old
+        | inr within ↦ elim (Contains-push_cases (take k members) m v within) [
+          | inl before ↦ inr before
+          | inr same ↦ absurd (other (sym same))
+        ]
+      ])),
+    )
   ]
 
-  pub IsSetOf-more : IsSetOf vars (take (k + 1) members) (set bits m true)
-  IsSetOf-more = record {
-    count = length-set bits m true ∙ h.count;
-    each = λ v. subst (λ xs. (item (set bits m true) v ≡ true → Contains xs v)
-        × (Contains xs v → item (set bits m true) v ≡ true)) (sym more) (each_more v);
+  pub AddsMembers-more : AddsMembers start (take (k + 1) members) after
+  AddsMembers-more = record {
+    count = w.len ∙ h.count;
+    each = λ v. subst (λ xs. item after v ≡ true ↔ ((item start v ≡ true) ⊎ Contains xs v))
+        (sym more) (each_more v);
   }
 
--- the other variables
-pub IsSetWithout-negated : (vars : ℕ) (members : List ℕ) (bits : List Bool) →
-    IsSetOf vars members bits → IsSetWithout vars members (map not bits)
-IsSetWithout-negated vars members bits h = record {
-  count = length-map bits not ∙ h.count;
+pub IsSetOf-added : (vars : ℕ) (members : List ℕ) (set : List Bool) →
+    AddsMembers (replicate vars false) members set → IsSetOf vars members set
+IsSetOf-added vars members set h = record {
+  count = h.count ∙ length-replicate vars false;
+  each = λ v. (
+    (λ e. elim ((h.each v).0 e) [
+      | inl old ↦ absurd (false≢true (sym (item-replicate vars v) ∙ old))
+      | inr one ↦ one
+    ]),
+    (λ one. (h.each v).1 (inr one)),
+  );
+}
+
+-- the variables that aren't written, and those that are read
+pub IsPossible-added : (vars : ℕ) (flow : Flow) (written others set : List Bool) →
+    IsSetOf vars flow.writes.items written → IsChanged not written others →
+    AddsMembers others flow.reads.items set → IsPossible vars flow set
+IsPossible-added vars flow written others set w changed h = record {
+  count = h.count ∙ changed.len ∙ w.count;
   each = λ v less.
-      let is = get_or-map not bits v false false (omega (arith, h.count)) in (
-        (λ e within. false≢true (sym (not-true (item bits v) (sym is ∙ e)) ∙ (h.each v).1 within)),
-        (λ without.
-            let out = false_from_ne_true (item bits v) (λ e. without ((h.each v).0 e)) in
-            is ∙ not_from_false (item bits v) out),
+      let is = changed.each v (omega (arith, less, w.count)) in (
+        (λ e. elim ((h.each v).0 e) [
+          | inl out ↦
+              let off = not-true (item written v) (sym is ∙ out) in
+              inr (λ within. false≢true (sym off ∙ (w.each v).1 within))
+          | inr read ↦ inl read
+        ]),
+        (λ either. (h.each v).1 (elim either [
+          | inl read ↦ inr read
+          | inr without ↦
+              let off = false_from_ne_true (item written v) (λ e. without ((w.each v).0 e)) in
+              inl (is ∙ not_from_false (item written v) off)
+        ])),
       );
 }
 
@@ -166,42 +194,39 @@ Any-map P Q xs f (k, x, less, is, p) = (k, x, less, is, f x p)
 
 module _ (before : List (List Bool)) (next : List ℕ) (set bits row after : List Bool) (grew : Bool)
     (k m : ℕ) (inside : k < length next) (at : get_or next k 0 ≡ m) (is : get_or before m [] ≡ row)
-    (long : length bits ≡ length row) (added : after ≡ pointwise ◌||◌ bits row)
-    (h : IsNextAdded before (take k next) set bits grew) where
-  next_more : take (k + 1) next ≡ take k next ++ m ∷ []
-  next_more = take_more next k 0 inside ∙ ap (λ n. take k next ++ n ∷ []) at
+    (added : AreCombined ◌||◌ bits row after) (h : IsNextAdded before (take k next) set bits grew)
+  where
+    next_more : take (k + 1) next ≡ take k next ++ m ∷ []
+    next_more = take_more next k 0 inside ∙ ap (λ n. take k next ++ n ∷ []) at
 
-  bit : (v : ℕ) → item after v ≡ (item bits v || item row v)
-  bit v = ap (λ bs. item bs v) added ∙ item-pointwise ◌||◌ bits row long refl v
+    row_bit : (v : ℕ) → item (get_or before m []) v ≡ item row v
+    row_bit v = ap (λ bs. item bs v) is
 
-  row_bit : (v : ℕ) → item (get_or before m []) v ≡ item row v
-  row_bit v = ap (λ bs. item bs v) is
+    each_next : (v : ℕ) → item after v ≡ true
+        ↔ ((item set v ≡ true) ⊎ Any (λ n. IsLive before n v) (take k next ++ m ∷ []))
+    each_next v = (
+      (λ e. elim (or_cases (item bits v) (item row v) (sym (added.each v) ∙ e)) [
+        | inl old ↦ elim ((h.each v).0 old) [
+          | inl first ↦ inl first
+          | inr any ↦ inr (Any-append_left (λ n. IsLive before n v) (take k next) (m ∷ []) any)
+        ]
+        | inr new ↦
+            inr (Any-push (λ n. IsLive before n v) (take k next) m (row_bit v ∙ new))
+      ]),
+      (λ either. added.each v ∙ elim either [
+        | inl first ↦ or_left (item bits v) (item row v) ((h.each v).1 (inl first))
+        | inr any ↦ elim (Any-push_cases (λ n. IsLive before n v) (take k next) m any) [
+          | inl old ↦ or_left (item bits v) (item row v) ((h.each v).1 (inr old))
+          | inr new ↦ or_right (item bits v) (item row v) (sym (row_bit v) ∙ new)
+        ]
+      ]),
+    )
 
-  each_next : (v : ℕ) → item after v ≡ true
-      ↔ ((item set v ≡ true) ⊎ Any (λ n. IsLive before n v) (take k next ++ m ∷ []))
-  each_next v = (
-    (λ e. elim (or_cases (item bits v) (item row v) (sym (bit v) ∙ e)) [
-      | inl old ↦ elim ((h.each v).0 old) [
-        | inl first ↦ inl first
-        | inr any ↦ inr (Any-append_left (λ n. IsLive before n v) (take k next) (m ∷ []) any)
-      ]
-      | inr new ↦
-          inr (Any-push (λ n. IsLive before n v) (take k next) m (row_bit v ∙ new))
-    ]),
-    (λ either. elim either [
-      | inl first ↦ bit v ∙ or_left (item bits v) (item row v) ((h.each v).1 (inl first))
-      | inr any ↦ elim (Any-push_cases (λ n. IsLive before n v) (take k next) m any) [
-        | inl old ↦ bit v ∙ or_left (item bits v) (item row v) ((h.each v).1 (inr old))
-        | inr new ↦ bit v ∙ or_right (item bits v) (item row v) (sym (row_bit v) ∙ new)
-      ]
-    ]),
-  )
-
-  pub IsNextAdded-more : (flag : Bool) → (flag ≡ false → after ≡ set) →
-      IsNextAdded before (take (k + 1) next) set after flag
-  IsNextAdded-more flag same = record {
-    count = ap length added ∙ length-pointwise ◌||◌ bits row long ∙ h.count;
-    each = λ v. subst (λ nodes. item after v ≡ true
-        ↔ ((item set v ≡ true) ⊎ Any (λ n. IsLive before n v) nodes)) (sym next_more) (each_next v);
-    same = same;
-  }
+    pub IsNextAdded-more : (flag : Bool) → GainsBits flag set after →
+        IsNextAdded before (take (k + 1) next) set after flag
+    IsNextAdded-more flag gains = record {
+      count = added.len ∙ h.count;
+      each = λ v. subst (λ nodes. item after v ≡ true
+          ↔ ((item set v ≡ true) ⊎ Any (λ n. IsLive before n v) nodes)) (sym next_more) (each_next v);
+      gains = gains;
+    }

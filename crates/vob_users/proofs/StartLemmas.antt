@@ -5,15 +5,15 @@ use Rattle.std.proofs.Math.Nat.{mul-le-mul_left}
 use Rattle.std.proofs.lemmas.Bool.{cases_lt, false≢true}
 use Rattle.std.proofs.lemmas.List.{length-map, length-replicate, get_or-map, get_or-replicate, get_or_past}
 use Rattle.std.proofs.lemmas.List.Elements.{All-map, All-replicate}
-use Rattle.std.proofs.lemmas.List.Sums.{sum_by-le}
+use Rattle.std.proofs.lemmas.List.Sums.{sum_by-le, count_by-le-length}
 use Rattle.std.proofs.lemmas.Option.{slice_get_cases, slice_get_within, get_or_from_slice_get}
 use Rattle.vob_block.specs.Packing.{item}
+use Rattle.vob.specs.Bits.{count_of}
 use Rattle.vob.specs.Vob.{BitVector}
+use Rattle.vob_walk.specs.Matches.{has_value}
 use Rattle.vob_users.specs.declared.live.Flow.{Flow}
-use Rattle.vob_users.specs.Reachable.{trues}
 use Rattle.vob_users.specs.Live.{AreSets, IsLive, IsLiveNext, IsSolution, bits_of}
-use Rattle.vob_users.specs.LivePass.{IsSetOf, AreReads, AreUnderway, IsPass, live_places}
-use Rattle.vob_users.proofs.ReachLemmas.{trues_le}
+use Rattle.vob_users.specs.LivePass.{IsSetOf, AreReads, AreUnderway, live_places}
 use Rattle.vob_users.proofs.SetLemmas.{item-replicate, AllZip-length, AllZip-at, AllZip-all}
 
 -- a node has a set where something is live
@@ -118,18 +118,12 @@ IsSolution-whole vars nodes before after h none = record {
 pub live_places_le : (vars nodes : ℕ) (sets : List (List Bool)) → AreSets vars nodes sets →
     live_places sets ≤ nodes * vars
 live_places_le vars nodes sets h =
-    let small : All (λ s. trues s ≤ vars) sets =
-    λ k d less. omega (arith, trues_le (get_or sets k d), h.long k d less) in
-    subst (λ m. live_places sets ≤ m * vars) h.count (sum_by-le trues vars sets small)
+    let small : All (λ s. count_of true s ≤ vars) sets =
+    λ k d less.
+    omega (arith, count_by-le-length (has_value true) (get_or sets k d), h.long k d less) in
+    subst (λ m. live_places sets ≤ m * vars) h.count (sum_by-le (count_of true) vars sets small)
 
 -- ---- the number of passes
-
--- a pass that goes on made a place more true, of which there are only so many
-pub fewer_places : (vars : ℕ) (nodes : List Flow) (starts before after : List (List Bool))
-    (changed : Bool) → IsPass vars nodes starts before after changed → changed ≡ true →
-    (live_places starts < live_places before) × (live_places before ≤ length nodes * vars)
-fewer_places vars nodes starts before after changed pass e =
-    (pass.more e, live_places_le vars (length nodes) before pass.underway.before_sets)
 
 pub product_fits : (nodes vars : ℕ) → nodes < 2 ^ 64 → vars < 2 ^ 64 → nodes * vars + 1 < 2 ^ 128
 product_fits nodes vars few small =

@@ -1,8 +1,9 @@
 -- Which variables are live at the nodes of a flow graph: the sets that solve its flow equations.
-use Rattle.std.specs.Prelude.{◌≡◌, ℕ, ◌⊎◌, ◌↔◌, Bool, true, List, [], length, map, slice_index_or, slice_get, Some, All, Any, Contains}
+use Rattle.std.specs.Prelude.{◌≡◌, ℕ, ◌+◌, ◌*◌, ◌≤◌, ◌⊎◌, ◌↔◌, Bool, true, List, [], length, map, slice_index_or, slice_get, Some, All, Any, Contains}
 use Rattle.vob_block.specs.Packing.{item}
 use Rattle.vob.specs.Vob.{BitVector}
 use Rattle.vob_users.specs.declared.live.Flow.{Flow}
+use Rattle.vob_users.specs.declared.live.Live.{Live}
 
 -- the bits of some Vobs
 abbrev pub bits_of : List BitVector → List (List Bool)
@@ -45,3 +46,9 @@ abbrev pub AreLeast : ℕ → List Flow → List (List Bool) → List (List Bool
 AreLeast vars nodes before after = (others others_after : List (List Bool)) →
     IsSolution vars nodes others others_after →
     AreWithin before others × AreWithin after others_after
+
+-- the least sets that meet the flow equations, found in at most one pass for each place and one more
+pub record AreLive (vars : ℕ) (nodes : List Flow) (live : Live) : Type 0 where
+  pub solution : IsSolution vars nodes (bits_of live.before.items) (bits_of live.after.items)
+  pub least : AreLeast vars nodes (bits_of live.before.items) (bits_of live.after.items)
+  pub rounds : live.rounds ≤ 1 + length nodes * vars

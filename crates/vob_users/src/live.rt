@@ -1,10 +1,10 @@
 //! Which variables a program still needs at each of its steps: a dataflow analysis, and a user of
 //! `or`, `and` and `negate`.
-ghost use Rattle.std.specs.Prelude.{◌≡◌, ◌≢◌, ◌↔◌, ℕ, ◌+◌, ◌*◌, ◌<◌, ◌≤◌, ◌&&◌, ◌||◌, false, [], length, replicate, All, IsTrue, IfOk, IfErr, OnOk, IsOk, Err};
-ghost use Rattle.vob_block.specs.Pointwise.{pointwise};
+ghost use Rattle.std.specs.Prelude.{◌≡◌, ◌≢◌, ◌↔◌, ℕ, ◌<◌, false, [], length, replicate, All, IsTrue, IfOk, IfErr, OnOk, IsOk, Err};
+ghost use Rattle.vob.specs.Vob.{HaveSameLength};
 ghost use Rattle.vob_users.specs.FlowFaults.{IsBadNext, IsBadVariable, IsSound, NamesVariables};
-ghost use Rattle.vob_users.specs.Live.{AreLeast, bits_of, IsSolution};
-ghost use Rattle.vob_users.specs.LivePass.{AreReads, AreReady, AreUnwritten, IsFault, IsNextAdded, IsPass, IsSetOf};
+ghost use Rattle.vob_users.specs.Live.{AreLive, bits_of};
+ghost use Rattle.vob_users.specs.LivePass.{AddsMembers, ArePossible, AreReads, AreReady, IsFault, IsNextAdded, IsPass, IsPossibleAdded, IsSetOf};
 
 use std::alloc::{AllocError, Global};
 use std::error::Error;
@@ -111,15 +111,23 @@ fn check_nodes(vars: usize, nodes: &[Flow]) -> Result<(), LiveError>
     Ok(())
 }
 
+/// Adds some variables to a set.
+fn add_members(set: &mut Vob, members: &[usize])
+    requires { All (λ member. member < length set.old.bits) members.now }
+    ensures { AddsMembers set.old.bits members.now set.new.bits }
+{
+    for member in members {
+        set.set(*member, true);
+    }
+}
+
 /// The set of some variables.
 fn set_of(alloc: Global, vars: usize, members: &[usize]) -> Result<Vob, AllocError>
     requires { All (λ member. member < vars) members.now }
     ensures { IfOk result (λ set. IsSetOf vars members.now set.bits) }
 {
     let mut set = Vob::from_elem(alloc, false, vars)?;
-    for member in members {
-        set.set(*member, true);
-    }
+    add_members(&mut set, members);
     Ok(set)
 }
 
@@ -135,27 +143,29 @@ fn read_sets(alloc: Global, vars: usize, nodes: &[Flow]) -> Result<Vec<Vob>, All
     Ok(sets)
 }
 
-/// The variables that each node doesn't write.
-fn unwritten_sets(alloc: Global, vars: usize, nodes: &[Flow]) -> Result<Vec<Vob>, AllocError>
+/// The variables that may be live before each node: those that it reads, and those that it doesn't
+/// write.
+fn possible_sets(alloc: Global, vars: usize, nodes: &[Flow]) -> Result<Vec<Vob>, AllocError>
     requires { All (IsSound vars nodes.now) nodes.now }
-    ensures { IfOk result (λ sets. AreUnwritten vars nodes.now sets.items) }
+    ensures { IfOk result (λ sets. ArePossible vars nodes.now sets.items) }
 {
     let mut sets = Vec::with_capacity(alloc, nodes.len())?;
     for flow in nodes {
         let mut set = set_of(alloc, vars, &flow.writes)?;
         set.negate();
+        add_members(&mut set, &flow.reads);
         sets.push(set)?;
     }
     Ok(sets)
 }
 
-/// As many copies of a set as there are nodes.
-fn copies(alloc: Global, set: &Vob, count: usize) -> Result<Vec<Vob>, AllocError>
-    ensures { IfOk result (λ sets. bits_of sets.items ≡ replicate count set.now.bits) }
+/// A set with nothing for each node.
+fn empty_sets(alloc: Global, vars: usize, nodes: usize) -> Result<Vec<Vob>, AllocError>
+    ensures { IfOk result (λ sets. bits_of sets.items ≡ replicate nodes (replicate vars false)) }
 {
-    let mut sets = Vec::with_capacity(alloc, count)?;
-    for _ in 0..count {
-        sets.push(set.clone()?)?;
+    let mut sets = Vec::with_capacity(alloc, nodes)?;
+    for _ in 0..nodes {
+        sets.push(Vob::from_elem(alloc, false, vars)?)?;
     }
     Ok(sets)
 }
@@ -175,55 +185,29 @@ fn add_next(after: &mut Vob, next: &[usize], before: &[Vob]) -> bool
     grew
 }
 
-/// Adds what is live after a node and not written there, and answers whether that added a
-/// variable. `scratch` is overwritten.
-fn add_unwritten(
-    before: &mut Vob,
-    after: &Vob,
-    unwritten: &Vob,
-    none: &Vob,
-    scratch: &mut Vob,
-) -> bool
-    requires after { length after.now.bits ≡ length before.old.bits }
-    requires unwritten { length unwritten.now.bits ≡ length before.old.bits }
-    requires none { none.now.bits ≡ replicate (length before.old.bits) false }
-    requires scratch { length scratch.old.bits ≡ length before.old.bits }
-    ensures bits { before.new.bits
-        ≡ pointwise ◌||◌ before.old.bits (pointwise ◌&&◌ after.now.bits unwritten.now.bits) }
-    ensures changed { IsTrue result ↔ (before.new.bits ≢ before.old.bits) }
-    ensures scratch { length scratch.new.bits ≡ length scratch.old.bits }
+/// Adds what is live after a node and possible before it, and answers whether anything after it
+/// wasn't live before it. What is both read and live after it is live before it already, so that
+/// this adds what isn't written alone.
+fn add_possible(before: &mut Vob, after: &Vob, possible: &Vob) -> bool
+    requires after { HaveSameLength before.old after.now }
+    requires possible { HaveSameLength before.old possible.now }
+    ensures { IsPossibleAdded before.old.bits after.now.bits possible.now.bits
+        before.new.bits result }
 {
-    scratch.and(none);
-    scratch.or(after);
-    scratch.and(unwritten);
-    before.or(scratch)
+    let grew = before.or(after);
+    before.and(possible);
+    grew
 }
 
-/// Goes over all nodes once, the last one first, and answers whether a set before a node grew.
-fn pass(
-    nodes: &[Flow],
-    unwritten: &[Vob],
-    none: &Vob,
-    before: &mut [Vob],
-    after: &mut [Vob],
-    scratch: &mut Vob,
-) -> bool
-    requires { AreReady nodes.now unwritten.now before.old after.old
-        none.now.bits scratch.old.bits }
-    ensures pass { IsPass (length none.now.bits) nodes.now
-        (bits_of before.old) (bits_of before.new) (bits_of after.new) result }
-    ensures scratch { length scratch.new.bits ≡ length scratch.old.bits }
+/// Goes over all nodes once, the last one first, and answers whether there may be more to add.
+fn pass(vars: usize, nodes: &[Flow], possible: &[Vob], live: &mut Live) -> bool
+    requires { AreReady vars nodes.now possible.now live.old }
+    ensures { IsPass vars nodes.now live.old live.new result }
 {
     let mut changed = false;
     for node in (0..nodes.len()).rev() {
-        if add_next(&mut after[node], &nodes[node].next, before)
-            && add_unwritten(
-                &mut before[node],
-                &after[node],
-                &unwritten[node],
-                none,
-                scratch,
-            )
+        if add_next(&mut live.after[node], &nodes[node].next, &live.before)
+            && add_possible(&mut live.before[node], &live.after[node], &possible[node])
         {
             changed = true;
         }
@@ -231,38 +215,22 @@ fn pass(
     changed
 }
 
-/// Goes over all nodes until no set grows, and answers how often it went.
-fn settle(
-    nodes: &[Flow],
-    unwritten: &[Vob],
-    none: &Vob,
-    before: &mut [Vob],
-    after: &mut [Vob],
-    scratch: &mut Vob,
-) -> u128
-    requires { AreReady nodes.now unwritten.now before.old after.old
-        none.now.bits scratch.old.bits }
-    ensures solution { IsSolution (length none.now.bits) nodes.now
-        (bits_of before.new) (bits_of after.new) }
-    ensures least { AreLeast (length none.now.bits) nodes.now
-        (bits_of before.new) (bits_of after.new) }
-    ensures rounds { result ≤ 1 + length nodes.now * length none.now.bits }
+/// Goes over all nodes until there is no more to add, and counts how often it went.
+fn settle(vars: usize, nodes: &[Flow], possible: &[Vob], live: &mut Live)
+    requires ready { AreReady vars nodes.now possible.now live.old }
+    requires rounds { live.old.rounds ≡ 0 }
+    ensures { AreLive vars nodes.now live.new }
 {
-    let mut rounds = 1;
-    'passes: while pass(nodes, unwritten, none, before, after, scratch) {
-        rounds += 1;
+    live.rounds = 1;
+    'passes: while pass(vars, nodes, possible, live) {
+        live.rounds += 1;
     }
-    rounds
 }
 
 /// The least sets that meet the flow equations. Where there are no nodes, no memory is asked for.
 fn solve(alloc: Global, vars: usize, nodes: &[Flow]) -> Result<Live, AllocError>
     requires { All (IsSound vars nodes.now) nodes.now }
-    ensures solution { IfOk result (λ live. IsSolution vars nodes.now
-        (bits_of live.before.items) (bits_of live.after.items)) }
-    ensures least { IfOk result (λ live. AreLeast vars nodes.now
-        (bits_of live.before.items) (bits_of live.after.items)) }
-    ensures rounds { IfOk result (λ live. live.rounds ≤ 1 + length nodes.now * vars) }
+    ensures live { IfOk result (AreLive vars nodes.now) }
     ensures nothing { nodes.now ≡ [] → IsOk result }
 {
     if nodes.is_empty() {
@@ -272,34 +240,20 @@ fn solve(alloc: Global, vars: usize, nodes: &[Flow]) -> Result<Live, AllocError>
             rounds: 0,
         });
     }
-    let mut before = read_sets(alloc, vars, nodes)?;
-    let unwritten = unwritten_sets(alloc, vars, nodes)?;
-    let none = Vob::from_elem(alloc, false, vars)?;
-    let mut after = copies(alloc, &none, nodes.len())?;
-    let mut scratch = none.clone()?;
-    let rounds = settle(
-        nodes,
-        &unwritten,
-        &none,
-        &mut before,
-        &mut after,
-        &mut scratch,
-    );
-    Ok(Live {
-        before,
-        after,
-        rounds,
-    })
+    let possible = possible_sets(alloc, vars, nodes)?;
+    let mut live = Live {
+        before: read_sets(alloc, vars, nodes)?,
+        after: empty_sets(alloc, vars, nodes.len())?,
+        rounds: 0,
+    };
+    settle(vars, nodes, &possible, &mut live);
+    Ok(live)
 }
 
 /// The least sets that meet the flow equations: after a node is live what is live before a node
 /// that comes next, and before it what it reads and what is live after it and not written there.
 pub fn liveness(alloc: Global, vars: usize, nodes: &[Flow]) -> Result<Live, LiveError>
-    ensures solution { IfOk result (λ live. IsSolution vars nodes.now
-        (bits_of live.before.items) (bits_of live.after.items)) }
-    ensures least { IfOk result (λ live. AreLeast vars nodes.now
-        (bits_of live.before.items) (bits_of live.after.items)) }
-    ensures rounds { IfOk result (λ live. live.rounds ≤ 1 + length nodes.now * vars) }
+    ensures live { IfOk result (AreLive vars nodes.now) }
 
     // The nodes are checked first, and memory is asked for only where there are nodes.
     ensures bad_variable { (node : ℕ)

@@ -1,4 +1,4 @@
--- The sets are on the way to the least solution, and each pass made a place more true.
+-- The sets are on the way to the least solution, and each pass made a place after a node true.
 use Rattle.std.proofs.Common.{◌+◌, ◌-◌, ◌*◌, ◌≤◌, length}
 use Rattle.vob_users.specs.Live.{bits_of}
 use Rattle.vob_users.specs.LivePass.{AreReady, live_places}
@@ -7,9 +7,10 @@ use Rattle.vob_users.proofs.live.settle.Given as goal
 abbrev pub invariant-passes : goal.invariant-passes
 invariant-passes l =
     record {
-      ready : AreReady l.nodes l.unwritten l.before l.after l.none.bits l.scratch.bits;
-      rounds : l.rounds ≤ 1 + live_places (bits_of l.before);
+      ready : AreReady l.vars l.nodes l.possible l.live;
+      rounds : l.live.rounds ≤ 1 + live_places (bits_of l.live.after.items);
     }
 
 abbrev pub decreases-passes : goal.decreases-passes
-decreases-passes l = length l.nodes * length l.none.bits - live_places (bits_of l.before)
+decreases-passes l =
+    length l.nodes * l.vars - live_places (bits_of l.live.after.items)
