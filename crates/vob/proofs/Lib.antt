@@ -1,5 +1,6 @@
 pub mod BitsLemmas
 pub mod ChangeLemmas
+pub mod CombineLemmas
 pub mod ExtendingLemmas
 pub mod HashLemmas
 pub mod ItemLemmas
