@@ -206,10 +206,9 @@ module _ (vars : ℕ) (nodes : List Flow) where
   -- all nodes were walked
   pub IsPass-whole : (start end : Live) (k : ℕ) (changed : Bool) →
       IsWalked (bits_of start.after.items) (bits_of end.before.items) (bits_of end.after.items)
-      k changed → k ≡ 0 → end.rounds ≡ start.rounds → IsPass vars nodes start end changed
-  IsPass-whole start end k changed h whole rounds = record {
+      k changed → k ≡ 0 → IsPass vars nodes start end changed
+  IsPass-whole start end k changed h whole = record {
     underway = h.underway;
-    rounds = rounds;
     more = h.more;
     none = λ e n flow is. h.none e n flow (omega arith) is;
   }

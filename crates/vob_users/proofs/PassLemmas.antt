@@ -1,15 +1,16 @@
 -- One node of a pass, as the code leaves its sets.
 use Rattle.std.proofs.Common.{◌≡◌, ◌↔◌, ℕ, ◌+◌, ◌<◌, ◌≤◌, ◌⊎◌, ◌&&◌, ◌||◌, Bool, true, false, inl, inr, List, [], length, get_or, set, Some, slice_get, refl, sym, ap, ◌∙◌, subst, arith}
-use Rattle.std.specs.List.{Contains}
+use Rattle.std.specs.List.{All, Contains}
 use Rattle.std.proofs.lemmas.Bool.{cases_eq, or_cases, or_left, or_right, and_parts, and_from}
 use Rattle.std.proofs.lemmas.List.{length-map, length-set, get_or-map, map-set, get_or-set_same, get_or-set_other}
 use Rattle.std.proofs.lemmas.List.Elements.{All-set}
 use Rattle.std.proofs.lemmas.List.Sums.{sum_by-set}
-use Rattle.std.proofs.lemmas.Option.{slice_get_within, slice_get-get_or}
+use Rattle.std.proofs.lemmas.Option.{slice_get_within, slice_get-get_or, get_or_from_slice_get}
 use Rattle.vob_block.specs.Packing.{item}
 use Rattle.vob.specs.Bits.{count_of}
 use Rattle.vob.specs.Vob.{BitVector}
 use Rattle.vob_users.specs.declared.live.Flow.{Flow}
+use Rattle.vob_users.specs.FlowFaults.{NamesNodes}
 use Rattle.vob_users.specs.Live.{AreSets, AreWithin, IsLive, IsLiveNext, bits_of}
 use Rattle.vob_users.specs.LivePass.{IsPossible, ArePossible, IsPossibleAdded, IsNextAdded, AreUnderway, live_places}
 use Rattle.vob_users.proofs.SetLemmas.{true_within, gained_le, AllZip-at, AllZip-length}
@@ -175,6 +176,33 @@ possible_at vars nodes possible n flow may all less is =
     let R : Flow → BitVector → Type 0 = λ f s. IsPossible vars f s.bits in
     subst (λ s. R (get_or nodes n flow) s) (sym is) (AllZip-at R nodes possible n flow may all less)
 
+-- the sets before and after a node, and what the code asks of those that come next
+module _ {vars : ℕ} {nodes : List Flow} (before after : List BitVector)
+    (h : AreUnderway vars nodes (bits_of before) (bits_of after)) (n : ℕ) (less : n < length nodes)
+  where
+    pub same_long : (d e : BitVector) →
+        length (get_or before n d).bits ≡ length (get_or after n e).bits
+    same_long d e = vob_length before h.before_sets n d less
+        ∙ sym (vob_length after h.after_sets n e less)
+
+    pub possible_long : (d : BitVector) (flow : Flow) (possible : List BitVector) (may : BitVector) →
+        ArePossible vars nodes possible → may ≡ get_or possible n may →
+        length (get_or before n d).bits ≡ length may.bits
+    possible_long d flow possible may all is = vob_length before h.before_sets n d less
+        ∙ sym (possible_at vars nodes possible n flow may all less is).count
+
+    pub next_long : (e : BitVector) →
+        All (λ set. length set.bits ≡ length (get_or after n e).bits) before
+    next_long e = λ k d inside.
+        let count = vob_count before h.before_sets in
+        vob_length before h.before_sets k d (omega (arith, inside, count))
+        ∙ sym (vob_length after h.after_sets n e less)
+
+    pub next_inside : (flow : Flow) → All (NamesNodes (length nodes)) nodes →
+        All (λ m. m < length before) (get_or nodes n flow).next.items
+    next_inside flow all = λ k d inside.
+        omega (arith, vob_count before h.before_sets, all n flow less k d inside)
+
 -- ---- and the walk over the nodes goes on
 
 -- the set after node n got what is live before the nodes that come next
@@ -189,10 +217,10 @@ module _ {vars : ℕ} {nodes : List Flow} {starts : List (List Bool)} {before af
     {changed : Bool} where
   -- as the code has it
   pub IsTurn-from : {k : ℕ} (n : ℕ) (d : Flow) (e : BitVector) {sets : List BitVector}
-      {next : List ℕ} {row added : List Bool} {grew : Bool} →
+      {next : List ℕ} {row : BitVector} {added : List Bool} {grew : Bool} →
       IsWalked vars nodes starts (bits_of before) (bits_of after) k changed → k ≡ n + 1 →
       n < length nodes → sets ≡ before → next ≡ (get_or nodes n d).next.items →
-      row ≡ (get_or after n e).bits → IsNextAdded (bits_of sets) next row added grew →
+      row ≡ get_or after n e → IsNextAdded (bits_of sets) next row.bits added grew →
       IsTurn vars nodes starts before after n changed (get_or nodes n d) added grew
   IsTurn-from n d e walked step less sets_is next_is row_is adds =
       let count = vob_count after walked.underway.after_sets in
@@ -222,29 +250,32 @@ module _ {vars : ℕ} {nodes : List Flow} {starts : List (List Bool)} {before af
         turn.walked.underway added.bits grew turn.adds quiet)
         more_places (λ m v live. live))
 
-    -- what the code reads before it adds to the set before it
-    pub IsPossibleAdded-from : (e e' : BitVector) {row other may kept : List Bool} {flag : Bool} →
-        row ≡ (get_or before n e).bits → other ≡ (get_or (set after n added) n e').bits →
-        IsPossibleAdded row other may kept flag →
-        IsPossibleAdded (get_or (bits_of before) n []) added.bits may kept flag
-    IsPossibleAdded-from e e' row_is other_is b =
-        let less = slice_get_within nodes n flow turn.is in
-        let sets = turn.walked.underway in
-        let in_before = vob_count before sets.before_sets in
-        let in_after = vob_count after sets.after_sets in
-        let old = get_or-map (λ v. v.bits) before n e [] (omega (arith, less, in_before)) in
-        let new = get_or-set_same after n added e' (omega (arith, less, in_after)) in
-        rw (row_is ∙ sym old, other_is ∙ ap (λ v. v.bits) new) at b
+    -- and what is possible of it to the set before it
+    module _ (e : BitVector) {row : BitVector} {flag : Bool} (possible : List BitVector)
+        {may : BitVector} (kept : BitVector) (row_is : row ≡ get_or before n e)
+        (all : ArePossible vars nodes possible) (may_is : may ≡ get_or possible n may)
+        (adds : IsPossibleAdded row.bits added.bits may.bits kept.bits flag) where
+      less : n < length nodes
+      less = slice_get_within nodes n flow turn.is
 
-    module _ {may : List Bool} {flag : Bool} (kept : BitVector) (p : IsPossible vars flow may)
-        (b : IsPossibleAdded (get_or (bits_of before) n []) added.bits may kept.bits flag) where
+      p : IsPossible vars flow may.bits
+      p = subst (λ f. IsPossible vars f may.bits)
+          (get_or_from_slice_get nodes n flow flow turn.is)
+          (possible_at vars nodes possible n flow may all less may_is)
+
+      b : IsPossibleAdded (get_or (bits_of before) n []) added.bits may.bits kept.bits flag
+      b =
+          let count = vob_count before turn.walked.underway.before_sets in
+          let old = get_or-map (λ v. v.bits) before n e [] (omega (arith, less, count)) in
+          rw (row_is, sym old) at adds
+
       before_is : bits_of (set before n kept) ≡ set (bits_of before) n kept.bits
       before_is = map-set (λ v. v.bits) before n kept
 
       step : IsStep vars nodes n flow (bits_of before) (bits_of after)
           (set (bits_of before) n kept.bits) (set (bits_of after) n added.bits)
       step = IsStep-grown vars nodes (bits_of before) (bits_of after) n flow turn.is
-          turn.walked.underway added.bits grew turn.adds may kept.bits flag p b
+          turn.walked.underway added.bits grew turn.adds may.bits kept.bits flag p b
 
       -- what was added there may be live before it, or was live there already
       pub IsWalked-grown : grew ≡ true → IsWalked vars nodes starts
@@ -263,4 +294,4 @@ module _ {vars : ℕ} {nodes : List Flow} {starts : List (List Bool)} {before af
           (bits_of after) (set (bits_of before) n kept.bits) (set (bits_of after) n added.bits) n
           flow changed turn.walked step more_places
           (kept_within vars nodes (bits_of before) (bits_of after) n flow turn.is
-          turn.walked.underway added.bits grew turn.adds may kept.bits flag p b quiet))
+          turn.walked.underway added.bits grew turn.adds may.bits kept.bits flag p b quiet))

@@ -71,6 +71,7 @@ pub record AreUnderway (vars : ℕ) (nodes : List Flow) (before after : List (Li
 pub record AreReady (vars : ℕ) (nodes : List Flow) (possible : List BitVector) (live : Live)
     : Type 0 where
   pub next : All (NamesNodes (length nodes)) nodes
+  pub count : length possible ≡ length nodes
   pub possible_sets : ArePossible vars nodes possible
   pub underway : AreUnderway vars nodes (bits_of live.before.items) (bits_of live.after.items)
 
@@ -82,7 +83,6 @@ live_places sets = sum_by (count_of true) sets
 pub record IsPass (vars : ℕ) (nodes : List Flow) (start end : Live) (changed : Bool)
     : Type 0 where
   pub underway : AreUnderway vars nodes (bits_of end.before.items) (bits_of end.after.items)
-  pub rounds : end.rounds ≡ start.rounds
   pub more : changed ≡ true →
       live_places (bits_of start.after.items) < live_places (bits_of end.after.items)
   pub none : changed ≡ false → (n : ℕ) (flow : Flow) → slice_get nodes n ≡ Some flow →

@@ -206,8 +206,9 @@ fn pass(vars: usize, nodes: &[Flow], possible: &[Vob], live: &mut Live) -> bool
 {
     let mut changed = false;
     for node in (0..nodes.len()).rev() {
-        if add_next(&mut live.after[node], &nodes[node].next, &live.before)
-            && add_possible(&mut live.before[node], &live.after[node], &possible[node])
+        let after = &mut live.after[node];
+        if add_next(after, &nodes[node].next, &live.before)
+            && add_possible(&mut live.before[node], after, &possible[node])
         {
             changed = true;
         }
@@ -217,14 +218,14 @@ fn pass(vars: usize, nodes: &[Flow], possible: &[Vob], live: &mut Live) -> bool
 
 /// Goes over all nodes until there is no more to add, and counts how often it went.
 fn settle(vars: usize, nodes: &[Flow], possible: &[Vob], live: &mut Live)
-    requires ready { AreReady vars nodes.now possible.now live.old }
-    requires rounds { live.old.rounds ≡ 0 }
+    requires { AreReady vars nodes.now possible.now live.old }
     ensures { AreLive vars nodes.now live.new }
 {
-    live.rounds = 1;
+    let mut rounds = 1;
     'passes: while pass(vars, nodes, possible, live) {
-        live.rounds += 1;
+        rounds += 1;
     }
+    live.rounds = rounds;
 }
 
 /// The least sets that meet the flow equations. Where there are no nodes, no memory is asked for.

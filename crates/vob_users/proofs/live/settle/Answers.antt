@@ -4,20 +4,13 @@ use Rattle.vob_users.proofs.StartLemmas.{IsSolution-whole, live_places_le, produ
 use Rattle.vob_users.proofs.live.settle.Goals as goal
 
 pub passes-init : goal.passes-init
-passes-init c = record {
-  ready = record {
-    next = c.requires.ready.next;
-    possible_sets = c.requires.ready.possible_sets;
-    underway = c.requires.ready.underway;
-  };
-  rounds = omega arith;
-}
+passes-init c = record { ready = c.requires; rounds = omega arith }
 
 pub pass-requires : goal.pass-requires
 pass-requires c = c.passes.invariant.ready
 
-pub overflow_add-live : goal.overflow_add-live
-overflow_add-live c =
+pub overflow_add-rounds : goal.overflow_add-rounds
+overflow_add-rounds c =
     let nodes = c.args.nodes.now in
     let places = live_places_le c.args.vars (length nodes) _ c.pass.ensures.underway.after_sets in
     let fits = product_fits (length nodes) c.args.vars (omega arith) (omega arith) in
@@ -26,21 +19,20 @@ overflow_add-live c =
       fits,
       places,
       c.pass.ensures.more c.passes-test.true,
-      c.pass.ensures.rounds,
       c.passes.invariant.rounds,
     )
 
 pub passes-preserved : goal.passes-preserved
 passes-preserved c = record {
   ready = record {
-    next = c.requires.ready.next;
-    possible_sets = c.requires.ready.possible_sets;
+    next = c.requires.next;
+    count = c.requires.count;
+    possible_sets = c.requires.possible_sets;
     underway = c.pass.ensures.underway;
   };
   rounds = omega (
     arith,
     c.passes.invariant.rounds,
-    c.pass.ensures.rounds,
     c.pass.ensures.more c.passes-test.true,
   );
 }
@@ -59,5 +51,5 @@ returns c =
       solution = IsSolution-whole c.args.vars c.args.nodes.now _ _ c.pass.ensures.underway
           (c.pass.ensures.none c.passes-test.false);
       least = c.pass.ensures.underway.least;
-      rounds = omega (arith, places, c.passes.invariant.rounds, c.pass.ensures.rounds);
+      rounds = omega (arith, places, c.passes.invariant.rounds);
     }

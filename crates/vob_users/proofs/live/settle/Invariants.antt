@@ -8,7 +8,7 @@ abbrev pub invariant-passes : goal.invariant-passes
 invariant-passes l =
     record {
       ready : AreReady l.vars l.nodes l.possible l.live;
-      rounds : l.live.rounds ≤ 1 + live_places (bits_of l.live.after.items);
+      rounds : l.rounds ≤ 1 + live_places (bits_of l.live.after.items);
     }
 
 abbrev pub decreases-passes : goal.decreases-passes
