@@ -1,10 +1,7 @@
 -- Blocks with room for more bits than they store, at the numbers of some items.
-use Rattle.std.specs.Prelude.{All}
-use Rattle.std.proofs.Common.{◌≡◌, ℕ, ◌+◌, ◌-◌, ◌/◌, ◌%◌, ◌^◌, ◌<◌, ◌≤◌, List, [], ◌++◌, length, map, take, replicate, Bool, true, false, cond, sym, ap, ◌∙◌, subst, arith}
+use Rattle.std.proofs.Common.{◌≡◌, ℕ, ◌+◌, ◌-◌, ◌/◌, ◌%◌, ◌<◌, ◌≤◌, List, ◌++◌, length, map, take, replicate, Bool, true, false, cond, sym, ap, ◌∙◌, arith}
 use Rattle.std.proofs.lemmas.Bool.{cond-true}
 use Rattle.std.proofs.lemmas.List.{length-append, length-map, length-replicate, map-append, take_all, get_or_append_left}
-use Rattle.std.proofs.lemmas.List.Elements.{All-append, All-map, All-replicate, All-same, All-take, All-nil}
-use Rattle.std.proofs.lemmas.Nat.{pow_pos}
 use Rattle.vob_block.specs.Places.{place}
 use Rattle.vob_block.specs.Packing.{need, unpacking, IsCanonical}
 use Rattle.vob_block.proofs.NeedLemmas.{need-le-need, div-lt-need}
@@ -66,12 +63,6 @@ module _ {X : Type 0} (number : X → ℕ) (w : ℕ) (wide : 0 < w) (n m : ℕ) 
           length-map (replicate (need (n + m) w - length xs) zero) number,
           length-replicate (need (n + m) w - length xs) zero,
         );
-    within = subst (All (λ x. x < 2 ^ w)) (sym filled)
-        (All-append (λ x. x < 2 ^ w) (map number xs)
-        (map number (replicate (need (n + m) w - length xs) zero)) h.within
-        (All-map (λ x. x < 2 ^ w) number (replicate (need (n + m) w - length xs) zero)
-        (All-replicate (λ x. number x < 2 ^ w) (need (n + m) w - length xs) zero
-        (subst (λ (x : ℕ). x < 2 ^ w) (sym none) (pow_pos w)))));
     other = other;
   }
 
@@ -87,14 +78,3 @@ module _ {X : Type 0} (number : X → ℕ) (w : ℕ) (wide : 0 < w) (n m : ℕ) 
         bits =
             joined.bits ∙ ap (λ b. b ++ unpacking m others w) same;
       }
-
--- blocks that are filled up from nothing are within the width
-pub All-filled : {X : Type 0} (number : X → ℕ) (w : ℕ) (xs ys : List X) (t m : ℕ) (zero : X) → xs
-    ≡ [] → ys ≡ take t xs ++ replicate m zero → number zero ≡ 0
-    → All (λ x. x < 2 ^ w) (map number ys)
-All-filled number w xs ys t m zero empty is none =
-    let P = λ (x : _). number x < 2 ^ w in
-    All-map (λ x. x < 2 ^ w) number ys (All-same P ys (take t xs ++ replicate m zero) is
-    (All-append P (take t xs) (replicate m zero)
-    (All-take P t xs (All-same P xs [] empty (All-nil P)))
-    (All-replicate P m zero (subst (λ (x : ℕ). x < 2 ^ w) (sym none) (pow_pos w)))))

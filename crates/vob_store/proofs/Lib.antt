@@ -1,4 +1,5 @@
 pub mod AppendLemmas
+pub mod BuildLemmas
 pub mod CutLemmas
 pub mod FillLemmas
 pub mod FunnelLemmas

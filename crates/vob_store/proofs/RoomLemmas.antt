@@ -1,6 +1,6 @@
 -- Room for bits in blocks, at a plain width.
 use Rattle.std.specs.Int.{div_ceil}
-use Rattle.std.proofs.Common.{◌≡◌, ℕ, ◌-◌, ◌*◌, ◌^◌, ◌<◌, ◌≤◌, min, arith}
+use Rattle.std.proofs.Common.{◌≡◌, ℕ, ◌-◌, ◌*◌, ◌^◌, ◌<◌, ◌≤◌, min, arith, ◌+◌, mod-lt, div-add-mod', add-mul}
 use Rattle.std.proofs.lemmas.Nat.{mul-le}
 use Rattle.std.proofs.lemmas.Grind.{div_ceil_times}
 use Rattle.vob_block.specs.Packing.{need}
@@ -21,6 +21,18 @@ module _ (w : ℕ) (wide : 0 < w) where
   -- and elsewhere there isn't
   pub no_room : (n blocks : ℕ) → blocks < need n w → min (blocks * w) (2 ^ 64 - 1) < n
   no_room n blocks h = let short = mul-lt_from_need w wide n blocks h in omega (arith, short)
+
+  -- the blocks that bits need have less than one block of room behind them
+  pub need-lt : (n : ℕ) → need n w * w < n + w
+  unfolding need
+  need-lt n = omega (arith, div-add-mod' (n + (w - 1)) w, mod-lt (n + (w - 1)) wide)
+
+  -- bits behind k whole blocks need as many blocks more
+  pub need-add : (k n : ℕ) → need (k * w + n) w ≡ k + need n w
+  need-add k n =
+      let sum = add-mul k (need n w) w in
+      need_is w wide (k * w + n) (k + need n w) (omega (arith, need_enough w wide n))
+      (omega (arith, need-lt n))
 
 -- the bits of n bytes need a block of 64 for each eight bytes, rounded up
 pub need_in_bytes : (n bits : ℕ) → bits ≡ 8 * n → need bits 64 ≡ div_ceil n 8

@@ -1,11 +1,10 @@
 -- Blocks of bits joined behind the bits of others.
-use Rattle.std.specs.Prelude.{◌≡◌, ℕ, ◌+◌, ◌^◌, ◌<◌, List, ◌++◌, length, All}
+use Rattle.std.specs.Prelude.{◌≡◌, ℕ, ◌+◌, List, ◌++◌, length}
 use Rattle.vob_block.specs.Packing.{need, unpacking, IsCanonical, Stores}
 
 -- blocks with room for n bits and as many more as the others store
 pub record HaveRoom (width n more : ℕ) (blocks others : List ℕ) : Type 0 where
   pub count : length blocks ≡ need (n + more) width
-  pub within : All (λ x. x < 2 ^ width) blocks
   pub other : IsCanonical more others width
 
 -- the first n bits of some blocks, and behind them those of the others

@@ -1,51 +1,66 @@
 //! Joining: the bits of some blocks behind those of others. Blocks are stored whole, each made of two
 //! neighbours where the offset lies within a block.
-ghost use Rattle.std.specs.Prelude.{◌≡◌, ◌≢◌, ◌+◌, ◌-◌, ◌*◌, ◌%◌, ◌<◌, ◌≤◌, map, length, vec_capacity};
-ghost use Rattle.vob_block.specs.Packing.{IsCanonical};
+ghost use Rattle.std.specs.Prelude.{◌≡◌, ◌≢◌, ◌+◌, ◌-◌, ◌*◌, ◌%◌, ◌<◌, ◌≤◌, ◌∷◌, map, length, vec_capacity};
+ghost use Rattle.vob_block.specs.Packing.{bit_at, IsCanonical};
 ghost use Rattle.vob_block.specs.Reading.{AreReadOnce};
+ghost use Rattle.vob_store.specs.Building.{AreBuilt, joined_bit};
 ghost use Rattle.vob_store.specs.Joining.{HaveRoom, IsJoined};
 
 use crate::room::block_count;
 use vob_block::{Block, Blocks};
 
-/// Stores the blocks of `other` behind `len` bits that fill their blocks.
-fn join_whole<T: Block>(own: &mut [T], len: usize, other: &mut Blocks<'_, T>, more: usize)
-    requires room { HaveRoom T.BITS len more (map T.number own.old) (map T.number other.old.items) }
-    requires full { len % T.BITS ≡ 0 }
-    ensures joined { IsJoined T.BITS len more (map T.number own.old) (map T.number other.old.items)
-        (map T.number own.new) }
+/// Stores the blocks of `other` as they are.
+fn join_whole<T: Block>(own: &mut [T], other: &mut Blocks<'_, T>)
+    requires { length own.old ≡ length other.old.items }
+    ensures built { AreBuilt T.BITS (length own.old) (map T.number own.new)
+        (bit_at (map T.number other.old.items) T.BITS) }
     ensures read { AreReadOnce other.old other.new }
 {
-    let width = T::BITS;
-    let at = len / width;
-    for k in 0..block_count::<T>(more) {
-        let block = other.block(k);
-        block.in_range();
-        own[at + k] = block;
+    for k in 0..own.len() {
+        own[k] = other.block(k);
     }
 }
 
-/// Stores the bits of `other` behind `len` bits whose last block has room. Each block that is
-/// stored takes its low places from the block before, and the others from the block just read.
-fn join_shifted<T: Block>(own: &mut [T], len: usize, other: &mut Blocks<'_, T>, more: usize)
-    requires room { HaveRoom T.BITS len more (map T.number own.old) (map T.number other.old.items) }
-    requires partial { len % T.BITS ≢ 0 }
-    ensures joined { IsJoined T.BITS len more (map T.number own.old) (map T.number other.old.items)
-        (map T.number own.new) }
+/// Stores the bits from place `from` of `first` on, which the blocks of `other` follow. Each block that
+/// is stored takes its low places from the block before, and the others from the block just read.
+fn join_shifted<T: Block>(own: &mut [T], first: T, other: &mut Blocks<'_, T>, from: usize)
+    requires few { length other.old.items ≤ length own.old }
+    requires many { length own.old ≤ length other.old.items + 1 }
+    requires positive { 0 < from }
+    requires below { from < T.BITS }
+    ensures built { AreBuilt T.BITS (length own.old) (map T.number own.new)
+        (λ i. bit_at (T.number first ∷ map T.number other.old.items) T.BITS (from + i)) }
     ensures read { AreReadOnce other.old other.new }
 {
-    let width = T::BITS;
-    let at = len / width;
-    let from = width - len % width;
-    let mut before = own[at].up(from);
-    let count = block_count::<T>(more);
+    let mut before = first;
+    let count = other.len();
     for k in 0..count {
         let block = other.block(k);
-        own[at + k] = before.funnel_down(block, from);
+        own[k] = before.funnel_down(block, from);
         before = block;
     }
-    if at + count < own.len() {
-        own[at + count] = before.down(from);
+    if count < own.len() {
+        own[count] = before.funnel_down(T::ZERO, from);
+    }
+}
+
+/// Stores the bits of `other` behind the first `used` ones.
+fn join_behind<T: Block>(own: &mut [T], used: usize, other: &mut Blocks<'_, T>)
+    requires whole { used ≡ 0 → length own.old ≡ length other.old.items }
+    requires some { used ≢ 0 → 0 < length own.old }
+    requires few { length other.old.items ≤ length own.old }
+    requires many { length own.old ≤ length other.old.items + 1 }
+    requires below { used < T.BITS }
+    ensures built { AreBuilt T.BITS (length own.old) (map T.number own.new)
+        (joined_bit T.BITS used (map T.number own.old) (map T.number other.old.items)) }
+    ensures read { AreReadOnce other.old other.new }
+{
+    if used == 0 {
+        join_whole(own, other);
+    } else {
+        let from = T::BITS - used;
+        let first = own[0].up(from);
+        join_shifted(own, first, other, from);
     }
 }
 
@@ -56,11 +71,9 @@ fn join_into<T: Block>(own: &mut [T], len: usize, other: &mut Blocks<'_, T>, mor
         (map T.number own.new) }
     ensures read { AreReadOnce other.old other.new }
 {
-    if len % T::BITS == 0 {
-        join_whole(own, len, other, more);
-    } else {
-        join_shifted(own, len, other, more);
-    }
+    let width = T::BITS;
+    join_behind(&mut own[len / width..], len % width, other);
+    T::all_in_range(own);
 }
 
 /// Joins the `more` bits of `other` behind `len` bits, in the room that is there.

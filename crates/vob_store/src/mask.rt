@@ -31,6 +31,7 @@ pub fn negate<T: Block>(blocks: &mut [T], len: usize)
         let block = blocks[k];
         blocks[k] = block.bnot();
     }
+    T::all_in_range(blocks);
     mask_last(blocks, len);
 }
 

@@ -1,62 +1,49 @@
 //! Splitting: the blocks of the bits from an index on, each made of two neighbours where the index
 //! lies within a block.
-ghost use Rattle.std.specs.Prelude.{◌≡◌, ◌≢◌, ◌+◌, ◌-◌, ◌%◌, ◌^◌, ◌<◌, map, length, drop, All, IfOk};
-ghost use Rattle.vob_block.specs.Packing.{need, unpacking, IsCanonical, Stores};
+ghost use Rattle.std.specs.Prelude.{◌≡◌, ◌+◌, ◌-◌, ◌<◌, ◌≤◌, map, length, drop, slice_index_or, IfOk};
+ghost use Rattle.vob_block.specs.Packing.{bit_at, unpacking, IsCanonical, Stores};
+ghost use Rattle.vob_store.specs.Building.{AreBuilt};
 
 use crate::room::block_count;
 use std::alloc::{AllocError, Global};
 use vob_block::Block;
 
-/// Cuts off the bits from index `at` on, of `len` bits: a block of the answer is made of two.
-fn split_shifted<T: Block>(rest: &mut [T], blocks: &[T], len: usize, at: usize)
-    requires canonical { IsCanonical len (map T.number blocks.now) T.BITS }
-    requires inside { at < len }
-    requires count { length rest.old ≡ need (len - at) T.BITS }
-    requires within { All (λ n. n < 2 ^ T.BITS) (map T.number rest.old) }
-    requires partial { at % T.BITS ≢ 0 }
-    ensures { Stores T.BITS (len - at) (map T.number rest.new)
-        (drop at (unpacking len (map T.number blocks.now) T.BITS)) }
+/// Block `k`, or an empty one where there is none.
+fn block_or_zero<T: Block>(blocks: &[T], k: usize) -> T
+    ensures { T.number result ≡ slice_index_or (map T.number blocks.now) k 0 }
 {
-    let width = T::BITS;
-    let from = at % width;
-    let last = block_count::<T>(len - at) - 1;
-    let first = at / width;
+    if k < blocks.len() { blocks[k] } else { T::ZERO }
+}
+
+/// Stores the bits from place `from` of the first block on: each block takes its high places from the
+/// next one.
+fn split_shifted<T: Block>(rest: &mut [T], blocks: &[T], from: usize)
+    requires some { 0 < length rest.old }
+    requires count { length rest.old ≤ length blocks.now }
+    requires positive { 0 < from }
+    requires below { from < T.BITS }
+    ensures { AreBuilt T.BITS (length rest.old) (map T.number rest.new)
+        (λ i. bit_at (map T.number blocks.now) T.BITS (from + i)) }
+{
+    let last = rest.len() - 1;
     for k in 0..last {
-        rest[k] = blocks[first + k].funnel_down(blocks[first + k + 1], from);
+        rest[k] = blocks[k].funnel_down(blocks[k + 1], from);
     }
-    let low = blocks[first + last];
-    if first + last + 1 < blocks.len() {
-        rest[last] = low.funnel_down(blocks[first + last + 1], from);
-    } else {
-        rest[last] = low.down(from);
-    }
+    rest[last] = blocks[last].funnel_down(block_or_zero(blocks, last + 1), from);
 }
 
-/// Cuts off the bits from index `at` on, of `len` bits, where `at` is the first bit of a block.
-fn split_whole<T: Block>(rest: &mut [T], blocks: &[T], len: usize, at: usize)
-    requires canonical { IsCanonical len (map T.number blocks.now) T.BITS }
-    requires inside { at < len }
-    requires count { length rest.old ≡ need (len - at) T.BITS }
-    requires whole { at % T.BITS ≡ 0 }
-    ensures { Stores T.BITS (len - at) (map T.number rest.new)
-        (drop at (unpacking len (map T.number blocks.now) T.BITS)) }
+/// Stores the bits from place `from` of the first block on.
+fn split_into<T: Block>(rest: &mut [T], blocks: &[T], from: usize)
+    requires some { 0 < length rest.old }
+    requires count { length rest.old ≤ length blocks.now }
+    requires below { from < T.BITS }
+    ensures { AreBuilt T.BITS (length rest.old) (map T.number rest.new)
+        (λ i. bit_at (map T.number blocks.now) T.BITS (from + i)) }
 {
-    rest.copy_from_slice(&blocks[at / T::BITS..]);
-}
-
-/// Cuts off the bits from index `at` on, of `len` bits.
-fn split_into<T: Block>(rest: &mut [T], blocks: &[T], len: usize, at: usize)
-    requires canonical { IsCanonical len (map T.number blocks.now) T.BITS }
-    requires inside { at < len }
-    requires count { length rest.old ≡ need (len - at) T.BITS }
-    requires within { All (λ n. n < 2 ^ T.BITS) (map T.number rest.old) }
-    ensures { Stores T.BITS (len - at) (map T.number rest.new)
-        (drop at (unpacking len (map T.number blocks.now) T.BITS)) }
-{
-    if at % T::BITS == 0 {
-        split_whole(rest, blocks, len, at);
+    if from == 0 {
+        rest.copy_from_slice(&blocks[..rest.len()]);
     } else {
-        split_shifted(rest, blocks, len, at);
+        split_shifted(rest, blocks, from);
     }
 }
 
@@ -75,6 +62,8 @@ pub fn split_blocks<T: Block>(
     let count = block_count::<T>(len - at);
     let mut rest = Vec::with_capacity(alloc, count)?;
     rest.resize(count, T::ZERO)?;
-    split_into(&mut rest, blocks, len, at);
+    let width = T::BITS;
+    split_into(&mut rest, &blocks[at / width..], at % width);
+    T::all_in_range(&rest);
     Ok(rest)
 }

@@ -1,14 +1,16 @@
--- The blocks so far are joined, each read once, and the one before brings its high places on.
-use Rattle.std.proofs.Common.{◌≡◌, ◌+◌, map}
-use Rattle.vob_store.proofs.JoinLemmas.{AreJoined, IsCarried}
+-- The blocks so far are built, each read once, and the one before is the next of which bits are wanted.
+use Rattle.std.proofs.Common.{◌≡◌, ◌+◌, ◌∷◌, map, get_or}
+use Rattle.vob_block.specs.Packing.{bit_at}
+use Rattle.vob_store.specs.Building.{AreBuilt}
 use Rattle.vob_store.proofs.join.join_shifted.Given as goal
 
 abbrev pub invariant-loop-k : goal.invariant-loop-k
 invariant-loop-k g l = record {
-  joined : AreJoined g.T.Block.BITS l.fn.len l.fn.more (map g.T.Block.number l.fn.own)
-      (map g.T.Block.number l.fn.other.items) (map g.T.Block.number l.own) l.k;
-  carried : IsCarried g.T.Block.BITS l.fn.len l.fn.more (map g.T.Block.number l.fn.own)
-      (map g.T.Block.number l.fn.other.items) l.from (g.T.Block.number l.before) l.k;
+  built : AreBuilt g.T.Block.BITS l.k (map g.T.Block.number l.own)
+      (λ i. bit_at (g.T.Block.number l.fn.first ∷ map g.T.Block.number l.fn.other.items)
+      g.T.Block.BITS (l.from + i));
+  before : g.T.Block.number l.before
+      ≡ get_or (g.T.Block.number l.fn.first ∷ map g.T.Block.number l.fn.other.items) l.k 0;
   items : l.other.items ≡ l.fn.other.items;
   reads : l.other.reads ≡ l.fn.other.reads + l.k;
 }

@@ -1,12 +1,13 @@
--- The blocks so far are joined, each read once.
+-- The blocks so far are those of the other, each read once.
 use Rattle.std.proofs.Common.{◌≡◌, ◌+◌, map}
-use Rattle.vob_store.proofs.JoinLemmas.{AreJoined}
+use Rattle.vob_block.specs.Packing.{bit_at}
+use Rattle.vob_store.specs.Building.{AreBuilt}
 use Rattle.vob_store.proofs.join.join_whole.Given as goal
 
 abbrev pub invariant-loop-k : goal.invariant-loop-k
 invariant-loop-k g l = record {
-  joined : AreJoined g.T.Block.BITS l.fn.len l.fn.more (map g.T.Block.number l.fn.own)
-      (map g.T.Block.number l.fn.other.items) (map g.T.Block.number l.own) l.k;
+  built : AreBuilt g.T.Block.BITS l.k (map g.T.Block.number l.own)
+      (bit_at (map g.T.Block.number l.fn.other.items) g.T.Block.BITS);
   items : l.other.items ≡ l.fn.other.items;
   reads : l.other.reads ≡ l.fn.other.reads + l.k;
 }
