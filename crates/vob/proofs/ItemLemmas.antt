@@ -11,7 +11,8 @@ use Rattle.vob_block.specs.Packing.{item, bit_at, Stores}
 use Rattle.vob_block.proofs.NeedLemmas.{need_at_full, need_at_open}
 use Rattle.vob_block.proofs.PackingLemmas.{bit_at-past, bit_at-push_same, bit_at-push_other, stores_from_items}
 use Rattle.vob_block.proofs.PlaceLemmas.{place-zero}
-use Rattle.vob_store.proofs.PushLemmas.{item-push, eqb-places, eqb-blocks, and-false, or-false}
+use Rattle.std.proofs.Math.Bool.{and-false, or-false}
+use Rattle.vob_store.proofs.PushLemmas.{item-push, eqb-places, eqb-blocks}
 
 -- the full blocks and the one at hand behind them store the list, and false everywhere else
 pub record Packs (w : ℕ) (bits : List Bool) (xs : List ℕ) (x : ℕ) : Type 0 where

@@ -1,26 +1,20 @@
 -- Bits put behind others: blocks behind whole ones, and places filled in the last one, at a plain width.
 use Rattle.std.specs.Prelude.{All, ◌⊎◌}
-use Rattle.std.proofs.Common.{◌≡◌, ◌≢◌, ℕ, ◌+◌, ◌-◌, ◌*◌, ◌/◌, ◌%◌, ◌^◌, ◌<◌, ◌≤◌, Bool, true, false, ◌&&◌, ◌||◌, cond, List, [], ◌∷◌, ◌++◌, length, map, get_or, set, take, drop, min, zero, suc, replicate, leb, ltb, refl, sym, ap, ◌∙◌, subst, arith, inl, inr, mod-lt, div-add-mod', add-mul, add-one, suc-mul}
+use Rattle.std.proofs.Common.{◌≡◌, ◌≢◌, ℕ, ◌+◌, ◌-◌, ◌*◌, ◌/◌, ◌%◌, ◌^◌, ◌<◌, ◌≤◌, Bool, true, false, ◌&&◌, ◌||◌, cond, List, [], ◌∷◌, ◌++◌, length, map, get_or, set, take, drop, min, zero, suc, replicate, leb, ltb, refl, sym, ap, ◌∙◌, subst, arith, inl, inr, mod-lt, div-add-mod', add-mul, add-one, suc-mul, zero-mul, one-mul}
 use Rattle.std.proofs.lemmas.Bool.{cases_lt, cases_eq, lt-ltb, le-ltb, lt-leb, le-leb}
-use Rattle.std.proofs.lemmas.List.{nil_from_length, map-append, take_all, take_at, append-nil, append_assoc, take_more, take-append-drop, length-take-le, length-drop, length-map, get_or-map, length-set, length-append, length-replicate, get_or_append_left, get_or-append_right, get_or-append-add, get_or_past, get_or-replicate}
-use Rattle.std.proofs.lemmas.List.Elements.{All-set, All-append, All-replicate}
-use Rattle.std.proofs.lemmas.Nat.{mul-le, mod-mul-add, div-mul-add}
+use Rattle.std.proofs.lemmas.List.{nil_from_length, map-append, take_all, take_at, append-nil, append_assoc, take-append-drop, length-take-le, length-drop, length-map, map-set, length-set, length-append, length-replicate, get_or_append_left, get_or-append_right, get_or_past, get_or-replicate}
+use Rattle.std.proofs.lemmas.List.Elements.{All-set, All-append, All-replicate, All-push, All-nil}
+use Rattle.std.proofs.Math.Bool.{or-false}
+use Rattle.std.proofs.lemmas.Nat.{mul-le, mod-mul-add, le-div}
 use Rattle.vob_block.specs.Places.{place, HasPlaces}
 use Rattle.vob_block.specs.Packing.{item, need, packing, bit_at, unpacking, IsCanonical, Stores}
-use Rattle.vob_block.proofs.NeedLemmas.{need_is, need-le-need, need-zero, need_enough, need_at_full, need_at_open, div-lt-need}
-use Rattle.vob_block.proofs.PackingLemmas.{bit_at-in_block, bit_at-is_place, bit_at-set_same, bit_at-set_other, length-unpacking, get_or-unpacking, unpacking_from_items, stores_from_items, length-packing, bit_at-packing, packing-within, packing-unpacking}
-use Rattle.vob_block.proofs.PlaceLemmas.{same_from_places, place-ones}
-use Rattle.vob_store.specs.Joining.{IsJoined}
+use Rattle.vob_block.proofs.NeedLemmas.{need_is, need-le-need, need-zero, need_enough, need_at_full, need_at_open, div-lt-need, lt-need}
+use Rattle.vob_block.proofs.PackingLemmas.{bit_at-in_block, bit_at-is_place, bit_at-past, bit_at-is_item, packing_is, length-unpacking, get_or-unpacking, unpacking_from_items, stores_from_items, length-packing, packing-unpacking}
+use Rattle.vob_block.proofs.PlaceLemmas.{place-ones}
+use Rattle.vob_store.proofs.BuildLemmas.{number_indexed, AreBuilt-upto, AreBuilt-more, AreBuilt-start, Stores-built, item-low, item-high, bit_at-append_left, bit_at-append_right}
+use Rattle.vob_store.proofs.RoomLemmas.{need-add}
 use Rattle.vob_store.proofs.SplatLemmas.{place-splat, splat-lt}
 use Rattle.vob_store.proofs.FillLemmas.{resized_is}
-
-or-false : (b : Bool) → (b || false) ≡ b
-or-false true = refl
-or-false false = refl
-
-or-true : (b : Bool) → (b || true) ≡ true
-or-true true = refl
-or-true false = refl
 
 -- bit i of a list and the same bit many times behind it
 item-splat : (bits : List Bool) (k : ℕ) (v : Bool) (i : ℕ) → i < length bits + k
@@ -35,293 +29,155 @@ item-splat bits k v i h = elim (cases_lt i (length bits)) [
 ]
 
 module _ (w : ℕ) (wide : 0 < w) where
-  -- a block with the next places of a list is the next one of its packing
-  pub packing_more : (bits : List Bool) (m x : ℕ) → m < need (length bits) w → x < 2 ^ w
-      → HasPlaces w x (λ j. item bits (m * w + j)) → take m (packing bits w) ++ x ∷ []
-      ≡ take (m + 1) (packing bits w)
-  packing_more bits m x inside small places =
-      let blocks = packing bits w in
-      let there : m < length blocks = omega (arith, length-packing w wide bits) in
-      let same : x ≡ get_or blocks m 0 = same_from_places w x (get_or blocks m 0) small
-      (packing-within w wide bits m 0 there)
-      (λ j h. places.each j h ∙ sym (bit_at-packing w wide bits (m * w + j))
-      ∙ bit_at-in_block blocks w m j h) in
-      ap (λ y. take m blocks ++ y ∷ []) same ∙ sym (take_more blocks m 0 there)
+  -- a block whose places are some bits stores them
+  bit_at-block : (x : ℕ) (bits : List Bool) → length bits ≤ w → HasPlaces w x (item bits)
+      → (i : ℕ) → bit_at (x ∷ []) w i ≡ item bits i
+  bit_at-block x bits fits held i = elim (cases_lt i w) [
+    | inl here ↦ ap (bit_at (x ∷ []) w) (omega (arith, zero-mul w))
+        ∙ bit_at-in_block (x ∷ []) w 0 i here ∙ held.each i here
+    | inr past ↦ bit_at-past (x ∷ []) w i (le-div 1 i w wide (omega (arith, one-mul w)))
+        ∙ sym (get_or_past bits i false (omega arith))
+  ]
 
-  -- what stands in the blocks behind others
-  bit_at-append_left : (xs ys : List ℕ) (i : ℕ) → i / w < length xs → bit_at (xs ++ ys) w i
-      ≡ bit_at xs w i
-  bit_at-append_left xs ys i h = bit_at-is_place (xs ++ ys) w i
-      ∙ ap (place (i % w)) (get_or_append_left xs ys 0 (i / w) h) ∙ sym (bit_at-is_place xs w i)
-
-  bit_at-append_right : (xs ys : List ℕ) (i : ℕ) → length xs * w ≤ i → bit_at (xs ++ ys) w i
-      ≡ bit_at ys w (i - length xs * w)
-  bit_at-append_right xs ys i h =
-      let k = i - length xs * w in
-      let whole : (length xs + k / w) * w + k % w ≡ i =
-      omega (arith, add-mul (length xs) (k / w) w, div-add-mod' k w) in
-      let quotient : i / w ≡ length xs + k / w =
-      ap (λ n. n / w) (sym whole) ∙ div-mul-add (length xs + k / w) w (k % w) (mod-lt k wide) in
-      let rest : i % w ≡ k % w = ap (λ n. n % w) (sym whole)
-      ∙ mod-mul-add (length xs + k / w) w (k % w) (mod-lt k wide) in
-      bit_at-is_place (xs ++ ys) w i ∙ ap (λ q. place (i % w) (get_or (xs ++ ys) q 0)) quotient
-      ∙ ap (place (i % w)) (get_or-append-add xs ys (k / w) 0)
-      ∙ ap (λ r. place r (get_or ys (k / w) 0)) rest ∙ sym (bit_at-is_place ys w k)
+  pub Stores-block : (x : ℕ) (bits : List Bool) → 0 < length bits → length bits ≤ w → x < 2 ^ w
+      → HasPlaces w x (item bits) → Stores w (length bits) (x ∷ []) bits
+  Stores-block x bits some fits small held =
+      stores_from_items w wide bits (length bits) (x ∷ []) refl
+      (sym (need_is w wide (length bits) 1 (omega (arith, one-mul w)) (omega (arith, one-mul w))))
+      (All-push (λ y. y < 2 ^ w) [] x (All-nil (λ y. y < 2 ^ w)) small)
+      (bit_at-block x bits fits held)
 
   module _ (n : ℕ) (xs : List ℕ) (h : IsCanonical n xs w) where
-    long : (bits : List Bool) → length (unpacking n xs w ++ bits) ≡ n + length bits
-    long bits = length-append (unpacking n xs w) bits
-        ∙ ap (λ m. m + length bits) (length-unpacking n xs w)
-
-    low : (bits : List Bool) (i : ℕ) → i < n → item (unpacking n xs w ++ bits) i ≡ bit_at xs w i
-    low bits i below = get_or_append_left (unpacking n xs w) bits false i
-        (omega (arith, length-unpacking n xs w)) ∙ get_or-unpacking n xs w i false below
-
-    high : (bits : List Bool) (i : ℕ) → n ≤ i → item (unpacking n xs w ++ bits) i
-        ≡ item bits (i - n)
-    high bits i above = get_or-append_right (unpacking n xs w) bits n i false
-        (length-unpacking n xs w) above
-
-    -- the packing of a list behind whole blocks
-    append_whole : (bits : List Bool) → n % w ≡ 0
-        → Stores w (n + length bits) (xs ++ packing bits w) (unpacking n xs w ++ bits)
-    append_whole bits full =
-        let whole : length xs * w ≡ n = ap (λ k. k * w) (h.count ∙ (need_at_full w wide n full).0)
+    -- blocks that store bits, behind whole ones
+    pub Stores-behind : (m : ℕ) (ys : List ℕ) (bits : List Bool) → n % w ≡ 0 → Stores w m ys bits
+        → Stores w (n + m) (xs ++ ys) (unpacking n xs w ++ bits)
+    Stores-behind m ys bits full stored =
+        let long : length bits ≡ m = sym (ap length stored.bits) ∙ length-unpacking m ys w in
+        let blocks = h.count ∙ (need_at_full w wide n full).0 in
+        let whole : length xs * w ≡ n = ap (λ k. k * w) blocks
         ∙ omega (arith, div-add-mod' n w, full) in
-        let count : length (xs ++ packing bits w) ≡ need (n + length bits) w =
-        sym (need_is w wide (n + length bits) (length (xs ++ packing bits w))
-        (omega (
-          arith,
-          length-append xs (packing bits w),
-          length-packing w wide bits,
-          need_enough w wide (length bits),
-          add-mul (length xs) (need (length bits) w) w,
-          ap (λ k. k * w) (length-append xs (packing bits w)
-              ∙ ap (λ k. length xs + k) (length-packing w wide bits)),
-        ))
-        (omega (
-          arith,
-          few (length bits),
-          add-mul (length xs) (need (length bits) w) w,
-          ap (λ k. k * w) (length-append xs (packing bits w)
-              ∙ ap (λ k. length xs + k) (length-packing w wide bits)),
-        ))) in
-        stores_from_items w wide (unpacking n xs w ++ bits) (n + length bits)
-        (xs ++ packing bits w) (long bits) count
-        (All-append (λ x. x < 2 ^ w) xs (packing bits w) h.within (packing-within w wide bits))
-        (λ i. elim (cases_lt i n) [
-          | inl below ↦ bit_at-append_left xs (packing bits w) i
-              (omega (arith, h.count, div-lt-need w wide n i below)) ∙ sym (low bits i below)
-          | inr above ↦
-              bit_at-append_right xs (packing bits w) i (omega (arith, whole))
-              ∙ ap (λ k. bit_at (packing bits w) w (i - k)) whole
-              ∙ bit_at-packing w wide bits (i - n) ∙ sym (high bits i above)
-        ])
-      where
-        few : (m : ℕ) → need m w * w < m + w
-        few m = elim (cases_eq (m % w) 0) [
-          | inl full ↦ let q = ap (λ k. k * w) (need_at_full w wide m full).0 in omega
-              (arith, q, div-add-mod' m w)
-          | inr partial ↦ let q = ap (λ k. k * w)
-              ((need_at_open w wide m partial).0 ∙ add-one (m / w))
-              ∙ suc-mul (m / w) w in omega (arith, q, div-add-mod' m w)
-        ]
-
-    -- no bits behind any blocks
-    append_nothing : (bits : List Bool) → length bits ≡ 0
-        → Stores w (n + length bits) (xs ++ packing bits w) (unpacking n xs w ++ bits)
-    append_nothing bits none =
-        let no_bits : bits ≡ [] = nil_from_length bits none in
-        let no_blocks : packing bits w ≡ [] =
-        nil_from_length (packing bits w) (length-packing w wide bits ∙ ap (λ k. need k w) none
-        ∙ need-zero w wide) in
-        let blocks : xs ++ packing bits w ≡ xs = ap (λ ys. xs ++ ys) no_blocks ∙ append-nil xs in
-        let all : n + length bits ≡ n = omega (arith, none) in
-        rw (blocks, all) (record {
-          canonical = h;
-          bits = sym (append-nil (unpacking n xs w))
-              ∙ ap (λ bs. unpacking n xs w ++ bs) (sym no_bits);
-        })
+        let count : length (xs ++ ys) ≡ need (n + m) w = length-append xs ys
+        ∙ ap (λ k. length xs + k) stored.canonical.count ∙ sym (need-add w wide (length xs) m)
+        ∙ ap (λ k. need (k + m) w) whole in
+        let its = λ (j : ℕ). bit_at-is_item w wide m ys stored.canonical j
+        ∙ ap (λ bs. item bs j) stored.bits in
+        rw long at (Stores-built w wide n xs bits (xs ++ ys)
+        (count ∙ ap (λ k. need (n + k) w) (sym long))
+        (All-append (λ x. x < 2 ^ w) xs ys h.within stored.canonical.within) (record {
+          each = λ i _. elim (cases_lt i n) [
+            | inl below ↦ bit_at-append_left w wide xs ys i
+                (omega (arith, h.count, div-lt-need w wide n i below))
+                ∙ sym (item-low w wide n xs bits i below)
+            | inr above ↦ ap (bit_at (xs ++ ys) w) (omega (arith, whole))
+                ∙ bit_at-append_right w wide xs ys (i - n) ∙ its (i - n)
+                ∙ sym (item-high w wide n xs bits i above)
+          ];
+        }))
 
     -- the packing of a list behind blocks, where they are whole or the list is empty
     pub append_packing : (bits : List Bool) → (n % w ≡ 0) ⊎ (length bits ≡ 0)
         → Stores w (n + length bits) (xs ++ packing bits w) (unpacking n xs w ++ bits)
-    append_packing bits which = elim which [
-      | inl full ↦ append_whole bits full
-      | inr none ↦
-          append_nothing bits none
-    ]
-
-    -- so are blocks that store bits behind whole ones
-    pub IsJoined-behind : (m : ℕ) (others : List ℕ) → n % w ≡ 0 → IsCanonical m others w
-        → IsJoined w n m xs others (xs ++ others)
-    IsJoined-behind m others full other =
-        let both = append_whole (unpacking m others w) full in
-        let count : n + length (unpacking m others w) ≡ n + m =
-        ap (λ k. n + k) (length-unpacking m others w) in
-        let blocks : xs ++ packing (unpacking m others w) w ≡ xs ++ others =
-        ap (λ ys. xs ++ ys) (packing-unpacking w wide m others other) in
-        record {
-          canonical = rw (sym count, sym blocks) both.canonical;
-          bits =
-              rw (sym count, sym blocks) both.bits;
-        }
-
-    module _ (partial : n % w ≢ 0) where
-      last_there : n / w < length xs
-      last_there = omega (arith, h.count, (need_at_open w wide n partial).0)
-
-      here_below : (i : ℕ) → i / w ≡ n / w → i < n → i % w < n % w
-      here_below i here below = omega (
-        arith,
-        ap (λ q. q * w) here,
-        div-add-mod' i w,
-        div-add-mod' n w,
-      )
-
-      here_above : (i : ℕ) → i / w ≡ n / w → n ≤ i → (n % w ≤ i % w) × (i % w - n % w ≡ i - n)
-      here_above i here above = (
-        omega (
-          arith,
-          ap (λ q. q * w) here,
-          div-add-mod' i w,
-          div-add-mod' n w,
-        ),
-        omega (
-          arith,
-          ap (λ q. q * w) here,
-          div-add-mod' i w,
-          div-add-mod' n w,
-        ),
-      )
-
-      past_here : (i : ℕ) → i / w ≢ n / w → n ≤ i → (n / w + 1) * w ≤ i
-      past_here i apart above =
-          let more : n / w + 1 ≤ i / w = elim (cases_lt (n / w) (i / w)) [
-            | inl fine ↦ omega arith
-            | inr few ↦ let row = mul-le (i / w + 1) w (n / w) w in absurd
-                (omega (
-                  arith,
-                  row (omega arith) (omega arith),
-                  ap (λ k. k * w) (add-one (i / w)),
-                  suc-mul (i / w) w,
-                  div-add-mod' i w,
-                  div-add-mod' n w,
-                  mod-lt i wide,
-                ))
-          ] in
-          let row = mul-le (n / w + 1) w (i / w) w more (omega arith) in
-          omega (arith, row, div-add-mod' i w)
-
-      next : (n / w + 1) * w ≡ n / w * w + w
-      next = ap (λ k. k * w) (add-one (n / w)) ∙ suc-mul (n / w) w
-
-      module _ (y x : ℕ) (places : HasPlaces w y
-          (λ j. place j (get_or xs (n / w) 0) || (leb (n % w) j && place (j - n % w) x))) where
-        -- the last block with x moved up behind its bits
-        topped : (i : ℕ) → i / w ≡ n / w → bit_at (set xs (n / w) y) w i
-            ≡ (bit_at xs w i || (leb (n % w) (i % w) && place (i % w - n % w) x))
-        topped i here =
-            bit_at-set_same xs w (n / w) y i last_there here ∙ places.each (i % w) (mod-lt i wide)
-            ∙ ap (λ b. b || (leb (n % w) (i % w) && place (i % w - n % w) x))
-            (ap (λ q. place (i % w) (get_or xs q 0)) (sym here) ∙ sym (bit_at-is_place xs w i))
-
-        topped_below : (i : ℕ) → i < n → bit_at (set xs (n / w) y) w i ≡ bit_at xs w i
-        topped_below i below = elim (cases_eq (i / w) (n / w)) [
-          | inl here ↦
-              topped i here ∙ ap (λ b. bit_at xs w i || (b && place (i % w - n % w) x))
-              (lt-leb (n % w) (i % w) (here_below i here below)) ∙ or-false (bit_at xs w i)
-          | inr apart ↦ bit_at-set_other xs w (n / w) y i apart
+    append_packing bits which =
+        let packed = packing_is w wide bits (length bits) (packing bits w) refl refl in
+        elim which [
+          | inl full ↦ Stores-behind (length bits) (packing bits w) bits full packed
+          | inr none ↦
+              let no_blocks : xs ++ packing bits w ≡ xs = ap (λ ys. xs ++ ys)
+              (nil_from_length (packing bits w) (length-packing w wide bits
+              ∙ ap (λ k. need k w) none ∙ need-zero w wide)) ∙ append-nil xs in
+              let all : n + length bits ≡ n = omega (arith, none) in
+              rw (no_blocks, all) (record {
+                canonical = h;
+                bits = sym (append-nil (unpacking n xs w))
+                    ∙ ap (λ bs. unpacking n xs w ++ bs) (sym (nil_from_length bits none));
+              })
         ]
 
-        topped_above : (i : ℕ) → n ≤ i → i / w ≡ n / w → bit_at (set xs (n / w) y) w i
-            ≡ place (i - n) x
-        topped_above i above here =
-            let up = here_above i here above in
-            topped i here ∙ ap (λ b. bit_at xs w i || (b && place (i % w - n % w) x))
-            (le-leb (n % w) (i % w) up.0)
-            ∙ ap (λ b. b || place (i % w - n % w) x) (h.unused i above) ∙ ap (λ k. place k x) up.1
+    -- places filled in the last block
+    module _ (partial : n % w ≢ 0) where
+      last_there : length xs ≡ n / w + 1
+      last_there = h.count ∙ (need_at_open w wide n partial).0
 
-        -- bits put there
-        pub append_in_last : (bits : List Bool) → n % w + length bits ≤ w → y < 2 ^ w
-            → HasPlaces w x (item bits)
-            → Stores w (n + length bits) (set xs (n / w) y) (unpacking n xs w ++ bits)
-        append_in_last bits fits small held =
-            let count : length (set xs (n / w) y) ≡ need (n + length bits) w =
-            length-set xs (n / w) y ∙ h.count ∙ (need_at_open w wide n partial).0
-            ∙ sym (need_is w wide (n + length bits) (n / w + 1)
-            (omega (arith, next, div-add-mod' n w))
-            (omega (arith, next, div-add-mod' n w, partial))) in
-            stores_from_items w wide (unpacking n xs w ++ bits) (n + length bits)
-            (set xs (n / w) y) (long bits) count
-            (All-set (λ x. x < 2 ^ w) xs (n / w) y small h.within)
-            (λ i. elim (cases_lt i n) [
-              | inl below ↦ topped_below i below ∙ sym (low bits i below)
-              | inr above ↦ elim (cases_eq (i / w) (n / w)) [
-                | inl here ↦
-                    let up = here_above i here above in
-                    topped_above i above here
-                    ∙ held.each (i - n) (omega (arith, up.1, mod-lt i wide))
-                    ∙ sym (high bits i above)
-                | inr apart ↦
-                    bit_at-set_other xs w (n / w) y i apart ∙ h.unused i above
-                    ∙ sym (high bits i above ∙ get_or_past bits (i - n) false
-                    (omega (arith, past_here i apart above, next, div-add-mod' n w)))
-              ]
-            ])
+      pub Stores-in_last : (y x : ℕ) (bits : List Bool) → y < 2 ^ w
+          → HasPlaces w y (λ j. place j (get_or xs (n / w) 0) || (leb (n % w) j && place (j - n % w) x))
+          → n % w + length bits ≤ w → HasPlaces (w - n % w) x (item bits)
+          → Stores w (n + length bits) (set xs (n / w) y) (unpacking n xs w ++ bits)
+      Stores-in_last y x bits small places fits held =
+          let block = get_or xs (n / w) 0 in
+          let start = div-add-mod' n w in
+          let same = length-set xs (n / w) y ∙ last_there in
+          let count : n / w + 1 ≡ need (n + length bits) w =
+          sym (need_is w wide (n + length bits) (n / w + 1)
+          (omega (arith, add-mul (n / w) 1 w, one-mul w))
+          (omega (arith, add-mul (n / w) 1 w, one-mul w, partial))) in
+          Stores-built w wide n xs bits (set xs (n / w) y) (same ∙ count)
+          (All-set (λ z. z < 2 ^ w) xs (n / w) y small h.within)
+          (AreBuilt-upto _ (AreBuilt-more w wide (item (unpacking n xs w ++ bits)) xs (n / w) y
+          (AreBuilt-start w wide n xs bits) (omega (arith, last_there)) (record {
+            each = λ j below. places.each j below ∙ elim (cases_lt j (n % w)) [
+              | inl low ↦ ap (λ b. place j block || (b && place (j - n % w) x))
+                  (lt-leb (n % w) j low) ∙ or-false (place j block)
+                  ∙ sym (item-low w wide n xs bits (n / w * w + j) (omega arith)
+                  ∙ bit_at-in_block xs w (n / w) j below)
+              | inr high ↦
+                  ap (λ b. place j block || (b && place (j - n % w) x)) (le-leb (n % w) j high)
+                  ∙ ap (λ b. b || place (j - n % w) x) (sym (bit_at-in_block xs w (n / w) j below)
+                  ∙ h.unused (n / w * w + j) (omega arith)) ∙ held.each (j - n % w) (omega arith)
+                  ∙ sym (item-high w wide n xs bits (n / w * w + j) (omega arith)
+                  ∙ ap (item bits) (omega arith))
+            ];
+          })) (omega (arith, same)))
 
-        -- or all places left made true
-        pub unpacking-last_filled : x ≡ 2 ^ w - 1 → unpacking (length xs * w) (set xs (n / w) y) w
-            ≡ unpacking n xs w ++ replicate (length xs * w - n) true
-        unpacking-last_filled ones =
-            let blocks : length xs ≡ n / w + 1 = h.count ∙ (need_at_open w wide n partial).0 in
-            let all : length xs * w ≡ (n / w + 1) * w = ap (λ k. k * w) blocks in
-            let more = replicate (length xs * w - n) true in
-            unpacking_from_items (unpacking n xs w ++ more) (length xs * w) (set xs (n / w) y) w
-            (long more ∙ omega (
-              arith,
-              length-replicate (length xs * w - n) true,
-              all,
-              next,
-              div-add-mod' n w,
-              mod-lt n wide,
-            ))
-            (λ i inside. elim (cases_lt i n) [
-              | inl below ↦ topped_below i below ∙ sym (low more i below)
-              | inr above ↦
-                  let here : i / w ≡ n / w = elim (cases_eq (i / w) (n / w)) [
-                    | inl same ↦ same
-                    | inr apart ↦ absurd (omega (arith, past_here i apart above, all))
-                  ] in
-                  let up = here_above i here above in
-                  topped_above i above here ∙ ap (place (i - n)) ones
-                  ∙ place-ones w (i - n) (omega (arith, up.1, mod-lt i wide))
-                  ∙ sym (high more i above ∙ get_or-replicate (length xs * w - n) (i - n) true
-                  false (omega arith))
-            ])
+      -- the places left are all true where a block of true ones is put there
+      pub Stores-last_filled : (ys : List ℕ) (ones : ℕ) → ones ≡ 2 ^ w - 1
+          → ((bits : List Bool) → n % w + length bits ≤ w → HasPlaces (w - n % w) ones (item bits)
+          → Stores w (n + length bits) ys (unpacking n xs w ++ bits))
+          → Stores w (length xs * w) ys (unpacking n xs w ++ replicate (length xs * w - n) true)
+      Stores-last_filled ys ones are stored =
+          let k = length xs * w - n in
+          let more = replicate k true in
+          let long = length-replicate k true in
+          let start = div-add-mod' n w in
+          let rest : k + n % w ≡ w = omega (
+            arith,
+            ap (λ q. q * w) last_there,
+            add-mul (n / w) 1 w,
+            one-mul w,
+            mod-lt n wide,
+          ) in
+          let all : n + length more ≡ length xs * w = omega (arith, long, rest) in
+          rw all at (stored more (omega (arith, long, rest)) (record {
+            each = λ j below. ap (place j) are ∙ place-ones w j (omega arith)
+                ∙ sym (get_or-replicate k j true false (omega (arith, rest)));
+          }))
 
     -- the places left as they are, where they are false or there are none
-    pub unpacking-last_kept : (v : Bool) → (v ≡ false) ⊎ (n % w ≡ 0)
-        → unpacking (length xs * w) xs w ≡ unpacking n xs w ++ replicate (length xs * w - n) v
-    unpacking-last_kept v which =
+    pub Stores-last_kept : (v : Bool) → (v ≡ false) ⊎ (n % w ≡ 0)
+        → Stores w (length xs * w) xs (unpacking n xs w ++ replicate (length xs * w - n) v)
+    Stores-last_kept v which =
+        let k = length xs * w - n in
+        let more = replicate k v in
         let enough : n ≤ length xs * w = subst (λ (q : ℕ). n ≤ q * w) (sym h.count)
         (need_enough w wide n) in
-        let more = replicate (length xs * w - n) v in
-        unpacking_from_items (unpacking n xs w ++ more) (length xs * w) xs w
-        (long more ∙ omega (arith, length-replicate (length xs * w - n) v, enough))
-        (λ i inside. elim (cases_lt i n) [
-          | inl below ↦ sym (low more i below)
-          | inr above ↦
-              elim which [
-                | inl none ↦ h.unused i above ∙ sym none
-                    ∙ sym (high more i above ∙ get_or-replicate (length xs * w - n) (i - n) v
-                    false (omega arith))
-                | inr full ↦
-                    let whole : length xs * w ≡ n / w * w =
-                    ap (λ k. k * w) (h.count ∙ (need_at_full w wide n full).0) in
-                    absurd (omega (arith, whole, full, div-add-mod' n w))
-              ]
-        ])
+        let all : n + length more ≡ length xs * w = omega (arith, length-replicate k v, enough) in
+        let none : (j : ℕ) → item more j ≡ false = λ j. elim (cases_lt j k) [
+          | inl inside ↦ get_or-replicate k j v false inside ∙ elim which [
+            | inl e ↦ e
+            | inr full ↦
+                let whole = ap (λ q. q * w) (h.count ∙ (need_at_full w wide n full).0) in
+                absurd (omega (arith, whole, full, div-add-mod' n w))
+          ]
+          | inr past ↦ get_or_past more j false (omega (arith, length-replicate k v))
+        ] in
+        let count : length xs ≡ need (length xs * w) w = sym (need_is w wide (length xs * w)
+        (length xs) (omega arith) (omega arith)) in
+        rw all at (Stores-built w wide n xs more xs (count ∙ ap (λ m. need m w) (sym all))
+        h.within (record {
+          each = λ i _. elim (cases_lt i n) [
+            | inl below ↦ sym (item-low w wide n xs more i below)
+            | inr above ↦ h.unused i above ∙ sym (item-high w wide n xs more i above ∙ none (i - n))
+          ];
+        }))
 
   -- blocks of one bit behind blocks whose places from some bits on are that bit
   pub unpacking-append_fill : (bits : List Bool) (n m k : ℕ) (xs : List ℕ) (v : Bool) (e : ℕ) → e
@@ -344,7 +200,7 @@ module _ (w : ℕ) (wide : 0 < w) where
               div-add-mod' i w,
               mod-lt i wide,
             ) in
-            bit_at-append_left xs (replicate k e) i inside
+            bit_at-append_left w wide xs (replicate k e) i inside
             ∙ sym (get_or-unpacking (length xs * w) xs w i false there)
             ∙ ap (λ bs. item bs i) filled
             ∙ item-splat bits (length xs * w - n) v i (omega (arith, are))
@@ -355,7 +211,8 @@ module _ (w : ℕ) (wide : 0 < w) where
             let behind : length xs * w ≤ i = omega (arith, held_by, div-add-mod' i w) in
             let j = i - length xs * w in
             let row : j / w < k = below_of i below behind in
-            bit_at-append_right xs (replicate k e) i behind ∙ bit_at-is_place (replicate k e) w j
+            ap (bit_at (xs ++ replicate k e) w) (omega (arith, behind))
+            ∙ bit_at-append_right w wide xs (replicate k e) j ∙ bit_at-is_place (replicate k e) w j
             ∙ ap (place (j % w)) (get_or-replicate k (j / w) e 0 row)
             ∙ place-splat v w e (j % w) splat (mod-lt j wide)
             ∙ sym (item-splat bits (m - n) v i (omega (arith, are))
@@ -379,37 +236,79 @@ module _ (w : ℕ) (wide : 0 < w) where
   append_fill-within k xs v e splat within = All-append (λ x. x < 2 ^ w) xs (replicate k e) within
       (All-replicate (λ x. x < 2 ^ w) k e (splat-lt v w e splat))
 
-  -- a list put behind others in two parts: the last block takes the first, and the packing of the rest follows
-  pub append_parts : (n : ℕ) (before bits first rest : List Bool) (k : ℕ) (ys : List ℕ) → n % w
-      ≢ 0 → k ≡ min (length bits) (w - n % w) → first ≡ take k bits → rest ≡ drop k bits
-      → Stores w (n + length first) ys (before ++ first)
-      → Stores w (n + length bits) (ys ++ packing rest w) (before ++ bits)
-  append_parts n before bits first rest k ys partial size front back top =
-      let short : length first ≡ k = ap length front
-      ∙ length-take-le k bits (omega (arith, size)) in
-      let left : length rest ≡ length bits - k = ap length back ∙ length-drop k bits in
-      let which : ((n + length first) % w ≡ 0) ⊎ (length rest ≡ 0) =
-      elim (cases_lt (w - n % w) (length bits)) [
+  -- ---- the packing of bits, block after block
+
+  -- the first places of some bits are the first block
+  packing-first : (bits rest : List Bool) (x n : ℕ) → 0 < length bits → n ≡ min (length bits) w
+      → rest ≡ drop n bits → x < 2 ^ w → HasPlaces w x (item (take n bits))
+      → packing bits w ≡ x ∷ packing rest w
+  packing-first bits rest x n some size left small places =
+      let first = take n bits in
+      let short : length first ≡ n = length-take-le n bits (omega (arith, size)) in
+      let behind : length rest ≡ length bits - n = ap length left ∙ length-drop n bits in
+      let stored = Stores-block x first (omega (arith, size)) (omega (arith, size)) small places in
+      let which : (length first % w ≡ 0) ⊎ (length rest ≡ 0) = elim (cases_lt w (length bits)) [
         | inl more ↦
-            let next : (n / w + 1) * w ≡ n / w * w + w =
-            ap (λ q. q * w) (add-one (n / w)) ∙ suc-mul (n / w) w in
-            let whole : n + length first ≡ (n / w + 1) * w + 0 =
-            omega (arith, short, size, next, div-add-mod' n w, mod-lt n wide) in
-            inl (ap (λ m. m % w) whole ∙ mod-mul-add (n / w + 1) w 0 wide)
-        | inr all ↦ inr (omega (arith, left, size))
+            let whole : length first ≡ 1 * w + 0 = omega (arith, size, one-mul w) in
+            inl (ap (λ k. k % w) whole ∙ mod-mul-add 1 w 0 wide)
+        | inr few ↦ inr (omega (arith, size))
       ] in
-      let both = append_packing (n + length first) ys top.canonical rest which in
-      let sum : n + length first + length rest ≡ n + length bits =
-      omega (arith, short, left, size) in
-      let joined : (before ++ first) ++ rest ≡ before ++ bits =
-      append_assoc before first rest ∙ ap (λ bs. before ++ bs)
-      (ap (λ bs. bs ++ rest) front ∙ ap (λ bs. take k bits ++ bs) back
-      ∙ take-append-drop k bits) in
-      record {
-        canonical = subst (λ (m : ℕ). IsCanonical m (ys ++ packing rest w) w) sum both.canonical;
-        bits = ap (λ m. unpacking m (ys ++ packing rest w) w) (sym sum) ∙ both.bits
-            ∙ ap (λ bs. bs ++ rest) top.bits ∙ joined;
-      }
+      let both = append_packing (length first) (x ∷ []) stored.canonical rest which in
+      let all : unpacking (length first + length rest) (x ∷ packing rest w) w ≡ bits =
+      both.bits ∙ ap (λ bs. bs ++ rest) stored.bits ∙ ap (λ bs. first ++ bs) left
+      ∙ take-append-drop n bits in
+      ap (λ bs. packing bs w) (sym all)
+      ∙ packing-unpacking w wide (length first + length rest) (x ∷ packing rest w) both.canonical
+
+  module _ (news wanted : List ℕ) (rest : List Bool)
+      (h : news ++ packing rest w ≡ wanted) where
+    pub packed_more : (after : List Bool) (x n : ℕ) → 0 < length rest → n ≡ min (length rest) w
+        → after ≡ drop n rest → x < 2 ^ w → HasPlaces w x (item (take n rest))
+        → (news ++ x ∷ []) ++ packing after w ≡ wanted
+    packed_more after x n some size left small places =
+        append_assoc news (x ∷ []) (packing after w)
+        ∙ ap (λ zs. news ++ zs) (sym (packing-first rest after x n some size left small places)) ∙ h
+
+    pub packed-count : length news + need (length rest) w ≡ length wanted
+    packed-count = omega (
+      arith,
+      ap length h,
+      length-append news (packing rest w),
+      length-packing w wide rest,
+    )
+
+    -- while bits are left, there are fewer blocks than wanted
+    pub packed-lt : 0 < length rest → length news < length wanted
+    packed-lt some = omega (
+      arith,
+      packed-count,
+      lt-need w wide (length rest) 0 (omega (arith, some, zero-mul w)),
+    )
+
+    -- and where none are, these are all
+    pub packed_all : length rest ≡ 0 → news ≡ wanted
+    packed_all none = sym (append-nil news) ∙ ap (λ zs. news ++ zs) (sym (nil_from_length
+        (packing rest w) (length-packing w wide rest ∙ ap (λ k. need k w) none ∙ need-zero w wide)))
+        ∙ h
+
+  -- a list put behind others in two parts: the last block takes the first k, and the packing of the
+  -- rest follows
+  pub Stores-parts : (n : ℕ) (before bits : List Bool) (k : ℕ) (ys : List ℕ) → k ≤ length bits
+      → (k ≢ length bits → (n + k) % w ≡ 0) → Stores w (n + k) ys (before ++ take k bits)
+      → Stores w (n + length bits) (ys ++ packing (drop k bits) w) (before ++ bits)
+  Stores-parts n before bits k ys inside whole top =
+      let rest = drop k bits in
+      let left : length rest ≡ length bits - k = length-drop k bits in
+      let which : ((n + k) % w ≡ 0) ⊎ (length rest ≡ 0) = elim (cases_eq k (length bits)) [
+        | inl all ↦ inr (omega (arith, left))
+        | inr fewer ↦ inl (whole fewer)
+      ] in
+      let both = append_packing (n + k) ys top.canonical rest which in
+      let sum : n + k + length rest ≡ n + length bits = omega (arith, left) in
+      rw sum at (rw (top.bits, append_assoc, take-append-drop) at both)
+
+pub HasPlaces-fewer : {w m x : ℕ} {f : ℕ → Bool} → HasPlaces w x f → m ≤ w → HasPlaces m x f
+HasPlaces-fewer h fewer = record { each = λ j below. h.each j (omega arith) }
 
 -- the last block of items, where it has places left; u is the width as the code read it
 module _ {X : Type 0} (number : X → ℕ) (w : ℕ) (wide : 0 < w) (n : ℕ) (items : List X)
@@ -423,20 +322,21 @@ module _ {X : Type 0} (number : X → ℕ) (w : ℕ) (wide : 0 < w) (n : ℕ) (i
   ))
 
   -- x moved up behind the bits of the block
-  pub HasPlaces-topped : (old : X) (x moved y : ℕ) → old ≡ get_or items (n / u) old
-      → HasPlaces w moved (λ j. leb (n % u) j && place (j - n % u) x)
-      → HasPlaces w y (λ j. place j (number old) || place j moved)
-      → HasPlaces w y (λ j. place j (get_or (map number items) (n / w) 0)
-      || (leb (n % w) j && place (j - n % w) x))
-  HasPlaces-topped old x moved y read up both =
-      let block : number old ≡ get_or (map number items) (n / w) 0 =
-      ap number read ∙ sym (get_or-map number items (n / u) old 0 last_in_canonical)
-      ∙ ap (λ v. get_or (map number items) (n / v) 0) same in
-      record {
+  pub Stores-topped : (old y : X) (x moved : ℕ) → old ≡ get_or items (n / u) old
+      → HasPlaces w moved (λ j. leb (n % u) j && place (j - n % u) x) → number y < 2 ^ w
+      → HasPlaces w (number y) (λ j. place j (number old) || place j moved)
+      → (bits : List Bool) → n % w + length bits ≤ w → HasPlaces (w - n % w) x (item bits)
+      → Stores w (n + length bits) (map number (set items (n / u) y))
+      (unpacking n (map number items) w ++ bits)
+  Stores-topped old y x moved read up small both bits fits held =
+      let xs = map number items in
+      let block = number_indexed number items (n / u) old last_in_canonical read
+      ∙ ap (λ v. get_or xs (n / v) 0) same in
+      rw (map-set, same) (Stores-in_last w wide n xs h partial (number y) x bits small (record {
         each = λ j below. both.each j below ∙ ap (λ b. place j b || place j moved) block
-            ∙ ap (λ b. place j (get_or (map number items) (n / w) 0) || b)
+            ∙ ap (λ b. place j (get_or xs (n / w) 0) || b)
             (up.each j below ∙ ap (λ v. leb (n % v) j && place (j - n % v) x) same);
-      }
+      }) fits held)
 
 -- items that hold some bits, after a resize by items of one bit to as many as more bits need
 pub record IsResized {X : Type 0} (w n m : ℕ) (xs ys : List X) (splat : X) : Type 0 where

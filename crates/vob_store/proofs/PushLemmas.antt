@@ -1,28 +1,15 @@
 -- One bit more behind canonical storage, at a plain width.
-use Rattle.std.proofs.Common.{◌≡◌, ◌≢◌, ℕ, ◌+◌, ◌-◌, ◌*◌, ◌/◌, ◌%◌, ◌^◌, ◌<◌, ◌≤◌, Bool, true, false, ◌&&◌, ◌||◌, cond, List, [], ◌∷◌, ◌++◌, length, map, get_or, set, eqb, leb, refl, sym, ap, ◌∙◌, subst, arith, inl, inr, mod-lt, div-add-mod'}
-use Rattle.std.specs.Prelude.{All}
+use Rattle.std.proofs.Common.{◌≡◌, ◌≢◌, ℕ, ◌+◌, ◌-◌, zero, suc, ◌*◌, ◌/◌, ◌%◌, ◌^◌, ◌<◌, ◌≤◌, Bool, true, false, ◌&&◌, ◌||◌, cond, List, [], ◌∷◌, ◌++◌, length, eqb, leb, sym, ap, ◌∙◌, subst, arith, inl, inr, div-add-mod'}
 use Rattle.std.proofs.lemmas.Bool.{cases_order, cases_eq, eq-eqb, ne_eqb}
-use Rattle.std.proofs.lemmas.List.{get_or-map, map-set, length-map, get_or_past, get_or_push, get_or_append_left, length-set, length_push}
-use Rattle.std.proofs.lemmas.List.Elements.{All-push, All-set}
+use Rattle.std.proofs.lemmas.List.{get_or_past, get_or_push, get_or_append_left, length_push}
+use Rattle.std.proofs.Math.Bool.{or-false, and-false, and-true}
 use Rattle.std.proofs.lemmas.Nat.{mul-le, pow_pos, pow_below}
 use Rattle.vob_block.specs.Places.{place, HasPlaces}
-use Rattle.vob_block.specs.Packing.{item, need, bit_at, unpacking, IsCanonical, Stores}
-use Rattle.vob_block.proofs.NeedLemmas.{need_at_full, need_at_open}
-use Rattle.vob_block.proofs.PackingLemmas.{bit_at-is_place, bit_at-past, bit_at-set_same, bit_at-set_other, bit_at-push_same, bit_at-push_other, length-unpacking, bit_at-is_item, stores_from_items}
+use Rattle.vob_block.specs.Packing.{item, need, IsCanonical, Stores}
+use Rattle.vob_block.proofs.NeedLemmas.{need_at_full}
 use Rattle.vob_block.proofs.PlaceLemmas.{place-pow, place-zero}
+use Rattle.vob_store.proofs.AppendLemmas.{Stores-block}
 use Rattle.vob_store.proofs.LaidLemmas.{mark-places}
-
-pub or-false : (b : Bool) → (b || false) ≡ b
-or-false true = refl
-or-false false = refl
-
-pub and-false : (b : Bool) → (b && false) ≡ false
-and-false true = refl
-and-false false = refl
-
-pub and-true : (b : Bool) → (b && true) ≡ b
-and-true true = refl
-and-true false = refl
 
 -- the place that holds the first bit of a block
 pub place-first : (v : Bool) (j : ℕ) → place j (cond v 1 0) ≡ (v && eqb j 0)
@@ -67,66 +54,20 @@ item-push bits n v i e = elim (cases_order i n) [
   ]
 ]
 
+-- a block of one bit
+pub HasPlaces-bit : (w : ℕ) (v : Bool) (y : ℕ) → y ≡ cond v 1 0 → HasPlaces w y (item (v ∷ []))
+HasPlaces-bit w v y is = record { each = λ j _. ap (place j) is ∙ place-first v j ∙ first j }
+  where
+    first : (j : ℕ) → (v && eqb j 0) ≡ item (v ∷ []) j
+    first zero = and-true v
+    first (suc j) = ap (λ b. v && b) (ne_eqb (suc j) 0 (λ e. absurd (omega arith))) ∙ and-false v
+
+pub Stores-bit : (w : ℕ) → 0 < w → (v : Bool) (y : ℕ) → y ≡ cond v 1 0
+    → Stores w 1 (y ∷ []) (v ∷ [])
+Stores-bit w wide v y is = Stores-block w wide y (v ∷ []) (omega arith) wide
+    (subst (λ (x : ℕ). x < 2 ^ w) (sym is) (first-lt v w wide)) (HasPlaces-bit w v y is)
+
 module _ (w : ℕ) (wide : 0 < w) (n : ℕ) (xs : List ℕ) (h : IsCanonical n xs w) where
-  -- storage with bit n changed to v stores the bits with v behind them
-  from_bit_at : (v : Bool) (ys : List ℕ) → length ys ≡ need (n + 1) w → All (λ x. x < 2 ^ w) ys
-      → ((i : ℕ) → bit_at ys w i ≡ (bit_at xs w i || (v && eqb i n)))
-      → Stores w (n + 1) ys (unpacking n xs w ++ v ∷ [])
-  from_bit_at v ys count within same =
-      let bits = unpacking n xs w in
-      stores_from_items w wide (bits ++ v ∷ []) (n + 1) ys
-      (omega (arith, length_push bits v, length-unpacking n xs w)) count within
-      (λ i. same i ∙ ap (λ b. b || (v && eqb i n)) (bit_at-is_item w wide n xs h i)
-      ∙ sym (item-push bits n v i (length-unpacking n xs w)))
-
-  -- the bits of other blocks stay
-  unchanged : (v : Bool) (i : ℕ) → i / w ≢ n / w → (bit_at xs w i || (v && eqb i n)) ≡ bit_at xs w i
-  unchanged v i apart = ap (λ b. bit_at xs w i || (v && b)) (eqb-blocks w i n apart)
-      ∙ ap (λ b. bit_at xs w i || b) (and-false v) ∙ or-false (bit_at xs w i)
-
-  -- where every block is full, a new one takes the bit
-  pub push_block : (v : Bool) (y : ℕ) → n % w ≡ 0 → y ≡ cond v 1 0
-      → Stores w (n + 1) (xs ++ y ∷ []) (unpacking n xs w ++ v ∷ [])
-  push_block v y full first =
-      let needs = need_at_full w wide n full in
-      let last = h.count ∙ needs.0 in
-      from_bit_at v (xs ++ y ∷ []) (length_push xs y ∙ ap (λ k. k + 1) last ∙ sym needs.1)
-      (All-push (λ x. x < 2 ^ w) xs y h.within
-      (subst (λ (x : ℕ). x < 2 ^ w) (sym first) (first-lt v w wide)))
-      (λ i. elim (cases_eq (i / w) (n / w)) [
-        | inl here ↦
-            let none : bit_at xs w i ≡ false = bit_at-past xs w i (omega arith) in
-            let same : eqb i n ≡ eqb (i % w) 0 = eqb-places w i n here ∙ ap (eqb (i % w)) full in
-            bit_at-push_same xs w y i (here ∙ sym last) ∙ ap (place (i % w)) first
-            ∙ place-first v (i % w)
-            ∙ sym (ap (λ b. b || (v && eqb i n)) none ∙ ap (λ b. v && b) same)
-        | inr apart ↦
-            bit_at-push_other xs w y i (λ e. apart (e ∙ last)) ∙ sym (unchanged v i apart)
-      ])
-
-  -- elsewhere the last block has room
-  pub last_in_range : n % w ≢ 0 → n / w < length xs
-  last_in_range partial = omega (arith, h.count, (need_at_open w wide n partial).0)
-
-  -- and the bit is marked there
-  pub push_mark : (v : Bool) (y : ℕ) → n % w ≢ 0 → y < 2 ^ w
-      → ((j : ℕ) → j < w → place j y ≡ (place j (get_or xs (n / w) 0) || (v && eqb j (n % w))))
-      → Stores w (n + 1) (set xs (n / w) y) (unpacking n xs w ++ v ∷ [])
-  push_mark v y partial small places =
-      let needs = need_at_open w wide n partial in
-      from_bit_at v (set xs (n / w) y) (length-set xs (n / w) y ∙ h.count ∙ needs.0 ∙ sym needs.1)
-      (All-set (λ x. x < 2 ^ w) xs (n / w) y small h.within)
-      (λ i. elim (cases_eq (i / w) (n / w)) [
-        | inl here ↦
-            let old : place (i % w) (get_or xs (n / w) 0) ≡ bit_at xs w i =
-            ap (λ q. place (i % w) (get_or xs q 0)) (sym here) ∙ sym (bit_at-is_place xs w i) in
-            bit_at-set_same xs w (n / w) y i (omega (arith, h.count, needs.0)) here
-            ∙ places (i % w) (mod-lt i wide)
-            ∙ ap (λ b. b || (v && eqb (i % w) (n % w))) old
-            ∙ ap (λ b. bit_at xs w i || (v && b)) (sym (eqb-places w i n here))
-        | inr apart ↦ bit_at-set_other xs w (n / w) y i apart ∙ sym (unchanged v i apart)
-      ])
-
   -- a vector that is full, and whose last block is, has no room and needs a block
   pub full_is_needed : (capacity : ℕ) → n % w ≡ 0 → capacity ≤ length xs → (capacity * w ≤ n)
       × (need n w < need (n + 1) w)
@@ -135,31 +76,6 @@ module _ (w : ℕ) (wide : 0 < w) (n : ℕ) (xs : List ℕ) (h : IsCanonical n x
       let few : capacity * w ≤ n / w * w = mul-le capacity w (n / w) w
       (omega (arith, h.count, needs.0)) (omega arith) in
       (omega (arith, div-add-mod' n w), omega (arith, needs.0, needs.1))
-
--- a bit marked in the last of some items, with a number each; v is the width as the code read it
-module _ {X : Type 0} (number : X → ℕ) (w : ℕ) (wide : 0 < w) (n : ℕ) (items : List X)
-    (h : IsCanonical n (map number items) w) (partial : n % w ≢ 0) where
-  mark_at_width : (b : Bool) (x y : X) → x ≡ get_or items (n / w) x → number y < 2 ^ w
-      → ((j : ℕ) → j < w → place j (number y) ≡ (place j (number x) || (b && eqb j (n % w))))
-      → Stores w (n + 1) (map number (set items (n / w) y))
-      (unpacking n (map number items) w ++ b ∷ [])
-  mark_at_width b x y read small places =
-      let xs = map number items in
-      let there : n / w < length items = omega
-      (arith, last_in_range w wide n xs h partial, length-map items number) in
-      let block : number x ≡ get_or xs (n / w) 0 =
-      ap number read ∙ sym (get_or-map number items (n / w) x 0 there) in
-      let marked = λ (j : ℕ) (k : j < w). places j k
-      ∙ ap (λ t. place j t || (b && eqb j (n % w))) block in
-      rw map-set (push_mark w wide n xs h b (number y) partial small marked)
-
-  pub mark_last : (v : ℕ) → v ≡ w → (b : Bool) (x y : X) → x ≡ get_or items (n / v) x
-      → number y < 2 ^ w
-      → ((j : ℕ) → j < w → place j (number y) ≡ (place j (number x) || (b && eqb j (n % w))))
-      → Stores w (n + 1) (map number (set items (n / v) y))
-      (unpacking n (map number items) w ++ b ∷ [])
-  mark_last v same b x y read small places =
-      rw same (mark_at_width b x y (rw same at read) small places)
 
 -- a bit that is moved up to a place and joined
 pub mark_at : (w x y moved mark p q : ℕ) (b : Bool) → mark ≡ cond b 1 0 → p ≡ q

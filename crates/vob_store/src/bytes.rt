@@ -1,7 +1,7 @@
 //! The blocks of some bytes.
-ghost use Rattle.std.specs.Prelude.{◌≡◌, ℕ, ◌+◌, ◌-◌, ◌*◌, ◌/◌, ◌%◌, ◌^◌, ◌<◌, ◌≤◌, ◌&&◌, ◌||◌, nat_le, nat_lt, [], length, slice_index, IsOk, IfOk};
+ghost use Rattle.std.specs.Prelude.{◌≡◌, ℕ, ◌+◌, ◌-◌, ◌*◌, ◌/◌, ◌%◌, ◌^◌, ◌<◌, ◌≤◌, ◌&&◌, ◌||◌, nat_le, nat_lt, [], ◌++◌, length, slice_index, vec_capacity, IsOk, IfOk};
 ghost use Rattle.vob_block.specs.Places.{place, HasPlaces};
-ghost use Rattle.vob_block.specs.Packing.{item, Stores};
+ghost use Rattle.vob_block.specs.Packing.{item, need, packing, Stores};
 ghost use Rattle.vob_block.specs.Bytes.{bytes_list};
 
 use std::alloc::{AllocError, Global};
@@ -47,6 +47,17 @@ fn eight_bytes(bytes: &[u8]) -> [u8; 8]
     all
 }
 
+/// Puts the block of up to eight bytes, if any, behind others, in the room that is there.
+fn push_bytes(blocks: &mut Vec<usize>, bytes: &[u8])
+    requires few { length bytes.now ≤ 8 }
+    requires room { length blocks.old.items + need (8 * length bytes.now) 64 ≤ vec_capacity blocks.old }
+    ensures { blocks.new.items ≡ blocks.old.items ++ packing (bytes_list bytes.now) 64 }
+{
+    if !bytes.is_empty() {
+        blocks.push_reserved(word_of_bytes(eight_bytes(bytes)));
+    }
+}
+
 /// The blocks of some bytes.
 pub fn byte_blocks(alloc: Global, bytes: &[u8]) -> Result<Vec<usize>, AllocError>
     ensures stores { IfOk result (λ blocks.
@@ -59,8 +70,6 @@ pub fn byte_blocks(alloc: Global, bytes: &[u8]) -> Result<Vec<usize>, AllocError
         blocks.push_reserved(word_of_bytes(*first));
         rest = after;
     }
-    if !rest.is_empty() {
-        blocks.push_reserved(word_of_bytes(eight_bytes(rest)));
-    }
+    push_bytes(&mut blocks, rest);
     Ok(blocks)
 }

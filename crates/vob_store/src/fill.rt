@@ -2,6 +2,7 @@
 ghost use Rattle.std.specs.Prelude.{◌≡◌, ◌+◌, ◌-◌, ◌*◌, ◌^◌, ◌≤◌, ◌<◌, ◌++◌, if◌then◌else◌, map, length, replicate, All, vec_capacity, IsOk, IfOk};
 ghost use Rattle.vob_block.specs.Packing.{need, unpacking, IsCanonical, Stores};
 
+use crate::last::extend_last;
 use crate::mask::mask_last;
 use std::alloc::{AllocError, Global};
 use vob_block::Block;
@@ -47,16 +48,12 @@ pub fn fill<T: Block>(blocks: &mut [T], len: usize, value: bool)
 /// Makes the places that the last block has left `value`.
 fn fill_last<T: Block>(blocks: &mut [T], len: usize, value: bool)
     requires { IsCanonical len (map T.number blocks.old) T.BITS }
-    ensures within { All (λ x. x < 2 ^ T.BITS) (map T.number blocks.new) }
-    ensures bits { unpacking (length blocks.old * T.BITS) (map T.number blocks.new) T.BITS
-        ≡ unpacking len (map T.number blocks.old) T.BITS ++ replicate (length blocks.old * T.BITS - len) value }
+    ensures { Stores T.BITS (length blocks.old * T.BITS) (map T.number blocks.new)
+        (unpacking len (map T.number blocks.old) T.BITS
+        ++ replicate (length blocks.old * T.BITS - len) value) }
 {
-    let width = T::BITS;
-    let used = len % width;
-    if value && used != 0 {
-        let last = len / width;
-        let block = blocks[last];
-        blocks[last] = block.bor(T::ONES.up(used));
+    if value && len % T::BITS != 0 {
+        extend_last(blocks, len, T::ONES);
     }
 }
 

@@ -5,6 +5,7 @@ pub mod bytes;
 pub mod canonical;
 pub mod fill;
 pub mod join;
+mod last;
 pub mod mask;
 pub mod pack;
 pub mod room;

@@ -1,8 +1,9 @@
 //! Bits of a slice put into blocks: as many as a block holds are packed first, and then stored.
-ghost use Rattle.std.specs.Prelude.{◌≡◌, ◌≢◌, ◌+◌, ◌%◌, ◌^◌, ◌<◌, ◌≤◌, ◌++◌, map, length, vec_capacity, ◌-◌, [], IsOk, IfOk};
+ghost use Rattle.std.specs.Prelude.{◌≡◌, ◌≢◌, ◌+◌, ◌%◌, ◌^◌, ◌<◌, ◌≤◌, ◌++◌, map, length, take, vec_capacity, ◌-◌, [], IsOk, IfOk};
 ghost use Rattle.vob_block.specs.Places.{HasPlaces};
 ghost use Rattle.vob_block.specs.Packing.{item, need, packing, unpacking, IsCanonical, Stores};
 
+use crate::last::extend_last;
 use crate::single::first_place;
 use std::alloc::{AllocError, Global};
 use vob_block::Block;
@@ -37,19 +38,22 @@ pub fn push_packed<T: Block>(blocks: &mut Vec<T>, bits: &[bool])
     }
 }
 
-/// Puts some bits into the places that the last block has left.
-fn top_up<T: Block>(blocks: &mut [T], len: usize, bits: &[bool])
-    requires canonical { IsCanonical len (map T.number blocks.old) T.BITS }
-    requires partial { len % T.BITS ≢ 0 }
-    requires fits { len % T.BITS + length bits.now ≤ T.BITS }
-    ensures { Stores T.BITS (len + length bits.now) (map T.number blocks.new)
-        (unpacking len (map T.number blocks.old) T.BITS ++ bits.now) }
+/// Puts the first of some bits into the places that the last block has left, and answers how many.
+fn top_up<T: Block>(blocks: &mut [T], len: usize, bits: &[bool]) -> usize
+    requires { IsCanonical len (map T.number blocks.old) T.BITS }
+    ensures inside { result ≤ length bits.now }
+    ensures stores { Stores T.BITS (len + result) (map T.number blocks.new)
+        (unpacking len (map T.number blocks.old) T.BITS ++ take result bits.now) }
+    ensures whole { result ≢ length bits.now → (len + result) % T.BITS ≡ 0 }
 {
     let width = T::BITS;
-    let last = len / width;
-    let block = blocks[last];
-    let more: T = pack_block(bits);
-    blocks[last] = block.bor(more.up(len % width));
+    let used = len % width;
+    if used == 0 {
+        return 0;
+    }
+    let taken = bits.len().min(width - used);
+    extend_last(blocks, len, pack_block(&bits[..taken]));
+    taken
 }
 
 /// Adds some bits behind `len` bits, in the room that is there.
@@ -60,14 +64,8 @@ pub fn append_slice<T: Block>(blocks: &mut Vec<T>, len: usize, bits: &[bool])
         (unpacking len (map T.number blocks.old.items) T.BITS ++ bits.now) }
     ensures capacity { vec_capacity blocks.new ≡ vec_capacity blocks.old }
 {
-    let used = len % T::BITS;
-    if used == 0 {
-        push_packed(blocks, bits);
-    } else {
-        let (first, rest) = bits.split_at(bits.len().min(T::BITS - used));
-        top_up(blocks, len, first);
-        push_packed(blocks, rest);
-    }
+    let taken = top_up(blocks, len, bits);
+    push_packed(blocks, &bits[taken..]);
 }
 
 /// The blocks of some bits.

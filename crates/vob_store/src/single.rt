@@ -3,6 +3,7 @@ ghost use Rattle.std.specs.Prelude.{◌≡◌, if◌then◌else◌, ◌+◌, ◌
 ghost use Rattle.vob_block.specs.Packing.{need, bit_at, unpacking, IsCanonical, Stores};
 ghost use Rattle.vob_block.specs.Places.{place, HasPlaces};
 
+use crate::last::extend_last;
 use std::alloc::AllocError;
 use vob_block::Block;
 
@@ -42,16 +43,11 @@ pub fn append_bit<T: Block>(blocks: &mut Vec<T>, len: usize, value: bool) -> Res
         × (need len T.BITS < need (len + 1) T.BITS)) }
     ensures capacity { vec_capacity blocks.old ≤ vec_capacity blocks.new }
 {
-    let width = T::BITS;
-    let place = len % width;
-    if place == 0 {
+    if len % T::BITS == 0 {
         blocks.push(first_place(value))?;
     } else {
         // Written for a false bit too: a branch on the value is one that no processor foresees.
-        let last = len / width;
-        let block = blocks[last];
-        let mark: T = first_place(value);
-        blocks[last] = block.bor(mark.up(place));
+        extend_last(blocks, len, first_place(value));
     }
     Ok(())
 }

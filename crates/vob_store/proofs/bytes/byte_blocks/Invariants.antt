@@ -1,15 +1,13 @@
-use Rattle.std.proofs.Common.{◌≡◌, ◌*◌, ◌≤◌, length, drop, vec_capacity}
-use Rattle.vob_block.specs.Packing.{need}
+-- What is pushed, and behind it the packing of what is left, are the whole packing.
+use Rattle.std.proofs.Common.{◌≡◌, ◌≤◌, ◌++◌, length, vec_capacity}
+use Rattle.vob_block.specs.Packing.{packing}
 use Rattle.vob_block.specs.Bytes.{bytes_list}
-use Rattle.vob_store.proofs.LaidLemmas.{Lays}
 use Rattle.vob_store.proofs.bytes.byte_blocks.Given as goal
 
 abbrev pub invariant-loop-first : goal.invariant-loop-first
 invariant-loop-first l = record {
-  lays : Lays 64 (bytes_list l.bytes) l.blocks.items;
-  left : bytes_list l.rest ≡ drop (length l.blocks.items * 64) (bytes_list l.bytes);
-  few : length l.blocks.items ≤ need (length (bytes_list l.bytes)) 64;
-  room : need (length (bytes_list l.bytes)) 64 ≤ vec_capacity l.blocks;
+  packed : l.blocks.items ++ packing (bytes_list l.rest) 64 ≡ packing (bytes_list l.fn.bytes) 64;
+  room : length (packing (bytes_list l.fn.bytes) 64) ≤ vec_capacity l.blocks;
 }
 
 abbrev pub decreases-loop-first : goal.decreases-loop-first

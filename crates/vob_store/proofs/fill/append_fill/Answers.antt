@@ -26,7 +26,7 @@ mask_last-requires g c =
       count = ap length c.deref_mut-2.ensures.value
           ∙ length-resized number g.met.T.Block.wide_law resized;
       within = rw c.deref_mut-2.ensures.value (resized-within number g.met.T.Block.wide_law resized
-          c.args.value c.splat.ensures c.fill_last.ensures.within);
+          c.args.value c.splat.ensures c.fill_last.ensures.canonical.within);
     }
 
 pub returns-clause-stores : goal.returns-clause-stores

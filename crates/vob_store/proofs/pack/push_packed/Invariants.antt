@@ -1,17 +1,13 @@
--- The first m blocks of the packing stand behind the old ones, and the bits of the others are left.
-use Rattle.std.proofs.Common.{◌≡◌, ◌*◌, ◌≤◌, ◌++◌, length, map, take, drop}
-use Rattle.std.specs.Prelude.{vec_capacity, ◌-◌}
-use Rattle.vob_block.specs.Packing.{need, packing}
+-- What is pushed, and behind it the packing of what is left, are the old blocks and the whole packing.
+use Rattle.std.proofs.Common.{◌≡◌, ◌++◌, length, map}
+use Rattle.std.specs.Prelude.{vec_capacity}
+use Rattle.vob_block.specs.Packing.{packing}
 use Rattle.vob_store.proofs.pack.push_packed.Given as goal
 
 abbrev pub invariant-loop-rest : goal.invariant-loop-rest
 invariant-loop-rest g l = record {
-  pushed : map g.T.Block.number l.blocks.items
-      ≡ map g.T.Block.number l.fn.blocks.items ++ take
-      (length l.blocks.items - length l.fn.blocks.items) (packing l.bits g.T.Block.BITS);
-  grown : length l.fn.blocks.items ≤ length l.blocks.items;
-  left : l.rest ≡ drop ((length l.blocks.items - length l.fn.blocks.items) * g.T.Block.BITS) l.bits;
-  few : length l.blocks.items - length l.fn.blocks.items ≤ need (length l.bits) g.T.Block.BITS;
+  packed : map g.T.Block.number l.blocks.items ++ packing l.rest g.T.Block.BITS
+      ≡ map g.T.Block.number l.fn.blocks.items ++ packing l.fn.bits g.T.Block.BITS;
   capacity : vec_capacity l.blocks ≡ vec_capacity l.fn.blocks;
 }
 
