@@ -2,8 +2,8 @@
 use Rattle.std.specs.Prelude.{All, ◌⊎◌}
 use Rattle.std.proofs.Common.{◌≡◌, ◌≢◌, ℕ, ◌+◌, ◌-◌, ◌*◌, ◌/◌, ◌%◌, ◌^◌, ◌<◌, ◌≤◌, Bool, true, false, ◌&&◌, ◌||◌, cond, List, [], ◌∷◌, ◌++◌, length, map, get_or, set, take, drop, min, zero, suc, replicate, leb, ltb, refl, sym, ap, ◌∙◌, subst, arith, inl, inr, mod-lt, div-add-mod', add-mul, add-one, suc-mul, zero-mul, one-mul}
 use Rattle.std.proofs.lemmas.Bool.{cases_lt, cases_eq, lt-ltb, le-ltb, lt-leb, le-leb}
-use Rattle.std.proofs.lemmas.List.{nil_from_length, map-append, take_all, take_at, append-nil, append_assoc, take-append-drop, length-take-le, length-drop, length-map, map-set, length-set, length-append, length-replicate, get_or_append_left, get_or-append_right, get_or_past, get_or-replicate}
-use Rattle.std.proofs.lemmas.List.Elements.{All-set, All-append, All-replicate, All-push, All-nil}
+use Rattle.std.proofs.lemmas.List.{nil_from_length, map-append, take_all, take_at, append-nil, append_assoc, take-append-drop, length-take-le, length-drop, length-map, map-set, length-append, length-replicate, get_or_append_left, get_or-append_right, get_or_past, get_or-replicate}
+use Rattle.std.proofs.lemmas.List.Elements.{All-append, All-replicate, All-push, All-nil}
 use Rattle.std.proofs.Math.Bool.{or-false}
 use Rattle.std.proofs.lemmas.Nat.{mul-le, mod-mul-add, le-div}
 use Rattle.vob_block.specs.Places.{place, HasPlaces}
@@ -11,7 +11,7 @@ use Rattle.vob_block.specs.Packing.{item, need, packing, bit_at, unpacking, IsCa
 use Rattle.vob_block.proofs.NeedLemmas.{need_is, need-le-need, need-zero, need_enough, need_at_full, need_at_open, div-lt-need, lt-need}
 use Rattle.vob_block.proofs.PackingLemmas.{bit_at-in_block, bit_at-is_place, bit_at-past, bit_at-is_item, packing_is, length-unpacking, get_or-unpacking, unpacking_from_items, stores_from_items, length-packing, packing-unpacking}
 use Rattle.vob_block.proofs.PlaceLemmas.{place-ones}
-use Rattle.vob_store.proofs.BuildLemmas.{number_indexed, AreBuilt-upto, AreBuilt-more, AreBuilt-start, Stores-built, item-low, item-high, bit_at-append_left, bit_at-append_right}
+use Rattle.vob_store.proofs.BuildLemmas.{number_indexed, Stores-last, Stores-built, item-low, item-high, bit_at-append_left, bit_at-append_right}
 use Rattle.vob_store.proofs.RoomLemmas.{need-add}
 use Rattle.vob_store.proofs.SplatLemmas.{place-splat, splat-lt}
 use Rattle.vob_store.proofs.FillLemmas.{resized_is}
@@ -105,15 +105,11 @@ module _ (w : ℕ) (wide : 0 < w) where
       Stores-in_last y x bits small places fits held =
           let block = get_or xs (n / w) 0 in
           let start = div-add-mod' n w in
-          let same = length-set xs (n / w) y ∙ last_there in
-          let count : n / w + 1 ≡ need (n + length bits) w =
-          sym (need_is w wide (n + length bits) (n / w + 1)
+          let count : need (n + length bits) w ≡ n / w + 1 =
+          need_is w wide (n + length bits) (n / w + 1)
           (omega (arith, add-mul (n / w) 1 w, one-mul w))
-          (omega (arith, add-mul (n / w) 1 w, one-mul w, partial))) in
-          Stores-built w wide n xs bits (set xs (n / w) y) (same ∙ count)
-          (All-set (λ z. z < 2 ^ w) xs (n / w) y small h.within)
-          (AreBuilt-upto _ (AreBuilt-more w wide (item (unpacking n xs w ++ bits)) xs (n / w) y
-          (AreBuilt-start w wide n xs bits) (omega (arith, last_there)) (record {
+          (omega (arith, add-mul (n / w) 1 w, one-mul w, partial)) in
+          Stores-last w wide n xs bits last_there h.within count y small (record {
             each = λ j below. places.each j below ∙ elim (cases_lt j (n % w)) [
               | inl low ↦ ap (λ b. place j block || (b && place (j - n % w) x))
                   (lt-leb (n % w) j low) ∙ or-false (place j block)
@@ -126,7 +122,7 @@ module _ (w : ℕ) (wide : 0 < w) where
                   ∙ sym (item-high w wide n xs bits (n / w * w + j) (omega arith)
                   ∙ ap (item bits) (omega arith))
             ];
-          })) (omega (arith, same)))
+          })
 
       -- the places left are all true where a block of true ones is put there
       pub Stores-last_filled : (ys : List ℕ) (ones : ℕ) → ones ≡ 2 ^ w - 1

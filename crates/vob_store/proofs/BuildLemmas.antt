@@ -2,7 +2,8 @@
 use Rattle.std.specs.Prelude.{All}
 use Rattle.std.proofs.Common.{◌≡◌, ℕ, ◌+◌, ◌-◌, ◌*◌, ◌/◌, ◌%◌, ◌^◌, ◌<◌, ◌≤◌, Bool, false, List, ◌++◌, length, map, get_or, set, drop, take, ltb, refl, sym, ap, ◌∙◌, arith, inl, inr, mod-lt, div-add-mod', add-mul, one-mul}
 use Rattle.std.proofs.lemmas.Bool.{cases_lt, cases_eq, lt-ltb, le-ltb, cond-true, cond-false}
-use Rattle.std.proofs.lemmas.List.{length-append, get_or-map, get_or-drop, get_or_append_left, get_or-append_right, get_or_past, get_or-take, length-take-le, drop_at}
+use Rattle.std.proofs.lemmas.List.{length-set, length-append, get_or-map, get_or-drop, get_or_append_left, get_or-append_right, get_or_past, get_or-take, length-take-le, drop_at}
+use Rattle.std.proofs.lemmas.List.Elements.{All-set}
 use Rattle.std.proofs.lemmas.Nat.{mul-le, le-div}
 use Rattle.std.proofs.Math.Nat.{add-mul-div_right}
 use Rattle.vob_block.specs.Places.{place, HasPlaces}
@@ -125,6 +126,18 @@ module _ (w : ℕ) (wide : 0 < w) where
         ))
       ];
     }
+
+    -- and with that block stored anew, behind which there is none, they hold the list
+    pub Stores-last : length olds ≡ n / w + 1 → All (λ x. x < 2 ^ w) olds
+        → need (n + length bits) w ≡ n / w + 1 → (y : ℕ) → y < 2 ^ w
+        → HasPlaces w y (λ j. item (unpacking n olds w ++ bits) (n / w * w + j))
+        → Stores w (n + length bits) (set olds (n / w) y) (unpacking n olds w ++ bits)
+    Stores-last last within count y small places =
+        let long = length-set olds (n / w) y in
+        Stores-built (set olds (n / w) y) (omega (arith, long, last, count))
+        (All-set (λ x. x < 2 ^ w) olds (n / w) y small within)
+        (AreBuilt-upto _ (AreBuilt-more (item (unpacking n olds w ++ bits)) olds (n / w) y
+        AreBuilt-start (omega (arith, last)) places) (omega (arith, long, last)))
 
   -- the same where other blocks hold that list
   module _ (n : ℕ) (olds others : List ℕ) where

@@ -1,19 +1,16 @@
 -- The bits from some index on taken off, at a plain width.
 use Rattle.std.specs.Prelude.{All}
-use Rattle.std.proofs.Common.{◌≡◌, ◌≢◌, ℕ, ◌+◌, ◌*◌, ◌/◌, ◌%◌, ◌^◌, ◌<◌, ◌≤◌, min, Bool, true, false, ◌&&◌, List, length, map, get_or, set, take, ltb, refl, sym, ap, ◌∙◌, arith, inl, inr, mod-lt, div-add-mod'}
+use Rattle.std.proofs.Common.{◌≡◌, ◌≢◌, ℕ, ◌+◌, ◌*◌, ◌/◌, ◌%◌, ◌^◌, ◌<◌, ◌≤◌, min, false, ◌&&◌, List, [], length, add-zero, map, get_or, set, take, ltb, sym, ap, ◌∙◌, arith, inl, inr, div-add-mod'}
 use Rattle.std.proofs.lemmas.Bool.{cases_eq, cases_lt, lt-ltb, le-ltb, and_right}
-use Rattle.std.proofs.lemmas.List.{get_or-map, map-set, length-map, length-set, get_or-take, length-take-le, take-map}
-use Rattle.std.proofs.lemmas.List.Elements.{All-set, All-take}
+use Rattle.std.proofs.Math.Bool.{and-true}
+use Rattle.std.proofs.lemmas.List.{append-nil, get_or-map, map-set, length-map, get_or-take, length-take-le, take-map}
+use Rattle.std.proofs.lemmas.List.Elements.{All-take}
 use Rattle.std.proofs.lemmas.List.FromFn.{take-map-range_with_len}
-use Rattle.std.proofs.lemmas.Nat.{mul-le}
 use Rattle.vob_block.specs.Places.{place, HasPlaces}
 use Rattle.vob_block.specs.Packing.{need, bit_at, unpacking, IsCanonical, Stores}
 use Rattle.vob_block.proofs.NeedLemmas.{need-le-need, need_at_full, need_at_open, div-lt-need}
-use Rattle.vob_block.proofs.PackingLemmas.{bit_at-is_place, bit_at-past, bit_at-set_same, bit_at-set_other, length-unpacking, get_or-unpacking, unpacking_from_items}
-
-and-true : (b : Bool) → (b && true) ≡ b
-and-true true = refl
-and-true false = refl
+use Rattle.vob_block.proofs.PackingLemmas.{bit_at-in_block, bit_at-is_place, length-unpacking, get_or-unpacking, unpacking_from_items}
+use Rattle.vob_store.proofs.BuildLemmas.{AreBuilt-upto, AreBuilt-start, Stores-built, Stores-last, item-low, item-high}
 
 -- ---- what is unpacked, at fewer bits
 
@@ -49,76 +46,29 @@ module _ (w : ℕ) (wide : 0 < w) (n : ℕ) (xs : List ℕ) (count : length xs �
     (within : All (λ x. x < 2 ^ w) xs) where
   -- where the last block is full, nothing stands past the bits
   pub canonical_at_full : n % w ≡ 0 → IsCanonical n xs w
-  canonical_at_full full = record {
-    count = count;
-    within = within;
-    unused = λ i past. bit_at-past xs w i (past_blocks i past);
-  }
-    where
-      past_blocks : (i : ℕ) → n ≤ i → length xs ≤ i / w
-      past_blocks i past = elim (cases_lt (i / w) (length xs)) [
-        | inr fine ↦ fine
-        | inl below ↦
-            let needs = need_at_full w wide n full in
-            let row : (i / w + 1) * w ≤ n / w * w =
-            mul-le (i / w + 1) w (n / w) w (omega (arith, needs.0)) (omega arith) in
-            absurd (omega (arith, row, div-add-mod' i w, div-add-mod' n w, mod-lt i wide))
-      ]
+  canonical_at_full full =
+      let last : length xs ≤ n / w = omega (arith, count, (need_at_full w wide n full).0) in
+      rw add-zero at (Stores-built w wide n xs [] xs (count ∙ ap (λ m. need m w) (sym (add-zero n)))
+      within (AreBuilt-upto _ (AreBuilt-start w wide n xs []) last)).canonical
 
-  module _ (partial : n % w ≢ 0) where
-    pub last_there : n / w < length xs
-    last_there = omega (arith, count, (need_at_open w wide n partial).0)
-
-    above : (i : ℕ) → i / w ≡ n / w → n ≤ i → n % w ≤ i % w
-    above i here past = omega (arith, ap (λ q. q * w) here, div-add-mod' i w, div-add-mod' n w)
-
-    under : (i : ℕ) → i / w ≡ n / w → i < n → i % w < n % w
-    under i here below = omega (arith, ap (λ q. q * w) here, div-add-mod' i w, div-add-mod' n w)
-
-    past_last : (i : ℕ) → i / w ≢ n / w → n ≤ i → length xs ≤ i / w
-    past_last i apart past = elim (cases_lt (n / w) (i / w)) [
-      | inl more ↦ omega (arith, count, (need_at_open w wide n partial).0)
-      | inr few ↦
-          let row : (i / w + 1) * w ≤ n / w * w =
-          mul-le (i / w + 1) w (n / w) w (omega arith) (omega arith) in
-          absurd (omega (arith, row, div-add-mod' i w, div-add-mod' n w, mod-lt i wide))
-    ]
-
-    module _ (y : ℕ) (places : (j : ℕ) → j < w → place j y
-        ≡ (place j (get_or xs (n / w) 0) && ltb j (n % w))) where
-      masked : (i : ℕ) → i / w ≡ n / w → bit_at (set xs (n / w) y) w i
-          ≡ (place (i % w) (get_or xs (n / w) 0) && ltb (i % w) (n % w))
-      masked i here = bit_at-set_same xs w (n / w) y i last_there here
-          ∙ places (i % w) (mod-lt i wide)
-
-      none_above : (i : ℕ) → n ≤ i → bit_at (set xs (n / w) y) w i ≡ false
-      none_above i past = elim (cases_eq (i / w) (n / w)) [
-        | inl here ↦ masked i here ∙ and_right (place (i % w) (get_or xs (n / w) 0))
-            (ltb (i % w) (n % w)) (le-ltb (i % w) (n % w) (above i here past))
-        | inr apart ↦ bit_at-past (set xs (n / w) y) w i
-            (omega (arith, length-set xs (n / w) y, past_last i apart past))
-      ]
-
-      same_below : (i : ℕ) → i < n → bit_at (set xs (n / w) y) w i ≡ bit_at xs w i
-      same_below i below = elim (cases_eq (i / w) (n / w)) [
-        | inl here ↦
-            masked i here ∙ ap (λ t. place (i % w) (get_or xs (n / w) 0) && t)
-            (lt-ltb (i % w) (n % w) (under i here below))
-            ∙ and-true (place (i % w) (get_or xs (n / w) 0))
-            ∙ ap (λ q. place (i % w) (get_or xs q 0)) (sym here) ∙ sym (bit_at-is_place xs w i)
-        | inr apart ↦ bit_at-set_other xs w (n / w) y i apart
-      ]
-
-      -- elsewhere the last block is masked
-      pub mask_last : y < 2 ^ w → Stores w n (set xs (n / w) y) (unpacking n xs w)
-      mask_last small = record {
-        canonical = record {
-          count = length-set xs (n / w) y ∙ count;
-          within = All-set (λ x. x < 2 ^ w) xs (n / w) y small within;
-          unused = none_above;
-        };
-        bits = unpacking_same n xs (set xs (n / w) y) w same_below;
-      }
+  -- elsewhere the last block is masked
+  pub mask_last : n % w ≢ 0 → (y : ℕ) → ((j : ℕ) → j < w → place j y
+      ≡ (place j (get_or xs (n / w) 0) && ltb j (n % w))) → y < 2 ^ w
+      → Stores w n (set xs (n / w) y) (unpacking n xs w)
+  mask_last partial y places small =
+      let block = get_or xs (n / w) 0 in
+      let start = div-add-mod' n w in
+      let last = (need_at_open w wide n partial).0 in
+      rw (add-zero, append-nil) at (Stores-last w wide n xs [] (count ∙ last) within
+      (ap (λ m. need m w) (add-zero n) ∙ last) y small (record {
+        each = λ j below. places j below ∙ elim (cases_lt j (n % w)) [
+          | inl low ↦ ap (λ t. place j block && t) (lt-ltb j (n % w) low) ∙ and-true (place j block)
+              ∙ sym (item-low w wide n xs [] (n / w * w + j) (omega arith)
+              ∙ bit_at-in_block xs w (n / w) j below)
+          | inr high ↦ and_right (place j block) (ltb j (n % w)) (le-ltb j (n % w) high)
+              ∙ sym (item-high w wide n xs [] (n / w * w + j) (omega arith))
+        ];
+      }))
 
 -- the same of items with a number each; u is the width as the code read it, and m the mask
 module _ {X : Type 0} (number : X → ℕ) (w : ℕ) (wide : 0 < w) (n : ℕ) (items : List X)

@@ -1,35 +1,30 @@
--- Blocks that hold a list of bits from the first block on, at a plain width.
-use Rattle.std.proofs.Common.{◌≡◌, ◌≢◌, ℕ, ◌+◌, ◌-◌, ◌^◌, ◌<◌, ◌≤◌, Bool, true, false, ◌&&◌, ◌||◌, cond, List, eqb, leb, ltb, refl, sym, ap, ◌∙◌, arith, inl, inr}
-use Rattle.std.proofs.lemmas.Bool.{cases_lt, cases_order, lt-ltb, le-ltb, lt-leb, le-leb, and_left, eq-eqb, eqb-true, ne_eqb, false≢true}
+-- One block filled with bits from the first place on, and what a test for none left says.
+use Rattle.std.proofs.Common.{◌≡◌, ◌≢◌, ℕ, ◌+◌, ◌-◌, ◌^◌, ◌<◌, ◌≤◌, Bool, true, false, ◌&&◌, ◌||◌, cond, List, eqb, leb, ltb, sym, ap, ◌∙◌, arith, inl, inr}
+use Rattle.std.proofs.lemmas.Bool.{cases_lt, cases_order, lt-ltb, le-ltb, lt-leb, le-leb, and_left, and_right, eq-eqb, eqb-true, ne_eqb, false≢true}
 use Rattle.std.proofs.Math.Bool.{and-true, and-false, or-false}
 use Rattle.vob_block.specs.Places.{place, HasPlaces}
 use Rattle.vob_block.specs.Packing.{item}
 use Rattle.vob_block.proofs.PlaceLemmas.{place-zero, place-pow}
-
--- ---- one block from the bits at hand
 
 -- the first n places are the bits, and the others are false
 pub record HasFirst (w x : ℕ) (bits : List Bool) (n : ℕ) : Type 0 where
   pub within : x < 2 ^ w
   pub each : (j : ℕ) → j < w → place j x ≡ (ltb j n && item bits j)
 
+-- the place that holds the first bit of a block
+pub place-first : (b : Bool) (j : ℕ) → place j (cond b 1 0) ≡ (b && eqb j 0)
+place-first true j = place-pow 0 j
+place-first false j = place-zero j
+
 -- a bit moved up to place n
 pub mark-places : (b : Bool) (n j : ℕ) → (leb n j && place (j - n) (cond b 1 0)) ≡ (b && eqb j n)
 mark-places b n j = elim (cases_lt j n) [
   | inl below ↦ and_left (leb n j) (place (j - n) (cond b 1 0)) (lt-leb n j below)
-      ∙ sym (nowhere b j n (ne_eqb j n (λ e. absurd (omega arith))))
-  | inr above ↦ ap (λ t. t && place (j - n) (cond b 1 0)) (le-leb n j above) ∙ bit b (j - n)
+      ∙ sym (and_right b (eqb j n) (ne_eqb j n (λ e. absurd (omega arith))))
+  | inr above ↦ ap (λ t. t && place (j - n) (cond b 1 0)) (le-leb n j above) ∙ place-first b (j - n)
       ∙ ap (λ t. b && t) (shifted j n above)
 ]
   where
-    nowhere : (b : Bool) (j n : ℕ) → eqb j n ≡ false → (b && eqb j n) ≡ false
-    nowhere true j n e = e
-    nowhere false j n e = refl
-
-    bit : (b : Bool) (j : ℕ) → place j (cond b 1 0) ≡ (b && eqb j 0)
-    bit true j = place-pow 0 j
-    bit false j = place-zero j
-
     shifted : (j n : ℕ) → n ≤ j → eqb (j - n) 0 ≡ eqb j n
     shifted j n h = elim (cases_order j n) [
       | inl same ↦ eq-eqb (j - n) 0 (omega arith) ∙ sym (eq-eqb j n same)

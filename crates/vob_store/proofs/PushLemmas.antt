@@ -7,14 +7,8 @@ use Rattle.std.proofs.lemmas.Nat.{mul-le, pow_pos, pow_below}
 use Rattle.vob_block.specs.Places.{place, HasPlaces}
 use Rattle.vob_block.specs.Packing.{item, need, IsCanonical, Stores}
 use Rattle.vob_block.proofs.NeedLemmas.{need_at_full}
-use Rattle.vob_block.proofs.PlaceLemmas.{place-pow, place-zero}
 use Rattle.vob_store.proofs.AppendLemmas.{Stores-block}
-use Rattle.vob_store.proofs.LaidLemmas.{mark-places}
-
--- the place that holds the first bit of a block
-pub place-first : (v : Bool) (j : ℕ) → place j (cond v 1 0) ≡ (v && eqb j 0)
-place-first true j = place-pow 0 j
-place-first false j = place-zero j
+use Rattle.vob_store.proofs.LaidLemmas.{mark-places, place-first}
 
 first-lt : (v : Bool) (w : ℕ) → 0 < w → cond v 1 0 < 2 ^ w
 first-lt true w h = pow_below 0 w h

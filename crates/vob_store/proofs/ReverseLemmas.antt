@@ -1,7 +1,8 @@
 -- Words of eight bytes, and the places of each byte reversed.
 use Rattle.std.specs.Int.{w64, from_le_bytes, sum_through, byte_worth}
 use Rattle.std.proofs.Common.{◌≡◌, ℕ, zero, suc, ◌+◌, ◌-◌, ◌*◌, ◌/◌, ◌%◌, ◌^◌, ◌<◌, ◌≤◌, Bool, true, false, not, ◌&&◌, ◌||◌, cond, List, get_or, eqb, leb, ltb, refl, sym, ap, ◌∙◌, arith, inl, inr}
-use Rattle.std.proofs.lemmas.Bool.{cases_lt, cases_eq, eqb-true, ltb-true, false≢true}
+use Rattle.std.proofs.lemmas.Bool.{cases_lt, cases_eq, eqb-true, ltb-true, false≢true, and_parts, or_right, or_from}
+use Rattle.std.proofs.Math.Bool.{and-false}
 use Rattle.std.proofs.lemmas.Nat.{pow-add, mul-le}
 use Rattle.std.proofs.lemmas.Nat.Bits.{bit_at_cat_low, bit_at_cat_high}
 use Rattle.vob_block.specs.Places.{place, HasPlaces}
@@ -15,19 +16,11 @@ abbrev all_below : ℕ → (ℕ → Bool) → Bool
 all_below zero t = true
 all_below (suc n) t = t n && all_below n t
 
-and-first : (a b : Bool) → (a && b) ≡ true → a ≡ true
-and-first true b e = refl
-and-first false b e = e
-
-and-second : (a b : Bool) → (a && b) ≡ true → b ≡ true
-and-second true b e = e
-and-second false b e = absurd (false≢true e)
-
 below_from_test : (n : ℕ) (t : ℕ → Bool) → all_below n t ≡ true → (j : ℕ) → j < n → t j ≡ true
 below_from_test zero t e j h = absurd (omega arith)
 below_from_test (suc n) t e j h = elim (cases_eq j n) [
-  | inl same ↦ ap t same ∙ and-first (t n) (all_below n t) e
-  | inr other ↦ below_from_test n t (and-second (t n) (all_below n t) e) j (omega (arith, other))
+  | inl same ↦ ap t same ∙ (and_parts (t n) (all_below n t) e).0
+  | inr other ↦ below_from_test n t (and_parts (t n) (all_below n t) e).1 j (omega (arith, other))
 ]
 
 -- ---- one exchange
@@ -52,18 +45,8 @@ chosen true true true true false false h = refl
 chosen true true false true true false h = refl
 chosen true true false true false false h = refl
 chosen true false p l q n h = absurd (false≢true h)
-chosen false a p true true true h = or-and a p
-  where
-    or-and : (a p : Bool) → (((a && p) && false) || true) ≡ true
-    or-and true true = refl
-    or-and true false = refl
-    or-and false p = refl
-chosen false a p true false true h = none a p
-  where
-    none : (a p : Bool) → (((a && p) && false) || false) ≡ false
-    none true true = refl
-    none true false = refl
-    none false p = refl
+chosen false a p true true true h = or_right ((a && p) && false) true refl
+chosen false a p true false true h = or_from ((a && p) && false) false (and-false (a && p)) refl
 chosen false a p true q false h = absurd (false≢true h)
 chosen false a p false q n h = absurd (false≢true h)
 
@@ -108,18 +91,16 @@ pub reversed_places : (x p q y : ℕ)
     → HasPlaces 64 y (λ j. place (j / 8 * 8 + (7 - j % 8)) x)
 reversed_places x p q y first second third = record {
   each = λ j h.
-      let all = below_from_test 64 is_turned refl j h in
       let a = partner 4 fours j in
       let b = partner 2 twos a in
-      let inside_a = ltb-true a 64 (and-first (ltb a 64) _ all) in
-      let rest = and-second (ltb a 64) (ltb b 64 && eqb (partner 1 ones b)
-      (j / 8 * 8 + (7 - j % 8))) all in
-      let inside_b = ltb-true b 64 (and-first (ltb b 64) _ rest) in
-      let at = eqb-true (partner 1 ones b) (j / 8 * 8 + (7 - j % 8))
-      (and-second (ltb b 64) (eqb (partner 1 ones b) (j / 8 * 8 + (7 - j % 8))) rest) in
+      let target = j / 8 * 8 + (7 - j % 8) in
+      let both = and_parts (ltb a 64) (ltb b 64 && eqb (partner 1 ones b) target)
+      (below_from_test 64 is_turned refl j h) in
+      let rest = and_parts (ltb b 64) (eqb (partner 1 ones b) target) both.1 in
       exchanged_place 4 fours q y refl third j h
-      ∙ exchanged_place 2 twos p q refl second a inside_a
-      ∙ exchanged_place 1 ones x p refl first b inside_b ∙ ap (λ i. place i x) at;
+      ∙ exchanged_place 2 twos p q refl second a (ltb-true a 64 both.0)
+      ∙ exchanged_place 1 ones x p refl first b (ltb-true b 64 rest.0)
+      ∙ ap (λ i. place i x) (eqb-true (partner 1 ones b) target rest.1);
 }
 
 -- ---- the word of eight bytes

@@ -43,7 +43,8 @@ pub fn append_bit<T: Block>(blocks: &mut Vec<T>, len: usize, value: bool) -> Res
         × (need len T.BITS < need (len + 1) T.BITS)) }
     ensures capacity { vec_capacity blocks.old ≤ vec_capacity blocks.new }
 {
-    if len % T::BITS == 0 {
+    let width = T::BITS;
+    if len % width == 0 {
         blocks.push(first_place(value))?;
     } else {
         // Written for a false bit too: a branch on the value is one that no processor foresees.
