@@ -1,32 +1,18 @@
 -- Bits put behind others: blocks behind whole ones, and places filled in the last one, at a plain width.
-use Rattle.std.specs.Prelude.{All, ◌⊎◌}
-use Rattle.std.proofs.Common.{◌≡◌, ◌≢◌, ℕ, ◌+◌, ◌-◌, ◌*◌, ◌/◌, ◌%◌, ◌^◌, ◌<◌, ◌≤◌, Bool, true, false, ◌&&◌, ◌||◌, cond, List, [], ◌∷◌, ◌++◌, length, map, get_or, set, take, drop, min, zero, suc, replicate, leb, ltb, refl, sym, ap, ◌∙◌, subst, arith, inl, inr, mod-lt, div-add-mod', add-mul, add-one, suc-mul, zero-mul, one-mul}
-use Rattle.std.proofs.lemmas.Bool.{cases_lt, cases_eq, lt-ltb, le-ltb, lt-leb, le-leb}
-use Rattle.std.proofs.lemmas.List.{nil_from_length, map-append, take_all, take_at, append-nil, append_assoc, take-append-drop, length-take-le, length-drop, length-map, map-set, length-append, length-replicate, get_or_append_left, get_or-append_right, get_or_past, get_or-replicate}
-use Rattle.std.proofs.lemmas.List.Elements.{All-append, All-replicate, All-push, All-nil}
+use Rattle.std.specs.Prelude.{◌⊎◌}
+use Rattle.std.proofs.Common.{◌≡◌, ◌≢◌, ℕ, ◌+◌, ◌-◌, ◌*◌, ◌/◌, ◌%◌, ◌^◌, ◌<◌, ◌≤◌, Bool, true, false, ◌&&◌, ◌||◌, List, [], ◌∷◌, ◌++◌, length, map, get_or, set, take, drop, min, replicate, leb, refl, sym, ap, ◌∙◌, subst, arith, inl, inr, mod-lt, div-add-mod', add-mul, zero-mul, one-mul}
+use Rattle.std.proofs.lemmas.Bool.{cases_lt, cases_eq, lt-leb, le-leb}
+use Rattle.std.proofs.lemmas.List.{nil_from_length, append-nil, append_assoc, take-append-drop, length-take-le, length-drop, length-map, map-set, length-append, length-replicate, get_or_past, get_or-replicate}
+use Rattle.std.proofs.lemmas.List.Elements.{All-append, All-push, All-nil}
 use Rattle.std.proofs.Math.Bool.{or-false}
-use Rattle.std.proofs.lemmas.Nat.{mul-le, mod-mul-add, le-div}
+use Rattle.std.proofs.lemmas.Nat.{mod-mul-add, le-div}
 use Rattle.vob_block.specs.Places.{place, HasPlaces}
 use Rattle.vob_block.specs.Packing.{item, need, packing, bit_at, unpacking, IsCanonical, Stores}
-use Rattle.vob_block.proofs.NeedLemmas.{need_is, need-le-need, need-zero, need_enough, need_at_full, need_at_open, div-lt-need, lt-need}
-use Rattle.vob_block.proofs.PackingLemmas.{bit_at-in_block, bit_at-is_place, bit_at-past, bit_at-is_item, packing_is, length-unpacking, get_or-unpacking, unpacking_from_items, stores_from_items, length-packing, packing-unpacking}
+use Rattle.vob_block.proofs.NeedLemmas.{need_is, need-zero, need_enough, need_at_full, need_at_open, div-lt-need, lt-need}
+use Rattle.vob_block.proofs.PackingLemmas.{bit_at-in_block, bit_at-past, bit_at-is_item, packing_is, length-unpacking, stores_from_items, length-packing, packing-unpacking}
 use Rattle.vob_block.proofs.PlaceLemmas.{place-ones}
 use Rattle.vob_store.proofs.BuildLemmas.{number_indexed, Stores-last, Stores-built, item-low, item-high, bit_at-append_left, bit_at-append_right}
 use Rattle.vob_store.proofs.RoomLemmas.{need-add}
-use Rattle.vob_store.proofs.SplatLemmas.{place-splat, splat-lt}
-use Rattle.vob_store.proofs.FillLemmas.{resized_is}
-
--- bit i of a list and the same bit many times behind it
-item-splat : (bits : List Bool) (k : ℕ) (v : Bool) (i : ℕ) → i < length bits + k
-    → item (bits ++ replicate k v) i ≡ cond (ltb i (length bits)) (item bits i) v
-item-splat bits k v i h = elim (cases_lt i (length bits)) [
-  | inl inside ↦ get_or_append_left bits (replicate k v) false i inside
-      ∙ sym (ap (λ b. cond b (item bits i) v) (lt-ltb i (length bits) inside))
-  | inr past ↦
-      get_or-append_right bits (replicate k v) (length bits) i false refl past
-      ∙ get_or-replicate k (i - length bits) v false (omega arith)
-      ∙ sym (ap (λ b. cond b (item bits i) v) (le-ltb i (length bits) past))
-]
 
 module _ (w : ℕ) (wide : 0 < w) where
   -- a block whose places are some bits stores them
@@ -175,63 +161,6 @@ module _ (w : ℕ) (wide : 0 < w) where
           ];
         }))
 
-  -- blocks of one bit behind blocks whose places from some bits on are that bit
-  pub unpacking-append_fill : (bits : List Bool) (n m k : ℕ) (xs : List ℕ) (v : Bool) (e : ℕ) → e
-      ≡ cond v (2 ^ w - 1) 0 → length bits ≡ n → n ≤ length xs * w
-      → unpacking (length xs * w) xs w ≡ bits ++ replicate (length xs * w - n) v → n ≤ m
-      → need m w ≡ length xs + k → unpacking m (xs ++ replicate k e) w
-      ≡ bits ++ replicate (m - n) v
-  unpacking-append_fill bits n m k xs v e splat are held filled longer count =
-      unpacking_from_items (bits ++ replicate (m - n) v) m (xs ++ replicate k e) w
-      (length-append bits (replicate (m - n) v)
-      ∙ omega (arith, are, length-replicate (m - n) v))
-      (λ i below. elim (cases_lt (i / w) (length xs)) [
-        | inl inside ↦
-            let row = mul-le (i / w + 1) w (length xs) w (omega arith) (omega arith) in
-            let there : i < length xs * w = omega (
-              arith,
-              row,
-              ap (λ k. k * w) (add-one (i / w)),
-              suc-mul (i / w) w,
-              div-add-mod' i w,
-              mod-lt i wide,
-            ) in
-            bit_at-append_left w wide xs (replicate k e) i inside
-            ∙ sym (get_or-unpacking (length xs * w) xs w i false there)
-            ∙ ap (λ bs. item bs i) filled
-            ∙ item-splat bits (length xs * w - n) v i (omega (arith, are))
-            ∙ sym (item-splat bits (m - n) v i (omega (arith, are)))
-        | inr past ↦
-            let held_by : length xs * w ≤ i / w * w =
-            mul-le (length xs) w (i / w) w past (omega arith) in
-            let behind : length xs * w ≤ i = omega (arith, held_by, div-add-mod' i w) in
-            let j = i - length xs * w in
-            let row : j / w < k = below_of i below behind in
-            ap (bit_at (xs ++ replicate k e) w) (omega (arith, behind))
-            ∙ bit_at-append_right w wide xs (replicate k e) j ∙ bit_at-is_place (replicate k e) w j
-            ∙ ap (place (j % w)) (get_or-replicate k (j / w) e 0 row)
-            ∙ place-splat v w e (j % w) splat (mod-lt j wide)
-            ∙ sym (item-splat bits (m - n) v i (omega (arith, are))
-            ∙ ap (λ b. cond b (item bits i) v) (le-ltb i (length bits) (omega (arith, are))))
-      ])
-    where
-      below_of : (i : ℕ) → i < m → length xs * w ≤ i → (i - length xs * w) / w < k
-      below_of i below behind =
-          let enough : m ≤ (length xs + k) * w =
-          subst (λ (q : ℕ). m ≤ q * w) count (need_enough w wide m) in
-          let j = i - length xs * w in
-          elim (cases_lt (j / w) k) [
-            | inl fine ↦ fine
-            | inr far ↦
-                let row = mul-le k w (j / w) w far (omega arith) in
-                absurd (omega (arith, row, enough, add-mul (length xs) k w, div-add-mod' j w))
-          ]
-
-  pub append_fill-within : (k : ℕ) (xs : List ℕ) (v : Bool) (e : ℕ) → e ≡ cond v (2 ^ w - 1) 0
-      → All (λ x. x < 2 ^ w) xs → All (λ x. x < 2 ^ w) (xs ++ replicate k e)
-  append_fill-within k xs v e splat within = All-append (λ x. x < 2 ^ w) xs (replicate k e) within
-      (All-replicate (λ x. x < 2 ^ w) k e (splat-lt v w e splat))
-
   -- ---- the packing of bits, block after block
 
   -- the first places of some bits are the first block
@@ -333,68 +262,3 @@ module _ {X : Type 0} (number : X → ℕ) (w : ℕ) (wide : 0 < w) (n : ℕ) (i
             ∙ ap (λ b. place j (get_or xs (n / w) 0) || b)
             (up.each j below ∙ ap (λ v. leb (n % v) j && place (j - n % v) x) same);
       }) fits held)
-
--- items that hold some bits, after a resize by items of one bit to as many as more bits need
-pub record IsResized {X : Type 0} (w n m : ℕ) (xs ys : List X) (splat : X) : Type 0 where
-  pub longer : n ≤ m
-  pub count : length xs ≡ need n w
-  pub is : ys ≡ take (need m w) xs ++ replicate (need m w - length xs) splat
-
--- those of a vector, changed before in a slice that stands for them; t and len are the counts that the code has
-pub IsResized-changed : {X : Type 0} (number : X → ℕ) {w n m : ℕ} (old slice changed ys : List X)
-    (splat : X) {t len : ℕ} (done : Bool) → IsCanonical n (map number old) w → n ≤ m
-    → slice ≡ old → length slice ≡ len → length changed ≡ length slice → t ≡ need m w → done ≡ true
-    → ys ≡ cond done (take t (take len (changed ++ drop (length changed) old)) ++ replicate
-    (t - len) splat) (take len (changed ++ drop (length changed) old))
-    → IsResized w n m changed ys splat
-IsResized-changed number old slice changed ys splat done h longer same long kept wanted ok is =
-    let all = take_at changed (drop (length changed) old) _ (kept ∙ long) in
-    record {
-      longer = longer;
-      count = kept ∙ ap length same ∙ sym (length-map old number) ∙ h.count;
-      is = resized_is changed ys splat _ _ _ done (rw all at is) ok wanted (sym (kept ∙ long));
-    }
-
-module _ {X : Type 0} (number : X → ℕ) {w : ℕ} (wide : 0 < w) {n m : ℕ} {xs ys : List X}
-    {splat : X} (r : IsResized w n m xs ys splat) where
-  short : length xs ≤ need m w
-  short = omega (arith, need-le-need w wide n m r.longer, r.count)
-
-  numbers-resized : map number ys ≡ map number xs ++ replicate (need m w - length xs) (number splat)
-  numbers-resized =
-      ap (map number) (r.is ∙ ap (λ zs. zs ++ replicate (need m w - length xs) splat)
-      (take_all (need m w) xs short)) ∙ map-append number xs
-      (replicate (need m w - length xs) splat)
-      ∙ ap (λ zs. map number xs ++ zs) (map-replicate (need m w - length xs))
-    where
-      map-replicate : (k : ℕ) → map number (replicate k splat) ≡ replicate k (number splat)
-      map-replicate zero = refl
-      map-replicate (suc k) = ap (λ zs. number splat ∷ zs) (map-replicate k)
-
-  pub length-resized : length ys ≡ need m w
-  length-resized =
-      ap length r.is ∙ length-append (take (need m w) xs) (replicate (need m w - length xs) splat)
-      ∙ omega (
-        arith,
-        short,
-        ap length (take_all (need m w) xs short),
-        length-replicate (need m w - length xs) splat,
-      )
-
-  module _ (v : Bool) (its : number splat ≡ cond v (2 ^ w - 1) 0) where
-    pub resized-within : All (λ x. x < 2 ^ w) (map number xs) → All (λ x. x < 2 ^ w) (map number ys)
-    resized-within within = subst (All (λ x. x < 2 ^ w)) (sym numbers-resized)
-        (append_fill-within w wide (need m w - length xs) (map number xs) v (number splat) its
-        within)
-
-    pub unpacking-resized : (bits : List Bool) → length bits ≡ n
-        → unpacking (length xs * w) (map number xs) w ≡ bits ++ replicate (length xs * w - n) v
-        → unpacking m (map number ys) w ≡ bits ++ replicate (m - n) v
-    unpacking-resized bits are filled =
-        let same = length-map xs number in
-        let held : n ≤ length xs * w = subst (λ (q : ℕ). n ≤ q * w) (sym r.count)
-        (need_enough w wide n) in
-        ap (λ zs. unpacking m zs w) numbers-resized
-        ∙ unpacking-append_fill w wide bits n m (need m w - length xs) (map number xs) v
-        (number splat) its are (rw same held) (rw same filled) r.longer
-        (omega (arith, same, short))

@@ -1,10 +1,9 @@
 -- The bits from some index on taken off, at a plain width.
 use Rattle.std.specs.Prelude.{All}
-use Rattle.std.proofs.Common.{◌≡◌, ◌≢◌, ℕ, ◌+◌, ◌*◌, ◌/◌, ◌%◌, ◌^◌, ◌<◌, ◌≤◌, min, false, ◌&&◌, List, [], length, add-zero, map, get_or, set, take, ltb, sym, ap, ◌∙◌, arith, inl, inr, div-add-mod'}
+use Rattle.std.proofs.Common.{Bool, ◌≡◌, ◌≢◌, ℕ, ◌+◌, ◌*◌, ◌/◌, ◌%◌, ◌^◌, ◌<◌, ◌≤◌, min, false, ◌&&◌, List, [], length, add-zero, map, get_or, set, take, ltb, sym, ap, ◌∙◌, arith, inl, inr, div-add-mod'}
 use Rattle.std.proofs.lemmas.Bool.{cases_eq, cases_lt, lt-ltb, le-ltb, and_right}
 use Rattle.std.proofs.Math.Bool.{and-true}
 use Rattle.std.proofs.lemmas.List.{append-nil, get_or-map, map-set, length-map, get_or-take, length-take-le, take-map}
-use Rattle.std.proofs.lemmas.List.Elements.{All-take}
 use Rattle.std.proofs.lemmas.List.FromFn.{take-map-range_with_len}
 use Rattle.vob_block.specs.Places.{place, HasPlaces}
 use Rattle.vob_block.specs.Packing.{need, bit_at, unpacking, IsCanonical, Stores}
@@ -24,6 +23,12 @@ pub take-unpacking : (m n : ℕ) (xs : List ℕ) (w : ℕ) → m ≤ n → take 
     ≡ unpacking m xs w
 unfolding unpacking
 take-unpacking m n xs w h = take-map-range_with_len (bit_at xs w) 0 n m h
+
+-- the first m of the bits that are stored
+pub unpacking-first : {w m n : ℕ} {xs : List ℕ} {bits : List Bool} → Stores w n xs bits → m ≤ n
+    → unpacking m xs w ≡ take m bits
+unpacking-first {w} {m} {n} {xs} stored fewer = sym (take-unpacking m n xs w fewer)
+    ∙ ap (take m) stored.bits
 
 module _ (w : ℕ) (wide : 0 < w) where
   -- the blocks that the first n bits need store them
@@ -112,9 +117,6 @@ module _ {X : Type 0} (number : X → ℕ) (w : ℕ) (wide : 0 < w) (n : ℕ) (i
   pub length-kept : length (take k items) ≡ need m w
   length-kept = length-take-le k items (omega
       (arith, kept_is, need-le-need w wide m n shorter, h.count, length-map items number)) ∙ kept_is
-
-  pub kept_within : All (λ x. x < 2 ^ w) (map number (take k items))
-  kept_within = rw (← take-map) (All-take (λ x. x < 2 ^ w) k (map number items) h.within)
 
   pub unpacking-kept : unpacking m (map number (take k items)) w
       ≡ take m (unpacking n (map number items) w)

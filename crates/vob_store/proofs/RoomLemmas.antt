@@ -34,6 +34,9 @@ module _ (w : ℕ) (wide : 0 < w) where
       need_is w wide (k * w + n) (k + need n w) (omega (arith, need_enough w wide n))
       (omega (arith, need-lt n))
 
+  pub need-mul : (k : ℕ) → need (k * w) w ≡ k
+  need-mul k = need_is w wide (k * w) k (omega arith) (omega arith)
+
 -- the bits of n bytes need a block of 64 for each eight bytes, rounded up
 pub need_in_bytes : (n bits : ℕ) → bits ≡ 8 * n → need bits 64 ≡ div_ceil n 8
 need_in_bytes n bits is =

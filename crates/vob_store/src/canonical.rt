@@ -30,6 +30,5 @@ pub fn mask<T: Block>(blocks: &mut [T], len: usize)
     ensures { map T.number blocks.new
         ≡ packing (unpacking len (map T.number blocks.old) T.BITS) T.BITS }
 {
-    T::all_in_range(blocks);
     mask_last(blocks, len);
 }

@@ -1,9 +1,10 @@
 //! Bits of one value: a block of them, all bits made it, and others of it added behind them.
-ghost use Rattle.std.specs.Prelude.{◌≡◌, ◌+◌, ◌-◌, ◌*◌, ◌^◌, ◌≤◌, ◌<◌, ◌++◌, if◌then◌else◌, map, length, replicate, All, vec_capacity, IsOk, IfOk};
+ghost use Rattle.std.specs.Prelude.{◌≡◌, ◌+◌, ◌-◌, ◌*◌, ◌^◌, ◌≤◌, ◌++◌, if◌then◌else◌, map, length, replicate, vec_capacity, IsOk, IfOk};
 ghost use Rattle.vob_block.specs.Packing.{need, unpacking, IsCanonical, Stores};
 
 use crate::last::extend_last;
 use crate::mask::mask_last;
+use crate::room::block_count;
 use std::alloc::{AllocError, Global};
 use vob_block::Block;
 
@@ -57,6 +58,21 @@ fn fill_last<T: Block>(blocks: &mut [T], len: usize, value: bool)
     }
 }
 
+/// Adds bits of one `value` behind `len` bits until `count` blocks are full, in the room that is there.
+pub(crate) fn fill_up<T: Block>(blocks: &mut Vec<T>, len: usize, count: usize, value: bool)
+    requires canonical { IsCanonical len (map T.number blocks.old.items) T.BITS }
+    requires longer { length blocks.old.items ≤ count }
+    requires room { count ≤ vec_capacity blocks.old }
+    ensures stores { Stores T.BITS (count * T.BITS) (map T.number blocks.new.items)
+        (unpacking len (map T.number blocks.old.items) T.BITS
+        ++ replicate (count * T.BITS - len) value) }
+    ensures capacity { vec_capacity blocks.old ≤ vec_capacity blocks.new }
+{
+    fill_last(blocks, len, value);
+    // There is room, so this isn't refused.
+    let _ = blocks.resize(count, splat(value));
+}
+
 /// Adds bits of one `value` behind `len` bits, up to `new_len` bits, in the room that is there.
 pub fn append_fill<T: Block>(blocks: &mut Vec<T>, len: usize, new_len: usize, value: bool)
     requires canonical { IsCanonical len (map T.number blocks.old.items) T.BITS }
@@ -66,9 +82,7 @@ pub fn append_fill<T: Block>(blocks: &mut Vec<T>, len: usize, new_len: usize, va
         (unpacking len (map T.number blocks.old.items) T.BITS ++ replicate (new_len - len) value) }
     ensures capacity { vec_capacity blocks.old ≤ vec_capacity blocks.new }
 {
-    fill_last(blocks, len, value);
-    // There is room, so this isn't refused.
-    let _ = blocks.resize(new_len.div_ceil(T::BITS), splat(value));
+    fill_up(blocks, len, block_count::<T>(new_len), value);
     mask_last(blocks, new_len);
 }
 
@@ -78,9 +92,7 @@ pub fn filled_blocks<T: Block>(alloc: Global, value: bool, len: usize) -> Result
         Stores T.BITS len (map T.number blocks.items) (replicate len value)) }
     ensures nothing { len ≡ 0 → IsOk result }
 {
-    let count = len.div_ceil(T::BITS);
-    let mut blocks = Vec::with_capacity(alloc, count)?;
-    blocks.resize(count, splat(value))?;
-    mask_last(&mut blocks, len);
+    let mut blocks = Vec::with_capacity(alloc, len.div_ceil(T::BITS))?;
+    append_fill(&mut blocks, 0, len, value);
     Ok(blocks)
 }

@@ -6,6 +6,7 @@ ghost use Rattle.vob_block.specs.Reading.{AreReadOnce};
 ghost use Rattle.vob_store.specs.Building.{AreBuilt, joined_bit};
 ghost use Rattle.vob_store.specs.Joining.{HaveRoom, IsJoined};
 
+use crate::fill::fill_up;
 use crate::room::block_count;
 use vob_block::{Block, Blocks};
 
@@ -87,8 +88,7 @@ pub fn join<T: Block>(own: &mut Vec<T>, len: usize, other: &mut Blocks<'_, T>, m
     ensures capacity { vec_capacity own.old ≤ vec_capacity own.new }
     ensures read { AreReadOnce other.old other.new }
 {
-    // There is room, so this isn't refused.
-    let _ = own.resize(block_count::<T>(len + more), T::ZERO);
+    fill_up(own, len, block_count::<T>(len + more), false);
     join_into(own, len, other, more);
 }
 

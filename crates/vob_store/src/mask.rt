@@ -1,5 +1,5 @@
 //! Blocks made canonical: the last one masked, the bits negated or cut, and the test of both.
-ghost use Rattle.std.specs.Prelude.{◌≡◌, not, ◌^◌, ◌<◌, ◌≤◌, map, length, take, All, vec_capacity};
+ghost use Rattle.std.specs.Prelude.{◌≡◌, not, ◌≤◌, map, length, take, vec_capacity};
 ghost use Rattle.vob_block.specs.Packing.{need, unpacking, IsCanonical, Stores};
 
 use vob_block::Block;
@@ -7,11 +7,11 @@ use vob_block::Block;
 /// Makes every bit from `len` on false, in as many blocks as `len` bits need. Only the last block
 /// can have such a bit.
 pub fn mask_last<T: Block>(blocks: &mut [T], len: usize)
-    requires count { length blocks.old ≡ need len T.BITS }
-    requires within { All (λ x. x < 2 ^ T.BITS) (map T.number blocks.old) }
+    requires { length blocks.old ≡ need len T.BITS }
     ensures { Stores T.BITS len (map T.number blocks.new)
         (unpacking len (map T.number blocks.old) T.BITS) }
 {
+    T::all_in_range(blocks);
     let width = T::BITS;
     let used = len % width;
     if used != 0 {
@@ -31,7 +31,6 @@ pub fn negate<T: Block>(blocks: &mut [T], len: usize)
         let block = blocks[k];
         blocks[k] = block.bnot();
     }
-    T::all_in_range(blocks);
     mask_last(blocks, len);
 }
 

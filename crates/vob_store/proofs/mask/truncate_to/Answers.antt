@@ -2,20 +2,13 @@
 use Rattle.std.proofs.Common.{◌≡◌, ap, ◌∙◌, map, length, arith}
 use Rattle.std.proofs.lemmas.List.{take_at}
 use Rattle.vob_block.specs.Packing.{unpacking}
-use Rattle.vob_store.proofs.CutLemmas.{length-kept, kept_within, unpacking-kept}
+use Rattle.vob_store.proofs.CutLemmas.{length-kept, unpacking-kept}
 use Rattle.vob_store.proofs.mask.truncate_to.Goals as goal
 
-pub mask_last-requires-clause-count : goal.mask_last-requires-clause-count
-mask_last-requires-clause-count g c =
+pub mask_last-requires : goal.mask_last-requires
+mask_last-requires g c =
     rw (c.deref_mut.ensures.value, c.truncate.ensures.items)
     (length-kept g.T.Block.number g.T.Block.BITS g.met.T.Block.wide_law c.args.len
-    c.args.blocks.now.items c.requires.canonical c.args.new_len c.requires.shorter
-    c.BITS.result c.div_ceil.result c.BITS.ensures c.div_ceil.ensures)
-
-pub mask_last-requires-clause-within : goal.mask_last-requires-clause-within
-mask_last-requires-clause-within g c =
-    rw (c.deref_mut.ensures.value, c.truncate.ensures.items)
-    (kept_within g.T.Block.number g.T.Block.BITS g.met.T.Block.wide_law c.args.len
     c.args.blocks.now.items c.requires.canonical c.args.new_len c.requires.shorter
     c.BITS.result c.div_ceil.result c.BITS.ensures c.div_ceil.ensures)
 
