@@ -5,6 +5,7 @@ use Rattle.num_traits.specs.Laws.{bit_len, shift_left}
 use Rattle.std.proofs.Common.{◌≡◌, ◌≢◌, ℕ, zero, suc, ◌+◌, ◌-◌, ◌*◌, ◌/◌, ◌%◌, ◌^◌, ◌<◌, ◌≤◌, Bool, true, false, not, ◌&&◌, ◌||◌, min, max, eqb, leb, refl, sym, ap, ◌∙◌, arith, ltb, lt_of_le_of_lt, add_comm, mod-lt, one-mul, add-zero, inl, inr, subst, cond, mod-eq_of_lt}
 use Rattle.std.proofs.lemmas.Bool.{lt-ltb, le-ltb, cases_lt, and_left, and_right, cases_Bool, cases_eq, false≢true, cases_order, lt-leb, le-leb, eq-eqb, ne_eqb, cond-true, cond-false}
 use Rattle.std.proofs.lemmas.Bool.Decides.{nat_tests}
+use Rattle.std.proofs.Math.Bool.{or-false}
 use Rattle.std.proofs.lemmas.Nat.{shr_le, shr-shr, pow_pos, pow_below, shr_split, or_lt, mod-mul-add}
 use Rattle.std.proofs.lemmas.Nat.Bits.{bit_at_and, bit_at_or, bit_at_xor, bit_at-lt, bit_at-zero, bit_at-pow_same, bit_at-pow_other, bit_at_above, bit_at_ones, bit_at_cat_low, bit_at_cat_high, bit_at_not, same_from_bits_below}
 use mir.Val.{bits}
@@ -152,10 +153,6 @@ HasPlaces-shift_down w x n h = record {
     moved j = ap (λ y. eqb (y % 2) 1) (shr-shr x n j ∙ ap (λ k. x / 2 ^ k) (add_comm n j))
 
 -- `x.rotate_left(n)`
-or-false : (b : Bool) → (b || false) ≡ b
-or-false true = refl
-or-false false = refl
-
 pub HasPlaces-rotate : (w : Width) (v x n : ℕ) → v ≡ bit_len w → x < 2 ^ v → 0 < n → n < v
     → HasPlaces v (rotate_left w x n) (λ j. place ((j + (v - n)) % v) x)
 HasPlaces-rotate w v x n e h positive below = record {

@@ -1,4 +1,4 @@
--- Bits put behind others: blocks behind whole ones, and places filled in the last one, at a plain width.
+-- Bits put behind others: blocks behind whole ones, and places in the last one, at a plain width.
 use Rattle.std.specs.Prelude.{◌⊎◌}
 use Rattle.std.proofs.Common.{◌≡◌, ◌≢◌, ℕ, ◌+◌, ◌-◌, ◌*◌, ◌/◌, ◌%◌, ◌^◌, ◌<◌, ◌≤◌, Bool, true, false, ◌&&◌, ◌||◌, List, [], ◌∷◌, ◌++◌, length, map, get_or, set, take, drop, min, replicate, leb, refl, sym, ap, ◌∙◌, subst, arith, inl, inr, mod-lt, div-add-mod', add-mul, zero-mul, one-mul}
 use Rattle.std.proofs.lemmas.Bool.{cases_lt, cases_eq, lt-leb, le-leb}
@@ -85,7 +85,8 @@ module _ (w : ℕ) (wide : 0 < w) where
       last_there = h.count ∙ (need_at_open w wide n partial).0
 
       pub Stores-in_last : (y x : ℕ) (bits : List Bool) → y < 2 ^ w
-          → HasPlaces w y (λ j. place j (get_or xs (n / w) 0) || (leb (n % w) j && place (j - n % w) x))
+          → HasPlaces w y (λ j. place j (get_or xs (n / w) 0)
+          || (leb (n % w) j && place (j - n % w) x))
           → n % w + length bits ≤ w → HasPlaces (w - n % w) x (item bits)
           → Stores w (n + length bits) (set xs (n / w) y) (unpacking n xs w ++ bits)
       Stores-in_last y x bits small places fits held =

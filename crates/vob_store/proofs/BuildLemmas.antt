@@ -164,7 +164,7 @@ module _ (w : ℕ) (wide : 0 < w) where
   AreBuilt-behind a n olds ys others inside h = record {
     each = λ i below. elim (cases_lt (i / w) a) [
       | inl front ↦
-          let row : (i / w + 1) * w ≤ a * w = mul-le (i / w + 1) w a w (omega arith) (omega arith) in
+          let row = mul-le (i / w + 1) w a w (omega arith) (omega arith) in
           let low : i < a * w = omega (
             arith,
             row,
@@ -180,7 +180,8 @@ module _ (w : ℕ) (wide : 0 < w) where
           let row : a * w ≤ i / w * w = mul-le a w (i / w) w past (omega arith) in
           let j = i - a * w in
           let whole : j + a * w ≡ i = omega (arith, row, div-add-mod' i w) in
-          let quotient : i / w ≡ j / w + a = ap (λ k. k / w) (sym whole) ∙ add-mul-div_right j a wide in
+          let quotient : i / w ≡ j / w + a =
+          ap (λ k. k / w) (sym whole) ∙ add-mul-div_right j a wide in
           ap (bit_at (take a olds ++ ys) w) (sym whole ∙ omega (arith, ap (λ k. k * w) long))
           ∙ bit_at-append_right (take a olds) ys j
           ∙ h.each j (omega (arith, quotient, length-append (take a olds) ys, long))

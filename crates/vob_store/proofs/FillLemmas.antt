@@ -24,8 +24,8 @@ resized_is changed old ys splat t len done long longer ok is =
     ∙ ap (λ xs. xs ++ replicate (t - len) splat) (take_all t changed (omega (arith, long)))
 
 -- blocks of one bit behind n bits and that bit in all places that are left
-pub Stores-filled_up : {X : Type 0} (number : X → ℕ) (w : ℕ) → 0 < w → (n k t : ℕ) (before : List Bool)
-    (xs : List X) (v : Bool) (splat : X) → n ≤ k * w → k ≤ t
+pub Stores-filled_up : {X : Type 0} (number : X → ℕ) (w : ℕ) → 0 < w → (n k t : ℕ)
+    (before : List Bool) (xs : List X) (v : Bool) (splat : X) → n ≤ k * w → k ≤ t
     → Stores w (k * w) (map number xs) (before ++ replicate (k * w - n) v)
     → number splat ≡ cond v (2 ^ w - 1) 0
     → Stores w (t * w) (map number (xs ++ replicate (t - k) splat))
@@ -53,8 +53,9 @@ unpacking-filled w n k m before ys v long stored more fewer =
     (length-append before (replicate (m - n) v)
     ∙ omega (arith, long, length-replicate (m - n) v))
 
--- blocks filled up with false bits have room, and what is joined to them is joined to the first n bits
-module _ (w : ℕ) (wide : 0 < w) (n m : ℕ) (xs ys others : List ℕ) (k : ℕ) (count : k ≡ need (n + m) w)
+-- blocks filled up with false bits have room, and what is joined to them is joined to the first n
+module _ (w : ℕ) (wide : 0 < w) (n m : ℕ) (xs ys others : List ℕ) (k : ℕ)
+    (count : k ≡ need (n + m) w)
     (stored : Stores w (k * w) ys (unpacking n xs w ++ replicate (k * w - n) false)) where
   pub HaveRoom-filled : IsCanonical m others w → HaveRoom w n m ys others
   HaveRoom-filled other = record {

@@ -34,8 +34,8 @@ module _ (w : ℕ) (wide : 0 < w) (source : List ℕ) (from : ℕ) where
         ];
       })
 
--- the bits from index `at` on stand in the items from that of bit `at` on; u is the width as the code
--- read it
+-- the bits from index `at` on stand in the items from that of bit `at` on; u is the width as the
+-- code read it
 module _ {X : Type 0} (number : X → ℕ) (w : ℕ) (wide : 0 < w) (n at : ℕ) (items : List X)
     (h : IsCanonical n (map number items) w) (inside : at < n) (u : ℕ) (same : u ≡ w) where
   abbrev pub tail : List X

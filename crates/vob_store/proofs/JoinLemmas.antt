@@ -28,7 +28,8 @@ shifted-is_joined w used from first olds others wide rest some places i = elim (
       ap (bit_at (first ∷ others) w) (omega (arith, zero-mul w))
       ∙ bit_at-in_block (first ∷ others) w 0 (from + i) (omega arith)
       ∙ places.each (from + i) (omega arith)
-      ∙ ap (λ b. b && place (from + i - from) (get_or olds 0 0)) (le-leb from (from + i) (omega arith))
+      ∙ ap (λ b. b && place (from + i - from) (get_or olds 0 0))
+      (le-leb from (from + i) (omega arith))
       ∙ ap (λ j. place j (get_or olds 0 0)) (omega arith)
       ∙ sym (bit_at-in_block olds w 0 i (omega arith))
       ∙ ap (bit_at olds w) (omega (arith, zero-mul w))
@@ -95,14 +96,16 @@ module _ {X : Type 0} (number : X → ℕ) (w : ℕ) (wide : 0 < w) (n m : ℕ) 
       let after = take (n / w) xs ++ map number ys in
       let put : map number (put_mid (n / u) (length items - n / u) items ys) ≡ after =
       ap (λ zs. map number (take (n / u) items ++ (ys ++ zs)))
-      (drop_all (length items - n / u) (drop (n / u) items) (omega (arith, length-drop (n / u) items)))
+      (drop_all (length items - n / u) (drop (n / u) items)
+      (omega (arith, length-drop (n / u) items)))
       ∙ ap (λ zs. map number (take (n / u) items ++ zs)) (append-nil ys)
       ∙ map-append number (take (n / u) items) ys
       ∙ ap (λ zs. zs ++ map number ys) (sym (take-map number (n / u) items)
       ∙ ap (λ v. take (n / v) xs) same) in
       let blocks : map number tail ≡ drop (n / w) xs = ap (map number) (take_rest items (n / u))
       ∙ sym (drop-map number (n / u) items) ∙ ap (λ v. drop (n / v) xs) same in
-      let start : n / w ≤ length xs = omega (arith, rw same at in_range.0, length-map items number) in
+      let start : n / w ≤ length xs = omega
+      (arith, rw same at in_range.0, length-map items number) in
       let count : length after ≡ need (n + m) w = omega (
         arith,
         length-append (take (n / w) xs) (map number ys),
@@ -115,7 +118,8 @@ module _ {X : Type 0} (number : X → ℕ) (w : ℕ) (wide : 0 < w) (n m : ℕ) 
         room.count,
       ) in
       let all_built : AreBuilt w (length (map number ys)) (map number ys) (joined_bit w (n % u)
-      (map number tail) theirs) = AreBuilt-upto _ built (omega (arith, long, length-map ys number)) in
+      (map number tail) theirs) =
+      AreBuilt-upto _ built (omega (arith, long, length-map ys number)) in
       let whole = rw div-add-mod' at (AreBuilt-behind w wide (n / w) (n % w) xs (map number ys)
       theirs start (rw (blocks, same) at all_built)) in
       let all : length bits ≡ m = length-unpacking m theirs w in

@@ -58,7 +58,8 @@ fn fill_last<T: Block>(blocks: &mut [T], len: usize, value: bool)
     }
 }
 
-/// Adds bits of one `value` behind `len` bits until `count` blocks are full, in the room that is there.
+/// Adds bits of one `value` behind `len` bits until `count` blocks are full, in the room that is
+/// there.
 pub(crate) fn fill_up<T: Block>(blocks: &mut Vec<T>, len: usize, count: usize, value: bool)
     requires canonical { IsCanonical len (map T.number blocks.old.items) T.BITS }
     requires longer { length blocks.old.items ≤ count }

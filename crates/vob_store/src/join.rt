@@ -22,8 +22,8 @@ fn join_whole<T: Block>(own: &mut [T], other: &mut Blocks<'_, T>)
     }
 }
 
-/// Stores the bits from place `from` of `first` on, which the blocks of `other` follow. Each block that
-/// is stored takes its low places from the block before, and the others from the block just read.
+/// Stores the bits from place `from` of `first` on, which the blocks of `other` follow. Each block
+/// that is stored takes its low places from the block before, and the others from the one just read.
 fn join_shifted<T: Block>(own: &mut [T], first: T, other: &mut Blocks<'_, T>, from: usize)
     requires few { length other.old.items ≤ length own.old }
     requires many { length own.old ≤ length other.old.items + 1 }

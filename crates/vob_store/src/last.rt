@@ -5,8 +5,8 @@ ghost use Rattle.vob_block.specs.Packing.{item, unpacking, IsCanonical, Stores};
 
 use vob_block::Block;
 
-/// Puts the places of `more` behind the bits that stand in the last block: as many bits as find room
-/// there.
+/// Puts the places of `more` behind the bits that stand in the last block: as many bits as find
+/// room there.
 pub(crate) fn extend_last<T: Block>(blocks: &mut [T], len: usize, more: T)
     requires canonical { IsCanonical len (map T.number blocks.old) T.BITS }
     requires partial { len % T.BITS ≢ 0 }

@@ -15,8 +15,8 @@ fn block_or_zero<T: Block>(blocks: &[T], k: usize) -> T
     if k < blocks.len() { blocks[k] } else { T::ZERO }
 }
 
-/// Stores the bits from place `from` of the first block on: each block takes its high places from the
-/// next one.
+/// Stores the bits from place `from` of the first block on: each block takes its high places from
+/// the next one.
 fn split_shifted<T: Block>(rest: &mut [T], blocks: &[T], from: usize)
     requires some { 0 < length rest.old }
     requires count { length rest.old ≤ length blocks.now }

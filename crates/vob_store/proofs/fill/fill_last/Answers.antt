@@ -1,4 +1,4 @@
--- The last block gets all places from the used ones on, where there are some and they are to be true.
+-- The last block gets the places behind the used ones, where there are some and they are to be true.
 use Rattle.std.proofs.Common.{◌%◌, sym, ap, ◌∙◌, inl, inr, map}
 use Rattle.std.proofs.lemmas.List.{length-map}
 use Rattle.vob_store.proofs.AppendLemmas.{Stores-last_filled, Stores-last_kept}

@@ -40,8 +40,8 @@ returns-then-count-own-clause-built g c =
     ∙ sym (get_or_past source (c.loop-k.k + 1) 0
     (omega (arith, length-map c.args.other.now.items number))) in
     rw (map-set, ← end) (AreBuilt-upto _ (AreBuilt-funnel g.T.Block.BITS g.met.T.Block.wide_law
-    source c.args.from (map number c.loop-k.own) c.loop-k.k (number c.funnel_down-then-count-own.result)
-    (number c.loop-k.before) (number c.ZERO.result) c.requires.below h.built
+    source c.args.from (map number c.loop-k.own) c.loop-k.k
+    (number c.funnel_down-then-count-own.result) (number c.loop-k.before) (number c.ZERO.result) c.requires.below h.built
     (omega (arith, length-map c.loop-k.own number)) h.before none
     c.funnel_down-then-count-own.ensures.places) (omega arith))
 

@@ -1,4 +1,4 @@
--- The blocks so far are built, each read once, and the one before is the next of which bits are wanted.
+-- The blocks so far are built, each read once, and of the one before bits are wanted next.
 use Rattle.std.proofs.Common.{◌≡◌, ◌+◌, ◌∷◌, map, get_or}
 use Rattle.vob_block.specs.Packing.{bit_at}
 use Rattle.vob_store.specs.Building.{AreBuilt}

@@ -1,4 +1,4 @@
--- What is pushed, and behind it the packing of what is left, are the old blocks and the whole packing.
+-- The old blocks and the whole packing are what is pushed and the packing of what is left.
 use Rattle.std.proofs.Common.{◌≡◌, ◌++◌, length, map}
 use Rattle.std.specs.Prelude.{vec_capacity}
 use Rattle.vob_block.specs.Packing.{packing}

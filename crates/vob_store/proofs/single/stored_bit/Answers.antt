@@ -1,4 +1,4 @@
--- The block is there, since canonical storage has as many as the bits need, and its place is the bit.
+-- The block is there, since there are as many as the bits need, and its place is the bit.
 use Rattle.std.specs.Prelude.{Some}
 use Rattle.std.proofs.Common.{◌≡◌, ◌*◌, ◌∙◌, ap, sym, map, length, false, arith}
 use Rattle.std.proofs.lemmas.List.{length-map}

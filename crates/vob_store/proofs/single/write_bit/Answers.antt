@@ -1,4 +1,4 @@
--- One place of the bit's block is written, and the bit that was read there before says what changed.
+-- One place of the bit's block is written, and the bit read there before says what changed.
 use Rattle.vob_store.proofs.StorageLemmas.{block_in_range, bit_is_place}
 use Rattle.vob_store.proofs.WriteLemmas.{write_at, offset_fits, changed_from}
 use Rattle.vob_store.proofs.single.write_bit.Goals as goal

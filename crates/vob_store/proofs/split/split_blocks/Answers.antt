@@ -8,8 +8,8 @@ use Rattle.vob_store.proofs.split.split_blocks.Goals as goal
 
 pub offset_bounds-blocks-at : goal.offset_bounds-blocks-at
 offset_bounds-blocks-at g c = start-le g.T.Block.number g.T.Block.BITS g.met.T.Block.wide_law
-    c.args.len c.args.at c.args.blocks.now c.requires.canonical c.requires.inside c.BITS-width.result
-    c.BITS-width.ensures
+    c.args.len c.args.at c.args.blocks.now c.requires.canonical c.requires.inside
+    c.BITS-width.result c.BITS-width.ensures
 
 pub slice_bounds-split_into-count : goal.slice_bounds-split_into-count
 slice_bounds-split_into-count g c = start-le g.T.Block.number _ g.met.T.Block.wide_law _ _ _
@@ -46,12 +46,9 @@ returns g c =
     omega (arith, c.split_into.auto.rest, c.deref_mut.ensures.len) in
     let whole = take_at c.split_into.new.rest
     (drop (length c.split_into.new.rest) c.resize.new.self.items) c.resize.new.self.len long in
-    rw whole (Stores-tail g.T.Block.number g.T.Block.BITS g.met.T.Block.wide_law c.args.len c.args.at
-    c.args.blocks.now c.requires.canonical c.requires.inside _ c.BITS-width.ensures _
-    (omega (arith, length-map c.split_into.new.rest g.T.Block.number, long, c.in_ok-resize.ensures.len))
+    let same = length-map c.split_into.new.rest g.T.Block.number in
+    rw whole (Stores-tail g.T.Block.number g.T.Block.BITS g.met.T.Block.wide_law c.args.len
+    c.args.at c.args.blocks.now c.requires.canonical c.requires.inside _ c.BITS-width.ensures _
+    (omega (arith, same, long, c.in_ok-resize.ensures.len))
     (rw (c.deref.ensures.value, whole) at c.all_in_range.ensures)
-    (AreBuilt-upto _ c.split_into.ensures (omega (
-      arith,
-      length-map c.split_into.new.rest g.T.Block.number,
-      c.split_into.auto.rest,
-    ))))
+    (AreBuilt-upto _ c.split_into.ensures (omega (arith, same, c.split_into.auto.rest))))

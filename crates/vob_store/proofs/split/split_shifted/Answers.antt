@@ -14,8 +14,8 @@ loop-k-preserved g c =
     let blocks = c.args.blocks.now in
     let low = number_indexed number blocks c.loop-k.k c.index-blocks-k.result (omega arith)
     c.index-blocks-k.is in
-    let high = number_indexed number blocks (c.loop-k.k + 1) c.index-blocks-k-in-loop-k.result (omega arith)
-    c.index-blocks-k-in-loop-k.is in
+    let high = number_indexed number blocks (c.loop-k.k + 1) c.index-blocks-k-in-loop-k.result
+    (omega arith) c.index-blocks-k-in-loop-k.is in
     rw map-set (AreBuilt-funnel g.T.Block.BITS g.met.T.Block.wide_law (map number blocks)
     c.args.from (map number c.loop-k.rest) c.loop-k.k (number c.funnel_down.result)
     (number c.index-blocks-k.result) (number c.index-blocks-k-in-loop-k.result) c.requires.below
