@@ -1,6 +1,9 @@
 mod FlowLemmas
 mod LiveLemmas
+mod MatrixLemmas
 mod PassLemmas
+mod PathLemmas
 mod ReachLemmas
 mod SetLemmas
+mod ShapeLemmas
 mod StartLemmas

@@ -3,6 +3,7 @@
 #![tactic(auto)]
 
 pub mod live;
+pub mod matrix;
 pub mod reachable;
 pub mod rows;
 pub mod slots;

@@ -1,0 +1,268 @@
+-- Rows that are led through a node one after another, and columns that are marked.
+use Rattle.std.specs.declared.ops.Bound.TheVariants.{Unbounded}
+use Rattle.std.specs.List.{Contains}
+use Rattle.std.proofs.Common.{◌≡◌, ◌≢◌, ℕ, ◌+◌, ◌<◌, ◌≤◌, Bool, true, false, ◌||◌, ◌&&◌, List, [], ◌∷◌, length, replicate, refl, sym, ap, ◌∙◌, subst, arith, inl, inr}
+use Rattle.std.proofs.lemmas.Bool.{cases_eq, cases_lt, cases_Bool, false≢true}
+use Rattle.std.proofs.lemmas.List.{get_or_past, get_or-replicate, length-replicate, length-map}
+use Rattle.std.proofs.lemmas.List.Elements.{Contains-append_right, Contains-append_cases, Contains-push_cases, Contains-get_or}
+use Rattle.vob_block.specs.Packing.{item}
+use Rattle.vob_walk.specs.Matches.{matches}
+use Rattle.vob_walk.proofs.IndexLemmas.{matches-exactly}
+use Rattle.vob.specs.Vob.{BitVector}
+use Rattle.vob_users.specs.Live.{bits_of}
+use Rattle.vob_users.specs.Matrix.{Matrix, row_of, entry, AreLong, HaveShapeOf, IsEntryWritten, IsTransposed}
+use Rattle.vob_users.specs.MatrixRows.{IsRowCombined, IsLedThrough, IsColumnMarked, AreColumnsMarked}
+use Rattle.vob_users.proofs.SetLemmas.{true_within, item-replicate}
+use Rattle.vob_users.proofs.ShapeLemmas.{HaveShapeOf-same, HaveShapeOf-trans, AreLong-kept, AreLong-empty, GetsRow-combined}
+
+or_none : (b : Bool) → (b || false) ≡ b
+or_none true = refl
+or_none false = refl
+
+absorbed : (a b : Bool) → (b || (a && b)) ≡ b
+absorbed a true = refl
+absorbed true false = refl
+absorbed false false = refl
+
+-- ---- rows that are led through node k
+
+-- the rows before row n have what row k has where they step to node k, and the others are as before
+pub record AreLedBefore (rows : List (List Bool)) (k n : ℕ) (after : List (List Bool))
+    : Type 0 where
+  pub shape : HaveShapeOf rows after
+  pub done : (i j : ℕ) → i < n →
+      entry after i j ≡ (entry rows i j || (entry rows i k && entry rows k j))
+  pub left : (i j : ℕ) → n ≤ i → entry after i j ≡ entry rows i j
+
+pub AreLedBefore-start : (rows : List (List Bool)) (k : ℕ) → AreLedBefore rows k 0 rows
+AreLedBefore-start rows k = record {
+  shape = HaveShapeOf-same rows;
+  done = λ i j less. absurd (omega (arith, less));
+  left = λ i j past. refl;
+}
+
+pub IsLedThrough-whole : (rows : List (List Bool)) (k n : ℕ) (after : List (List Bool)) →
+    n ≡ length rows → AreLedBefore rows k n after → IsLedThrough rows k after
+IsLedThrough-whole rows k n after whole h = record {
+  shape = h.shape;
+  each = λ i j. elim (cases_lt i n) [
+    | inl less ↦ h.done i j less
+    | inr past ↦
+        let none = λ (l : ℕ).
+        ap (λ r. item r l) (get_or_past rows i [] (omega (arith, past, whole))) in
+        h.left i j past ∙ none j
+        ∙ sym (ap (λ b. b || (entry rows i k && entry rows k j)) (none j)
+        ∙ ap (λ b. false || (b && entry rows k j)) (none k))
+  ];
+}
+
+module _ (rows : List (List Bool)) (k n : ℕ) (before : List (List Bool))
+    (h : AreLedBefore rows k n before) where
+  -- row k stays as it was
+  row_stays : (j : ℕ) → entry before k j ≡ entry rows k j
+  row_stays j = elim (cases_lt k n) [
+    | inl less ↦ h.done k j less ∙ absorbed (entry rows k k) (entry rows k j)
+    | inr past ↦ h.left k j past
+  ]
+
+  -- no step leads from node n to node k
+  pub AreLedBefore-skip : entry before n k ≡ false → AreLedBefore rows k (n + 1) before
+  AreLedBefore-skip none = record {
+    shape = h.shape;
+    done = λ i j less. elim (cases_eq i n) [
+      | inl here ↦
+          let stays = ap (λ l. entry rows l k) here ∙ sym (h.left n k (omega arith)) ∙ none in
+          h.left i j (omega (arith, here)) ∙ sym (or_none (entry rows i j))
+          ∙ ap (λ b. entry rows i j || (b && entry rows k j)) (sym stays)
+      | inr other ↦ h.done i j (omega (arith, less))
+    ];
+    left = λ i j past. h.left i j (omega (arith, past));
+  }
+
+  -- one does, and row k is added
+  pub AreLedBefore-more : (after : List (List Bool)) (gained : Bool) → n < length before →
+      entry before n k ≡ true → IsRowCombined before n k after gained →
+      AreLedBefore rows k (n + 1) after
+  AreLedBefore-more after gained inside step added =
+      let gets = GetsRow-combined before n k after gained inside added in
+      record {
+        shape = HaveShapeOf-trans rows before after h.shape gets.shape;
+        done = λ i j less. elim (cases_eq i n) [
+          | inl here ↦
+              let steps = ap (λ l. entry rows l k) here ∙ sym (h.left n k (omega arith)) ∙ step in
+              ap (λ l. entry after l j) here ∙ gets.there j
+              ∙ ap (λ b. b || entry before k j)
+              (h.left n j (omega arith) ∙ ap (λ l. entry rows l j) (sym here))
+              ∙ ap (λ b. entry rows i j || b) (row_stays j)
+              ∙ ap (λ b. entry rows i j || (b && entry rows k j)) (sym steps)
+          | inr other ↦ gets.others i j other ∙ h.done i j (omega (arith, less))
+        ];
+        left = λ i j past.
+            gets.others i j (λ here. omega (arith, past, here)) ∙ h.left i j (omega (arith, past));
+      }
+
+-- ---- a column that is marked at the true bits of a list
+
+-- no index but the first and those behind it
+apart_from : (i : ℕ) (rest : List ℕ) (k : ℕ) → Contains (i ∷ rest) k → k ≢ i → Contains rest k
+apart_from i rest k given apart = elim (Contains-append_cases (i ∷ []) rest k given) [
+  | inl first ↦ elim (Contains-push_cases [] i k first) [
+    | inl none ↦ absurd (omega (arith, none.1))
+    | inr same ↦ absurd (apart (sym same))
+  ]
+  | inr behind ↦ behind
+]
+
+-- entries of a column at true bits were made true, but for some indices that are left
+pub record AreMarkedBut (rows : List (List Bool)) (column : ℕ) (bits : List Bool) (rest : List ℕ)
+    (after : List (List Bool)) : Type 0 where
+  pub shape : HaveShapeOf rows after
+  pub left : (i : ℕ) → Contains rest i → item bits i ≡ true
+  pub there : (i : ℕ) → item bits i ≡ true → ¬ Contains rest i → entry after i column ≡ true
+  pub off : (i : ℕ) → item bits i ≡ false → entry after i column ≡ entry rows i column
+  pub others : (i j : ℕ) → j ≢ column → entry after i j ≡ entry rows i j
+
+module _ (rows : List (List Bool)) (column : ℕ) (bits : List Bool) where
+  pub AreMarkedBut-start : (rest : List ℕ) → rest ≡ matches bits true Unbounded Unbounded →
+      AreMarkedBut rows column bits rest rows
+  AreMarkedBut-start rest all =
+      let exactly = matches-exactly bits true Unbounded Unbounded in
+      record {
+        shape = HaveShapeOf-same rows;
+        left = λ i given. ((exactly i).0 (subst (λ xs. Contains xs i) all given)).2;
+        there = λ i on other. absurd (other (subst (λ xs. Contains xs i) (sym all)
+            ((exactly i).1 (true_within bits i on, refl, on))));
+        off = λ i unset. refl;
+        others = λ i j other. refl;
+      }
+
+  pub AreMarkedBut-more : (before after : List (List Bool)) (i : ℕ) (given rest : List ℕ) →
+      given ≡ i ∷ rest → AreMarkedBut rows column bits given before →
+      IsEntryWritten before i column true after → AreMarkedBut rows column bits rest after
+  AreMarkedBut-more before after i given rest is h written = record {
+    shape = HaveShapeOf-trans rows before after h.shape written.shape;
+    left = λ k behind. h.left k
+        (subst (λ xs. Contains xs k) (sym is) (Contains-append_right (i ∷ []) rest k behind));
+    there = λ k on other. elim (cases_eq k i) [
+      | inl here ↦ ap (λ l. entry after l column) here ∙ written.there
+      | inr apart ↦
+          written.others k column (inl apart)
+          ∙ h.there k on (λ given. other (apart_from i rest k
+          (subst (λ xs. Contains xs k) is given) apart))
+    ];
+    off = λ k unset. elim (cases_eq k i) [
+      | inl here ↦ absurd (false≢true (sym unset ∙ ap (item bits) here ∙ h.left i
+          (subst (λ xs. Contains xs i) (sym is) (Contains-get_or (i ∷ rest) 0 i (omega arith)))))
+      | inr apart ↦ written.others k column (inl apart) ∙ h.off k unset
+    ];
+    others = λ k j other. written.others k j (inr other) ∙ h.others k j other;
+  }
+
+  pub IsColumnMarked-whole : (after : List (List Bool)) → AreMarkedBut rows column bits [] after →
+      IsColumnMarked rows column bits after
+  IsColumnMarked-whole after h = record {
+    shape = h.shape;
+    there = λ i. elim (cases_Bool (item bits i)) [
+      | inl on ↦
+          h.there i on (λ given. absurd (omega (arith, given.1)))
+          ∙ sym (ap (λ b. b || entry rows i column) on)
+      | inr off ↦ h.off i off ∙ sym (ap (λ b. b || entry rows i column) off)
+    ];
+    others = h.others;
+  }
+
+-- the next index is that of a row
+pub next_inside : (items now : List BitVector) (column : ℕ) (bits : List Bool) (i : ℕ)
+    (given rest : List ℕ) → given ≡ i ∷ rest → length bits ≡ length items →
+    AreMarkedBut (bits_of items) column bits given (bits_of now) → i < length now
+next_inside items now column bits i given rest is same h =
+    let first = subst (λ xs. Contains xs i) (sym is)
+    (Contains-get_or (i ∷ rest) 0 i (omega arith)) in
+    omega (
+      arith,
+      same,
+      true_within bits i (h.left i first),
+      h.shape.count,
+      length-map items (λ v. v.bits),
+      length-map now (λ v. v.bits),
+    )
+
+-- ---- columns that are marked, one after another
+
+-- the columns before column n were marked, and the others are as before
+pub record AreMarkedBefore (rows from : List (List Bool)) (n : ℕ) (after : List (List Bool))
+    : Type 0 where
+  pub shape : HaveShapeOf rows after
+  pub done : (i j : ℕ) → i < n → entry after j i ≡ (entry from i j || entry rows j i)
+  pub left : (i j : ℕ) → n ≤ i → entry after j i ≡ entry rows j i
+
+module _ (rows from : List (List Bool)) where
+  pub AreMarkedBefore-start : AreMarkedBefore rows from 0 rows
+  AreMarkedBefore-start = record {
+    shape = HaveShapeOf-same rows;
+    done = λ i j less. absurd (omega (arith, less));
+    left = λ i j past. refl;
+  }
+
+  pub AreMarkedBefore-more : (n : ℕ) (before after : List (List Bool)) →
+      AreMarkedBefore rows from n before → IsColumnMarked before n (row_of from n) after →
+      AreMarkedBefore rows from (n + 1) after
+  AreMarkedBefore-more n before after h marked = record {
+    shape = HaveShapeOf-trans rows before after h.shape marked.shape;
+    done = λ i j less. elim (cases_eq i n) [
+      | inl here ↦
+          ap (entry after j) here ∙ marked.there j
+          ∙ ap (λ b. entry from n j || b) (h.left n j (omega arith))
+          ∙ ap (λ l. entry from l j || entry rows j l) (sym here)
+      | inr other ↦ marked.others j i other ∙ h.done i j (omega (arith, less))
+    ];
+    left = λ i j past.
+        marked.others j i (λ here. omega (arith, past, here)) ∙ h.left i j (omega (arith, past));
+  }
+
+  pub AreColumnsMarked-whole : (n : ℕ) (after : List (List Bool)) → n ≡ length from →
+      AreMarkedBefore rows from n after → AreColumnsMarked rows from after
+  AreColumnsMarked-whole n after whole h = record {
+    shape = h.shape;
+    each = λ i j. elim (cases_lt i n) [
+      | inl less ↦ h.done i j less
+      | inr past ↦
+          let none = ap (λ r. item r j) (get_or_past from i [] (omega (arith, past, whole))) in
+          h.left i j past ∙ sym (ap (λ b. b || entry rows j i) none)
+    ];
+  }
+
+-- no entry of an empty matrix is true
+entry-empty : (rows columns i j : ℕ) → entry (replicate rows (replicate columns false)) i j ≡ false
+entry-empty rows columns i j = elim (cases_lt i rows) [
+  | inl less ↦
+      ap (λ r. item r j) (get_or-replicate rows i (replicate columns false) [] less)
+      ∙ item-replicate columns j
+  | inr past ↦
+      let count = length-replicate rows (replicate columns false) in
+      ap (λ r. item r j)
+      (get_or_past (replicate rows (replicate columns false)) i [] (omega (arith, past, count)))
+]
+
+-- the columns of an empty matrix were marked
+pub IsTransposed-marked : (matrix made : Matrix) (empty after : List (List Bool)) →
+    empty ≡ replicate matrix.columns (replicate (length matrix.rows) false) →
+    made.rows ≡ after → made.columns ≡ length matrix.rows →
+    AreColumnsMarked empty matrix.rows after → IsTransposed matrix made
+IsTransposed-marked matrix made empty after none rows columns marked =
+    let count = length-replicate matrix.columns (replicate (length matrix.rows) false) in
+    let start = subst (AreLong (length matrix.rows)) (sym none)
+    (AreLong-empty matrix.columns (length matrix.rows)) in
+    let long = AreLong-kept (length matrix.rows) empty after start marked.shape in
+    record {
+      count = ap length rows ∙ marked.shape.count ∙ ap length none ∙ count;
+      columns = columns;
+      long = subst (λ n. AreLong n made.rows) (sym columns)
+          (subst (AreLong (length matrix.rows)) (sym rows) long);
+      each = λ i j.
+          ap (λ rs. entry rs j i) rows ∙ marked.each i j
+          ∙ ap (λ b. entry matrix.rows i j || b)
+          (ap (λ rs. entry rs j i) none
+          ∙ entry-empty matrix.columns (length matrix.rows) j i)
+          ∙ or_none (entry matrix.rows i j);
+    }

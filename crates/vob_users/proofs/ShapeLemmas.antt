@@ -1,0 +1,168 @@
+-- Rows of a matrix that keep their lengths where one of them is replaced.
+use Rattle.std.proofs.Common.{◌≡◌, ◌≢◌, ℕ, ◌<◌, Bool, true, false, ◌||◌, List, [], ◌++◌, ◌-◌, length, replicate, get_or, set, refl, sym, ap, ◌∙◌, subst, arith, inl, inr}
+use Rattle.std.proofs.lemmas.Bool.{cases_eq, false≢true}
+use Rattle.std.proofs.lemmas.List.{length-set, length-replicate, get_or-replicate, get_or-set_same, get_or-set_other, set-get_or, get_or-map, map-set, length-map, length-append, get_or_append_left, get_or-append_right, set-append_left, set-append_right}
+use Rattle.vob_block.specs.Packing.{item}
+use Rattle.vob.specs.Bits.{IsWritten, AreCombined, GainsBits}
+use Rattle.vob.specs.Vob.{BitVector}
+use Rattle.vob_users.specs.Live.{bits_of}
+use Rattle.vob_users.specs.Matrix.{row_of, entry, AreLong, HaveShapeOf, IsEntryWritten, GetsRow}
+use Rattle.vob_users.specs.MatrixRows.{IsRowCombined}
+
+pub HaveShapeOf-same : (rows : List (List Bool)) → HaveShapeOf rows rows
+HaveShapeOf-same rows = record { count = refl; long = λ i. refl }
+
+pub HaveShapeOf-trans : (rows between after : List (List Bool)) → HaveShapeOf rows between →
+    HaveShapeOf between after → HaveShapeOf rows after
+HaveShapeOf-trans rows between after first second = record {
+  count = second.count ∙ first.count;
+  long = λ i. second.long i ∙ first.long i;
+}
+
+pub AreLong-kept : (columns : ℕ) (rows after : List (List Bool)) → AreLong columns rows →
+    HaveShapeOf rows after → AreLong columns after
+AreLong-kept columns rows after long shape = record {
+  each = λ i inside. shape.long i ∙ long.each i (omega (arith, shape.count));
+}
+
+pub AreLong-empty : (rows columns : ℕ) → AreLong columns (replicate rows (replicate columns false))
+AreLong-empty rows columns = record {
+  each = λ i inside.
+      let count = length-replicate rows (replicate columns false) in
+      ap length (get_or-replicate rows i (replicate columns false) [] (omega (arith, count)))
+      ∙ length-replicate columns false;
+}
+
+-- ---- one row is replaced
+
+module _ (rows : List (List Bool)) (i : ℕ) (row : List Bool) (inside : i < length rows) where
+  pub row_of-there : row_of (set rows i row) i ≡ row
+  row_of-there = get_or-set_same rows i row [] inside
+
+  pub row_of-other : (k : ℕ) → k ≢ i → row_of (set rows i row) k ≡ row_of rows k
+  row_of-other k other = get_or-set_other rows i k row [] other
+
+  pub HaveShapeOf-set : length row ≡ length (row_of rows i) → HaveShapeOf rows (set rows i row)
+  HaveShapeOf-set long = record {
+    count = length-set rows i row;
+    long = λ k. elim (cases_eq k i) [
+      | inl here ↦
+          ap (λ n. length (row_of (set rows i row) n)) here ∙ ap length row_of-there ∙ long
+          ∙ ap (λ n. length (row_of rows n)) (sym here)
+      | inr other ↦ ap length (row_of-other k other)
+    ];
+  }
+
+  -- by a row with a bit that is written
+  pub IsEntryWritten-set : (j : ℕ) (value : Bool) → IsWritten (row_of rows i) j value row →
+      IsEntryWritten rows i j value (set rows i row)
+  IsEntryWritten-set j value written = record {
+    shape = HaveShapeOf-set written.len;
+    there = ap (λ r. item r j) row_of-there ∙ written.there;
+    others = λ k l apart. elim (cases_eq k i) [
+      | inl here ↦ elim apart [
+        | inl other ↦ absurd (other here)
+        | inr other ↦
+            ap (λ n. entry (set rows i row) n l) here ∙ ap (λ r. item r l) row_of-there
+            ∙ written.others l other ∙ ap (λ n. entry rows n l) (sym here)
+      ]
+      | inr other ↦ ap (λ r. item r l) (row_of-other k other)
+    ];
+  }
+
+-- ---- one row is combined with another
+
+module _ (rows : List (List Bool)) (i k : ℕ) (after : List (List Bool)) (gained : Bool)
+    (inside : i < length rows) (h : IsRowCombined rows i k after gained) where
+  pub row_of-combined : row_of after i ≡ h.row
+  row_of-combined = ap (λ rs. row_of rs i) h.is ∙ row_of-there rows i h.row inside
+
+  pub GetsRow-combined : GetsRow rows i k after
+  GetsRow-combined = record {
+    shape = subst (HaveShapeOf rows) (sym h.is)
+        (HaveShapeOf-set rows i h.row inside h.combined.len);
+    there = λ j. ap (λ r. item r j) row_of-combined ∙ h.combined.each j;
+    others = λ l j other.
+        ap (λ rs. entry rs l j) h.is
+        ∙ ap (λ r. item r j) (row_of-other rows i h.row inside l other);
+  }
+
+-- ---- rows as the code reads and writes them
+
+pub row_of-items : (items : List BitVector) (i : ℕ) (d : BitVector) → i < length items →
+    row_of (bits_of items) i ≡ (get_or items i d).bits
+row_of-items items i d inside = get_or-map (λ v. v.bits) items i d [] inside
+
+pub IsEntryWritten-items : (items : List BitVector) (i j : ℕ) (value : Bool)
+    (d after : BitVector) → i < length items →
+    IsWritten (get_or items i d).bits j value after.bits →
+    IsEntryWritten (bits_of items) i j value (bits_of (set items i after))
+IsEntryWritten-items items i j value d after inside written =
+    let row = row_of-items items i d inside in
+    let set_row = IsEntryWritten-set (bits_of items) i after.bits
+    (omega (arith, length-map items (λ v. v.bits))) j value
+    (subst (λ bits. IsWritten bits j value after.bits) (sym row) written) in
+    subst (IsEntryWritten (bits_of items) i j value)
+    (sym (map-set (λ v. v.bits) items i after)) set_row
+
+pub IsRowCombined-items : (items after : List BitVector) (i k : ℕ) (row other : List Bool)
+    (new : BitVector) (gained : Bool) → row_of (bits_of items) i ≡ row →
+    row_of (bits_of items) k ≡ other → after ≡ set items i new →
+    AreCombined ◌||◌ row other new.bits → GainsBits gained row new.bits →
+    IsRowCombined (bits_of items) i k (bits_of after) gained
+IsRowCombined-items items after i k row other new gained first second is combined gains = record {
+  row = new.bits;
+  is = ap bits_of is ∙ map-set (λ v. v.bits) items i new;
+  combined = subst (λ bits. AreCombined ◌||◌ bits (row_of (bits_of items) k) new.bits) (sym first)
+      (subst (λ bits. AreCombined ◌||◌ row bits new.bits) (sym second) combined);
+  gains = subst (λ bits. GainsBits gained bits new.bits) (sym first) gains;
+}
+
+-- a row combined with itself is the row
+or_itself : (b : Bool) → b ≡ (b || b)
+or_itself true = refl
+or_itself false = refl
+
+pub IsRowCombined-same : (rows : List (List Bool)) (i k : ℕ) → k ≡ i →
+    IsRowCombined rows i k rows false
+IsRowCombined-same rows i k same = record {
+  row = row_of rows i;
+  is = sym (set-get_or rows i []);
+  combined = record {
+    len = refl;
+    each = λ j. or_itself (entry rows i j) ∙ ap (λ n. entry rows i j || entry rows n j) (sym same);
+  };
+  gains = record { same = λ off. refl; more = λ on. absurd (false≢true on) };
+}
+
+-- the items in two parts
+module _ (items low high : List BitVector) (n : ℕ) (is : items ≡ low ++ high)
+    (count : length low ≡ n) where
+  -- a row of the first part
+  pub row_of-low : (i : ℕ) (d : BitVector) → i < n →
+      row_of (bits_of items) i ≡ (get_or low i d).bits
+  row_of-low i d inside =
+      row_of-items items i d (omega (arith, inside, count, ap length is, length-append low high))
+      ∙ ap (λ v. v.bits) (ap (λ xs. get_or xs i d) is
+      ∙ get_or_append_left low high d i (omega (arith, inside, count)))
+
+  -- the first row of the second
+  pub row_of-high : (d : BitVector) → n < length items →
+      row_of (bits_of items) n ≡ (get_or high 0 d).bits
+  row_of-high d inside =
+      let none : n - n ≡ 0 = omega arith in
+      row_of-items items n d inside
+      ∙ ap (λ v. v.bits) (ap (λ xs. get_or xs n d) is
+      ∙ get_or-append_right low high n n d count (omega arith) ∙ ap (λ k. get_or high k d) none)
+
+  pub set-low : (i : ℕ) (new : BitVector) → i < n → set low i new ++ high ≡ set items i new
+  set-low i new inside =
+      sym (set-append_left low high i new (omega (arith, inside, count)))
+      ∙ ap (λ xs. set xs i new) (sym is)
+
+  pub set-high : (new : BitVector) → low ++ set high 0 new ≡ set items n new
+  set-high new =
+      let none : 0 ≡ n - n = omega arith in
+      ap (λ k. low ++ set high k new) none
+      ∙ sym (set-append_right low high n n new count (omega arith))
+      ∙ ap (λ xs. set xs n new) (sym is)

@@ -1,0 +1,63 @@
+-- A matrix of bits, and where its entries lead: entry (i, j) is bit j of row i.
+use Rattle.std.specs.Prelude.{◌≡◌, ◌≢◌, ◌↔◌, ◌⊎◌, ℕ, ◌<◌, Bool, true, ◌||◌, List, [], ◌∷◌, length, slice_index_or}
+use Rattle.vob_block.specs.Packing.{item}
+
+-- the rows, row 0 first, and how many columns there are, also where there is no row
+pub record Matrix : Type 0 where
+  pub rows : List (List Bool)
+  pub columns : ℕ
+
+-- row i, without a bit past the last row
+abbrev pub row_of : List (List Bool) → ℕ → List Bool
+row_of rows i = slice_index_or rows i []
+
+-- entry (i, j), false past the last row or column
+abbrev pub entry : List (List Bool) → ℕ → ℕ → Bool
+entry rows i j = item (row_of rows i) j
+
+-- each row has so many bits
+pub record AreLong (columns : ℕ) (rows : List (List Bool)) : Type 0 where
+  pub each : (i : ℕ) → i < length rows → length (row_of rows i) ≡ columns
+
+-- rows that are as many and as long as others
+pub record HaveShapeOf (rows after : List (List Bool)) : Type 0 where
+  pub count : length after ≡ length rows
+  pub long : (i : ℕ) → length (row_of after i) ≡ length (row_of rows i)
+
+-- entry (i, j) was made a value, and no other changed
+pub record IsEntryWritten (rows : List (List Bool)) (i j : ℕ) (value : Bool)
+    (after : List (List Bool)) : Type 0 where
+  pub shape : HaveShapeOf rows after
+  pub there : entry after i j ≡ value
+  pub others : (k l : ℕ) → (k ≢ i) ⊎ (l ≢ j) → entry after k l ≡ entry rows k l
+
+-- row i got the true entries of row k, and no other row changed
+pub record GetsRow (rows : List (List Bool)) (i k : ℕ) (after : List (List Bool)) : Type 0 where
+  pub shape : HaveShapeOf rows after
+  pub there : (j : ℕ) → entry after i j ≡ (entry rows i j || entry rows k j)
+  pub others : (l j : ℕ) → l ≢ i → entry after l j ≡ entry rows l j
+
+-- a step leads from node i to node j
+abbrev pub IsStep : List (List Bool) → ℕ → ℕ → Type 0
+IsStep rows i j = entry rows i j ≡ true
+
+-- steps lead from node i through some nodes, one after another, to node j
+abbrev pub IsPath : List (List Bool) → ℕ → List ℕ → ℕ → Type 0
+IsPath rows i [] j = IsStep rows i j
+IsPath rows i (k ∷ through) j = IsStep rows i k × IsPath rows k through j
+
+-- a path of one step or more leads from node i to node j
+abbrev pub HasPath : List (List Bool) → ℕ → ℕ → Type 0
+HasPath rows i j = (through : List ℕ) × IsPath rows i through j
+
+-- a step wherever there was a path, and nowhere else
+pub record IsClosure (rows after : List (List Bool)) : Type 0 where
+  pub shape : HaveShapeOf rows after
+  pub each : (i j : ℕ) → IsStep after i j ↔ HasPath rows i j
+
+-- rows and columns exchanged
+pub record IsTransposed (matrix after : Matrix) : Type 0 where
+  pub count : length after.rows ≡ matrix.columns
+  pub columns : after.columns ≡ length matrix.rows
+  pub long : AreLong after.columns after.rows
+  pub each : (i j : ℕ) → entry after.rows j i ≡ entry matrix.rows i j

@@ -1,0 +1,195 @@
+//! A matrix of bits, its transitive closure and its transpose: a user of `or` and of the walk over
+//! set bits.
+ghost use Rattle.std.specs.Prelude.{◌≡◌, ◌≢◌, ◌↔◌, ◌<◌, ◌≤◌, ℕ, [], false, length, map, replicate, slice_get, IsOk, IsTrue, IfOk};
+ghost use Rattle.vob.specs.Bits.{GainsBits};
+ghost use Rattle.vob_block.specs.Pointwise.{differ};
+ghost use Rattle.vob_users.specs.Live.{bits_of};
+ghost use Rattle.vob_users.specs.Matrix.{row_of, entry, AreLong, GetsRow, HaveShapeOf, IsClosure, IsEntryWritten, IsTransposed};
+ghost use Rattle.vob_users.specs.MatrixRows.{HaveOneLength, AreColumnsMarked, IsColumnMarked, IsLedThrough, IsRowCombined};
+
+use std::alloc::{AllocError, Global};
+use std::marker::Model;
+use vob::Vob;
+
+/// A matrix of bits. Contracts see its rows as lists of bits, and how many columns it has.
+#[derive(Debug, Drop)]
+pub struct BitMatrix {
+    rows: Vec<Vob>,
+    columns: usize,
+}
+
+impl Model for BitMatrix {
+    ghost use Rattle.std.specs.Prelude.{map};
+    ghost use Rattle.vob_users.specs.Matrix.{AreLong, Matrix};
+
+    ghost Value = { Matrix };
+
+    ghost view = { λ matrix. record {
+      rows = map (λ row. row.bits) matrix.rows.items;
+      columns = matrix.columns;
+    } };
+
+    ghost invariant = { λ matrix.
+        AreLong matrix.columns (map (λ row. row.bits) matrix.rows.items) };
+}
+
+impl BitMatrix {
+    /// A matrix whose entries are all false. No rows take no memory.
+    pub fn new(alloc: Global, rows: usize, columns: usize) -> Result<BitMatrix, AllocError>
+        ensures entries { IfOk result (λ matrix.
+            matrix.rows ≡ replicate rows (replicate columns false)) }
+        ensures columns { IfOk result (λ matrix. matrix.columns ≡ columns) }
+        ensures nothing { rows ≡ 0 → IsOk result }
+    {
+        let mut made = Vec::with_capacity(alloc, rows)?;
+        for _ in 0..rows {
+            made.push(Vob::from_elem(alloc, false, columns)?)?;
+        }
+        Ok(BitMatrix {
+            rows: made,
+            columns,
+        })
+    }
+
+    /// The number of rows.
+    pub fn rows(&self) -> usize
+        ensures { result ≡ length self.now.rows }
+    {
+        self.rows.len()
+    }
+
+    /// The number of columns.
+    pub fn columns(&self) -> usize
+        ensures columns { result ≡ self.now.columns }
+        ensures long { AreLong result self.now.rows }
+    {
+        self.columns
+    }
+
+    /// Entry (`row`, `column`), or `None` past the last row or column.
+    pub fn get(&self, row: usize, column: usize) -> Option<bool>
+        ensures { result ≡ slice_get (row_of self.now.rows row) column }
+    {
+        self.rows.get(row)?.get(column)
+    }
+
+    /// Writes entry (`row`, `column`), and answers whether it changed.
+    pub fn set(&mut self, row: usize, column: usize, value: bool) -> bool
+        requires row { row < length self.old.rows }
+        requires column { column < self.old.columns }
+        ensures entries { IsEntryWritten self.old.rows row column value self.new.rows }
+        ensures columns { self.new.columns ≡ self.old.columns }
+        ensures differs { result ≡ differ (entry self.old.rows row column) value }
+    {
+        self.rows[row].set(column, value)
+    }
+
+    /// A row, to be read by the calls of a Vob.
+    pub fn row(&self, row: usize) -> &Vob
+        requires { row < length self.now.rows }
+        ensures bits { result.now.bits ≡ row_of self.now.rows row }
+        ensures long { length result.now.bits ≡ self.now.columns }
+    {
+        &self.rows[row]
+    }
+
+    /// Adds the true entries of row `from` to row `into`, and answers whether that added one.
+    pub fn or_rows(&mut self, into: usize, from: usize) -> bool
+        requires into { into < length self.old.rows }
+        requires from { from < length self.old.rows }
+        ensures entries { GetsRow self.old.rows into from self.new.rows }
+        ensures columns { self.new.columns ≡ self.old.columns }
+        ensures changed { IsTrue result ↔ (self.new.rows ≢ self.old.rows) }
+        ensures more { GainsBits result (row_of self.old.rows into) (row_of self.new.rows into) }
+    {
+        or_row(&mut self.rows, into, from)
+    }
+
+    /// Makes entry (i, j) true wherever a path of one step or more leads from node i to node j, and
+    /// false elsewhere: a true entry (i, j) is a step from i to j. A node without a row leads
+    /// nowhere. No memory is asked for.
+    pub fn close(&mut self)
+        ensures closure { IsClosure self.old.rows self.new.rows }
+        ensures columns { self.new.columns ≡ self.old.columns }
+    {
+        close_rows(&mut self.rows);
+    }
+
+    /// The matrix with rows and columns exchanged. No columns take no memory.
+    pub fn transpose(&self, alloc: Global) -> Result<BitMatrix, AllocError>
+        ensures transposed { IfOk result (λ made. IsTransposed self.now made) }
+        ensures nothing { self.now.columns ≡ 0 → IsOk result }
+    {
+        let mut made = BitMatrix::new(alloc, self.columns, self.rows.len())?;
+        mark_columns(&mut made.rows, &self.rows);
+        Ok(made)
+    }
+}
+
+/// Adds the true bits of row `from` to row `into`, and answers whether that added one.
+fn or_row(rows: &mut [Vob], into: usize, from: usize) -> bool
+    requires into { into < length rows.old }
+    requires from { from < length rows.old }
+    requires long { HaveOneLength (bits_of rows.old) }
+    ensures { IsRowCombined (bits_of rows.old) into from
+        (bits_of rows.new) result }
+{
+    if into < from {
+        let (low, high) = rows.split_at_mut(from);
+        low[into].or(&high[0])
+    } else if from < into {
+        let (low, high) = rows.split_at_mut(into);
+        high[0].or(&low[from])
+    } else {
+        false
+    }
+}
+
+/// Adds row `through` to each row with a step to that node.
+fn lead_through(rows: &mut [Vob], through: usize)
+    requires through { through < length rows.old }
+    requires long { HaveOneLength (bits_of rows.old) }
+    ensures { IsLedThrough (bits_of rows.old) through
+        (bits_of rows.new) }
+{
+    for row in 0..rows.len() {
+        if rows[row].get(through).unwrap_or(false) {
+            or_row(rows, row, through);
+        }
+    }
+}
+
+/// Makes each row hold all nodes that its node leads to, by Warshall's way: behind turn k, those that
+/// paths through nodes up to k lead to.
+fn close_rows(rows: &mut [Vob])
+    requires { HaveOneLength (bits_of rows.old) }
+    ensures { IsClosure (bits_of rows.old) (bits_of rows.new) }
+{
+    for through in 0..rows.len() {
+        lead_through(rows, through);
+    }
+}
+
+/// Makes the entries of a column true that stand at the set bits of a row.
+fn mark_column(rows: &mut [Vob], column: usize, bits: &Vob)
+    requires rows { length bits.now.bits ≡ length rows.old }
+    requires long { (i : ℕ) → i < length rows.old
+        → column < length (row_of (bits_of rows.old) i) }
+    ensures { IsColumnMarked (bits_of rows.old) column bits.now.bits
+        (bits_of rows.new) }
+{
+    for row in bits.iter_set_bits(..) {
+        rows[row].set(column, true);
+    }
+}
+
+/// Marks column i at the set bits of row i of `from`, for each of its rows.
+fn mark_columns(rows: &mut [Vob], from: &[Vob])
+    requires rows { AreLong (length rows.old) (bits_of from.now) }
+    requires long { AreLong (length from.now) (bits_of rows.old) }
+    ensures { AreColumnsMarked (bits_of rows.old) (bits_of from.now) (bits_of rows.new) }
+{
+    for column in 0..from.len() {
+        mark_column(rows, column, &from[column]);
+    }
+}
