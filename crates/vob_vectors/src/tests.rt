@@ -6,6 +6,7 @@ mod counts;
 mod growing;
 mod hints;
 mod live;
+mod matrix;
 mod paths;
 mod pointwise;
 mod raw;
