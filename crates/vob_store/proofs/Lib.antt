@@ -4,7 +4,7 @@ pub mod CutLemmas
 pub mod FillLemmas
 pub mod FunnelLemmas
 pub mod JoinLemmas
-pub mod LaidLemmas
+pub mod PackLemmas
 pub mod PushLemmas
 pub mod RawLemmas
 pub mod ReverseLemmas

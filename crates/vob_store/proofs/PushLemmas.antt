@@ -8,7 +8,7 @@ use Rattle.vob_block.specs.Places.{place, HasPlaces}
 use Rattle.vob_block.specs.Packing.{item, need, IsCanonical, Stores}
 use Rattle.vob_block.proofs.NeedLemmas.{need_at_full}
 use Rattle.vob_store.proofs.AppendLemmas.{Stores-block}
-use Rattle.vob_store.proofs.LaidLemmas.{mark-places, place-first}
+use Rattle.vob_store.proofs.PackLemmas.{mark-places, place-first}
 
 first-lt : (v : Bool) (w : ℕ) → 0 < w → cond v 1 0 < 2 ^ w
 first-lt true w h = pow_below 0 w h

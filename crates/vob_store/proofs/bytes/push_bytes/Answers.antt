@@ -6,7 +6,7 @@ use Rattle.vob_block.specs.Bytes.{bytes_list}
 use Rattle.vob_block.proofs.ByteLemmas.{length-bytes_list}
 use Rattle.vob_block.proofs.NeedLemmas.{lt-need}
 use Rattle.vob_store.proofs.AppendLemmas.{packed_more, packed_all}
-use Rattle.vob_store.proofs.LaidLemmas.{some_left, none_left}
+use Rattle.vob_store.proofs.PackLemmas.{some_left, none_left}
 use Rattle.vob_store.proofs.ReverseLemmas.{places_from_same}
 use Rattle.vob_store.proofs.bytes.push_bytes.Goals as goal
 

@@ -1,6 +1,6 @@
 -- The next bit is marked at its place.
 use Rattle.std.proofs.Common.{refl}
-use Rattle.vob_store.proofs.LaidLemmas.{first_more}
+use Rattle.vob_store.proofs.PackLemmas.{first_more}
 use Rattle.vob_store.proofs.pack.pack_block.Goals as goal
 
 pub loop-place-preserved : goal.loop-place-preserved

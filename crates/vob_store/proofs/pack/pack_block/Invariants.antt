@@ -1,4 +1,4 @@
-use Rattle.vob_store.proofs.LaidLemmas.{HasFirst}
+use Rattle.vob_store.proofs.PackLemmas.{HasFirst}
 use Rattle.vob_store.proofs.pack.pack_block.Given as goal
 
 abbrev pub invariant-loop-place : goal.invariant-loop-place

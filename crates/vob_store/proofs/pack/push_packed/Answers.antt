@@ -4,7 +4,7 @@ use Rattle.std.proofs.lemmas.List.{length-append, length-map, map_push}
 use Rattle.vob_block.specs.Packing.{packing}
 use Rattle.vob_block.proofs.PackingLemmas.{length-packing}
 use Rattle.vob_store.proofs.AppendLemmas.{packed_more, packed-lt, packed_all}
-use Rattle.vob_store.proofs.LaidLemmas.{some_left, none_left}
+use Rattle.vob_store.proofs.PackLemmas.{some_left, none_left}
 use Rattle.vob_store.proofs.pack.push_packed.Goals as goal
 
 pub loop-rest-init : goal.loop-rest-init
