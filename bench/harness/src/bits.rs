@@ -266,6 +266,40 @@ fn closure<B: Bits>(input: &Input, rounds: usize) -> u64 {
     checksum_all(&last, times)
 }
 
+/// Adds row `from` to row `into`, as `vob_users::matrix` does.
+fn or_row<B: Bits>(rows: &mut [B], into: usize, from: usize) {
+    if into < from {
+        let (low, high) = rows.split_at_mut(from);
+        low[into].or(&high[0]);
+    } else if from < into {
+        let (low, high) = rows.split_at_mut(into);
+        high[0].or(&low[from]);
+    }
+}
+
+fn matrix<B: Bits>(input: &Input, rounds: usize) -> u64 {
+    let nodes = input.bits.len();
+    let mut times = 0;
+    let mut last = Vec::new();
+    for round in 0..rounds {
+        let none = B::from_bytes(&vec![0; nodes / 8]);
+        let mut rows: Vec<B> = (0..nodes).map(|_| none.copied()).collect();
+        for step in input.indices.chunks(2) {
+            rows[step[0]].set(step[1], true);
+        }
+        for through in 0..nodes {
+            for row in 0..nodes {
+                if rows[row].get(through) {
+                    or_row(&mut rows, row, through);
+                }
+            }
+        }
+        times += sample(&rows[round % nodes], round);
+        last = rows;
+    }
+    checksum_all(&last, times)
+}
+
 /// One pass over the nodes of a flow graph, the last one first, as `vob_users::live` makes it.
 fn pass<B: Bits>(nodes: &[&[usize]], possible: &[B], before: &mut [B], after: &mut [B]) -> bool {
     let mut changed = false;
@@ -344,6 +378,7 @@ pub fn run<B: Bits>(call: Call, input: &Input, rounds: usize) -> u64 {
         Call::ExtendAligned => joined::<B>(input, 64, rounds),
         Call::ExtendShifted => joined::<B>(input, 64 + 13, rounds),
         Call::Closure => closure::<B>(input, rounds),
+        Call::Matrix => matrix::<B>(input, rounds),
         Call::Live => live::<B>(input, rounds),
         Call::SetBits => walked(input, rounds, B::set_bits),
         Call::SetBitsBack => walked(input, rounds, B::set_bits_back),

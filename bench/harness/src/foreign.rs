@@ -28,6 +28,7 @@ extern "C" {
         rounds: usize,
     ) -> u64;
     fn vob_bench_closure(bytes: *const u8, len: usize, row_bytes: usize, rounds: usize) -> u64;
+    fn vob_bench_matrix(steps: *const usize, count: usize, nodes: usize, rounds: usize) -> u64;
     fn vob_bench_live(numbers: *const usize, count: usize, vars: usize, rounds: usize) -> u64;
 }
 
@@ -74,6 +75,9 @@ pub fn conthiral(call: Call, input: &Input, rounds: usize) -> u64 {
         Call::FirstFree => walk(4),
         Call::Closure => unsafe {
             vob_bench_closure(bytes.as_ptr(), bytes.len(), input.row_bytes, rounds)
+        },
+        Call::Matrix => unsafe {
+            vob_bench_matrix(indices.as_ptr(), indices.len(), bits.len(), rounds)
         },
         Call::Live => unsafe {
             vob_bench_live(indices.as_ptr(), indices.len(), bits.len(), rounds)

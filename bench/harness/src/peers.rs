@@ -130,6 +130,7 @@ impl Bits for FixedBitSet {
             Call::Negate => Offer::Other("toggle_range"),
             Call::Live => Offer::Other("is_subset, then union_with"),
             Call::Get
+            | Call::Matrix
             | Call::Clone
             | Call::Hash
             | Call::Equal
@@ -314,6 +315,7 @@ impl Bits for BitSet {
             Call::And | Call::Or | Call::Xor | Call::Closure => NO_FLAG,
             Call::Set => Offer::Other("insert or remove"),
             Call::Get
+            | Call::Matrix
             | Call::Clone
             | Call::Hash
             | Call::Equal

@@ -32,6 +32,7 @@ pub enum Call {
     Count,
     FirstFree,
     Live,
+    Matrix,
 }
 
 /// What the machine can do at most, measured on the row's own size.
@@ -87,6 +88,7 @@ impl Row {
             Call::Get | Call::Set => Shape::Indices(INDICES),
             Call::FirstFree => Shape::FreeAtTheEnd,
             Call::Live => Shape::Flow,
+            Call::Matrix => Shape::Steps,
             _ => Shape::Plain,
         };
         Row {
@@ -218,6 +220,13 @@ pub fn all() -> Vec<Row> {
             "closure 1000 x 1000",
             Call::Closure,
             1_000_000,
+            Round,
+            Limit::None,
+        ),
+        Row::over(
+            "matrix closure, 1000 nodes",
+            Call::Matrix,
+            1000,
             Round,
             Limit::None,
         ),

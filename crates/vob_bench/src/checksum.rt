@@ -1,6 +1,7 @@
 //! Checksums that every library of the benchmark can give.
 
 use vob::Vob;
+use vob_users::matrix::BitMatrix;
 
 // A digest looks at every bit of so many, and at every second, third .. one of more.
 const MOST: usize = 0x10_0000;
@@ -24,15 +25,29 @@ pub(crate) fn checksum(vob: &Vob, times: u64) -> u64 {
     times.wrapping_mul(0x1_0000_0000).wrapping_add(digest(vob))
 }
 
+/// The same above the digests of several.
+fn summed(sum: u64, times: u64) -> u64 {
+    times
+        .wrapping_mul(0x1_0000_0000)
+        .wrapping_add(sum % 0x1_0000_0000)
+}
+
 /// The same of several Vobs.
 pub(crate) fn checksum_all(vobs: &[Vob], times: u64) -> u64 {
     let mut sum: u64 = 0;
     for vob in vobs.iter() {
         sum = sum.wrapping_mul(31).wrapping_add(digest(vob));
     }
-    times
-        .wrapping_mul(0x1_0000_0000)
-        .wrapping_add(sum % 0x1_0000_0000)
+    summed(sum, times)
+}
+
+/// The same of the rows of a matrix.
+pub(crate) fn checksum_rows(matrix: &BitMatrix, times: u64) -> u64 {
+    let mut sum: u64 = 0;
+    for row in 0..matrix.rows() {
+        sum = sum.wrapping_mul(31).wrapping_add(digest(matrix.row(row)));
+    }
+    summed(sum, times)
 }
 
 /// The index of the bit that a round looks at or changes.

@@ -114,6 +114,17 @@ pub extern "C" fn vob_bench_closure(
     answer(matrix::closure(alloc, bytes, row_bytes, rounds))
 }
 
+/// The transitive closure of a `BitMatrix` of so many nodes, with steps of two numbers each.
+#[unsafe(no_mangle)]
+pub extern "C" fn vob_bench_matrix(
+    alloc: Global,
+    steps: &[usize],
+    nodes: usize,
+    rounds: usize,
+) -> u64 {
+    answer(matrix::close_graph(alloc, steps, nodes, rounds))
+}
+
 /// The variables of `vars` that are live at the nodes of a flow graph, which four numbers a node are.
 #[unsafe(no_mangle)]
 pub extern "C" fn vob_bench_live(

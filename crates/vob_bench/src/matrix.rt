@@ -1,8 +1,10 @@
-//! A workload on a matrix of bits: its transitive closure, by Warshall's way.
+//! Workloads on a matrix of bits: its transitive closure, by Warshall's way, over rows of their own and
+//! by a `BitMatrix`.
 
-use crate::checksum::checksum_all;
+use crate::checksum::{checksum_all, checksum_rows};
 use std::alloc::{AllocError, Global};
 use vob::{Vob, VobError};
+use vob_users::matrix::BitMatrix;
 
 /// Puts a row behind the others.
 fn push_row(rows: &mut Vec<Vob>, row: Vob) -> Result<(), AllocError> {
@@ -70,4 +72,37 @@ pub(crate) fn closure(
         last = closed;
     }
     Ok(checksum_all(&last, times))
+}
+
+/// The graph of so many nodes with steps of two numbers each: from which node, and to which.
+fn graph_of(alloc: Global, steps: &[usize], nodes: usize) -> Result<BitMatrix, AllocError> {
+    let mut matrix = BitMatrix::new(alloc, nodes, nodes)?;
+    for step in 0..steps.len() / 2 {
+        let from = steps[2 * step];
+        let to = steps[2 * step + 1];
+        if from < matrix.rows() && to < matrix.columns() {
+            matrix.set(from, to, true);
+        }
+    }
+    Ok(matrix)
+}
+
+/// The closure of a graph a round, and the checksum of its rows.
+#[inline(never)]
+pub(crate) fn close_graph(
+    alloc: Global,
+    steps: &[usize],
+    nodes: usize,
+    rounds: usize,
+) -> Result<u64, VobError> {
+    let mut times: u64 = 0;
+    let mut last = BitMatrix::new(alloc, 0, 0)?;
+    for round in 0..rounds {
+        let mut matrix = graph_of(alloc, steps, nodes)?;
+        matrix.close();
+        let node = if nodes == 0 { 0 } else { round % nodes };
+        times = times.wrapping_add((matrix.get(node, node) == Some(true)) as u64);
+        last = matrix;
+    }
+    Ok(checksum_rows(&last, times))
 }
