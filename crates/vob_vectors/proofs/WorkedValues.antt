@@ -5,6 +5,7 @@ use Rattle.std.proofs.lemmas.List.{get_or_past}
 use Rattle.vob_block.proofs.PlaceLemmas.{place_above, place-zero}
 use Rattle.vob_block.specs.Places.{place, value}
 use Rattle.vob_block.specs.Packing.{need, packing, bit_at, unpacking, IsCanonical}
+use Rattle.vob_users.specs.Matrix.{entry, IsPath}
 
 abbrev bits-101 : List Bool
 bits-101 = true ∷ false ∷ true ∷ []
@@ -131,3 +132,28 @@ not_canonical-too_many c = omega (arith, c.count)
 not_canonical-too_few : IsCanonical 9 (1 ∷ []) 8 → ⊥
 unfolding need
 not_canonical-too_few c = omega (arith, c.count)
+
+-- ---- a matrix of three nodes, of which each leads to the next
+
+abbrev rows-010-001-000 : List (List Bool)
+rows-010-001-000 =
+    (false ∷ true ∷ false ∷ []) ∷ (false ∷ false ∷ true ∷ []) ∷ (false ∷ false ∷ false ∷ []) ∷ []
+
+path-0-through-1-to-2 : IsPath rows-010-001-000 0 (1 ∷ []) 2
+path-0-through-1-to-2 = (refl, refl)
+
+no_step-0-to-2 : entry rows-010-001-000 0 2 ≡ false
+no_step-0-to-2 = refl
+
+no_step-past_the_rows : entry rows-010-001-000 3 0 ≡ false
+no_step-past_the_rows = refl
+
+no_step-from-2 : (j : ℕ) → entry rows-010-001-000 2 j ≡ false
+no_step-from-2 zero = refl
+no_step-from-2 (suc zero) = refl
+no_step-from-2 (suc (suc zero)) = refl
+no_step-from-2 (suc (suc (suc j))) = refl
+
+no_path-from-2 : (through : List ℕ) (j : ℕ) → IsPath rows-010-001-000 2 through j → ⊥
+no_path-from-2 [] j step = false≢true (sym (no_step-from-2 j) ∙ step)
+no_path-from-2 (k ∷ through) j path = false≢true (sym (no_step-from-2 k) ∙ path.0)
