@@ -6,5 +6,6 @@ mod live;
 mod made;
 mod runs;
 mod support;
+mod unhinted;
 mod walks;
 mod without_memory;

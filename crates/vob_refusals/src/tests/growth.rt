@@ -1,137 +1,159 @@
 //! Calls that make room behind the bits: refused, they leave the bits and the blocks.
-use super::support::{check_blocks, vob_of};
+use super::support::{FIRST, check_blocks, push, request, same, tell, vob_of};
+use super::unhinted::Unhinted;
 use std::process::Abort;
-use std::test::Fail;
 use vob::{Vob, VobError};
 
 /// Whether `101` was grown, and is so long now. If not, there was no memory, and it is as it was.
 fn is_grown(rt: &impl Abort, answer: Result<(), VobError>, vob: &Vob<u8>, len: usize) -> bool {
     if answer.is_ok() {
-        assert_eq!(rt; vob.len(), len);
+        same(rt, "the length", vob.len(), len);
         return true;
     }
-    assert_eq!(rt; answer, Err(VobError::Memory));
+    same(rt, "the answer", answer, Err(VobError::Memory));
     check_blocks(rt, vob, 3, &[5]);
     false
 }
 
-#[test]
-fn a_push_asks_for_memory_only_at_the_capacity(rt: HostRuntime) -> Result<(), Fail> {
-    let Ok(mut vob) = vob_of(rt.alloc(), "11111111") else {
-        return Ok(());
-    };
-    assert_eq!(rt; vob.pop(), Some(true));
-    assert_eq!(rt; vob.push(true), Ok(()), "the place of the popped bit");
-    check_blocks(&rt, &vob, 8, &[255]);
-    for len in vob.len()..vob.capacity() {
-        assert_eq!(rt; vob.push(true), Ok(()), "behind {len} bits");
+/// Pushes true bits up to the capacity, which is the answer.
+fn fill(rt: &impl Abort, vob: &mut Vob<u8>) -> usize {
+    for _ in vob.len()..vob.capacity() {
+        push(rt, vob);
     }
-    let full = vob.len();
-    assert_eq!(rt; vob.capacity(), full);
-    let answer = vob.push(true);
+    same(rt, "the capacity", vob.capacity(), vob.len());
+    vob.len()
+}
+
+/// Compares the first `full` bits, a number of whole blocks, which are all true.
+fn check_full(rt: &impl Abort, vob: &Vob<u8>, full: usize) {
     for block in vob.get_storage().iter().take(full / 8) {
-        assert_eq!(rt; *block, 255);
+        same(rt, "a block", *block, 255);
     }
+}
+
+/// A push behind as many true bits as the capacity.
+fn is_pushed(rt: &impl Abort, vob: &mut Vob<u8>) -> bool {
+    let full = fill(rt, vob);
+    let answer = vob.push(true);
+    check_full(rt, vob, full);
     if answer.is_ok() {
-        println!(rt; "answered")?;
-        return Ok(());
+        return true;
     }
-    assert_eq!(rt; answer, Err(VobError::Memory));
-    assert_eq!(rt; vob.len(), full);
-    assert_eq!(rt; vob.get_storage().len(), full / 8);
-    Ok(())
+    same(rt, "the answer", answer, Err(VobError::Memory));
+    same(rt, "the length", vob.len(), full);
+    same(rt, "the blocks", vob.get_storage().len(), full / 8);
+    false
 }
 
 #[test]
-fn a_join_within_the_capacity_takes_no_memory(rt: HostRuntime) -> Result<(), Fail> {
+fn a_push_asks_for_memory_only_at_the_capacity(rt: HostRuntime) {
+    request(&rt, FIRST);
+    let Ok(mut vob) = vob_of(rt.alloc(), "11111111") else {
+        return;
+    };
+    same(&rt, "the last bit", vob.pop(), Some(true));
+    push(&rt, &mut vob);
+    check_blocks(&rt, &vob, 8, &[255]);
+    tell(&rt, is_pushed(&rt, &mut vob));
+}
+
+/// Joins `11111` behind `111`.
+fn join_five(rt: &impl Abort, vob: &mut Vob<u8>, five: &Vob<u8>) {
+    for _ in 0..3 {
+        push(rt, vob);
+    }
+    same(rt, "a join", vob.extend_from_vob(five), Ok(()));
+    check_blocks(rt, vob, 8, &[255]);
+}
+
+#[test]
+fn a_join_within_the_capacity_takes_no_memory(rt: HostRuntime) {
+    request(&rt, FIRST);
     let Ok(mut vob) = Vob::<u8>::new_with_storage_type(rt.alloc(), 8) else {
-        return Ok(());
+        return;
     };
     let Ok(five) = vob_of(rt.alloc(), "11111") else {
-        return Ok(());
+        return;
     };
-    for _ in 0..3 {
-        assert_eq!(rt; vob.push(true), Ok(()));
-    }
-    assert_eq!(rt; vob.extend_from_vob(&five), Ok(()));
-    check_blocks(&rt, &vob, 8, &[255]);
-    println!(rt; "answered")?;
-    Ok(())
+    join_five(&rt, &mut vob, &five);
+    tell(&rt, true);
 }
 
 #[test]
-fn a_join_that_is_refused_leaves_all_bits(rt: HostRuntime) -> Result<(), Fail> {
+fn a_join_that_is_refused_leaves_all_bits(rt: HostRuntime) {
+    request(&rt, FIRST);
     let Ok(mut vob) = vob_of(rt.alloc(), "101") else {
-        return Ok(());
+        return;
     };
     let Ok(many) = Vob::<u8>::from_elem_with_storage_type(rt.alloc(), true, 999) else {
-        return Ok(());
+        return;
     };
     let answer = vob.extend_from_vob(&many);
-    if is_grown(&rt, answer, &vob, 1002) {
-        println!(rt; "answered")?;
-    }
-    Ok(())
+    tell(&rt, is_grown(&rt, answer, &vob, 1002));
+}
+
+/// Whether the room behind `101`, for 999 bits, is taken back.
+fn is_shrunk(rt: &impl Abort, vob: &mut Vob<u8>) -> bool {
+    check_blocks(rt, vob, 3, &[5]);
+    let room = vob.capacity();
+    same(rt, "room for 999 bits more", room >= 1002, true);
+    vob.shrink_to_fit();
+    check_blocks(rt, vob, 3, &[5]);
+    vob.capacity() < room
 }
 
 #[test]
-fn room_that_is_refused_leaves_all_bits(rt: HostRuntime) -> Result<(), Fail> {
+fn room_that_is_refused_leaves_all_bits(rt: HostRuntime) {
+    request(&rt, FIRST);
     let Ok(mut vob) = vob_of(rt.alloc(), "101") else {
-        return Ok(());
+        return;
     };
     let answer = vob.reserve(999);
-    if is_grown(&rt, answer, &vob, 3) {
-        check_blocks(&rt, &vob, 3, &[5]);
-        let room = vob.capacity();
-        assert!(rt; room >= 1002);
-        vob.shrink_to_fit();
-        check_blocks(&rt, &vob, 3, &[5]);
-        if vob.capacity() < room {
-            println!(rt; "answered")?;
-        }
-    }
-    Ok(())
+    let grown = is_grown(&rt, answer, &vob, 3);
+    tell(&rt, grown && is_shrunk(&rt, &mut vob));
 }
 
 #[test]
-fn equal_bits_that_are_refused_leave_all_bits(rt: HostRuntime) -> Result<(), Fail> {
+fn equal_bits_that_are_refused_leave_all_bits(rt: HostRuntime) {
+    request(&rt, FIRST);
     let Ok(mut vob) = vob_of(rt.alloc(), "101") else {
-        return Ok(());
+        return;
     };
     let answer = vob.resize(999, true);
-    if is_grown(&rt, answer, &vob, 999) {
-        println!(rt; "answered")?;
-    }
-    Ok(())
+    tell(&rt, is_grown(&rt, answer, &vob, 999));
 }
 
 #[test]
-fn a_slice_that_is_refused_leaves_all_bits(rt: HostRuntime) -> Result<(), Fail> {
+fn a_slice_that_is_refused_leaves_all_bits(rt: HostRuntime) {
+    request(&rt, FIRST);
     let Ok(mut vob) = vob_of(rt.alloc(), "101") else {
-        return Ok(());
+        return;
     };
     let answer = vob.extend_from_slice(&[true; 99]);
-    if is_grown(&rt, answer, &vob, 102) {
-        println!(rt; "answered")?;
+    tell(&rt, is_grown(&rt, answer, &vob, 102));
+}
+
+/// Whether `110` was joined behind eight true bits. If not, a first part of it was.
+fn is_extended(rt: &impl Abort, answer: Result<(), VobError>, vob: &Vob<u8>) -> bool {
+    if answer.is_ok() {
+        check_blocks(rt, vob, 11, &[255, 3]);
+        return true;
     }
-    Ok(())
+    same(rt, "the answer", answer, Err(VobError::Memory));
+    check_blocks(rt, vob, 8, &[255]);
+    false
 }
 
 #[test]
-fn an_item_that_is_refused_leaves_those_before_it(rt: HostRuntime) -> Result<(), Fail> {
+fn an_item_that_is_refused_leaves_those_before_it(rt: HostRuntime) {
+    request(&rt, FIRST);
     let Ok(mut vob) = Vob::<u8>::new_with_storage_type(rt.alloc(), 8) else {
-        return Ok(());
+        return;
     };
     for _ in 0..8 {
-        assert_eq!(rt; vob.push(true), Ok(()));
+        push(&rt, &mut vob);
     }
-    let answer = vob.extend([true, true, false].into_iter().filter(|_| true));
-    if answer.is_ok() {
-        check_blocks(&rt, &vob, 11, &[255, 3]);
-        println!(rt; "answered")?;
-        return Ok(());
-    }
-    assert_eq!(rt; answer, Err(VobError::Memory));
-    check_blocks(&rt, &vob, 8, &[255]);
-    Ok(())
+    let rest = &[true, true, false];
+    let answer = vob.extend(Unhinted { rest });
+    tell(&rt, is_extended(&rt, answer, &vob));
 }

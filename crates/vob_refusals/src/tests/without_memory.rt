@@ -1,181 +1,250 @@
 //! Calls that take no memory: no refusal reaches them.
-use super::support::{check_blocks, vob_of};
-use std::test::Fail;
+use super::support::{FIRST, check_blocks, request, same, tell, vob_of};
+use std::alloc::{AllocError, Global};
+use std::fmt::Debug;
+use std::process::Abort;
 use vob::{End, IndexWalk, IterSetBits, IterUnsetBits, RawVob, Vob, count_ones_in, deal};
-use vob_block::Blocks;
+use vob_block::{Block, Blocks};
+
+/// A Vob that is made without bits, and without room.
+fn check_empty<T: Block, E: Debug + Drop>(rt: &impl Abort, made: Result<Vob<T>, E>) {
+    let vob = made.expect(rt, "no memory is asked for");
+    check_blocks(rt, &vob, 0, &[]);
+    same(rt, "the capacity", vob.capacity(), 0);
+}
 
 #[test]
-fn no_bits_take_no_memory(rt: HostRuntime) -> Result<(), Fail> {
+fn no_bits_take_no_memory(rt: HostRuntime) {
     let alloc = rt.alloc();
-    let empty = Vob::new(alloc);
-    assert_eq!(rt; empty.clone()?.len(), 0);
-    assert_eq!(rt; Vob::with_capacity(alloc, 0)?.capacity(), 0);
-    assert_eq!(rt; Vob::<u8>::new_with_storage_type(alloc, 0)?.capacity(), 0);
-    assert_eq!(rt; Vob::from_elem(alloc, true, 0)?.capacity(), 0);
-    assert_eq!(rt;
-        Vob::<u8>::from_elem_with_storage_type(alloc, true, 0)?.capacity(),
-        0
-    );
-    assert_eq!(rt; Vob::from_slice(alloc, &[])?.capacity(), 0);
-    assert_eq!(rt; Vob::from_bytes(alloc, &[])?.capacity(), 0);
-    assert_eq!(rt; Vob::from_iter(alloc, None)?.capacity(), 0);
-    println!(rt; "answered")?;
-    Ok(())
+    check_empty(&rt, Vob::new(alloc).clone());
+    check_empty(&rt, Vob::with_capacity(alloc, 0));
+    check_empty(&rt, Vob::<u8>::new_with_storage_type(alloc, 0));
+    check_empty(&rt, Vob::from_elem(alloc, true, 0));
+    let bytes = Vob::<u8>::from_elem_with_storage_type(alloc, true, 0);
+    check_empty(&rt, bytes);
+    check_empty(&rt, Vob::from_slice(alloc, &[]));
+    check_empty(&rt, Vob::from_bytes(alloc, &[]));
+    check_empty(&rt, Vob::from_iter(alloc, None));
+    tell(&rt, true);
+}
+
+/// Writes the first two bits of `101`.
+fn check_writes(rt: &impl Abort, vob: &mut Vob<u8>) {
+    assert!(rt; vob.len() == 3);
+    same(rt, "set", vob.set(1, true), true);
+    same(rt, "set_unchecked", vob.set_unchecked(0, false), true);
+    same(rt, "get_unchecked", vob.get_unchecked(1), true);
+    same(rt, "an index", vob[2], true);
+}
+
+/// Reads `011` by its walks, and past its end.
+fn check_reads(rt: &impl Abort, vob: &Vob<u8>) {
+    same(rt, "empty", vob.is_empty(), false);
+    same(rt, "past the end", vob.get(3), None);
+    same(rt, "the bits", vob.iter().len(), 3);
+    same(rt, "the last bit", vob.iter().next_back(), Some(true));
+    same(rt, "the first block", vob.iter_storage().next(), Some(6));
+    same(rt, "the blocks", vob.blocks().len(), 1);
+    check_blocks(rt, vob, 3, &[6]);
 }
 
 #[test]
-fn bits_are_read_and_written_in_place(rt: HostRuntime) -> Result<(), Fail> {
+fn bits_are_read_and_written_in_place(rt: HostRuntime) {
+    request(&rt, FIRST);
     let Ok(mut vob) = vob_of(rt.alloc(), "101") else {
-        return Ok(());
+        return;
     };
-    assert_eq!(rt; vob.len(), 3);
-    assert!(rt; !vob.is_empty());
-    assert!(rt; vob.set(1, true));
-    assert!(rt; vob.set_unchecked(0, false));
-    assert!(rt; vob.get_unchecked(1));
-    assert_eq!(rt; vob[2], true);
-    assert_eq!(rt; vob.get(3), None);
-    assert_eq!(rt; vob.iter().len(), 3);
-    assert_eq!(rt; vob.iter().next_back(), Some(true));
-    assert_eq!(rt; vob.iter_storage().next(), Some(6));
-    assert_eq!(rt; vob.blocks().len(), 1);
-    check_blocks(&rt, &vob, 3, &[6]);
+    check_writes(&rt, &mut vob);
+    check_reads(&rt, &vob);
     vob.truncate(2);
-    assert_eq!(rt; vob.pop(), Some(true));
+    same(&rt, "the last bit", vob.pop(), Some(true));
     check_blocks(&rt, &vob, 1, &[0]);
-    println!(rt; "answered")?;
-    Ok(())
+    tell(&rt, true);
+}
+
+/// `or`, `xor` and `and` of `101` and `110`, in place.
+fn check_combined(rt: &impl Abort, vob: &mut Vob<u8>, other: &Vob<u8>) {
+    assert!(rt; vob.len() == other.len());
+    same(rt, "or", vob.or(other), true);
+    check_blocks(rt, vob, 3, &[7]);
+    assert!(rt; vob.len() == other.len());
+    same(rt, "xor", vob.xor(other), true);
+    check_blocks(rt, vob, 3, &[4]);
+    assert!(rt; vob.len() == other.len());
+    same(rt, "and", vob.and(other), true);
+    check_blocks(rt, vob, 3, &[0]);
 }
 
 #[test]
-fn bits_are_combined_in_place(rt: HostRuntime) -> Result<(), Fail> {
+fn bits_are_combined_in_place(rt: HostRuntime) {
+    request(&rt, FIRST);
     let Ok(mut vob) = vob_of(rt.alloc(), "101") else {
-        return Ok(());
+        return;
     };
     let Ok(other) = vob_of(rt.alloc(), "110") else {
-        return Ok(());
+        return;
     };
-    assert_eq!(rt; vob.len(), other.len());
-    assert!(rt; vob.or(&other));
-    check_blocks(&rt, &vob, 3, &[7]);
-    assert_eq!(rt; vob.len(), other.len());
-    assert!(rt; vob.xor(&other));
-    check_blocks(&rt, &vob, 3, &[4]);
-    assert_eq!(rt; vob.len(), other.len());
-    assert!(rt; vob.and(&other));
-    check_blocks(&rt, &vob, 3, &[0]);
-    println!(rt; "answered")?;
+    check_combined(&rt, &mut vob, &other);
+    tell(&rt, true);
+}
+
+/// Appends the blocks of another Vob, for which there is room.
+fn append(vob: &mut Vob<u8>, other: &Vob<u8>) -> Result<(), vob::VobError> {
+    vob.reserve(other.len())?;
+    vob.append_blocks(&mut other.blocks(), other.len());
     Ok(())
 }
 
+/// Takes all bits of `101`, and puts `110` behind them.
+fn check_moved(rt: &impl Abort, vob: &mut Vob<u8>, other: &Vob<u8>) {
+    let none = vob.split_off(3).expect(rt, "no bits");
+    check_blocks(rt, &none, 0, &[]);
+    let mut all = vob.split_off(0).expect(rt, "all bits");
+    check_blocks(rt, vob, 0, &[]);
+    check_blocks(rt, &all, 3, &[5]);
+    append(&mut all, other).expect(rt, "there is room");
+    check_blocks(rt, &all, 6, &[29]);
+}
+
 #[test]
-fn bits_move_in_the_room_that_there_is(rt: HostRuntime) -> Result<(), Fail> {
+fn bits_move_in_the_room_that_there_is(rt: HostRuntime) {
+    request(&rt, FIRST);
     let Ok(mut vob) = vob_of(rt.alloc(), "101") else {
-        return Ok(());
+        return;
     };
     let Ok(other) = vob_of(rt.alloc(), "110") else {
-        return Ok(());
+        return;
     };
-    assert_eq!(rt; vob.split_off(3)?.len(), 0);
-    let mut all = vob.split_off(0)?;
-    check_blocks(&rt, &vob, 0, &[]);
-    check_blocks(&rt, &all, 3, &[5]);
-    all.reserve(other.len())?;
-    all.append_blocks(&mut other.blocks(), other.len());
-    check_blocks(&rt, &all, 6, &[29]);
-    println!(rt; "answered")?;
-    Ok(())
+    check_moved(&rt, &mut vob, &other);
+    tell(&rt, true);
+}
+
+/// Adds no bits, and two within the capacity.
+fn grow(vob: &mut Vob<u8>) -> Result<(), vob::VobError> {
+    vob.extend_from_slice(&[])?;
+    vob.extend(None)?;
+    vob.resize(5, true)
 }
 
 #[test]
-fn all_bits_change_in_place(rt: HostRuntime) -> Result<(), Fail> {
+fn all_bits_change_in_place(rt: HostRuntime) {
+    request(&rt, FIRST);
     let Ok(mut vob) = vob_of(rt.alloc(), "101") else {
-        return Ok(());
+        return;
     };
     vob.negate();
     check_blocks(&rt, &vob, 3, &[2]);
     vob.set_all(true);
     check_blocks(&rt, &vob, 3, &[7]);
-    vob.extend_from_slice(&[])?;
-    vob.extend(None)?;
-    vob.resize(5, true)?;
+    same(&rt, "growth within the room", grow(&mut vob), Ok(()));
     check_blocks(&rt, &vob, 5, &[31]);
     vob.clear();
     check_blocks(&rt, &vob, 0, &[]);
-    println!(rt; "answered")?;
-    Ok(())
+    tell(&rt, true);
+}
+
+/// `101` or `110`, and then and `110`, which is all of it.
+fn check_operators(rt: &impl Abort, vob: Vob<u8>, other: &Vob<u8>) {
+    let mut vob = vob;
+    same(rt, "unequal", vob != *other, true);
+    assert!(rt; vob.len() == other.len());
+    vob |= other;
+    check_blocks(rt, &vob, 3, &[7]);
+    assert!(rt; vob.len() == other.len());
+    let both = vob & other;
+    same(rt, "equal", both == *other, true);
+    check_blocks(rt, &both, 3, &[3]);
 }
 
 #[test]
-fn operators_change_their_left_side(rt: HostRuntime) -> Result<(), Fail> {
-    let Ok(mut vob) = vob_of(rt.alloc(), "101") else {
-        return Ok(());
+fn operators_change_their_left_side(rt: HostRuntime) {
+    request(&rt, FIRST);
+    let Ok(vob) = vob_of(rt.alloc(), "101") else {
+        return;
     };
     let Ok(other) = vob_of(rt.alloc(), "110") else {
-        return Ok(());
+        return;
     };
-    assert!(rt; vob != other);
-    assert_eq!(rt; vob.len(), other.len());
-    vob |= &other;
-    check_blocks(&rt, &vob, 3, &[7]);
-    assert_eq!(rt; vob.len(), other.len());
-    let both = vob & &other;
-    assert!(rt; both == other);
-    check_blocks(&rt, &both, 3, &[3]);
-    println!(rt; "answered")?;
-    Ok(())
+    check_operators(&rt, vob, &other);
+    tell(&rt, true);
 }
 
-#[test]
-fn indices_are_walked_in_place(rt: HostRuntime) -> Result<(), Fail> {
-    let Ok(vob) = vob_of(rt.alloc(), "101") else {
-        return Ok(());
-    };
+/// No pulls at a walk, into no room.
+fn deal_none<W: IndexWalk>(alloc: Global, walk: &mut W) -> Result<usize, AllocError> {
+    let mut answers = Vec::new(alloc);
+    deal(walk, &[], &mut answers)?;
+    Ok(answers.len())
+}
+
+/// Both walks over the indices of `101`.
+fn check_walks(rt: &impl Abort, alloc: Global, vob: &Vob<u8>) {
     let mut set = vob.iter_set_bits(..);
-    assert_eq!(rt; set.next(), Some(0));
-    assert_eq!(rt; set.pull(End::Back), Some(2));
-    assert_eq!(rt; set.next_back(), None);
+    same(rt, "an index", set.next(), Some(0));
+    same(rt, "an index", set.pull(End::Back), Some(2));
+    same(rt, "the end", set.next_back(), None);
     let mut unset = vob.iter_unset_bits(..);
-    let mut answers = Vec::new(rt.alloc());
-    deal(&mut unset, &[], &mut answers)?;
-    assert_eq!(rt; answers.len(), 0);
-    assert_eq!(rt; unset.next_back(), Some(1));
-    assert_eq!(rt; unset.pull(End::Front), None);
+    same(rt, "no pulls", deal_none(alloc, &mut unset), Ok(0));
+    same(rt, "an index", unset.next_back(), Some(1));
+    same(rt, "the end", unset.pull(End::Front), None);
+}
+
+/// Walks over the indices of a block.
+fn check_over(rt: &impl Abort) {
     let stored = [5u8];
     let mut set = IterSetBits::over(Blocks::new(&stored), 3, 1..);
-    assert_eq!(rt; set.next(), Some(2));
+    same(rt, "an index", set.next(), Some(2));
     let mut unset = IterUnsetBits::over(Blocks::new(&stored), 3, ..2);
-    assert_eq!(rt; unset.next(), Some(1));
-    println!(rt; "answered")?;
-    Ok(())
+    same(rt, "an index", unset.next(), Some(1));
 }
 
 #[test]
-fn raw_storage_is_taken_in_place(rt: HostRuntime) -> Result<(), Fail> {
-    let Ok(vob) = vob_of(rt.alloc(), "111") else {
-        return Ok(());
+fn indices_are_walked_in_place(rt: HostRuntime) {
+    request(&rt, FIRST);
+    let Ok(vob) = vob_of(rt.alloc(), "101") else {
+        return;
     };
-    let mut raw = vob.into_raw();
+    check_walks(&rt, rt.alloc(), &vob);
+    check_over(&rt);
+    tell(&rt, true);
+}
+
+/// Raw storage whose used bits are past the length, masked and taken.
+fn taken(rt: &impl Abort, raw: RawVob<u8>) -> Vob<u8> {
+    let mut raw = raw;
     raw.set_len(2);
-    assert!(rt; raw.fits());
-    let handed_back: Result<Vob<u8>, RawVob<u8>> = raw.into_vob();
-    let Err(mut raw) = handed_back else {
-        return Err("a used bit is past the length")?;
-    };
+    let mut raw = raw
+        .into_vob()
+        .err()
+        .expect(rt, "a used bit is past the length");
     assert!(rt; raw.fits());
     raw.mask_last_block();
-    assert_eq!(rt; raw.len(), 2);
-    let Ok(vob) = raw.into_vob() else {
-        return Err("a masked block has no bit past the length")?;
+    same(rt, "the length", raw.len(), 2);
+    raw.into_vob().ok().expect(rt, "no bit is past the length")
+}
+
+/// Counts of all walks over `11`.
+fn check_counts(rt: &impl Abort, vob: &Vob<u8>) {
+    same(rt, "set bits", vob.iter_set_bits(..).count(), 2);
+    same(rt, "unset bits", vob.iter_unset_bits(..).count(), 0);
+    same(rt, "the bits", vob.iter().count(), 2);
+    same(rt, "the blocks", vob.iter_storage().count(), 1);
+}
+
+/// A count in a window of a block.
+fn check_window(rt: &impl Abort) {
+    let mut blocks = Blocks::new(&[3u8]);
+    same(rt, "the true places", count_ones_in(&mut blocks, 0, 2), 2);
+}
+
+#[test]
+fn raw_storage_is_taken_in_place(rt: HostRuntime) {
+    request(&rt, FIRST);
+    let Ok(vob) = vob_of(rt.alloc(), "111") else {
+        return;
     };
+    let vob = taken(&rt, vob.into_raw());
     check_blocks(&rt, &vob, 2, &[3]);
-    assert_eq!(rt; vob.iter_set_bits(..).count(), 2);
-    assert_eq!(rt; vob.iter_unset_bits(..).count(), 0);
-    assert_eq!(rt; vob.iter().count(), 2);
-    assert_eq!(rt; vob.iter_storage().count(), 1);
-    let mut blocks = vob.blocks();
-    assert_eq!(rt; blocks.len(), 1);
-    assert_eq!(rt; count_ones_in(&mut blocks, 0, 2), 2);
-    println!(rt; "answered")?;
-    Ok(())
+    check_counts(&rt, &vob);
+    check_window(&rt);
+    tell(&rt, true);
 }

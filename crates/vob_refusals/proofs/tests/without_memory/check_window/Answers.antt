@@ -1,7 +1,7 @@
 -- Two bits need the one block that there is.
 use Rattle.std.proofs.Common.{rules}
 use Rattle.vob_block.specs.Packing.{need}
-use Rattle.vob_refusals.proofs.tests.without_memory.raw_storage_is_taken_in_place.Goals as goal
+use Rattle.vob_refusals.proofs.tests.without_memory.check_window.Goals as goal
 
 pub count_ones_in-requires-clause-enough : goal.count_ones_in-requires-clause-enough
 unfolding need

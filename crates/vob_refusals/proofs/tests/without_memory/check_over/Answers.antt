@@ -1,7 +1,7 @@
 -- Three bits need one block of eight.
 use Rattle.std.proofs.Common.{length, ap}
 use Rattle.vob_block.specs.Packing.{need}
-use Rattle.vob_refusals.proofs.tests.without_memory.indices_are_walked_in_place.Goals as goal
+use Rattle.vob_refusals.proofs.tests.without_memory.check_over.Goals as goal
 
 pub over-set-requires : goal.over-set-requires
 unfolding need
