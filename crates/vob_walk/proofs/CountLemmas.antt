@@ -1,6 +1,8 @@
 -- How many bits are true in a window, over its blocks.
+use Rattle.std.specs.Cmp.{both_ways}
 use Rattle.std.specs.declared.ops.Bound.TheVariants.{Included, Excluded}
 use Rattle.std.proofs.Common.{◌≡◌, ℕ, zero, suc, ◌+◌, ◌-◌, ◌*◌, ◌/◌, ◌^◌, ◌<◌, ◌≤◌, min, max, Bool, true, false, not, ◌&&◌, nat_le, nat_lt, cond, List, ◌∷◌, ◌++◌, length, get_or, refl, sym, ap, ◌∙◌, arith, inl, inr, length-append, add-mul, mod-lt, div-add-mod', div-mul-le_self}
+use Rattle.std.proofs.Math.Bool.{and_self}
 use Rattle.std.proofs.lemmas.Bool.{cases_lt, and_from, and_parts, lt-ltb, le-leb, ltb-true, leb-true}
 use Rattle.std.specs.List.{range_with_len}
 use Rattle.std.proofs.lemmas.List.Sums.{length-filter}
@@ -19,11 +21,6 @@ use Rattle.vob_walk.proofs.WindowLemmas.{IsWindow, IsWindow-cut}
 use Rattle.vob_walk.proofs.CursorLemmas.{blocks_met-blocks}
 
 -- ---- tests that hold of the same numbers
-
-same_tests : (a b : Bool) → (a ≡ true → b ≡ true) → (b ≡ true → a ≡ true) → a ≡ b
-same_tests true b there back = sym (there refl)
-same_tests false true there back = back refl
-same_tests false false there back = refl
 
 -- whether a test holds of a number of a stretch
 abbrev held_within : (ℕ → Bool) → ℕ → ℕ → ℕ → Bool
@@ -50,12 +47,12 @@ pub indices_where-alike : (p q : ℕ → Bool) (a n b m : ℕ)
 indices_where-alike p q a n b m there back =
     let r = held_within p a n in
     indices_where-same p r a n (λ i from below.
-    same_tests (p i) (r i) (held_from p a n i from below) (λ h. (held_parts p a n i h).2))
+    both_ways (p i) (r i) (held_from p a n i from below) (λ h. (held_parts p a n i h).2))
     ∙ indices_where-both r a n b m
     (λ i h. let parts = held_parts p a n i h in (parts.0, parts.1))
     (λ i h. let parts = held_parts p a n i h in let other =
     there i parts.0 parts.1 parts.2 in (other.0, other.1))
-    ∙ indices_where-same r q b m (λ i from below. same_tests (r i) (q i)
+    ∙ indices_where-same r q b m (λ i from below. both_ways (r i) (q i)
     (λ h. let parts = held_parts p a n i h in (there i parts.0 parts.1 parts.2).2)
     (λ h. let parts = back i from below h in held_from p a n i parts.0 parts.1 parts.2))
 
@@ -231,11 +228,7 @@ cut-first start k w v product later low high fits width is more cut =
 IsWindow-self : (start stop : ℕ) → start ≤ stop
     → IsWindow (Included start) (Excluded stop) stop start stop
 IsWindow-self start stop ordered = IsWindow-cut (Included start) (Excluded stop) stop start stop
-    (omega arith) ordered (λ i. twice (nat_lt i stop)) (λ i below. refl)
-  where
-    twice : (b : Bool) → b ≡ (b && b)
-    twice true = refl
-    twice false = refl
+    (omega arith) ordered (λ i. sym (and_self (nat_lt i stop))) (λ i below. refl)
 
 module _ (w : ℕ) (wide : 0 < w) (xs : List ℕ) {start stop first end : ℕ}
     (spans : AreBlocksOf w start stop first end) (ordered : start ≤ stop) where
@@ -273,35 +266,36 @@ module _ (w : ℕ) (wide : 0 < w) (xs : List ℕ) {start stop first end : ℕ}
       | inr past ↦ absurd (omega (arith, spans.none (omega arith)))
     ]
 
-    -- one block alone, masked at both ends
-    pub ones-alone : (last x y : ℕ) → last + 1 ≡ end → first ≡ last → x ≡ get_or xs first 0
-        → HasPlaces w y (λ j. nat_le start (first * w + j) && nat_lt (first * w + j)
-        stop && has_value true (place j x))
-        → true_places w y ≡ ones_between w xs start stop
-    ones-alone last x y is alone read places =
+    -- the part of the window in its first block, and in its last
+    abbrev part : ℕ → ℕ
+    part k = ones_between w xs (max start (k * w)) (min stop (k * w + w))
+
+    part-is : (k low high : ℕ) → low ≡ max start (k * w) → high ≡ min stop (k * w + w)
+        → part k ≡ ones_between w xs low high
+    part-is k low high first last =
+        ap (λ n. ones_between w xs n (min stop (k * w + w))) (sym first)
+        ∙ ap (ones_between w xs low) (sym last)
+
+    -- one block alone holds the whole window
+    pub ones-alone : (last : ℕ) → last + 1 ≡ end → first ≡ last
+        → part first ≡ ones_between w xs start stop
+    ones-alone last is alone =
         let whole : end * w ≡ first * w + w =
         ap (λ k. k * w) (omega arith) ∙ product-more w first in
-        ones-masked w xs start stop first start stop x y read places (omega (arith, ends.from))
-        (omega (arith, ends.enough, whole)) ordered
+        part-is first start stop (omega (arith, ends.from)) (omega (arith, ends.enough, whole))
 
-    -- two blocks or more, masked at one end each, and whole blocks between them
-    pub ones-parts : (last x y u v : ℕ) → last + 1 ≡ end → first < last → x ≡ get_or xs first 0
-        → u ≡ get_or xs last 0
-        → HasPlaces w y (λ j. nat_le start (first * w + j) && nat_lt (first * w + j)
-        stop && has_value true (place j x))
-        → HasPlaces w v (λ j. nat_le start (last * w + j) && nat_lt (last * w + j)
-        stop && has_value true (place j u))
-        → true_places w y + ones_between w xs ((first + 1) * w) (last * w) + true_places w v
+    -- two blocks or more have a part in them at each end, and whole blocks between them
+    pub ones-parts : (last : ℕ) → last + 1 ≡ end → first < last
+        → part first + ones_between w xs ((first + 1) * w) (last * w) + part last
         ≡ ones_between w xs start stop
-    ones-parts last x y u v is more read read_last places places_last =
+    ones-parts last is more =
         let after = product-more w first in
         let whole : end * w ≡ last * w + w = ap (λ k. k * w) (sym is) ∙ product-more w last in
         let between = mul-le (first + 1) w last w (omega arith) (omega arith) in
         let short = spans.below last (omega arith) in
-        let head = ones-masked w xs start stop first start ((first + 1) * w) x y read places
-        (omega (arith, ends.from)) (omega arith) (omega (arith, ends.within)) in
-        let tail = ones-masked w xs start stop last (last * w) stop u v read_last places_last
-        (omega (arith, ends.within)) (omega (arith, ends.enough)) (omega arith) in
+        let head = part-is first start ((first + 1) * w) (omega (arith, ends.from)) (omega arith) in
+        let tail = part-is last (last * w) stop (omega (arith, ends.within))
+        (omega (arith, ends.enough, whole)) in
         let rest = ones-split w xs ((first + 1) * w) (last * w) stop between (omega arith) in
         let all = ones-split w xs start ((first + 1) * w) stop (omega (arith, ends.within))
         (omega arith) in

@@ -1,5 +1,6 @@
 -- Blocks that a scan reads one after another, from either end, over a plain width.
 use Rattle.std.proofs.Common.{◌≡◌, ℕ, ◌+◌, ◌-◌, ◌*◌, ◌^◌, ◌<◌, ◌≤◌, Bool, true, false, not, ◌&&◌, List, [], ◌++◌, append-nil, append_assoc, get_or, ltb, leb, refl, sym, ap, ◌∙◌, arith, add-mul, suc-mul, zero-mul, add-one, inl, inr}
+use Rattle.std.proofs.Math.Bool.{and-true}
 use Rattle.std.proofs.lemmas.Bool.{cases_lt, and_left, and_right, false≢true, le-leb, lt-leb}
 use Rattle.vob_block.specs.Places.{place, HasPlaces}
 use Rattle.vob_block.specs.Packing.{bit_at}
@@ -21,10 +22,6 @@ pub HasPlaces-other : (w x y : ℕ) (value : Bool) → value ≡ false
     → HasPlaces w y (λ j. not (place j x)) → HasPlaces w y (λ j. has_value value (place j x))
 HasPlaces-other w x y false is h = h
 HasPlaces-other w x y true is h = absurd (false≢true (sym is))
-
-and-true : (b : Bool) → (b && true) ≡ b
-and-true true = refl
-and-true false = refl
 
 -- by all places, moved up
 pub HasPlaces-from_part : (w a start n x y ones mask : ℕ) → n ≡ start - a → a ≤ start → ones

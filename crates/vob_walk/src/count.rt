@@ -1,5 +1,5 @@
 //! Counts of bits by whole blocks: only the first and the last block of a window are masked.
-ghost use Rattle.std.specs.Prelude.{◌≡◌, ◌+◌, ◌-◌, ◌*◌, ◌≤◌, length, map};
+ghost use Rattle.std.specs.Prelude.{◌≡◌, ◌+◌, ◌-◌, ◌*◌, ◌<◌, ◌≤◌, length, map, max, min};
 ghost use Rattle.std.specs.declared.ops.Bound.TheVariants.{Included, Excluded};
 ghost use Rattle.vob_block.specs.Packing.{need};
 ghost use Rattle.vob_walk.specs.Matches.{blocks_met};
@@ -24,18 +24,32 @@ pub fn count_ones_in<T: Block>(blocks: &mut Blocks<'_, T>, start: usize, stop: u
         return 0;
     }
     let last = end - 1;
+    let head = ones_in_block(blocks, first, start, stop);
+    if first == last {
+        return head;
+    }
+    let middle = ones_in_blocks(blocks, first + 1, last);
+    let tail = ones_in_block(blocks, last, start, stop);
+    head + middle + tail
+}
+
+/// How many places of block `k` are true from index `start` to below `stop`, some of which it holds.
+fn ones_in_block<T: Block>(blocks: &mut Blocks<'_, T>, k: usize, start: usize, stop: usize) -> usize
+    requires count { k < length blocks.old.items }
+    requires order { start ≤ stop }
+    requires begins { start ≤ k * T.BITS + T.BITS }
+    requires ends { k * T.BITS < stop }
+    ensures ones { result ≡ ones_between T.BITS (map T.number blocks.old.items)
+        (max start (k * T.BITS)) (min stop (k * T.BITS + T.BITS)) }
+    ensures reads { blocks.new.reads ≡ blocks.old.reads + 1 }
+    ensures items { blocks.new.items ≡ blocks.old.items }
+{
     let window = Window {
         value: true,
         start,
         stop,
     };
-    let head = masked(blocks.block(first), first, window).ones_in();
-    if first == last {
-        return head;
-    }
-    let middle = ones_in_blocks(blocks, first + 1, last);
-    let tail = masked(blocks.block(last), last, window).ones_in();
-    head + middle + tail
+    masked(blocks.block(k), k, window).ones_in()
 }
 
 /// How many places are true in the blocks from `from` to below `to`. Reads each of them once.
