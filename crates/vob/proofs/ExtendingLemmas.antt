@@ -1,11 +1,12 @@
 -- Why an `extend` is refused, by what its calls say.
-use Rattle.std.specs.Prelude.{Ok, Err, Result, ⊤, IsOk, is_ok}
-use Rattle.std.proofs.Common.{◌≡◌, ℕ, ◌+◌, ◌-◌, ◌^◌, ◌<◌, ◌≤◌, length, zero, suc, refl, sym, ap, ◌∙◌, arith}
+use Rattle.std.specs.Prelude.{Ok, Err, Result, ⊤, Option, Bool, IsOk, is_ok, OnOk, IfErr}
+use Rattle.std.proofs.Common.{◌≡◌, ℕ, ◌+◌, ◌-◌, ◌^◌, ◌<◌, ◌≤◌, ◌++◌, inr, length, zero, suc, refl, sym, ap, ◌∙◌, arith}
 use Rattle.std.proofs.lemmas.Bool.{false≢true}
+use Rattle.vob_block.specs.Packing.{need}
 use Rattle.vob.specs.declared.error.VobError.{VobError}
 use Rattle.vob.specs.declared.error.VobError.TheVariants.{TooLong, Memory}
 use Rattle.vob.specs.Vob.{BitVector, IsTooLong, NeedsMemory}
-use Rattle.vob.specs.Extending.{MayRefuse, RefusesMore}
+use Rattle.vob.specs.Extending.{AddsAll, IsExtended, MayRefuse, RefusesItem, RefusesMore}
 
 -- the three answers of a call for n bits more
 module _ (w : ℕ) (vob : BitVector) (n : ℕ) where
@@ -25,11 +26,26 @@ module _ (w : ℕ) (vob : BitVector) (n : ℕ) where
     memory = λ e. cc;
   }
 
+-- memory isn't wanted for no bits
+pub NeedsMemory-some : (w : ℕ) (vob : BitVector) (n : ℕ) → NeedsMemory w vob n → n ≡ 0 → ⊥
+NeedsMemory-some w vob n needs none =
+    let same : length vob.bits + n ≡ length vob.bits = omega (arith, none) in
+    omega (arith, needs.1, ap (λ k. need k w) same)
+
 -- what is refused was asked for some bits, where a call for none isn't refused
 some_asked : (n : ℕ) (result : Result ⊤ VobError) (r : VobError) → result ≡ Err r
     → (n ≡ 0 → IsOk result) → 0 < n
 some_asked zero result r e nothing = absurd (false≢true (sym (ap is_ok e) ∙ nothing refl))
 some_asked (suc n) result r e nothing = omega arith
+
+-- a push that is refused may be refused a bit more
+pub push_refused : (w : ℕ) (before now : BitVector) (added : ℕ) (result : Result ⊤ VobError)
+    (r : VobError) → result ≡ Err r → length now.bits ≡ length before.bits + added
+    → before.capacity ≤ now.capacity → RefusesMore w now 1 result → MayRefuse r before (added + 1)
+push_refused w before now added result TooLong e bits grown h =
+    omega (arith, h.too_long.0 e, bits)
+push_refused w before now added result Memory e bits grown h =
+    omega (arith, (h.memory e).0, bits, grown)
 
 module _ (before : BitVector) (hint : ℕ) (result : Result ⊤ VobError) where
   -- a reserve that is refused was asked for some bits, and may be refused them
@@ -38,14 +54,44 @@ module _ (before : BitVector) (hint : ℕ) (result : Result ⊤ VobError) where
   hint_refused w TooLong e nothing h = (some_asked hint result TooLong e nothing, h.too_long.0 e)
   hint_refused w Memory e nothing h = (some_asked hint result Memory e nothing, (h.memory e).0)
 
-  -- and where an item is, those before it are no fewer than the hint
-  pub item_refused : (w : ℕ) (now : BitVector) (added : ℕ) (r : VobError) → result ≡ Err r
-      → length now.bits ≡ length before.bits + added → before.capacity ≤ now.capacity
-      → length before.bits + hint ≤ now.capacity → length before.bits + hint ≤ 2 ^ 64 - 1
-      → RefusesMore w now 1 result
-      → (hint ≤ added) × MayRefuse r before (added + 1)
-  item_refused w now added TooLong e bits grown hinted fits refused =
-      let h = refused.too_long.0 e in (omega (arith, h, bits, fits), omega (arith, h, bits))
-  item_refused w now added Memory e bits grown hinted fits refused =
-      let h = (refused.memory e).0 in
-      (omega (arith, h, bits, hinted), omega (arith, h, bits, grown))
+module _ {S : Type 0} (steps : S → Option Bool → S → Type 0) (it : S) (hint : ℕ)
+    (before reserved after : BitVector) (bits : reserved.bits ≡ before.bits)
+    (grown : before.capacity ≤ reserved.capacity)
+    (room : length before.bits + hint ≤ reserved.capacity)
+    (fits : length before.bits + hint ≤ 2 ^ 64 - 1) where
+  -- where an item is refused behind a reserve, those before it are no fewer than the hint
+  after_reserve : (r : VobError) → RefusesItem steps it reserved after 0 r
+      → RefusesItem steps it before after hint r
+  after_reserve TooLong h = (
+    h.0,
+    h.1,
+    h.2,
+    h.3,
+    omega (arith, h.5, ap length bits, fits),
+    omega (arith, h.5, ap length bits),
+    h.6 ∙ ap (λ b. b ++ h.0) bits,
+  )
+  after_reserve Memory h = (
+    h.0,
+    h.1,
+    h.2,
+    h.3,
+    omega (arith, h.5, ap length bits, room),
+    omega (arith, h.5, ap length bits, grown),
+    h.6 ∙ ap (λ b. b ++ h.0) bits,
+  )
+
+  -- what pushes behind a reserve leave
+  pub extended : (result : Result ⊤ VobError) → OnOk result (AddsAll steps it reserved after)
+      → IfErr result (RefusesItem steps it reserved after 0)
+      → IsExtended steps it hint before after result
+  extended (Ok u) ok err = record {
+    ok = (ok.0, ok.1, ok.2 ∙ ap (λ b. b ++ ok.0) bits);
+    err = tt;
+    too_long = λ far. absurd (omega (arith, far, fits));
+  }
+  extended (Err r) ok err = record {
+    ok = tt;
+    err = inr (after_reserve r err);
+    too_long = λ far. absurd (omega (arith, far, fits));
+  }

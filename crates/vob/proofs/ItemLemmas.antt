@@ -1,25 +1,20 @@
 -- Bits that are packed in a block at hand, behind the blocks that are full, at a plain width.
-use Rattle.std.specs.Prelude.{All}
+use Rattle.std.specs.Prelude.{Some}
 use Rattle.std.proofs.Common.{◌≡◌, ◌≢◌, ℕ, ◌+◌, ◌*◌, ◌/◌, ◌%◌, ◌^◌, ◌<◌, Bool, false, ◌&&◌, ◌||◌, List, [], ◌∷◌, ◌++◌, length, eqb, Option, refl, sym, ap, ◌∙◌, subst, arith, inl, inr, mod-lt, div-add-mod', add-one, suc-mul}
 use Rattle.std.proofs.lemmas.Bool.{cases_eq}
 use Rattle.std.proofs.lemmas.List.{get_or_past, length_push}
 use Rattle.std.proofs.lemmas.List.Elements.{All-push}
 use Rattle.std.proofs.lemmas.Nat.{div-mul-add, div_below, pow_pos}
 use Rattle.std.specs.Iterator.{Yields}
+use Rattle.std.proofs.iter.Next.{Yields-more}
 use Rattle.vob_block.specs.Places.{place}
 use Rattle.vob_block.specs.Packing.{item, bit_at, Stores}
 use Rattle.vob_block.proofs.NeedLemmas.{need_at_full, need_at_open}
 use Rattle.vob_block.proofs.PackingLemmas.{bit_at-past, bit_at-push_same, bit_at-push_other, stores_from_items}
 use Rattle.vob_block.proofs.PlaceLemmas.{place-zero}
 use Rattle.std.proofs.Math.Bool.{and-false, or-false}
+use Rattle.vob.specs.Packs.{Packs}
 use Rattle.vob_store.proofs.PushLemmas.{item-push, eqb-places, eqb-blocks}
-
--- the full blocks and the one at hand behind them store the list, and false everywhere else
-pub record Packs (w : ℕ) (bits : List Bool) (xs : List ℕ) (x : ℕ) : Type 0 where
-  pub count : length xs ≡ length bits / w
-  pub within : All (λ y. y < 2 ^ w) xs
-  pub small : x < 2 ^ w
-  pub each : (i : ℕ) → bit_at (xs ++ x ∷ []) w i ≡ item bits i
 
 zero-div : (w : ℕ) → 0 < w → 0 / w ≡ 0
 zero-div w wide = let none = div_below 0 w 1 wide (omega arith) in omega (arith, none)
@@ -36,6 +31,13 @@ bit_at-push_empty xs w x i none = elim (cases_eq (i / w) (length xs)) [
 pub yields_from : {S A : Type 0} (steps : S → Option A → S → Type 0) (s t : S) (xs : List A)
     (u : S) → s ≡ t → Yields steps s xs u → Yields steps t xs u
 yields_from {S} steps s t xs u e h = subst (λ (r : S). Yields steps r xs u) e h
+
+-- and one more
+pub yields_more : {S A : Type 0} (steps : S → Option A → S → Type 0) (s t : S) (xs : List A)
+    (u : S) (x : A) (v : S) → s ≡ t → Yields steps s xs u → steps u (Some x) v
+    → Yields steps t (xs ++ x ∷ []) v
+yields_more steps s t xs u x v e h next =
+    yields_from steps s t (xs ++ x ∷ []) v e (Yields-more steps s xs u x v h next)
 
 module _ (w : ℕ) (wide : 0 < w) where
   -- at the start nothing is packed

@@ -38,24 +38,27 @@ pub record RefusesItems {X S A : Type 0} (makes : X → S → Type 0)
       → (it : S) × (hint : ℕ) × makes source it × IsWithinCount hint (remaining it)
       × ((0 < hint) ⊎ GivesMoreThan steps it 0)
 
-module _ {S : Type 0} (steps : S → Option Bool → S → Type 0) (it : S) (hint : ℕ)
-    (before after : BitVector) where
+module _ {S : Type 0} (steps : S → Option Bool → S → Type 0) (it : S) (before after : BitVector) where
   -- all items are added
   abbrev pub AddsAll : Type 0
   AddsAll = (items : List Bool) × Drains steps it items × (after.bits ≡ before.bits ++ items)
 
-  -- the hint is refused, and nothing is added
-  abbrev pub RefusesHint : VobError → Type 0
-  RefusesHint refusal = (0 < hint) × MayRefuse refusal before hint × (after.bits ≡ before.bits)
+  -- a hint is refused, and nothing is added
+  abbrev pub RefusesHint : ℕ → VobError → Type 0
+  RefusesHint hint refusal =
+      (0 < hint) × MayRefuse refusal before hint × (after.bits ≡ before.bits)
 
-  -- an item is refused, and those before it are added, no fewer than the hint
-  abbrev pub RefusesItem : VobError → Type 0
-  RefusesItem refusal =
+  -- an item is refused, and those before it are added, no fewer than a hint
+  abbrev pub RefusesItem : ℕ → VobError → Type 0
+  RefusesItem hint refusal =
       (added : List Bool) × (bit : Bool) × (rest : S) × YieldsThen steps it added (Some bit) rest
       × (hint ≤ length added)
       × MayRefuse refusal before (length added + 1) × (after.bits ≡ before.bits ++ added)
 
+module _ {S : Type 0} (steps : S → Option Bool → S → Type 0) (it : S) (hint : ℕ)
+    (before after : BitVector) where
   pub record IsExtended (result : Result ⊤ VobError) : Type 0 where
-    pub ok : OnOk result AddsAll
-    pub err : IfErr result (λ refusal. RefusesHint refusal ⊎ RefusesItem refusal)
+    pub ok : OnOk result (AddsAll steps it before after)
+    pub err : IfErr result (λ refusal. RefusesHint steps it before after hint refusal
+        ⊎ RefusesItem steps it before after hint refusal)
     pub too_long : IsTooLong before hint → result ≡ Err TooLong

@@ -2,6 +2,7 @@ pub mod Bits
 pub mod Extending
 pub mod Fed
 pub mod Laws
+pub mod Packs
 pub mod Raw
 pub mod RawLends
 pub mod Refusal

@@ -1,10 +1,10 @@
 //! Calls on many bits at once: growing, joining and cutting.
-ghost use Rattle.std.specs.Prelude.{◌≡◌, ◌↔◌, ℕ, ◌+◌, ◌-◌, ◌<◌, ◌≤◌, ◌++◌, map, length, take, drop, replicate, IsOk, IfOk, OnOk, OnErr, Err};
+ghost use Rattle.std.specs.Prelude.{◌≡◌, ◌↔◌, ℕ, ◌+◌, ◌-◌, ◌<◌, ◌≤◌, ◌++◌, map, length, take, drop, replicate, IsOk, IfOk, IfErr, OnOk, OnErr, Err};
 ghost use Rattle.std.specs.Iterator.{IsFinite};
 ghost use Rattle.std.specs.Iterator.SizeHint.{IsWithinCount};
 ghost use Rattle.vob_block.specs.Packing.{need, unpacking, IsCanonical};
 ghost use Rattle.vob_block.specs.Reading.{AreReadOnce};
-ghost use Rattle.vob.specs.Extending.{IsExtended, RefusesMore};
+ghost use Rattle.vob.specs.Extending.{AddsAll, IsExtended, RefusesItem, RefusesMore};
 ghost use Rattle.vob.specs.Vob.{HasRoomFor};
 
 use crate::error::VobError;
@@ -76,6 +76,16 @@ impl<T: Block> Vob<T> {
         let items = iter.into_iter();
         let (hint, _) = items.size_hint();
         self.reserve(hint)?;
+        self.push_all(items)
+    }
+
+    /// Pushes the items one after another. Where one is refused, those before it stay.
+    fn push_all<I: Iterator<Item = bool>>(&mut self, items: I) -> Result<(), VobError>
+        requires ends { I.can_next items × IsFinite (I.remaining items) }
+        ensures ok { OnOk result (AddsAll I.next_gives items self.old self.new) }
+        ensures err { IfErr result (RefusesItem I.next_gives items self.old self.new 0) }
+        ensures capacity { self.old.capacity ≤ self.new.capacity }
+    {
         for bit in items {
             self.push(bit)?;
         }

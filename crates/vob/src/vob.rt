@@ -8,6 +8,7 @@ ghost use Rattle.std.specs.Iterator.SizeHint.{IsWithinCount};
 ghost use Rattle.vob_block.specs.Pointwise.{differ};
 ghost use Rattle.vob.specs.Bits.{IsWritten};
 ghost use Rattle.vob.specs.Extending.{GivesAll, RefusesItems, RefusesMore};
+ghost use Rattle.vob.specs.Packs.{Packs};
 ghost use Rattle.vob.specs.Refusal.{MayRefuseItems};
 ghost use Rattle.vob.specs.Vob.{HasRoomFor};
 
@@ -371,6 +372,42 @@ fn push_block<T: Block>(blocks: &mut Vec<T>, block: T) -> Result<(), AllocError>
     Ok(())
 }
 
+/// Puts one bit more behind `len` packed ones, into the block at hand, which goes behind the others
+/// where it is full.
+fn pack_bit<T: Block>(
+    blocks: &mut Vec<T>,
+    block: &mut T,
+    len: usize,
+    bit: bool,
+) -> Result<(), AllocError>
+    ensures { (xs : List Bool) → len ≡ length xs
+        → Packs T.BITS xs (map T.number blocks.old.items) (T.number block.old)
+        → OnOk result (Packs T.BITS (xs ++ bit ∷ []) (map T.number blocks.new.items) (T.number block.new)) }
+{
+    let width = T::BITS;
+    let place = len % width;
+    let mark: T = first_place(bit);
+    *block = block.bor(mark.up(place));
+    if place + 1 == width {
+        push_block(blocks, *block)?;
+        *block = T::ZERO;
+    }
+    Ok(())
+}
+
+/// Puts the block at hand behind the others where it holds one of the `len` packed bits.
+fn push_partial<T: Block>(blocks: &mut Vec<T>, block: T, len: usize) -> Result<(), AllocError>
+    ensures err { OnErr result (0 < len) }
+    ensures ok { (xs : List Bool) → len ≡ length xs
+        → Packs T.BITS xs (map T.number blocks.old.items) (T.number block)
+        → OnOk result (Stores T.BITS len (map T.number blocks.new.items) xs) }
+{
+    if len % T::BITS != 0 {
+        push_block(blocks, block)?;
+    }
+    Ok(())
+}
+
 /// Puts the items into blocks, of which there are none yet, and answers how many items came. Each
 /// block is packed first and then pushed.
 fn pack_items<T: Block, I: Iterator<Item = bool>>(
@@ -384,24 +421,15 @@ fn pack_items<T: Block, I: Iterator<Item = bool>>(
     ensures err { IfErr result (λ refusal. (xs : List Bool) × (rest : I)
         × Yields I.next_gives items xs rest × MayRefuseItems refusal (length xs)) }
 {
-    let width = T::BITS;
     let mut block = T::ZERO;
     let mut len: usize = 0;
     for bit in items {
         if len == usize::MAX {
             return Err(VobError::TooLong);
         }
-        let place = len % width;
-        let mark: T = first_place(bit);
-        block = block.bor(mark.up(place));
-        if place + 1 == width {
-            push_block(blocks, block)?;
-            block = T::ZERO;
-        }
+        pack_bit(blocks, &mut block, len, bit)?;
         len += 1;
     }
-    if len % width != 0 {
-        push_block(blocks, block)?;
-    }
+    push_partial(blocks, block, len)?;
     Ok(len)
 }

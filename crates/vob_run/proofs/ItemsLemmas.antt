@@ -32,8 +32,8 @@ module _ {S : Type 0} (steps : S → Option Bool → S → Type 0) (it : S) (ite
       (room : length before.bits + length items ≤ before.capacity)
       (fits : length before.bits + length items ≤ 2 ^ 64 - 1) where
     not_refused : (refusal : VobError)
-        → RefusesHint steps it hint before after refusal
-        ⊎ RefusesItem steps it hint before after refusal
+        → RefusesHint steps it before after hint refusal
+        ⊎ RefusesItem steps it before after hint refusal
         → ⊥
     not_refused TooLong (inl h) = omega (arith, h.1, lower, fits)
     not_refused Memory (inl h) = omega (arith, h.1, lower, room)

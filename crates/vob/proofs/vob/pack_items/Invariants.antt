@@ -1,5 +1,5 @@
 use Rattle.std.proofs.Common.{◌≡◌, length, map}
-use Rattle.vob.proofs.ItemLemmas.{Packs}
+use Rattle.vob.specs.Packs.{Packs}
 use Rattle.vob.proofs.vob.pack_items.Given as goal
 
 abbrev pub invariant-loop-bit : goal.invariant-loop-bit
