@@ -266,6 +266,24 @@ fn closure<B: Bits>(input: &Input, rounds: usize) -> u64 {
     checksum_all(&last, times)
 }
 
+/// The rows that two columns keep and a third doesn't, as `vob_users::rows` selects and counts them.
+fn filter<B: Bits>(input: &Input, rounds: usize) -> u64 {
+    let mut times = 0;
+    let mut first = B::from_bytes(&input.bytes);
+    let second = B::from_bytes(&input.others);
+    let mut without = second.copied();
+    without.xor(&first);
+    for round in 0..rounds {
+        touch(&mut first, round);
+        let mut rows = without.copied();
+        rows.negate();
+        rows.and(&first);
+        rows.and(&second);
+        times += rows.counted();
+    }
+    checksum(&first, times)
+}
+
 /// Adds row `from` to row `into`, as `vob_users::matrix` does.
 fn or_row<B: Bits>(rows: &mut [B], into: usize, from: usize) {
     if into < from {
@@ -379,6 +397,7 @@ pub fn run<B: Bits>(call: Call, input: &Input, rounds: usize) -> u64 {
         Call::ExtendShifted => joined::<B>(input, 64 + 13, rounds),
         Call::Closure => closure::<B>(input, rounds),
         Call::Matrix => matrix::<B>(input, rounds),
+        Call::Filter => filter::<B>(input, rounds),
         Call::Live => live::<B>(input, rounds),
         Call::SetBits => walked(input, rounds, B::set_bits),
         Call::SetBitsBack => walked(input, rounds, B::set_bits_back),

@@ -68,6 +68,7 @@ pub fn conthiral(call: Call, input: &Input, rounds: usize) -> u64 {
         Call::Equal => pair(3),
         Call::ExtendAligned => pair(4),
         Call::ExtendShifted => pair(5),
+        Call::Filter => pair(6),
         Call::SetBits => walk(0),
         Call::SetBitsBack => walk(1),
         Call::UnsetBits => walk(2),

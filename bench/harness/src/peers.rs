@@ -129,6 +129,7 @@ impl Bits for FixedBitSet {
             Call::SetAll => Offer::Other("insert_range or clear"),
             Call::Negate => Offer::Other("toggle_range"),
             Call::Live => Offer::Other("is_subset, then union_with"),
+            Call::Filter => NO_FLAG,
             Call::Get
             | Call::Matrix
             | Call::Clone
@@ -230,7 +231,8 @@ impl Bits for BitVec {
             | Call::SetBitsBack
             | Call::UnsetBits
             | Call::Count
-            | Call::FirstFree => Offer::None,
+            | Call::FirstFree
+            | Call::Filter => Offer::None,
             _ => Offer::Same,
         }
     }

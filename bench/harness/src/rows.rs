@@ -33,6 +33,7 @@ pub enum Call {
     FirstFree,
     Live,
     Matrix,
+    Filter,
 }
 
 /// What the machine can do at most, measured on the row's own size.
@@ -215,6 +216,13 @@ pub fn all() -> Vec<Row> {
             MILLION,
             Word,
             Limit::Count,
+        ),
+        Row::over(
+            "filter over three columns",
+            Call::Filter,
+            MILLION,
+            Word,
+            Limit::Copy,
         ),
         Row::over(
             "closure 1000 x 1000",

@@ -74,7 +74,7 @@ pub extern "C" fn vob_bench_hash_words(words: &[usize], rounds: usize) -> u64 {
 }
 
 /// Calls on two Vobs: 0 `and`, 1 `or`, 2 `xor`, 3 `==`, 4 `extend_from_vob` behind one whole block,
-/// 5 `extend_from_vob` behind 13 bits more.
+/// 5 `extend_from_vob` behind 13 bits more, 6 a filter over these columns and a third.
 #[unsafe(no_mangle)]
 pub extern "C" fn vob_bench_pair(
     alloc: Global,
@@ -89,7 +89,8 @@ pub extern "C" fn vob_bench_pair(
         2 => pair::xor(alloc, bytes, others, rounds),
         3 => pair::equal(alloc, bytes, rounds),
         4 => pair::extend(alloc, bytes, others, 64, rounds),
-        _ => pair::extend(alloc, bytes, others, 64 + 13, rounds),
+        5 => pair::extend(alloc, bytes, others, 64 + 13, rounds),
+        _ => pair::filter(alloc, bytes, others, rounds),
     })
 }
 

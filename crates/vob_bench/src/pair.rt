@@ -3,6 +3,7 @@
 use crate::checksum::{checksum, sample, touch};
 use std::alloc::Global;
 use vob::{Vob, VobError};
+use vob_users::rows::{count_rows, select};
 
 /// `and` with a Vob that is as long. Where it isn't, nothing is done.
 #[inline(never)]
@@ -93,4 +94,30 @@ pub(crate) fn extend(
         times = times.wrapping_add(sample(&vob, round) as u64);
     }
     Ok(checksum(&vob, times))
+}
+
+/// The rows that two columns keep and a third doesn't, and how many they are. Where the columns aren't
+/// as long, nothing is done.
+#[inline(never)]
+pub(crate) fn filter(
+    alloc: Global,
+    bytes: &[u8],
+    others: &[u8],
+    rounds: usize,
+) -> Result<u64, VobError> {
+    let mut times: u64 = 0;
+    let mut first = Vob::from_bytes(alloc, bytes)?;
+    let second = Vob::from_bytes(alloc, others)?;
+    let mut without = second.clone()?;
+    if without.len() == first.len() {
+        without.xor(&first);
+    }
+    for round in 0..rounds {
+        touch(&mut first, round);
+        if first.len() == second.len() && first.len() == without.len() {
+            let rows = select(&first, &second, &without)?;
+            times = times.wrapping_add(count_rows(&rows) as u64);
+        }
+    }
+    Ok(checksum(&first, times))
 }
