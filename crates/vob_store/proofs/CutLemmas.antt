@@ -107,16 +107,16 @@ module _ {X : Type 0} (number : X → ℕ) (w : ℕ) (wide : 0 < w) (n : ℕ) (i
       (rw same at partial) (number y) masked small in
       rw (same, map-set) both
 
--- the first blocks of canonical storage, as many as m bits need; u is the width as the code read it
+-- the first of the blocks that n bits need, as many as m need; u is the width as the code read it
 module _ {X : Type 0} (number : X → ℕ) (w : ℕ) (wide : 0 < w) (n : ℕ) (items : List X)
-    (h : IsCanonical n (map number items) w) (m : ℕ) (shorter : m ≤ n) (u k : ℕ) (same : u ≡ w)
+    (count : length items ≡ need n w) (m : ℕ) (shorter : m ≤ n) (u k : ℕ) (same : u ≡ w)
     (needed : k ≡ m / u + min 1 (m % u)) where
   kept_is : k ≡ need m w
   kept_is = needed ∙ ap (λ v. m / v + min 1 (m % v)) same ∙ div_ceil-need w wide m
 
   pub length-kept : length (take k items) ≡ need m w
   length-kept = length-take-le k items (omega
-      (arith, kept_is, need-le-need w wide m n shorter, h.count, length-map items number)) ∙ kept_is
+      (arith, kept_is, need-le-need w wide m n shorter, count)) ∙ kept_is
 
   pub unpacking-kept : unpacking m (map number (take k items)) w
       ≡ take m (unpacking n (map number items) w)

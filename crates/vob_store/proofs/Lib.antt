@@ -1,6 +1,7 @@
 pub mod AppendLemmas
 pub mod BuildLemmas
 pub mod CutLemmas
+pub mod DrainLemmas
 pub mod FillLemmas
 pub mod FunnelLemmas
 pub mod JoinLemmas

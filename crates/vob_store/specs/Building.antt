@@ -1,5 +1,5 @@
 -- Blocks stored one after another so that they hold wanted bits.
-use Rattle.std.specs.Prelude.{◌≡◌, ℕ, ◌-◌, ◌/◌, ◌<◌, Bool, if◌then◌else◌, nat_lt, List}
+use Rattle.std.specs.Prelude.{◌≡◌, ℕ, ◌+◌, ◌-◌, ◌/◌, ◌<◌, Bool, if◌then◌else◌, nat_lt, List}
 use Rattle.vob_block.specs.Packing.{bit_at}
 
 -- the first k blocks hold the wanted bits
@@ -10,3 +10,8 @@ pub record AreBuilt (width k : ℕ) (blocks : List ℕ) (wanted : ℕ → Bool) 
 abbrev pub joined_bit : ℕ → ℕ → List ℕ → List ℕ → ℕ → Bool
 joined_bit width n blocks others i =
     if nat_lt i n then bit_at blocks width i else bit_at others width (i - n)
+
+-- bit i where as many bits from one index on were taken out, and those behind closed up
+abbrev pub closed_bit : ℕ → ℕ → ℕ → List ℕ → ℕ → Bool
+closed_bit width from by blocks i =
+    if nat_lt i from then bit_at blocks width i else bit_at blocks width (i + by)

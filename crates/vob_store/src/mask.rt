@@ -36,7 +36,7 @@ pub fn negate<T: Block>(blocks: &mut [T], len: usize)
 
 /// Takes off the bits from `new_len` on, with the blocks that only they needed.
 pub fn truncate_to<T: Block>(blocks: &mut Vec<T>, len: usize, new_len: usize)
-    requires canonical { IsCanonical len (map T.number blocks.old.items) T.BITS }
+    requires count { length blocks.old.items ≡ need len T.BITS }
     requires shorter { new_len ≤ len }
     ensures stores { Stores T.BITS new_len (map T.number blocks.new.items)
         (take new_len (unpacking len (map T.number blocks.old.items) T.BITS)) }

@@ -1,9 +1,10 @@
 //! Splitting: the blocks of the bits from an index on, each made of two neighbours where the index
 //! lies within a block.
 ghost use Rattle.std.specs.Prelude.{◌≡◌, ◌+◌, ◌-◌, ◌<◌, ◌≤◌, map, length, drop, slice_index_or, IfOk};
-ghost use Rattle.vob_block.specs.Packing.{bit_at, unpacking, IsCanonical, Stores};
+ghost use Rattle.vob_block.specs.Packing.{need, bit_at, unpacking, Stores};
 ghost use Rattle.vob_store.specs.Building.{AreBuilt};
 
+use crate::mask::mask_last;
 use crate::room::block_count;
 use std::alloc::{AllocError, Global};
 use vob_block::Block;
@@ -47,23 +48,25 @@ fn split_into<T: Block>(rest: &mut [T], blocks: &[T], from: usize)
     }
 }
 
-/// The blocks of the bits from index `at` on, of `len` bits.
+/// The blocks of the bits from index `at` on, of the first `len` bits.
 pub fn split_blocks<T: Block>(
     alloc: Global,
     blocks: &[T],
     len: usize,
     at: usize,
 ) -> Result<Vec<T>, AllocError>
-    requires canonical { IsCanonical len (map T.number blocks.now) T.BITS }
+    requires count { need len T.BITS ≤ length blocks.now }
     requires inside { at < len }
     ensures { IfOk result (λ rest. Stores T.BITS (len - at) (map T.number rest.items)
         (drop at (unpacking len (map T.number blocks.now) T.BITS))) }
 {
-    let count = block_count::<T>(len - at);
+    let bits = len - at;
+    let count = block_count::<T>(bits);
     let mut rest = Vec::with_capacity(alloc, count)?;
     rest.resize(count, T::ZERO)?;
     let width = T::BITS;
     split_into(&mut rest, &blocks[at / width..], at % width);
-    T::all_in_range(&rest);
+    // There may be bits of the blocks behind.
+    mask_last(&mut rest, bits);
     Ok(rest)
 }

@@ -1,5 +1,5 @@
 -- The blocks from that of bit `at` on are moved down.
-use Rattle.std.proofs.Common.{◌≤◌, ◌/◌, ◌≡◌, ◌-◌, length, drop, arith, rules}
+use Rattle.std.proofs.Common.{◌≤◌, ◌/◌, ◌≡◌, ◌-◌, length, map, arith, rules}
 use Rattle.std.proofs.lemmas.List.{take_at, length-map}
 use Rattle.vob_block.proofs.NeedLemmas.{lt-need}
 use Rattle.vob_store.proofs.BuildLemmas.{AreBuilt-upto}
@@ -8,47 +8,50 @@ use Rattle.vob_store.proofs.split.split_blocks.Goals as goal
 
 pub offset_bounds-blocks-at : goal.offset_bounds-blocks-at
 offset_bounds-blocks-at g c = start-le g.T.Block.number g.T.Block.BITS g.met.T.Block.wide_law
-    c.args.len c.args.at c.args.blocks.now c.requires.canonical c.requires.inside
+    c.args.len c.args.at c.args.blocks.now c.requires.count c.requires.inside
     c.BITS-width.result c.BITS-width.ensures
 
 pub slice_bounds-split_into-count : goal.slice_bounds-split_into-count
 slice_bounds-split_into-count g c = start-le g.T.Block.number _ g.met.T.Block.wide_law _ _ _
-    c.requires.canonical c.requires.inside _ c.BITS-width.ensures
+    c.requires.count c.requires.inside _ c.BITS-width.ensures
 
 pub slice_bounds-split_into-start : goal.slice_bounds-split_into-start
 slice_bounds-split_into-start g c =
     let start : c.args.at / c.BITS-width.result ≤ length c.args.blocks.now =
     start-le g.T.Block.number g.T.Block.BITS g.met.T.Block.wide_law _ _ _
-    c.requires.canonical c.requires.inside _ c.BITS-width.ensures in
+    c.requires.count c.requires.inside _ c.BITS-width.ensures in
     search rules
 
 pub split_into-requires-clause-some : goal.split_into-requires-clause-some
-split_into-requires-clause-some g c = omega (
-  arith,
-  c.deref_mut.ensures.len,
-  c.in_ok-resize.ensures.len,
-  lt-need g.T.Block.BITS g.met.T.Block.wide_law (c.args.len - c.args.at) 0
-      (omega (arith, c.requires.inside)),
-)
+split_into-requires-clause-some g c =
+    let some = lt-need g.T.Block.BITS g.met.T.Block.wide_law (c.args.len - c.args.at) 0
+    (omega (arith, c.requires.inside)) in
+    omega (arith, c.deref_mut.ensures.len, c.in_ok-resize.ensures.len, some)
 
 pub split_into-requires-clause-count : goal.split_into-requires-clause-count
-split_into-requires-clause-count g c = omega (
-  arith,
-  c.deref_mut.ensures.len,
-  c.in_ok-resize.ensures.len,
-  need-le-tail g.T.Block.number g.T.Block.BITS g.met.T.Block.wide_law _ _ _
-      c.requires.canonical c.requires.inside _ c.BITS-width.ensures,
-)
+split_into-requires-clause-count g c =
+    let fits = need-le-tail g.T.Block.number g.T.Block.BITS g.met.T.Block.wide_law _ _ _
+    c.requires.count c.requires.inside _ c.BITS-width.ensures in
+    omega (arith, c.deref_mut.ensures.len, c.in_ok-resize.ensures.len, fits)
+
+pub mask_last-requires : goal.mask_last-requires
+mask_last-requires g c =
+    let made = c.block_count-count.ensures in
+    omega (arith, c.deref_mut-2.ensures.len, c.in_ok-resize.ensures.len, made)
 
 pub returns : goal.returns
 returns g c =
-    let long : length c.split_into.new.rest ≡ c.resize.new.self.len =
+    let number = g.T.Block.number in
+    let count = c.resize.new.self.len in
+    let moved = c.split_into.new.rest in
+    let long : length moved ≡ count =
     omega (arith, c.split_into.auto.rest, c.deref_mut.ensures.len) in
-    let whole = take_at c.split_into.new.rest
-    (drop (length c.split_into.new.rest) c.resize.new.self.items) c.resize.new.self.len long in
-    let same = length-map c.split_into.new.rest g.T.Block.number in
-    rw whole (Stores-tail g.T.Block.number g.T.Block.BITS g.met.T.Block.wide_law c.args.len
-    c.args.at c.args.blocks.now c.requires.canonical c.requires.inside _ c.BITS-width.ensures _
-    (omega (arith, same, long, c.in_ok-resize.ensures.len))
-    (rw (c.deref.ensures.value, whole) at c.all_in_range.ensures)
-    (AreBuilt-upto _ c.split_into.ensures (omega (arith, same, c.split_into.auto.rest))))
+    let whole : length c.mask_last.new.blocks ≡ count =
+    omega (arith, c.mask_last.auto.blocks, c.deref_mut-2.ensures.len) in
+    let same = length-map moved number in
+    rw (take_at c.mask_last.new.blocks _ count whole) (Stores-tail number g.T.Block.BITS
+    g.met.T.Block.wide_law c.args.len c.args.at c.args.blocks.now c.requires.count
+    c.requires.inside _ c.BITS-width.ensures (map number moved) _
+    (omega (arith, same, long, c.in_ok-resize.ensures.len, c.block_count-count.ensures))
+    (AreBuilt-upto _ c.split_into.ensures (omega (arith, same, c.split_into.auto.rest)))
+    (rw (c.deref_mut-2.ensures.value, take_at moved _ count long) at c.mask_last.ensures))
