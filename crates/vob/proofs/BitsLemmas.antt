@@ -1,14 +1,20 @@
--- A page for users: what calls in place do to a list of bits, index by index, and how often a bit is in it.
+-- A page for users: what calls in place do to a list of bits, how often a bit is in it, and what a range takes out.
 use Rattle.std.specs.Prelude.{Some, slice_get, slice_set}
 use Rattle.std.specs.Bool.{Decides}
-use Rattle.std.proofs.Common.{not, ◌≡◌, ◌≢◌, ◌↔◌, ◌⊎◌, ℕ, zero, suc, ◌+◌, ◌<◌, Bool, true, false, ◌&&◌, ◌||◌, cond, List, [], ◌∷◌, length, map, replicate, refl, sym, ap, ◌∙◌, arith, inl, inr}
-use Rattle.std.proofs.lemmas.Bool.{false≢true}
-use Rattle.std.proofs.lemmas.List.{length-map, length-set, length-replicate, get_or-replicate, get_or-set_same, get_or-set_other, get_or-map}
+use Rattle.std.specs.List.{range_with_len}
+use Rattle.std.specs.declared.ops.Bound.{Bound}
+use Rattle.std.proofs.Common.{not, ◌≡◌, ◌≢◌, ◌↔◌, ◌⊎◌, ℕ, zero, suc, ◌+◌, ◌-◌, ◌<◌, ◌≤◌, nat_le, nat_lt, Bool, true, false, ◌&&◌, ◌||◌, cond, List, [], ◌∷◌, ◌++◌, length, map, take, drop, replicate, refl, sym, ap, ◌∙◌, arith, inl, inr}
+use Rattle.std.proofs.lemmas.Bool.{false≢true, and_from, and_left, and_right, lt-ltb, le-ltb, le-leb, lt-leb}
+use Rattle.std.proofs.lemmas.List.{length-map, length-set, length-replicate, get_or-replicate, get_or-set_same, get_or-set_other, get_or-map, ext_get_or, append-nil, map-append, take_all, length-drop, length-take-le, get_or-drop, get_or-take}
+use Rattle.std.proofs.lemmas.List.FromFn.{length-map-range_with_len, get_or-map-range_with_len}
 use Rattle.std.proofs.lemmas.List.Sums.{sum_by-set, sum_by-cons}
 use Rattle.vob_block.specs.Packing.{item}
 use Rattle.vob_block.specs.Pointwise.{differ, pointwise}
 use Rattle.vob_block.proofs.PointwiseLemmas.{length-pointwise, item-pointwise}
-use Rattle.vob_walk.specs.Matches.{has_value}
+use Rattle.vob_walk.specs.Matches.{within, has_value}
+use Rattle.vob_walk.specs.Cursor.{indices_where}
+use Rattle.vob_walk.proofs.WhereLemmas.{indices_where-split, indices_where-nothing, indices_where-all}
+use Rattle.vob.specs.Drain.{bits_where, bits_within, bits_outside}
 use Rattle.vob.specs.Same.{same_bits}
 use Rattle.vob.proofs.SameLemmas.{same_bits_decides}
 use Rattle.vob.specs.Bits.{count_of, IsWritten, IsChanged, AreCombined, LosesBits, GainsBits}
@@ -192,3 +198,82 @@ module _ (changed : Bool) (bits after : List Bool) (flag : (changed ≡ true) �
       | inr less ↦ less
     ];
   }
+
+-- ---- the bits of a range, and the others
+
+-- a stretch, index by index
+stretch : (bits : List Bool) (a n : ℕ) → a + n ≤ length bits
+    → map (item bits) (range_with_len a n) ≡ take n (drop a bits)
+stretch bits a n inside =
+    let long = length-map-range_with_len (item bits) a n in
+    ext_get_or false (map (item bits) (range_with_len a n)) (take n (drop a bits))
+    (long ∙ sym (length-take-le n (drop a bits) (omega (arith, length-drop a bits)))) (λ i below.
+    let less : i < n = omega (arith, below, long) in
+    get_or-map-range_with_len (item bits) a n i (a + i) false less refl
+    ∙ sym (get_or-drop a bits i false) ∙ sym (get_or-take n (drop a bits) i false less))
+
+-- where the indices of a range are those from one index to below another
+module _ (low high : Bound ℕ) (bits : List Bool) (from to : ℕ) (ordered : from ≤ to)
+    (inside : to ≤ length bits) (each : (i : ℕ) → i < length bits
+    → within low high i ≡ (nat_le from i && nat_lt i to)) where
+  at_before : (i : ℕ) → i < from → within low high i ≡ false
+  at_before i less = each i (omega arith)
+      ∙ and_left (nat_le from i) (nat_lt i to) (lt-leb from i less)
+
+  at_within : (i : ℕ) → from ≤ i → i < to → within low high i ≡ true
+  at_within i above below = each i (omega arith)
+      ∙ and_from (nat_le from i) (nat_lt i to) (le-leb from i above) (lt-ltb i to below)
+
+  at_behind : (i : ℕ) → to ≤ i → i < length bits → within low high i ≡ false
+  at_behind i past less = each i less
+      ∙ and_right (nat_le from i) (nat_lt i to) (le-ltb i to past)
+
+  abbrev behind : ℕ
+  behind = length bits - to
+
+  parts : (p : ℕ → Bool) → indices_where p 0 (length bits)
+      ≡ indices_where p 0 from ++ (indices_where p from (to - from) ++ indices_where p to behind)
+  parts p =
+      let whole : length bits ≡ from + (to - from + behind) = omega arith in
+      let next : from + (to - from) ≡ to = omega arith in
+      ap (indices_where p 0) whole ∙ indices_where-split p 0 from (to - from + behind)
+      ∙ ap (λ k. indices_where p 0 from ++ indices_where p k (to - from + behind))
+      (omega arith)
+      ∙ ap (λ xs. indices_where p 0 from ++ xs) (indices_where-split p from (to - from) behind
+      ∙ ap (λ k. indices_where p from (to - from) ++ indices_where p k behind) next)
+
+  pub bits_within-cut : bits_within low high bits ≡ take (to - from) (drop from bits)
+  unfolding bits_where
+  bits_within-cut =
+      let p = λ (i : ℕ). within low high i in
+      ap (map (item bits)) (parts p
+      ∙ ap (λ xs. xs ++ (indices_where p from (to - from) ++ indices_where p to behind))
+      (indices_where-nothing p 0 from (λ i _ less. at_before i (omega (arith, less))))
+      ∙ ap (λ xs. indices_where p from (to - from) ++ xs)
+      (indices_where-nothing p to behind (λ i past less. at_behind i past (omega (arith, less))))
+      ∙ append-nil (indices_where p from (to - from))
+      ∙ indices_where-all p from (to - from)
+      (λ i above less. at_within i above (omega (arith, less))))
+      ∙ stretch bits from (to - from) (omega arith)
+
+  pub bits_outside-cut : bits_outside low high bits ≡ take from bits ++ drop to bits
+  unfolding bits_where
+  bits_outside-cut =
+      let p = λ (i : ℕ). not (within low high i) in
+      let first : indices_where p 0 from ≡ range_with_len 0 from =
+      indices_where-all p 0 from (λ i _ less. ap not (at_before i (omega (arith, less)))) in
+      let none : indices_where p from (to - from) ≡ [] =
+      indices_where-nothing p from (to - from)
+      (λ i above less. ap not (at_within i above (omega (arith, less)))) in
+      let last : indices_where p to behind ≡ range_with_len to behind =
+      indices_where-all p to behind
+      (λ i past less. ap not (at_behind i past (omega (arith, less)))) in
+      ap (map (item bits)) (parts p
+      ∙ ap (λ xs. xs ++ (indices_where p from (to - from) ++ indices_where p to behind)) first
+      ∙ ap (λ xs. range_with_len 0 from ++ (xs ++ indices_where p to behind)) none
+      ∙ ap (λ xs. range_with_len 0 from ++ xs) last)
+      ∙ map-append (item bits) (range_with_len 0 from) (range_with_len to behind)
+      ∙ ap (λ bs. bs ++ map (item bits) (range_with_len to behind))
+      (stretch bits 0 from (omega arith))
+      ∙ ap (λ bs. take from bits ++ bs) (stretch bits to behind (omega arith)
+      ∙ take_all behind (drop to bits) (omega (arith, length-drop to bits)))

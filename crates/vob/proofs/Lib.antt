@@ -1,6 +1,7 @@
 pub mod BitsLemmas
 pub mod ChangeLemmas
 pub mod CombineLemmas
+pub mod DrainLemmas
 pub mod ExtendingLemmas
 pub mod HashLemmas
 pub mod ItemLemmas

@@ -1,12 +1,21 @@
 -- What lists of bits obey, and so the calls that stand for their operations.
-use Rattle.std.specs.Prelude.{◌≡◌, ◌≢◌, ◌↔◌, ℕ, ◌<◌, Bool, false, not, ◌&&◌, ◌||◌, List, [], ◌∷◌, ◌++◌, length, map, take, drop, replicate, slice_get, slice_set, Some, IsTrue}
+use Rattle.std.specs.Prelude.{◌≡◌, ◌≢◌, ◌↔◌, ℕ, ◌<◌, ◌≤◌, Bool, false, not, ◌&&◌, ◌||◌, List, [], ◌∷◌, ◌++◌, length, map, take, drop, replicate, slice_get, slice_set, Some, IsTrue}
+use Rattle.std.specs.declared.ops.Bound.TheVariants.{Included, Unbounded}
 use Rattle.vob_block.specs.Packing.{item, packing}
 use Rattle.vob_block.specs.Pointwise.{differ, pointwise}
+use Rattle.vob.specs.Drain.{bits_within, bits_outside}
 use Rattle.vob.specs.Same.{same_bits}
 
 -- a list cut at an index and joined again is the list
 abbrev pub JoinUndoesCut : Type 0
 JoinUndoesCut = (bits : List Bool) (at : ℕ) → take at bits ++ drop at bits ≡ bits
+
+-- to drain from an index on leaves and gives the two parts that a cut there makes
+abbrev pub DrainFromIsSplit : Type 0
+DrainFromIsSplit =
+    (bits : List Bool) (at : ℕ) → at ≤ length bits
+    → (bits_outside (Included at) Unbounded bits ≡ take at bits)
+    × (bits_within (Included at) Unbounded bits ≡ drop at bits)
 
 -- a list with others pushed behind it, one after another
 abbrev pub pushed : List Bool → List Bool → List Bool

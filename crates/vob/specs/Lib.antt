@@ -1,4 +1,5 @@
 pub mod Bits
+pub mod Drain
 pub mod Extending
 pub mod Fed
 pub mod Laws

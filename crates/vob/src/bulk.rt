@@ -1,9 +1,11 @@
 //! Calls on many bits at once: growing, joining and cutting.
-ghost use Rattle.std.specs.Prelude.{◌≡◌, ◌↔◌, ℕ, ◌+◌, ◌-◌, ◌<◌, ◌≤◌, ◌++◌, map, length, take, drop, replicate, IsOk, IfOk, IfErr, OnOk, OnErr, Err};
+ghost use Rattle.std.specs.Prelude.{◌≡◌, ◌↔◌, ℕ, ◌+◌, ◌-◌, ◌<◌, ◌≤◌, ◌&&◌, nat_le, nat_lt, [], ◌++◌, map, length, take, drop, replicate, IsOk, IfOk, IfErr, OnOk, OnErr, Err};
 ghost use Rattle.std.specs.Iterator.{IsFinite};
 ghost use Rattle.std.specs.Iterator.SizeHint.{IsWithinCount};
 ghost use Rattle.vob_block.specs.Packing.{need, unpacking, IsCanonical};
 ghost use Rattle.vob_block.specs.Reading.{AreReadOnce};
+ghost use Rattle.vob_walk.specs.Matches.{within};
+ghost use Rattle.vob.specs.Drain.{bits_within, IsDrained};
 ghost use Rattle.vob.specs.Extending.{AddsAll, IsExtended, RefusesItem, RefusesMore};
 ghost use Rattle.vob.specs.Vob.{HasRoomFor};
 
@@ -11,13 +13,16 @@ use crate::error::VobError;
 use crate::vob::Vob;
 use std::alloc::AllocError;
 use std::mem;
+use std::ops::RangeBounds;
 use vob_block::{Block, Blocks};
+use vob_store::drain::remove_bits;
 use vob_store::fill::append_fill;
 use vob_store::join::{join, join_copied};
 use vob_store::mask::truncate_to;
 use vob_store::pack::append_slice;
 use vob_store::room::reserve_bits;
 use vob_store::split::split_blocks;
+use vob_walk::range::{first_index, past_last_index};
 
 impl<T: Block> Vob<T> {
     /// Cuts the bits to `new_len`, or adds bits of `value` up to `new_len`. vob 4.0.1 ends the process
@@ -171,4 +176,44 @@ impl<T: Block> Vob<T> {
         self.len = at;
         Ok(Vob { len, vec })
     }
+
+    /// Takes the bits of a range out, and gives them; the others close up in order. Every pair of
+    /// bounds is accepted, and an index belongs to the range where it is below the length and meets
+    /// both as whole numbers. Where none does, no memory is asked for. vob 4.0.1 hasn't this call.
+    pub fn drain<R: RangeBounds<usize>>(&mut self, range: R) -> Result<Vob<T>, AllocError>
+        ensures ok { R.has_bounds range → IfOk result (λ vob.
+            IsDrained (R.start_bound range) (R.end_bound range) self.old.bits vob.bits self.new.bits) }
+        ensures err { OnErr result (self.new.bits ≡ self.old.bits) }
+
+        // Where the range holds no bit, no memory is asked for.
+        ensures nothing { R.has_bounds range
+            → bits_within (R.start_bound range) (R.end_bound range) self.old.bits ≡ [] → IsOk result }
+        ensures capacity { self.old.capacity ≤ self.new.capacity }
+    {
+        let (from, to) = cut_range(&range, self.len);
+        let alloc = *self.vec.allocator();
+        if from == to {
+            return Ok(Vob {
+                len: 0,
+                vec: Vec::new(alloc),
+            });
+        }
+        let vec = split_blocks(alloc, self.vec.as_slice(), to, from)?;
+        let len = to - from;
+        remove_bits(&mut self.vec, self.len, from, to);
+        self.len -= len;
+        Ok(Vob { len, vec })
+    }
+}
+
+/// Where the indices below `len` that belong to a range begin, and where they end.
+fn cut_range<R: RangeBounds<usize>>(range: &R, len: usize) -> (usize, usize)
+    ensures ordered { result.0 ≤ result.1 }
+    ensures inside { result.1 ≤ len }
+    ensures window { R.has_bounds range.now → (i : ℕ) → i < len
+        → within (R.start_bound range.now) (R.end_bound range.now) i
+        ≡ (nat_le result.0 i && nat_lt i result.1) }
+{
+    let to = past_last_index(range, len);
+    (first_index(range, to), to)
 }

@@ -1,5 +1,5 @@
 //! The laws of the operations on lists of bits. Each function does nothing: its contract is the law.
-ghost use Rattle.vob.specs.Laws.{JoinUndoesCut, JoinIsPushes, EqualWhereListsAre, EqualWhereStorageIs, UnequalWherePlacesDiffer, PointwiseChangesBits, SetChangesBit, NegateTwice, XorOfEqual, NegatedAnd};
+ghost use Rattle.vob.specs.Laws.{JoinUndoesCut, DrainFromIsSplit, JoinIsPushes, EqualWhereListsAre, EqualWhereStorageIs, UnequalWherePlacesDiffer, PointwiseChangesBits, SetChangesBit, NegateTwice, XorOfEqual, NegatedAnd};
 ghost use Rattle.vob_walk.specs.Laws.{MatchesShareNoIndex, MatchesFillTheRange, MatchesAddUp, MatchesExactly, MatchesRise, FirstMatchIsLeast, NoMatchIsNone, MatchesAreCounted, MatchesAreFew};
 ghost use Rattle.vob_walk.specs.Laws.{NoneIsForGood};
 
@@ -7,6 +7,12 @@ ghost use Rattle.vob_walk.specs.Laws.{NoneIsForGood};
 /// the part that both succeed leave the old bits.
 pub fn join_undoes_cut()
     ensures { JoinUndoesCut }
+{}
+
+/// Draining from an index up to the length on leaves and gives the parts below it and from it on, so
+/// `drain(at..)` and `split_off(at)` that both succeed leave and give the same bits.
+pub fn drain_from_is_split()
+    ensures { DrainFromIsSplit }
 {}
 
 /// Joining a list leaves what pushing each of its bits in order leaves.

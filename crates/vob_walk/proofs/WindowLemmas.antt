@@ -37,7 +37,7 @@ IsWindow-cut low high len start stop shorter ordered ends starts = record {
 
 module _ {low high : Bound ℕ} {n start stop : ℕ} (window : IsWindow low high n start stop) where
   -- at an index below n the bounds and the window ask the same
-  within-window : (i : ℕ) → i < n → within low high i ≡ (nat_le start i && nat_lt i stop)
+  pub within-window : (i : ℕ) → i < n → within low high i ≡ (nat_le start i && nat_lt i stop)
   within-window i below = sym (window.each i ∙ ap (λ b. b && within low high i) (lt-ltb i n below))
 
   in_window : (i : ℕ) → i < n → within low high i ≡ true → (start ≤ i) × (i < stop)

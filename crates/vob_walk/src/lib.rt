@@ -6,7 +6,7 @@ mod block_bits;
 mod count;
 mod cursor;
 mod index;
-mod range;
+pub mod range;
 mod scan;
 mod walk;
 mod window;

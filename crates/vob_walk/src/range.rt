@@ -8,7 +8,7 @@ use std::ops::{Bound, RangeBounds};
 use vob_block::Block;
 
 /// Where the indices below `len` end that meet the end of the range.
-pub(crate) fn past_last_index<R: RangeBounds<usize>>(range: &R, len: usize) -> usize
+pub fn past_last_index<R: RangeBounds<usize>>(range: &R, len: usize) -> usize
     ensures within { result ≤ len }
     ensures meets { R.has_bounds range.now → (i : ℕ)
         → nat_lt i result ≡ (nat_lt i len && up_to_end (R.end_bound range.now) i) }
@@ -22,7 +22,7 @@ pub(crate) fn past_last_index<R: RangeBounds<usize>>(range: &R, len: usize) -> u
 }
 
 /// Where the indices below `stop` begin that meet the start of the range.
-pub(crate) fn first_index<R: RangeBounds<usize>>(range: &R, stop: usize) -> usize
+pub fn first_index<R: RangeBounds<usize>>(range: &R, stop: usize) -> usize
     ensures within { result ≤ stop }
     ensures meets { R.has_bounds range.now → (i : ℕ)
         → i < stop → nat_le result i ≡ from_start (R.start_bound range.now) i }
