@@ -4,26 +4,32 @@ use Rattle.std.proofs.Common.{◌≡◌, ℕ, ◌+◌, ◌-◌, ◌^◌, ◌<◌
 use Rattle.std.proofs.lemmas.Bool.{false≢true}
 use Rattle.vob_block.specs.Packing.{need}
 use Rattle.vob.specs.declared.error.VobError.{VobError}
-use Rattle.vob.specs.declared.error.VobError.TheVariants.{TooLong, Memory}
+use Rattle.vob.specs.declared.error.VobError.TheVariants.{TooLong, Memory, PastEnd}
 use Rattle.vob.specs.Vob.{BitVector, IsTooLong, NeedsMemory}
 use Rattle.vob.specs.Extending.{AddsAll, IsExtended, MayRefuse, RefusesItem, RefusesMore}
 
 -- the three answers of a call for n bits more
 module _ (w : ℕ) (vob : BitVector) (n : ℕ) where
   pub RefusesMore-long : IsTooLong vob n → RefusesMore w vob n (Err TooLong)
-  RefusesMore-long far = record { too_long = ((λ _. far), (λ _. refl)); memory = λ e. cc }
+  RefusesMore-long far = record {
+    too_long = ((λ _. far), (λ _. refl));
+    memory = λ e. cc;
+    past_end = λ e. cc;
+  }
 
   pub RefusesMore-memory : (IsTooLong vob n → ⊥) → NeedsMemory w vob n
       → RefusesMore w vob n (Err Memory)
   RefusesMore-memory near needs = record {
     too_long = ((λ e. cc), (λ far. absurd (near far)));
     memory = λ _. needs;
+    past_end = λ e. cc;
   }
 
   pub RefusesMore-nothing : (IsTooLong vob n → ⊥) → RefusesMore w vob n (Ok tt)
   RefusesMore-nothing near = record {
     too_long = ((λ e. cc), (λ far. absurd (near far)));
     memory = λ e. cc;
+    past_end = λ e. cc;
   }
 
 -- memory isn't wanted for no bits
@@ -46,6 +52,7 @@ push_refused w before now added result TooLong e bits grown h =
     omega (arith, h.too_long.0 e, bits)
 push_refused w before now added result Memory e bits grown h =
     omega (arith, (h.memory e).0, bits, grown)
+push_refused w before now added result PastEnd e bits grown h = absurd (h.past_end e)
 
 module _ (before : BitVector) (hint : ℕ) (result : Result ⊤ VobError) where
   -- a reserve that is refused was asked for some bits, and may be refused them
@@ -53,6 +60,7 @@ module _ (before : BitVector) (hint : ℕ) (result : Result ⊤ VobError) where
       → RefusesMore w before hint result → (0 < hint) × MayRefuse r before hint
   hint_refused w TooLong e nothing h = (some_asked hint result TooLong e nothing, h.too_long.0 e)
   hint_refused w Memory e nothing h = (some_asked hint result Memory e nothing, (h.memory e).0)
+  hint_refused w PastEnd e nothing h = absurd (h.past_end e)
 
 module _ {S : Type 0} (steps : S → Option Bool → S → Type 0) (it : S) (hint : ℕ)
     (before reserved after : BitVector) (bits : reserved.bits ≡ before.bits)
@@ -80,6 +88,7 @@ module _ {S : Type 0} (steps : S → Option Bool → S → Type 0) (it : S) (hin
     omega (arith, h.5, ap length bits, grown),
     h.6 ∙ ap (λ b. b ++ h.0) bits,
   )
+  after_reserve PastEnd h = absurd h.5
 
   -- what pushes behind a reserve leave
   pub extended : (result : Result ⊤ VobError) → OnOk result (AddsAll steps it reserved after)

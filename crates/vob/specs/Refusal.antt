@@ -1,14 +1,16 @@
 -- The numbers of the refusals, and when the items of an iterator are refused.
 use Rattle.std.specs.Prelude.{ℕ, ◌<◌, ◌-◌, ◌^◌}
 use Rattle.vob.specs.declared.error.VobError.{VobError}
-use Rattle.vob.specs.declared.error.VobError.TheVariants.{TooLong, Memory}
+use Rattle.vob.specs.declared.error.VobError.TheVariants.{TooLong, Memory, PastEnd}
 
--- 1 for a length past the greatest one, 2 for want of memory
+-- 1 for a length past the greatest one, 2 for want of memory, 4 for an index past the end
 abbrev pub refusal_number : VobError → ℕ
 refusal_number TooLong = 1
 refusal_number Memory = 2
+refusal_number PastEnd = 4
 
 -- n items may be refused: for their length past the greatest one, for memory where there is one
 abbrev pub MayRefuseItems : VobError → ℕ → Type 0
 MayRefuseItems TooLong n = 2 ^ 64 - 1 < n
 MayRefuseItems Memory n = 0 < n
+MayRefuseItems PastEnd n = ⊥

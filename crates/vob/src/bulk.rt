@@ -1,5 +1,5 @@
 //! Calls on many bits at once: growing, joining and cutting.
-ghost use Rattle.std.specs.Prelude.{◌≡◌, ◌↔◌, ℕ, ◌+◌, ◌-◌, ◌<◌, ◌≤◌, ◌&&◌, nat_le, nat_lt, [], ◌++◌, map, length, take, drop, replicate, IsOk, IfOk, IfErr, OnOk, OnErr, Err};
+ghost use Rattle.std.specs.Prelude.{◌≡◌, ◌≢◌, ◌↔◌, ℕ, ◌+◌, ◌-◌, ◌<◌, ◌≤◌, ◌&&◌, nat_le, nat_lt, [], ◌++◌, map, length, take, drop, replicate, IsOk, IfOk, IfErr, OnOk, OnErr, Err};
 ghost use Rattle.std.specs.Iterator.{IsFinite};
 ghost use Rattle.std.specs.Iterator.SizeHint.{IsWithinCount};
 ghost use Rattle.vob_block.specs.Packing.{need, unpacking, IsCanonical};
@@ -143,19 +143,27 @@ impl<T: Block> Vob<T> {
         Ok(())
     }
 
-    /// Keeps the bits below `at`, and gives the others. From the length on there are none of them,
-    /// and nothing changes. vob 4.0.1 ends the process where memory is refused.
-    pub fn split_off(&mut self, at: usize) -> Result<Vob<T>, AllocError>
+    /// Keeps the bits below `at`, and gives the others: none where `at` is the length. An `at` past
+    /// the end is refused, and the bits stay; vob 4.0.1 gives an empty Vob there, and ends the
+    /// process where memory is refused.
+    pub fn split_off(&mut self, at: usize) -> Result<Vob<T>, VobError>
         ensures rest { IfOk result (λ vob. vob.bits ≡ drop at self.old.bits) }
         ensures ok { OnOk result (self.new.bits ≡ take at self.old.bits) }
         ensures err { OnErr result (self.new.bits ≡ self.old.bits) }
 
+        // An index past the end is refused first, and no length is too great.
+        ensures past_end { (result ≡ Err VobError.PastEnd) ↔ (length self.old.bits < at) }
+        ensures too_long { result ≢ Err VobError.TooLong }
+
         // Where one part is empty, no memory is asked for.
         ensures whole { at ≡ 0 → IsOk result }
-        ensures nothing { length self.old.bits ≤ at → IsOk result }
+        ensures nothing { at ≡ length self.old.bits → IsOk result }
     {
+        if at > self.len {
+            return Err(VobError::PastEnd);
+        }
         let alloc = *self.vec.allocator();
-        if self.len <= at {
+        if at == self.len {
             return Ok(Vob {
                 len: 0,
                 vec: Vec::new(alloc),

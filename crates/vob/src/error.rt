@@ -10,19 +10,23 @@ pub enum VobError {
     TooLong,
     /// There was no memory for the blocks.
     Memory,
+    /// An index was past the end: above the length. `split_off` alone answers it.
+    PastEnd,
 }
 
 impl VobError {
     ghost use Rattle.std.specs.Prelude.{◌≡◌};
     ghost use Rattle.vob.specs.Refusal.{refusal_number};
 
-    /// The number of the refusal: 1 for `TooLong`, 2 for `Memory`.
+    /// The number of the refusal: 1 for `TooLong`, 2 for `Memory`, 4 for `PastEnd`. 3 is that of
+    /// storage that isn't canonical, which is handed back as it came.
     pub fn number(self) -> u8
         ensures { result ≡ refusal_number self }
     {
         match self {
             VobError::TooLong => 1,
             VobError::Memory => 2,
+            VobError::PastEnd => 4,
         }
     }
 }

@@ -301,6 +301,7 @@ impl Vob<usize> {
     pub fn from_bytes(alloc: Global, slice: &[u8]) -> Result<Vob<usize>, VobError>
         ensures bits { IfOk result (λ vob. vob.bits ≡ bytes_list slice.now) }
         ensures too_long { (result ≡ Err VobError.TooLong) ↔ (usize.MAX < 8 * length slice.now) }
+        ensures past_end { result ≢ Err VobError.PastEnd }
         ensures nothing { slice.now ≡ [] → IsOk result }
     {
         if slice.len() > usize::MAX / 8 {

@@ -1,11 +1,11 @@
 -- Calls on one Vob that are refused past the greatest length, or for want of memory.
-use Rattle.std.proofs.Common.{◌≡◌, ◌^◌, ◌+◌, ◌-◌, ◌<◌, [], ◌∷◌, ◌++◌, ◌↔◌, ℕ, List, Bool, Result, Ok, Err, OnOk, OnErr, IfErr, length, set, refl, ◌∙◌, inl, inr, arith}
+use Rattle.std.proofs.Common.{◌≡◌, ◌≢◌, ◌^◌, ◌+◌, ◌-◌, ◌<◌, [], ◌∷◌, ◌++◌, ◌↔◌, ℕ, List, Bool, Result, Ok, Err, OnOk, OnErr, IfErr, length, set, refl, ◌∙◌, inl, inr, arith}
 use Rattle.std.proofs.lemmas.Bool.{lt-ltb, le-ltb, cases_lt}
 use Rattle.vob_block.specs.Packing.{need}
 use Rattle.vob.specs.Refusal.{refusal_number}
 use Rattle.vob.specs.Vob.{BitVector}
 use Rattle.vob.specs.declared.error.VobError.{VobError}
-use Rattle.vob.specs.declared.error.VobError.TheVariants.{TooLong, Memory}
+use Rattle.vob.specs.declared.error.VobError.TheVariants.{TooLong, Memory, PastEnd}
 use Rattle.vob_run.specs.Call.{Call, Push}
 use Rattle.vob_run.specs.Answer.{Answer, outcome, done, refused}
 use Rattle.vob_run.specs.Memory.{Grows, TakesMemory}
@@ -22,6 +22,7 @@ pub record IsAnswered (old : BitVector) (bits : List Bool) (result : Result Unit
   pub refusal : IfErr result (λ reason. answer ≡ refused (refusal_number reason))
   pub ok : OnOk result (new.bits ≡ bits)
   pub err : OnErr result (new.bits ≡ old.bits)
+  pub past_end : result ≢ Err PastEnd
 
 -- one bit more
 pub step-push : (width : ℕ) {items : List BitVector} {which : ℕ} {old : BitVector}
@@ -62,6 +63,7 @@ module _ (width : ℕ) (items : List BitVector) (which : ℕ) (old : BitVector)
       let made : step width (lists items) call ≡ outcome done after = is ∙ rw short refl in
       let wants = MayRefuse-done width (lists items) after call made (takes refl) in
       inr (wants, answered.refusal, lists-same vob new answered.err)
+  asked_step asked {result = Err PastEnd} answered is long takes = absurd (answered.past_end refl)
 
   -- a call that puts bits behind those of the Vob
   pub extended_step : (more : List Bool) {result : Result Unit VobError} {answer : Answer}

@@ -6,7 +6,7 @@ use Rattle.std.proofs.lemmas.List.{map-id}
 use Rattle.std.proofs.lemmas.Iterator.{YieldsList}
 use Rattle.std.proofs.lemmas.Iterator.Consumers.{YieldsList-so_far, YieldsList-turn, YieldsList-end}
 use Rattle.vob.specs.declared.error.VobError.{VobError}
-use Rattle.vob.specs.declared.error.VobError.TheVariants.{TooLong, Memory}
+use Rattle.vob.specs.declared.error.VobError.TheVariants.{TooLong, Memory, PastEnd}
 use Rattle.vob.specs.Extending.{IsExtended, RefusesHint, RefusesItem}
 use Rattle.vob.specs.Vob.{BitVector}
 
@@ -43,6 +43,8 @@ module _ {S : Type 0} (steps : S → Option Bool → S → Type 0) (it : S) (ite
     not_refused Memory (inr h) =
         let turn = YieldsList-turn road h.0 h.3.0 h.3.1 (Some h.1) h.2 h.1 refl h.3.2 in
         omega (arith, turn.0, h.5, room)
+    not_refused PastEnd (inl h) = h.1
+    not_refused PastEnd (inr h) = h.5
 
     pub all_added : (result : Result ⊤ VobError) → IsExtended steps it hint before after result
         → (result ≡ Ok tt) × (after.bits ≡ before.bits ++ items)

@@ -1,9 +1,10 @@
 -- What a Vob that was made, and put behind the others, is as a step.
-use Rattle.std.proofs.Common.{◌≡◌, ℕ, List, [], ◌∷◌, ◌++◌, Bool, length, take, drop, set, Result, Ok, Err, IfOk, IfErr, OnErr, ap, refl, ◌∙◌, inl, inr}
+use Rattle.std.proofs.Common.{◌≡◌, ◌≢◌, ◌<◌, ◌≤◌, ℕ, List, [], ◌∷◌, ◌++◌, Bool, length, take, drop, set, Result, Ok, Err, IfOk, IfErr, OnErr, ap, refl, ◌∙◌, inl, inr}
+use Rattle.std.proofs.lemmas.Bool.{lt-ltb, le-ltb}
 use Rattle.std.proofs.lemmas.List.{map_push, length-map}
 use Rattle.vob.specs.Refusal.{refusal_number}
 use Rattle.vob.specs.declared.error.VobError.{VobError}
-use Rattle.vob.specs.declared.error.VobError.TheVariants.{TooLong, Memory}
+use Rattle.vob.specs.declared.error.VobError.TheVariants.{TooLong, Memory, PastEnd}
 use Rattle.vob.specs.Vob.{BitVector}
 use Rattle.vob_run.specs.Call.{Call, SplitOff}
 use Rattle.vob_run.specs.Answer.{Answer, outcome, made, refused}
@@ -25,7 +26,7 @@ MayRefuse-made : (width : ℕ) (before : List BitVector) (call : Call) (bits : L
 MayRefuse-made width before call bits makes =
     let answers : (step width (lists before) call).answer ≡ made (length (lists before)) =
     ap (λ o. o.answer) makes.is in
-    (makes.takes, (λ e. cc), (λ e. cc))
+    (makes.takes, (λ e. cc), (λ e. cc), (λ e. cc))
 
 -- a Vob with these bits, put behind the others where there is room, or a refusal
 module _ {width : ℕ} {before : List BitVector} {call : Call} {bits : List Bool}
@@ -48,37 +49,49 @@ module _ {width : ℕ} {before : List BitVector} {call : Call} {bits : List Bool
       inr (MayRefuse-made width before call bits makes, err.0, ap lists err.1)
 
   pub added_step : (result : Result BitVector VobError) (answer : Answer)
-      (after : List BitVector) → (result ≡ Err TooLong → ⊥) → IfOk result (λ v. v.bits ≡ bits)
+      (after : List BitVector) → (result ≡ Err TooLong → ⊥) × (result ≡ Err PastEnd → ⊥)
+      → IfOk result (λ v. v.bits ≡ bits)
       → IfOk result (λ v. IsPlaced before v answer after)
       → IfErr result (λ refusal. (answer ≡ refused (refusal_number refusal)) × (after ≡ before))
       → IsStep width (lists before) call answer (lists after)
-  added_step (Ok v) answer after short same placed err = placed_step v answer after same placed
-  added_step (Err TooLong) answer after short same placed err = absurd (short refl)
-  added_step (Err Memory) answer after short same placed err =
+  added_step (Ok v) answer after fits same placed err = placed_step v answer after same placed
+  added_step (Err TooLong) answer after fits same placed err = absurd (fits.0 refl)
+  added_step (Err Memory) answer after fits same placed err =
       inr (MayRefuse-made width before call bits makes, err.0, ap lists err.1)
+  added_step (Err PastEnd) answer after fits same placed err = absurd (fits.1 refl)
 
 -- a Vob that is cut in two, of which one part is put behind the others, or a refusal
 module _ (width : ℕ) (before : List BitVector) (which index : ℕ) (old : BitVector)
     (vob : IsLent before which old) where
-  step-cut : step width (lists before) (SplitOff which index)
-      ≡ outcome (made (length (lists before)))
-      (set (lists before) which (take index old.bits) ++ drop index old.bits ∷ [])
-  step-cut = rw (list_at vob) refl
+  -- an index past the end is refused first
+  pub past_end_step : length old.bits < index
+      → step width (lists before) (SplitOff which index) ≡ outcome (refused 4) (lists before)
+  past_end_step past = rw (list_at vob, lt-ltb (length old.bits) index past) refl
 
-  MayRefuse-cut : MayRefuse width (lists before) (SplitOff which index)
-  MayRefuse-cut =
-      let told = (step width (lists before) (SplitOff which index)).answer in
-      let answers : told ≡ made (length (lists before)) = ap (λ o. o.answer) step-cut in
-      (tt, (λ e. cc), (λ e. cc))
+  module _ (inside : index ≤ length old.bits) where
+    step-cut : step width (lists before) (SplitOff which index)
+        ≡ outcome (made (length (lists before)))
+        (set (lists before) which (take index old.bits) ++ drop index old.bits ∷ [])
+    step-cut = rw (list_at vob, le-ltb (length old.bits) index inside) refl
 
-  pub cut_step : (new rest : BitVector) → new.bits ≡ take index old.bits
-      → rest.bits ≡ drop index old.bits
-      → IsStep width (lists before) (SplitOff which index) (made (length before))
-      (lists (set before which new ++ rest ∷ []))
-  cut_step new rest kept cut =
-      inl (step-cut ∙ rw (map_push, lists-set before which new, kept, cut, length-map) refl)
+    MayRefuse-cut : MayRefuse width (lists before) (SplitOff which index)
+    MayRefuse-cut =
+        let told = (step width (lists before) (SplitOff which index)).answer in
+        let answers : told ≡ made (length (lists before)) = ap (λ o. o.answer) step-cut in
+        (tt, (λ e. cc), (λ e. cc), (λ e. cc))
 
-  pub refused_step : (new : BitVector) → new.bits ≡ old.bits
-      → IsStep width (lists before) (SplitOff which index) (refused 2)
-      (lists (set before which new))
-  refused_step new same = inr (MayRefuse-cut, refl, lists-same vob new same)
+    pub cut_step : (new rest : BitVector) → new.bits ≡ take index old.bits
+        → rest.bits ≡ drop index old.bits
+        → IsStep width (lists before) (SplitOff which index) (made (length before))
+        (lists (set before which new ++ rest ∷ []))
+    cut_step new rest kept cut =
+        inl (step-cut ∙ rw (map_push, lists-set before which new, kept, cut, length-map) refl)
+
+    -- only memory for the part may be refused
+    pub refused_step : (refusal : VobError) → refusal ≢ TooLong → refusal ≢ PastEnd
+        → (new : BitVector) → new.bits ≡ old.bits
+        → IsStep width (lists before) (SplitOff which index) (refused (refusal_number refusal))
+        (lists (set before which new))
+    refused_step TooLong short near new same = absurd (short refl)
+    refused_step Memory short near new same = inr (MayRefuse-cut, refl, lists-same vob new same)
+    refused_step PastEnd short near new same = absurd (near refl)

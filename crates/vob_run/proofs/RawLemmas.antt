@@ -7,7 +7,7 @@ use Rattle.vob_block.specs.Packing.{need, packing, unpacking, IsCanonical}
 use Rattle.vob_block.proofs.PackingLemmas.{packing-unpacking, canonical_from_packing}
 use Rattle.vob.specs.Vob.{BitVector}
 use Rattle.vob_run.specs.Call.{Call, FromRaw}
-use Rattle.vob_run.specs.Answer.{Answer, made, refused}
+use Rattle.vob_run.specs.Answer.{Answer, made, skipped, refused}
 use Rattle.vob_run.specs.Blocks.{taken, masked, same_blocks}
 use Rattle.vob_run.specs.Memory.{TakesMemory, MayRefuse}
 use Rattle.vob_run.specs.Outcomes.{makes, tells}
@@ -43,7 +43,13 @@ MayRefuse-taken width before call len blocks is takes =
     → (if test then makes all bits else tells all (refused 3)).answer ≢ wrong =
     elim [ true ↦ λ wrong first second. first | false ↦ λ wrong first second. second ] in
     let test = same_blocks blocks (packing bits width) in
-    (takes, rw is (told test _ (λ e. cc) (λ e. cc)), rw is (told test _ (λ e. cc) (λ e. cc)))
+    let found : (wrong : Answer) → made (length all) ≢ wrong → refused 3 ≢ wrong
+    → (step width all call).answer ≢ wrong = λ wrong first second. rw is (told test wrong first second) in (
+      takes,
+      found skipped (λ e. cc) (λ e. cc),
+      found (refused 1) (λ e. cc) (λ e. cc),
+      found (refused 4) (λ e. cc) (λ e. cc),
+    )
 
 -- a Vob of their bits, where they are canonical, or the refusal of other ones
 module _ (width : ℕ) (wide : 0 < width) (before : List BitVector) (call : Call) (len : ℕ)

@@ -22,6 +22,11 @@ pub lent : (items : List BitVector) (which : ℕ) (old : BitVector) → which < 
 lent items which old inside read =
     record { there = slice_get_read items (length items) which old refl inside read }
 
+-- the Vob with a number is one and the same
+pub lent_same : {items : List BitVector} {which : ℕ} {old other : BitVector}
+    → IsLent items which old → IsLent items which other → other ≡ old
+lent_same vob again = let first = vob.there in let second = again.there in cc
+
 -- the list with this number
 pub list_at : {items : List BitVector} {which : ℕ} {old : BitVector} → IsLent items which old
     → slice_get (lists items) which ≡ Some old.bits
@@ -51,15 +56,16 @@ pub MayRefuse-done : (width : ℕ) (all after : List (List Bool)) (call : Call)
     → MayRefuse width all call
 MayRefuse-done width all after call is takes =
     let answers : (step width all call).answer ≡ done = ap (λ o. o.answer) is in
-    (takes, (λ e. cc), (λ e. cc))
+    (takes, (λ e. cc), (λ e. cc), (λ e. cc))
 
 -- a call that only tells something may be refused where it takes memory
 pub refused_telling : (width : ℕ) (all : List (List Bool)) (call : Call) (told : Answer)
-    → step width all call ≡ outcome told all → told ≢ skipped → told ≢ refused 1
+    → step width all call ≡ outcome told all
+    → (told ≢ skipped) × (told ≢ refused 1) × (told ≢ refused 4)
     → TakesMemory width all call → IsStep width all call (refused 2) all
-refused_telling width all call told is made short takes =
+refused_telling width all call told is found takes =
     let answers : (step width all call).answer ≡ told = ap (λ o. o.answer) is in
-    inr ((takes, rw answers made, rw answers short), refl, refl)
+    inr ((takes, rw answers found.0, rw answers found.1, rw answers found.2), refl, refl)
 
 -- whether a bit changed, as a step tells it
 flag-differ : (changed old value : Bool) → ((changed ≡ true) ↔ (Some old ≢ Some value))

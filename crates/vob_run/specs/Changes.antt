@@ -30,10 +30,11 @@ module _ (lists : List (List Bool)) where
   extended which more bits =
       unless_long lists (length bits + length more) (leaves lists which done (bits ++ more))
 
-  -- the bits from an index on split off, into a list behind the others
+  -- the bits from an index on split off, into a list behind the others, unless it is past the end
   abbrev pub split : ℕ → ℕ → List Bool → Outcome
   split which index bits =
-      outcome (made (length lists))
+      if nat_lt (length bits) index then tells lists (refused 4)
+      else outcome (made (length lists))
       (slice_set lists which (take index bits) ++ drop index bits ∷ [])
 
   -- two lists combined by f, bit by bit, in the place of the first; whether a bit changed is told

@@ -114,7 +114,8 @@ pub enum Command<T> {
         which: usize,
         other: usize,
     },
-    /// Keeps the bits below `index`, and makes a Vob of the others: `Vob::split_off`.
+    /// Keeps the bits below `index`, and makes a Vob of the others: `Vob::split_off`. `Refused(4)`
+    /// where `index` is past the end.
     SplitOff {
         which: usize,
         index: usize,

@@ -131,8 +131,10 @@ fn whole_vobs_are_joined_cut_filled_and_compared(rt: HostRuntime) {
                 "vob 0; done; bits 111; done; bits 000; done; done; number 0; true",
             ),
             (
-                "slice 101; split 0 5; bits 0; bits 1; join 0 0; join 0 2; join 0 1; bits 0",
-                "vob 0; vob 1; bits 101; bits -; skipped; skipped; done; bits 101",
+                "slice 101; split 0 5; bits 0; split 0 3; bits 0; bits 1; join 0 0; join 0 2; \
+                    join 0 1; bits 0",
+                "vob 0; refused 4; bits 101; vob 1; bits 101; bits -; skipped; skipped; done; \
+                    bits 101",
             ),
         ],
     );

@@ -1,5 +1,5 @@
 //! Slots that are free or taken: a user of the walk over unset bits, and of the flag of `set`.
-ghost use Rattle.std.specs.Prelude.{◌≡◌, ◌↔◌, ◌+◌, ◌<◌, ◌++◌, false, length, replicate, slice_set, IsOk, IfOk, IfSome, OnOk, OnErr, Err};
+ghost use Rattle.std.specs.Prelude.{◌≡◌, ◌≢◌, ◌↔◌, ◌+◌, ◌<◌, ◌++◌, false, length, replicate, slice_set, IsOk, IfOk, IfSome, OnOk, OnErr, Err};
 ghost use Rattle.vob.specs.Bits.{count_of};
 ghost use Rattle.vob_block.specs.Packing.{item};
 ghost use Rattle.vob_users.specs.Slots.{IsTaken};
@@ -86,6 +86,7 @@ impl Slots {
         ensures ok { OnOk result (self.new ≡ self.old ++ replicate more false) }
         ensures err { OnErr result (self.new ≡ self.old) }
         ensures too_long { (result ≡ Err VobError.TooLong) ↔ (usize.MAX < length self.old + more) }
+        ensures past_end { result ≢ Err VobError.PastEnd }
         ensures nothing { more ≡ 0 → IsOk result }
     {
         let len = self.taken.len();

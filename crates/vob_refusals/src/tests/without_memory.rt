@@ -3,7 +3,7 @@ use super::support::{FIRST, check_blocks, request, same, tell, vob_of};
 use std::alloc::{AllocError, Global};
 use std::fmt::Debug;
 use std::process::Abort;
-use vob::{End, IndexWalk, IterSetBits, IterUnsetBits, RawVob, Vob, count_ones_in, deal};
+use vob::{End, IndexWalk, IterSetBits, IterUnsetBits, RawVob, Vob, VobError, count_ones_in, deal};
 use vob_block::{Block, Blocks};
 
 /// A Vob that is made without bits, and without room.
@@ -89,14 +89,17 @@ fn bits_are_combined_in_place(rt: HostRuntime) {
 }
 
 /// Appends the blocks of another Vob, for which there is room.
-fn append(vob: &mut Vob<u8>, other: &Vob<u8>) -> Result<(), vob::VobError> {
+fn append(vob: &mut Vob<u8>, other: &Vob<u8>) -> Result<(), VobError> {
     vob.reserve(other.len())?;
     vob.append_blocks(&mut other.blocks(), other.len());
     Ok(())
 }
 
-/// Takes all bits of `101`, and puts `110` behind them.
+/// Refuses to cut `101` past its end, takes all its bits, and puts `110` behind them.
 fn check_moved(rt: &impl Abort, vob: &mut Vob<u8>, other: &Vob<u8>) {
+    let refusal = vob.split_off(4).err();
+    same(rt, "past the end", refusal, Some(VobError::PastEnd));
+    check_blocks(rt, vob, 3, &[5]);
     let none = vob.split_off(3).expect(rt, "no bits");
     check_blocks(rt, &none, 0, &[]);
     let mut all = vob.split_off(0).expect(rt, "all bits");
@@ -120,7 +123,7 @@ fn bits_move_in_the_room_that_there_is(rt: HostRuntime) {
 }
 
 /// Adds no bits, and two within the capacity.
-fn grow(vob: &mut Vob<u8>) -> Result<(), vob::VobError> {
+fn grow(vob: &mut Vob<u8>) -> Result<(), VobError> {
     vob.extend_from_slice(&[])?;
     vob.extend(None)?;
     vob.resize(5, true)

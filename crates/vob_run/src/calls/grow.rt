@@ -1,5 +1,5 @@
 //! The commands that add bits to a Vob, or change how many it has room for.
-ghost use Rattle.std.specs.Prelude.{◌≡◌, ◌↔◌, ◌+◌, ◌<◌, ◌++◌, length, OnOk, OnErr, Err};
+ghost use Rattle.std.specs.Prelude.{◌≡◌, ◌≢◌, ◌↔◌, ◌+◌, ◌<◌, ◌++◌, length, OnOk, OnErr, Err};
 ghost use Rattle.vob_block.specs.Packing.{need};
 ghost use Rattle.vob_run.specs.Answer.{answer_of};
 ghost use Rattle.vob_run.specs.Call.{Resize, ExtendSlice, ExtendItems, Reserve, Shrink};
@@ -68,6 +68,7 @@ fn add_items<T: Block>(vob: &mut Vob<T>, bits: &[bool]) -> Result<(), VobError>
         ↔ (usize.MAX < length vob.old.bits + length bits.now) }
     ensures memory { result ≡ Err VobError.Memory → need (length vob.old.bits) T.BITS
         < need (length vob.old.bits + length bits.now) T.BITS }
+    ensures past_end { result ≢ Err VobError.PastEnd }
 {
     vob.reserve(bits.len())?;
     vob.extend(bits.iter().copied())

@@ -74,6 +74,10 @@ pub(crate) fn split_off<T: Block>(vobs: &mut Vec<Vob<T>>, which: usize, index: u
     if which >= count {
         return Reply::Skipped;
     }
+    // This comes before want of memory, also for room in the list.
+    if index > vobs[which].len() {
+        return refused(VobError::PastEnd);
+    }
     if vobs.reserve(1).is_err() {
         return refused(VobError::Memory);
     }
@@ -82,6 +86,6 @@ pub(crate) fn split_off<T: Block>(vobs: &mut Vec<Vob<T>>, which: usize, index: u
             vobs.push_reserved(rest);
             Reply::Made(count)
         }
-        Err(refusal) => refused(VobError::from(refusal)),
+        Err(refusal) => refused(refusal),
     }
 }

@@ -50,9 +50,9 @@ fn lists_are_joined_and_cut(rt: HostRuntime) {
             ),
             (
                 "slice 1011011101; split 0 4; bits 0; bits 1; split 0 0; bits 0; bits 2; \
-                    split 2 5; bits 2; bits 3; split 4 0",
-                "vob 0; vob 1; bits 1011; bits 011101; vob 2; bits -; bits 1011; vob 3; \
-                    bits 1011; bits -; skipped",
+                    split 2 5; split 2 4; bits 2; bits 3; split 4 5",
+                "vob 0; vob 1; bits 1011; bits 011101; vob 2; bits -; bits 1011; refused 4; \
+                    vob 3; bits 1011; bits -; skipped",
             ),
         ],
     );

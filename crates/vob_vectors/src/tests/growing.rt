@@ -5,7 +5,7 @@ use super::support::{
     vob_of,
 };
 use std::process::Abort;
-use vob::Vob;
+use vob::{Vob, VobError};
 use vob_block::Block;
 
 #[test]
@@ -75,9 +75,13 @@ fn joined_bits_are_cut_apart_again(rt: HostRuntime) {
 }
 
 #[test]
-fn a_cut_past_the_end_gives_no_bits(rt: HostRuntime) {
+fn a_cut_past_the_end_is_refused(rt: HostRuntime) {
     let mut vob = vob_of::<u8>(&rt, "101");
-    check_made(&rt, vob.split_off(5), 0, &[]);
+    let refusal = vob.split_off(5).err();
+    same(&rt, "past the end", 5, refusal, Some(VobError::PastEnd));
+    let number = refusal.map(VobError::number);
+    same(&rt, "the number", 5, number, Some(4));
+    check_blocks(&rt, &vob, 3, &[5]);
     check_made(&rt, vob.split_off(3), 0, &[]);
     check_blocks(&rt, &vob, 3, &[5]);
 }

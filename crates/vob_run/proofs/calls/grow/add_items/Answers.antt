@@ -28,4 +28,5 @@ returns g c =
       err = rw all.0 tt;
       too_long = ((λ e. let done = all.0 in cc), (λ e. absurd (not e)));
       memory = λ e. let done = all.0 in cc;
+      past_end = λ e. let done = all.0 in cc;
     }

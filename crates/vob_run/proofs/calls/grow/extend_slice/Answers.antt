@@ -19,5 +19,11 @@ returns g c =
     let reply = c.reply_to.ensures in
     rw (← c.deref.ensures.value)
     (extended_step g.T.Block.BITS _ _ _ vob (ExtendSlice c.args.which more) more
-    (record { told = reply.ok; refusal = reply.err; ok = call.ok; err = call.err })
+    (record {
+      told = reply.ok;
+      refusal = reply.err;
+      ok = call.ok;
+      err = call.err;
+      past_end = call.refused.past_end;
+    })
     refl call.refused.too_long (λ t. t) (λ e. (call.refused.memory e).1))

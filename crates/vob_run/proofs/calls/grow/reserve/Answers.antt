@@ -30,6 +30,12 @@ returns g c =
     sym (lists-set items c.args.which old) ∙ lists-same vob old refl in
     asked_step g.T.Block.BITS _ _ _ vob (Reserve c.args.which c.args.additional)
     (length old.bits + c.args.additional)
-    (record { told = reply.ok; refusal = reply.err; ok = same.0; err = same.1 })
+    (record {
+      told = reply.ok;
+      refusal = reply.err;
+      ok = same.0;
+      err = same.1;
+      past_end = call.refused.past_end;
+    })
     (rw (list_at vob, kept) refl) call.refused.too_long
     (λ e. rw (list_at vob) (call.refused.memory e).1)

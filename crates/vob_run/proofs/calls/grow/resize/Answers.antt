@@ -21,5 +21,11 @@ returns g c =
     let long : (c.resize.result ≡ Err TooLong) ↔ (2 ^ 64 - 1 < 0) =
     ((λ e. let wrong = (rw e at memory).0 in cc), (λ e. absurd (omega (arith, e)))) in
     asked_step g.T.Block.BITS _ _ _ vob (Resize c.args.which c.args.len c.args.value) 0
-    (record { told = reply.ok; refusal = reply.err; ok = call.ok; err = call.err })
+    (record {
+      told = reply.ok;
+      refusal = reply.err;
+      ok = call.ok;
+      err = call.err;
+      past_end = λ e. let wrong = (rw e at memory).0 in cc;
+    })
     (rw (list_at vob) refl) long (λ e. rw (list_at vob) (rw e at memory).2)

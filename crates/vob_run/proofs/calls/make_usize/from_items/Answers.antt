@@ -26,5 +26,5 @@ returns c =
     let makes : Makes 64 items (FromItems bits) bits =
     record { is = rw (le-ltb (2 ^ 64 - 1) (length bits) short) refl; takes = tt } in
     let all = all_taken_if _ _ bits (λ it gives. YieldsList-at gives source) result taken.bits in
-    added_step makes result _ c.added.new.vobs.items not_long all c.added.ensures.ok
+    added_step makes result _ c.added.new.vobs.items (not_long, taken.refused.past_end) all c.added.ensures.ok
     c.added.ensures.err

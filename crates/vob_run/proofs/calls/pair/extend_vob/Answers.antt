@@ -29,6 +29,12 @@ returns g c =
     rw (lent_back lent slice c.args.vobs.now.ok.0 c.extend_from_vob.new.self)
     (asked_step g.T.Block.BITS items c.args.which old lent.first
     (ExtendVob c.args.which c.args.other) (length old.bits + length more)
-    (record { told = reply.ok; refusal = reply.err; ok = call.ok; err = call.err })
+    (record {
+      told = reply.ok;
+      refusal = reply.err;
+      ok = call.ok;
+      err = call.err;
+      past_end = call.refused.past_end;
+    })
     (on_two-found lent _) call.refused.too_long
     (λ e. rw (list_at lent.first, read) (call.refused.memory e).1))

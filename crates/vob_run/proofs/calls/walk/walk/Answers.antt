@@ -31,4 +31,4 @@ returns-in-Err g c =
     rw (c.refused.ensures, c.from.ensures)
     (refused_telling g.T.Block.BITS (lists c.args.vobs.now)
     (Walk c.args.which value bounds.0 bounds.1 pulls) (dealt told) (rw (list_at vob) refl)
-    (λ e. cc) (λ e. cc) tt)
+    ((λ e. cc), (λ e. cc), (λ e. cc)) tt)

@@ -20,6 +20,12 @@ returns g c =
     let push = c.push.ensures in
     let reply = c.reply_to.ensures in
     asked_step width _ _ _ vob call (length bits + 1)
-    (record { told = reply.ok; refusal = reply.err; ok = push.ok; err = push.err })
+    (record {
+      told = reply.ok;
+      refusal = reply.err;
+      ok = push.ok;
+      err = push.err;
+      past_end = push.refused.past_end;
+    })
     (step-push width vob c.args.value) push.refused.too_long
     (λ e. rw (list_at vob) (push.refused.memory e).1)
