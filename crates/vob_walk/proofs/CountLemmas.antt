@@ -1,7 +1,7 @@
 -- How many bits are true in a window, over its blocks.
 use Rattle.std.specs.Cmp.{both_ways}
 use Rattle.std.specs.declared.ops.Bound.TheVariants.{Included, Excluded}
-use Rattle.std.proofs.Common.{◌≡◌, ℕ, zero, suc, ◌+◌, ◌-◌, ◌*◌, ◌/◌, ◌^◌, ◌<◌, ◌≤◌, min, max, Bool, true, false, not, ◌&&◌, nat_le, nat_lt, cond, List, ◌∷◌, ◌++◌, length, get_or, refl, sym, ap, ◌∙◌, arith, inl, inr, length-append, add-mul, mod-lt, div-add-mod', div-mul-le_self}
+use Rattle.std.proofs.Common.{◌≡◌, ◌≢◌, ℕ, zero, suc, ◌+◌, ◌-◌, ◌*◌, ◌/◌, ◌^◌, ◌<◌, ◌≤◌, min, max, Bool, true, false, not, ◌&&◌, nat_le, nat_lt, cond, List, ◌∷◌, ◌++◌, length, get_or, refl, sym, ap, ◌∙◌, arith, inl, inr, length-append, add-mul, mod-lt, div-add-mod', div-mul-le_self}
 use Rattle.std.proofs.Math.Bool.{and_self}
 use Rattle.std.proofs.lemmas.Bool.{cases_lt, and_from, and_parts, lt-ltb, le-leb, ltb-true, leb-true}
 use Rattle.std.specs.List.{range_with_len}
@@ -230,76 +230,81 @@ IsWindow-self : (start stop : ℕ) → start ≤ stop
 IsWindow-self start stop ordered = IsWindow-cut (Included start) (Excluded stop) stop start stop
     (omega arith) ordered (λ i. sym (and_self (nat_lt i stop))) (λ i below. refl)
 
-module _ (w : ℕ) (wide : 0 < w) (xs : List ℕ) {start stop first end : ℕ}
+module _ (w : ℕ) (wide : 0 < w) {start stop first end : ℕ}
     (spans : AreBlocksOf w start stop first end) (ordered : start ≤ stop) where
   pub blocks_met-own : end - first ≡ blocks_met (Included start) (Excluded stop) stop w
   blocks_met-own = blocks_met-blocks w wide (IsWindow-self start stop ordered) spans
 
-  pub ones-nothing : first ≡ end → ones_between w xs start stop ≡ 0
-  ones-nothing none = elim (cases_lt start stop) [
-    | inl some ↦
-        let at = spans.some some in
-        let empty : start / w * w ≡ need stop w * w = ap (λ k. k * w) (sym at.0 ∙ none ∙ at.1) in
-        absurd (omega (arith, need_enough w wide stop, div-mul-le_self start w, empty))
-    | inr past ↦ ones-none w xs start stop past
-  ]
-
-  module _ (some : first < end) where
-    -- the first block holds index start, and the last one ends the window
-    record Ends : Type 0 where
-      from : first * w ≤ start
-      within : start < first * w + w
-      enough : stop ≤ end * w
-
-    ends : Ends
-    ends = elim (cases_lt start stop) [
-      | inl fine ↦
-          let at = spans.some fine in
-          let parts = div-add-mod' start w in
-          let product = ap (λ k. k * w) at.0 in
-          let room = ap (λ k. k * w) at.1 in
-          record {
-            from = omega (arith, parts, product);
-            within = omega (arith, parts, product, mod-lt start wide);
-            enough = omega (arith, need_enough w wide stop, room);
-          }
-      | inr past ↦ absurd (omega (arith, spans.none (omega arith)))
+  module _ (xs : List ℕ) where
+    pub ones-nothing : first ≡ end → ones_between w xs start stop ≡ 0
+    ones-nothing none = elim (cases_lt start stop) [
+      | inl some ↦
+          let at = spans.some some in
+          let empty : start / w * w ≡ need stop w * w = ap (λ k. k * w) (sym at.0 ∙ none ∙ at.1) in
+          absurd (omega (arith, need_enough w wide stop, div-mul-le_self start w, empty))
+      | inr past ↦ ones-none w xs start stop past
     ]
 
-    -- the part of the window in its first block, and in its last
-    abbrev part : ℕ → ℕ
-    part k = ones_between w xs (max start (k * w)) (min stop (k * w + w))
+    module _ (apart : first ≢ end) where
+      -- the first block holds index start, and the last one ends the window
+      record Ends : Type 0 where
+        some : first < end
+        from : first * w ≤ start
+        within : start < first * w + w
+        enough : stop ≤ end * w
 
-    part-is : (k low high : ℕ) → low ≡ max start (k * w) → high ≡ min stop (k * w + w)
-        → part k ≡ ones_between w xs low high
-    part-is k low high first last =
-        ap (λ n. ones_between w xs n (min stop (k * w + w))) (sym first)
-        ∙ ap (ones_between w xs low) (sym last)
+      ends : Ends
+      ends = elim (cases_lt start stop) [
+        | inl fine ↦
+            let at = spans.some fine in
+            let parts = div-add-mod' start w in
+            let product = ap (λ k. k * w) at.0 in
+            let room = ap (λ k. k * w) at.1 in
+            record {
+              some = omega (arith, spans.order, apart);
+              from = omega (arith, parts, product);
+              within = omega (arith, parts, product, mod-lt start wide);
+              enough = omega (arith, need_enough w wide stop, room);
+            }
+        | inr past ↦ absurd (omega (arith, spans.order, apart, spans.none (omega arith)))
+      ]
 
-    -- one block alone holds the whole window
-    pub ones-alone : (last : ℕ) → last + 1 ≡ end → first ≡ last
-        → part first ≡ ones_between w xs start stop
-    ones-alone last is alone =
-        let whole : end * w ≡ first * w + w =
-        ap (λ k. k * w) (omega arith) ∙ product-more w first in
-        part-is first start stop (omega (arith, ends.from)) (omega (arith, ends.enough, whole))
+      -- the part of the window in block k
+      abbrev part : ℕ → ℕ
+      part k = ones_between w xs (max start (k * w)) (min stop (k * w + w))
 
-    -- two blocks or more have a part in them at each end, and whole blocks between them
-    pub ones-parts : (last : ℕ) → last + 1 ≡ end → first < last
-        → part first + ones_between w xs ((first + 1) * w) (last * w) + part last
-        ≡ ones_between w xs start stop
-    ones-parts last is more =
-        let after = product-more w first in
-        let whole : end * w ≡ last * w + w = ap (λ k. k * w) (sym is) ∙ product-more w last in
-        let between = mul-le (first + 1) w last w (omega arith) (omega arith) in
-        let short = spans.below last (omega arith) in
-        let head = part-is first start ((first + 1) * w) (omega (arith, ends.from)) (omega arith) in
-        let tail = part-is last (last * w) stop (omega (arith, ends.within))
-        (omega (arith, ends.enough, whole)) in
-        let rest = ones-split w xs ((first + 1) * w) (last * w) stop between (omega arith) in
-        let all = ones-split w xs start ((first + 1) * w) stop (omega (arith, ends.within))
-        (omega arith) in
-        omega (arith, head, tail, rest, all)
+      part-is : (k low high : ℕ) → low ≡ max start (k * w) → high ≡ min stop (k * w + w)
+          → part k ≡ ones_between w xs low high
+      part-is k low high first last =
+          ap (λ n. ones_between w xs n (min stop (k * w + w))) (sym first)
+          ∙ ap (ones_between w xs low) (sym last)
+
+      -- one block alone holds the whole window
+      pub ones-alone : first ≡ end - 1 → part first ≡ ones_between w xs start stop
+      ones-alone alone =
+          let whole : end * w ≡ first * w + w =
+          ap (λ k. k * w) (omega (arith, ends.some)) ∙ product-more w first in
+          part-is first start stop (omega (arith, ends.from)) (omega (arith, ends.enough, whole))
+
+      -- two blocks or more have a part in them at each end, and whole blocks between them
+      pub ones-parts : first ≢ end - 1
+          → part first + ones_between w xs ((first + 1) * w) ((end - 1) * w) + part (end - 1)
+          ≡ ones_between w xs start stop
+      ones-parts more =
+          let last = end - 1 in
+          let after = product-more w first in
+          let whole : end * w ≡ last * w + w =
+          ap (λ k. k * w) (omega (arith, ends.some)) ∙ product-more w last in
+          let between = mul-le (first + 1) w last w (omega (arith, ends.some, more)) (omega arith) in
+          let short = spans.below last (omega (arith, ends.some)) in
+          let head = part-is first start ((first + 1) * w) (omega (arith, ends.from))
+          (omega (arith, after, between, short)) in
+          let tail = part-is last (last * w) stop (omega (arith, after, between, ends.within))
+          (omega (arith, ends.enough, whole)) in
+          let rest = ones-split w xs ((first + 1) * w) (last * w) stop between (omega (arith, short)) in
+          let all = ones-split w xs start ((first + 1) * w) stop (omega (arith, after, ends.within))
+          (omega (arith, between, short)) in
+          omega (arith, head, tail, rest, all)
 
 -- what both ends and the unread blocks between them have left
 pub length-left : (w front_at front back_at back : ℕ) (between : List ℕ)
