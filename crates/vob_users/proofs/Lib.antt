@@ -1,4 +1,8 @@
+mod FaultLemmas
+mod FirstLemmas
 mod FlowLemmas
+mod GrammarLemmas
+mod GrowthLemmas
 mod LiveLemmas
 mod MatrixLemmas
 mod PassLemmas

@@ -7,8 +7,8 @@ use Rattle.vob_block.specs.Packing.{item}
 use Rattle.vob_users.specs.declared.live.Flow.{Flow}
 use Rattle.vob_users.specs.declared.live.Live.{Live}
 use Rattle.vob_users.specs.Live.{AreSets, IsLive, IsLiveNext, IsLiveHere, IsSolution, AreWithin, bits_of}
-use Rattle.vob_users.specs.LivePass.{AreUnderway, live_places, IsPass}
-use Rattle.vob_users.proofs.FlowLemmas.{same_node}
+use Rattle.vob_users.specs.LivePass.{AreUnderway, true_places, IsPass}
+use Rattle.vob_users.proofs.FaultLemmas.{same_at}
 use Rattle.vob_users.proofs.SetLemmas.{Any-map}
 
 -- what is live before some node stays so in greater sets
@@ -34,8 +34,8 @@ module _ (vars : ℕ) (nodes : List Flow) where
   pub record IsWalked (starts before after : List (List Bool)) (k : ℕ) (changed : Bool)
       : Type 0 where
     pub underway : AreUnderway vars nodes before after
-    pub grown : live_places starts ≤ live_places after
-    pub more : changed ≡ true → live_places starts < live_places after
+    pub grown : true_places starts ≤ true_places after
+    pub more : changed ≡ true → true_places starts < true_places after
     pub none : changed ≡ false → (n : ℕ) (flow : Flow) → k ≤ n → slice_get nodes n ≡ Some flow →
         (v : ℕ) → IsLiveNext before flow v → IsLive after n v
 
@@ -112,7 +112,7 @@ module _ (vars : ℕ) (nodes : List Flow) where
         IsLive before' k v ↔ IsLiveHere after' there k v
     step_before k there is v = elim (cases_eq k n) [
       | inl e ↦
-          let this = same_node nodes n k flow there (sym e) s.is is in
+          let this = same_at nodes n k flow there (sym e) s.is is in
           subst (λ j. IsLive before' j v ↔ IsLiveHere after' there j v) (sym e)
           (subst (λ f. IsLive before' n v ↔ IsLiveHere after' f n v) this (at_this v))
       | inr other ↦ at_another k there other is v
@@ -123,7 +123,7 @@ module _ (vars : ℕ) (nodes : List Flow) where
     step_after k there is v live =
         IsLiveNext-wider before before' there v before_wider (elim (cases_eq k n) [
           | inl e ↦
-              let this = same_node nodes n k flow there (sym e) s.is is in
+              let this = same_at nodes n k flow there (sym e) s.is is in
               subst (λ f. IsLiveNext before f v) this
               (elim ((s.after_here v).0 (here_is after' k v e live)) [
                 | inl old ↦ h.after_has n flow s.is v old
@@ -175,8 +175,8 @@ module _ (vars : ℕ) (nodes : List Flow) where
   module _ (starts before after before' after' : List (List Bool)) (n : ℕ) (flow : Flow)
       (changed : Bool) (h : IsWalked starts before after (n + 1) changed)
       (s : IsStep n flow before after before' after')
-      (grown : live_places after ≤ live_places after') where
-    pub IsWalked-more : live_places after < live_places after' →
+      (grown : true_places after ≤ true_places after') where
+    pub IsWalked-more : true_places after < true_places after' →
         IsWalked starts before' after' n true
     IsWalked-more grew = record {
       underway = AreUnderway-step n flow before after before' after' h.underway s;
@@ -194,7 +194,7 @@ module _ (vars : ℕ) (nodes : List Flow) where
           let any' = IsLiveNext-wider before' before there v same any in
           elim (cases_eq k n) [
             | inl here ↦
-                let this = same_node nodes k n there flow here is s.is in
+                let this = same_at nodes k n there flow here is s.is in
                 subst (λ j. IsLive after' j v) (sym here)
                 ((s.after_here v).1 (inr (subst (λ f. IsLiveNext before f v) this any')))
             | inr other ↦

@@ -105,6 +105,15 @@ IsEntryWritten-items items i j value d after inside written =
     subst (IsEntryWritten (bits_of items) i j value)
     (sym (map-set (λ v. v.bits) items i after)) set_row
 
+-- and the row as it is then
+pub IsWritten-items : (items : List BitVector) (i j : ℕ) (value : Bool) (d after : BitVector) →
+    i < length items → IsWritten (get_or items i d).bits j value after.bits →
+    IsWritten (row_of (bits_of items) i) j value (row_of (bits_of (set items i after)) i)
+IsWritten-items items i j value d after inside written =
+    let there = ap (λ rs. row_of rs i) (map-set (λ v. v.bits) items i after)
+    ∙ row_of-there (bits_of items) i after.bits (omega (arith, length-map items (λ v. v.bits))) in
+    rw (row_of-items items i d inside, there) written
+
 pub IsRowCombined-items : (items after : List BitVector) (i k : ℕ) (row other : List Bool)
     (new : BitVector) (gained : Bool) → row_of (bits_of items) i ≡ row →
     row_of (bits_of items) k ≡ other → after ≡ set items i new →

@@ -13,7 +13,7 @@ use Rattle.vob.specs.Vob.{BitVector}
 use Rattle.vob_walk.specs.Matches.{has_value}
 use Rattle.vob_users.specs.declared.live.Flow.{Flow}
 use Rattle.vob_users.specs.Live.{AreSets, IsLive, IsLiveNext, IsSolution, bits_of}
-use Rattle.vob_users.specs.LivePass.{IsSetOf, AreReads, AreUnderway, live_places}
+use Rattle.vob_users.specs.LivePass.{IsSetOf, AreReads, AreUnderway, true_places}
 use Rattle.vob_users.proofs.SetLemmas.{item-replicate, AllZip-length, AllZip-at, AllZip-all}
 
 -- a node has a set where something is live
@@ -115,13 +115,13 @@ IsSolution-whole vars nodes before after h none = record {
   after_is = λ n flow is v. (h.after_has n flow is v, none n flow is v);
 }
 
-pub live_places_le : (vars nodes : ℕ) (sets : List (List Bool)) → AreSets vars nodes sets →
-    live_places sets ≤ nodes * vars
-live_places_le vars nodes sets h =
+pub true_places_le : (vars nodes : ℕ) (sets : List (List Bool)) → AreSets vars nodes sets →
+    true_places sets ≤ nodes * vars
+true_places_le vars nodes sets h =
     let small : All (λ s. count_of true s ≤ vars) sets =
     λ k d less.
     omega (arith, count_by-le-length (has_value true) (get_or sets k d), h.long k d less) in
-    subst (λ m. live_places sets ≤ m * vars) h.count (sum_by-le (count_of true) vars sets small)
+    subst (λ m. true_places sets ≤ m * vars) h.count (sum_by-le (count_of true) vars sets small)
 
 -- ---- the number of passes
 

@@ -1,4 +1,7 @@
 pub mod FlowFaults
+pub mod Grammar
+pub mod GrammarFaults
+pub mod GrammarPass
 pub mod Live
 pub mod LivePass
 pub mod Matrix

@@ -37,7 +37,7 @@ pub record IsSolution (vars : ℕ) (nodes : List Flow) (before after : List (Lis
   pub after_is : (n : ℕ) (flow : Flow) → slice_get nodes n ≡ Some flow →
       (v : ℕ) → IsLive after n v ↔ IsLiveNext before flow v
 
--- what is live in the first sets is live in the second
+-- what is in the first sets is in the second
 abbrev pub AreWithin : List (List Bool) → List (List Bool) → Type 0
 AreWithin sets others = (n v : ℕ) → IsLive sets n v → IsLive others n v
 

@@ -76,15 +76,15 @@ pub record AreReady (vars : ℕ) (nodes : List Flow) (possible : List BitVector)
   pub underway : AreUnderway vars nodes (bits_of live.before.items) (bits_of live.after.items)
 
 -- how many places of some sets are true
-abbrev pub live_places : List (List Bool) → ℕ
-live_places sets = sum_by (count_of true) sets
+abbrev pub true_places : List (List Bool) → ℕ
+true_places sets = sum_by (count_of true) sets
 
 -- sets that got more after some node, or none where those after the nodes have all of them
 pub record IsPass (vars : ℕ) (nodes : List Flow) (start end : Live) (changed : Bool)
     : Type 0 where
   pub underway : AreUnderway vars nodes (bits_of end.before.items) (bits_of end.after.items)
   pub more : changed ≡ true →
-      live_places (bits_of start.after.items) < live_places (bits_of end.after.items)
+      true_places (bits_of start.after.items) < true_places (bits_of end.after.items)
   pub none : changed ≡ false → (n : ℕ) (flow : Flow) → slice_get nodes n ≡ Some flow →
       (v : ℕ) → IsLiveNext (bits_of end.before.items) flow v →
       IsLive (bits_of end.after.items) n v

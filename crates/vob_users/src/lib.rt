@@ -2,6 +2,7 @@
 //! makes.
 #![tactic(auto)]
 
+pub mod grammar;
 pub mod joined;
 pub mod live;
 pub mod matrix;

@@ -1,7 +1,7 @@
 //! A matrix of bits, its transitive closure and its transpose: a user of `or` and of the walk over
 //! set bits.
 ghost use Rattle.std.specs.Prelude.{◌≡◌, ◌≢◌, ◌↔◌, ◌<◌, ◌≤◌, ℕ, [], false, length, map, replicate, slice_get, IsOk, IsTrue, IfOk};
-ghost use Rattle.vob.specs.Bits.{GainsBits};
+ghost use Rattle.vob.specs.Bits.{GainsBits, IsWritten};
 ghost use Rattle.vob_block.specs.Pointwise.{differ};
 ghost use Rattle.vob_users.specs.Live.{bits_of};
 ghost use Rattle.vob_users.specs.Matrix.{row_of, entry, AreLong, GetsRow, HaveShapeOf, IsClosure, IsEntryWritten, IsTransposed};
@@ -80,6 +80,8 @@ impl BitMatrix {
         ensures entries { IsEntryWritten self.old.rows row column value self.new.rows }
         ensures columns { self.new.columns ≡ self.old.columns }
         ensures differs { result ≡ differ (entry self.old.rows row column) value }
+        ensures written { IsWritten (row_of self.old.rows row) column value
+            (row_of self.new.rows row) }
     {
         self.rows[row].set(column, value)
     }

@@ -33,7 +33,7 @@ fn matrix_of(rt: &(impl Abort + AllocGlobal), columns: usize, rows: &[&str]) -> 
 }
 
 /// Compares the number of rows and of columns, and each row, with digits.
-fn check_rows(rt: &impl Abort, matrix: &BitMatrix, columns: usize, wanted: &[&str]) {
+pub fn check_rows(rt: &impl Abort, matrix: &BitMatrix, columns: usize, wanted: &[&str]) {
     same(rt, "rows", 0, matrix.rows(), wanted.len());
     same(rt, "columns", 0, matrix.columns(), columns);
     for (row, digits) in wanted.iter().enumerate() {

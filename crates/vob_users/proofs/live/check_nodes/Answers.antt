@@ -3,7 +3,7 @@ use Rattle.std.proofs.Common.{◌∙◌, refl, sym, subst, length, arith, List, 
 use Rattle.std.proofs.lemmas.Bool.{false≢true}
 use Rattle.std.proofs.lemmas.Option.{slice_get_read}
 use Rattle.vob_users.specs.FlowFaults.{IsSound}
-use Rattle.vob_users.proofs.FlowLemmas.{nodes_more, nodes_all}
+use Rattle.vob_users.proofs.FaultLemmas.{below_more_at, all_below_at}
 use Rattle.vob_users.proofs.live.check_nodes.Goals as goal
 
 pub returns-then-not-names_variables-clause-err : goal.returns-then-not-names_variables-clause-err
@@ -46,9 +46,10 @@ loop-node-preserved c =
     (c.all_below.ensures.0 c.if-not-all_below.false) in
     let sound : IsSound c.args.vars nodes flow =
     (c.names_variables.ensures.0 c.if-not-names_variables.false, next) in
-    nodes_more (IsSound c.args.vars nodes) nodes n flow is sound c.loop-node.invariant
+    below_more_at (IsSound c.args.vars nodes) nodes n flow is sound c.loop-node.invariant
 
 pub returns-clause-ok : goal.returns-clause-ok
 returns-clause-ok c =
     let nodes = c.args.nodes.now in
-    nodes_all (IsSound c.args.vars nodes) nodes c.loop-node.node (omega arith) c.loop-node.invariant
+    all_below_at (IsSound c.args.vars nodes) nodes c.loop-node.node (omega arith)
+    c.loop-node.invariant

@@ -2,7 +2,7 @@
 use Rattle.std.proofs.Common.{◌<◌, ◌∙◌, length, sym, ap, subst, arith}
 use Rattle.std.proofs.lemmas.List.{length-map}
 use Rattle.vob.specs.Bits.{IsWritten}
-use Rattle.vob_users.proofs.ShapeLemmas.{row_of-items, AreLong-kept, IsEntryWritten-items}
+use Rattle.vob_users.proofs.ShapeLemmas.{row_of-items, AreLong-kept, IsEntryWritten-items, IsWritten-items}
 use Rattle.vob_users.proofs.matrix.BitMatrix.set.Goals as goal
 
 pub set-requires : goal.set-requires
@@ -39,3 +39,14 @@ returns-clause-entries c =
     c.index_mut.ensures.value c.set.ensures.written in
     rw (← c.self.view_is)
     (IsEntryWritten-items items row c.args.column c.args.value _ c.set.new.self inside written)
+
+pub returns-clause-written : goal.returns-clause-written
+returns-clause-written c =
+    let items = c.self.inside.rows.items in
+    let row = c.args.row in
+    let count = ap (λ m. length m.rows) c.self.view_is in
+    let inside : row < length items = omega (arith, length-map items (λ v. v.bits), count) in
+    let written = subst (λ v. IsWritten v.bits c.args.column c.args.value c.set.new.self.bits)
+    c.index_mut.ensures.value c.set.ensures.written in
+    rw (← c.self.view_is)
+    (IsWritten-items items row c.args.column c.args.value _ c.set.new.self inside written)

@@ -1,0 +1,214 @@
+//! Which nonterminals of grammars can become empty, and which terminals can begin what they stand
+//! for: grammars worked by hand, a long chain, and rules with symbols that aren't there.
+use super::matrix::check_rows;
+use super::support::{check_bits, same};
+use std::process::Abort;
+use std::test::Fail;
+use vob_users::grammar::{Grammar, GrammarError, Rule, Symbol, first_sets, nullable};
+
+/// A grammar of so many symbols, without a rule.
+fn empty(rt: &impl AllocGlobal, nonterminals: usize, terminals: usize) -> Grammar {
+    Grammar {
+        terminals,
+        nonterminals,
+        rules: Vec::new(rt.alloc()),
+    }
+}
+
+/// Puts a rule behind the others.
+fn add(rt: &(impl Abort + AllocGlobal), grammar: &mut Grammar, left: usize, right: &[Symbol]) {
+    let right = right.to_vec(rt.alloc()).expect(rt, "memory");
+    grammar
+        .rules
+        .push(Rule { left, right })
+        .expect(rt, "memory");
+}
+
+/// The place of a name, or a number that no symbol has.
+fn place(names: &str, name: u8) -> usize {
+    names
+        .as_bytes()
+        .iter()
+        .position(|other| *other == name)
+        .unwrap_or(usize::MAX)
+}
+
+/// The symbol of a name: the first nonterminals are named by `nonterminals`, the first terminals by
+/// `terminals`.
+fn symbol(nonterminals: &str, terminals: &str, name: u8) -> Symbol {
+    let nonterminal = place(nonterminals, name);
+    if nonterminal == usize::MAX {
+        Symbol::Terminal(place(terminals, name))
+    } else {
+        Symbol::Nonterminal(nonterminal)
+    }
+}
+
+/// Puts the rule of a text behind the others: a name for the left side, and behind `=` one for each
+/// symbol of the right side.
+fn add_text(
+    rt: &(impl Abort + AllocGlobal),
+    grammar: &mut Grammar,
+    nonterminals: &str,
+    terminals: &str,
+    text: &str,
+) {
+    let mut right = Vec::new(rt.alloc());
+    for name in text.as_bytes().iter().skip(2) {
+        right
+            .push(symbol(nonterminals, terminals, *name))
+            .expect(rt, "memory");
+    }
+    let left = text
+        .as_bytes()
+        .first()
+        .map_or(usize::MAX, |name| place(nonterminals, *name));
+    add(rt, grammar, left, &right);
+}
+
+/// The grammar of some texts.
+fn grammar_of(
+    rt: &(impl Abort + AllocGlobal),
+    nonterminals: &str,
+    terminals: &str,
+    rules: &[&str],
+) -> Grammar {
+    let mut grammar = empty(rt, nonterminals.len(), terminals.len());
+    for text in rules {
+        add_text(rt, &mut grammar, nonterminals, terminals, text);
+    }
+    grammar
+}
+
+/// Compares both sets with digits: one for each nonterminal, and for each of these a row with one for
+/// each terminal.
+fn check_sets(rt: &(impl Abort + AllocGlobal), grammar: &Grammar, null: &str, rows: &[&str]) {
+    check_bits(rt, &nullable(rt.alloc(), grammar).expect(rt, "a set"), null);
+    let sets = first_sets(rt.alloc(), grammar).expect(rt, "sets");
+    check_bits(rt, &sets.nullable, null);
+    check_rows(rt, &sets.first, grammar.terminals, rows);
+}
+
+fn check_bad(rt: &(impl Abort + AllocGlobal), grammar: &Grammar, rule: usize) {
+    let refusal = GrammarError::BadSymbol { rule };
+    assert_eq!(rt; nullable(rt.alloc(), grammar).err(), Some(refusal));
+    assert_eq!(rt; first_sets(rt.alloc(), grammar).err(), Some(refusal));
+}
+
+#[test]
+fn expressions_have_the_sets_of_the_textbooks(rt: HostRuntime) {
+    // e stands for E', t for T', and i for id. Only e and t have an empty right side, and each
+    // other right side has a terminal or a nonterminal that isn't nullable. F begins with ( or id,
+    // and so does T, and so E; e begins with +, t with *.
+    let grammar = grammar_of(
+        &rt,
+        "EeTtF",
+        "+*()i",
+        &["E=Te", "e=+Te", "e=", "T=Ft", "t=*Ft", "t=", "F=(E)", "F=i"],
+    );
+    check_sets(
+        &rt,
+        &grammar,
+        "01010",
+        &["00101", "10000", "00101", "01000", "00101"],
+    );
+}
+
+#[test]
+fn what_stands_behind_nullables_begins_too(rt: HostRuntime) {
+    // B, C and D can each be empty, so A can, and begins with what any of them begins with. A's
+    // rule comes first, so that one pass doesn't find it.
+    let chain = ["A=BCD", "B=b", "B=", "C=c", "C=", "D=d", "D="];
+    let grammar = grammar_of(&rt, "ABCD", "bcd", &chain);
+    check_sets(&rt, &grammar, "1111", &["111", "100", "010", "001"]);
+
+    // C can't be empty here, so that D comes too late, and A isn't nullable.
+    let cut = ["A=BCD", "B=b", "B=", "C=c", "D=d", "D="];
+    let grammar = grammar_of(&rt, "ABCD", "bcd", &cut);
+    check_sets(&rt, &grammar, "0101", &["110", "100", "010", "001"]);
+
+    // Behind a terminal nothing counts.
+    let grammar = grammar_of(&rt, "AB", "xyb", &["A=BxBy", "B=", "B=b"]);
+    check_sets(&rt, &grammar, "01", &["101", "001"]);
+}
+
+#[test]
+fn a_nonterminal_that_begins_itself_gets_no_more(rt: HostRuntime) {
+    // A b, A b b, .. : A can be empty, so that b begins it.
+    let grammar = grammar_of(&rt, "A", "ab", &["A=Ab", "A="]);
+    check_sets(&rt, &grammar, "1", &["01"]);
+    // Here A begins with a alone.
+    let grammar = grammar_of(&rt, "A", "ab", &["A=Ab", "A=a"]);
+    check_sets(&rt, &grammar, "0", &["10"]);
+    // Nothing comes to an end here, and the least sets have nothing.
+    let grammar = grammar_of(&rt, "AB", "a", &["A=B", "B=A", "A=AA"]);
+    check_sets(&rt, &grammar, "00", &["0", "0"]);
+}
+
+#[test]
+fn without_rules_all_sets_are_empty(rt: HostRuntime) {
+    check_sets(&rt, &empty(&rt, 0, 0), "", &[]);
+    check_sets(&rt, &empty(&rt, 2, 3), "00", &["000", "000"]);
+    // B has no rule, and so nothing behind it counts.
+    let grammar = grammar_of(&rt, "AB", "a", &["A=Ba"]);
+    check_sets(&rt, &grammar, "00", &["0", "0"]);
+}
+
+#[test]
+fn a_chain_longer_than_a_block_is_gone_up(rt: HostRuntime) {
+    // Nonterminal n may become n + 1, or terminal n: it begins with terminal n and all behind it.
+    // The last may become empty, and so all can.
+    let mut grammar = empty(&rt, 70, 70);
+    for n in 0..70 {
+        add(&rt, &mut grammar, n, &[Symbol::Terminal(n)]);
+        if n < 69 {
+            add(&rt, &mut grammar, n, &[Symbol::Nonterminal(n + 1)]);
+        }
+    }
+    add(&rt, &mut grammar, 69, &[]);
+    let sets = first_sets(rt.alloc(), &grammar).expect(&rt, "sets");
+    for n in 0..70 {
+        same(&rt, "nullable", n, sets.nullable.get(n), Some(true));
+        for t in 0..70 {
+            same(&rt, "terminal", t, sets.first.get(n, t), Some(n <= t));
+        }
+    }
+}
+
+#[test]
+fn the_first_rule_with_a_bad_symbol_is_named(rt: HostRuntime) {
+    let mut grammar = empty(&rt, 2, 3);
+    add(
+        &rt,
+        &mut grammar,
+        1,
+        &[Symbol::Terminal(2), Symbol::Nonterminal(1)],
+    );
+    check_sets(&rt, &grammar, "00", &["000", "001"]);
+    add(
+        &rt,
+        &mut grammar,
+        0,
+        &[Symbol::Terminal(0), Symbol::Terminal(3)],
+    );
+    check_bad(&rt, &grammar, 1);
+    add(&rt, &mut grammar, 2, &[]);
+    check_bad(&rt, &grammar, 1);
+
+    let mut grammar = empty(&rt, 1, 0);
+    add(&rt, &mut grammar, 0, &[Symbol::Nonterminal(1)]);
+    check_bad(&rt, &grammar, 0);
+
+    let mut grammar = empty(&rt, 0, 1);
+    add(&rt, &mut grammar, 0, &[Symbol::Terminal(0)]);
+    check_bad(&rt, &grammar, 0);
+}
+
+#[test]
+fn a_refusal_of_a_grammar_says_which_rule(rt: HostRuntime) -> Result<(), Fail> {
+    let symbol = format!(in rt.alloc(); "{}", GrammarError::BadSymbol { rule: 12 })?;
+    assert_eq!(rt; symbol.as_str(), "rule 12 names a symbol that isn't there");
+    let memory = format!(in rt.alloc(); "{}", GrammarError::Memory)?;
+    assert_eq!(rt; memory.as_str(), "out of memory");
+    Ok(())
+}
