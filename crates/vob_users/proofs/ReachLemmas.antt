@@ -1,69 +1,14 @@
 -- Rows that are added to the nodes reached, one after another.
-use Rattle.std.proofs.Common.{◌≡◌, ◌≢◌, ℕ, ◌+◌, ◌-◌, ◌<◌, ◌≤◌, Bool, true, false, ◌||◌, List, [], ◌∷◌, length, map, get_or, refl, sym, ap, ◌∙◌, subst, arith, inl, inr}
-use Rattle.std.proofs.lemmas.Bool.{cases_eq, cases_lt, false≢true}
+use Rattle.std.proofs.Common.{◌≡◌, ℕ, ◌+◌, ◌-◌, ◌<◌, ◌≤◌, Bool, true, false, ◌||◌, List, [], length, map, get_or, sym, ap, ◌∙◌, subst, arith, inl, inr}
+use Rattle.std.proofs.lemmas.Bool.{cases_eq, cases_lt, false≢true, or_cases, or_left, or_right}
 use Rattle.std.proofs.lemmas.List.{get_or_past, get_or-map, length-map}
 use Rattle.std.proofs.lemmas.List.Elements.{All-map}
+use Rattle.std.proofs.lemmas.List.Sums.{count_by-le-length}
 use Rattle.vob_block.specs.Packing.{item}
-use Rattle.vob_block.specs.Pointwise.{pointwise}
-use Rattle.vob_block.proofs.PointwiseLemmas.{length-pointwise, item-pointwise}
-use Rattle.vob.specs.Same.{same_bits}
-use Rattle.vob.proofs.SameLemmas.{same_bits_decides}
-use Rattle.vob_users.specs.Reachable.{IsMatrix, IsWithin, IsClosed, IsRound, trues}
-
--- ---- how many bits are true
-
-pub trues_le : (bits : List Bool) → trues bits ≤ length bits
-trues_le [] = omega arith
-trues_le (true ∷ bits) = omega (arith, trues_le bits)
-trues_le (false ∷ bits) = omega (arith, trues_le bits)
-
--- or takes no true bit away
-or_keeps : (bits row : List Bool) → length bits ≡ length row →
-    trues bits ≤ trues (pointwise ◌||◌ bits row)
-or_keeps [] row e = omega arith
-or_keeps (bit ∷ bits) [] e = absurd (omega arith)
-or_keeps (true ∷ bits) (other ∷ row) e = omega (arith, or_keeps bits row (omega arith))
-or_keeps (false ∷ bits) (true ∷ row) e = omega (arith, or_keeps bits row (omega arith))
-or_keeps (false ∷ bits) (false ∷ row) e = or_keeps bits row (omega arith)
-
--- and where it changes the list it makes a bit more true
-pub or_adds : (bits row : List Bool) → length bits ≡ length row → pointwise ◌||◌ bits row ≢ bits →
-    trues bits < trues (pointwise ◌||◌ bits row)
-or_adds [] row e changed = absurd (changed refl)
-or_adds (bit ∷ bits) [] e changed = absurd (omega arith)
-or_adds (true ∷ bits) (other ∷ row) e changed =
-    let rest = or_adds bits row (omega arith) (λ same. changed (ap (λ bs. true ∷ bs) same)) in
-    omega (arith, rest)
-or_adds (false ∷ bits) (true ∷ row) e changed = omega (arith, or_keeps bits row (omega arith))
-or_adds (false ∷ bits) (false ∷ row) e changed =
-    or_adds bits row (omega arith) (λ same. changed (ap (λ bs. false ∷ bs) same))
-
--- ---- one bit or another
-
-or_first : (b c : Bool) → b ≡ true → (b || c) ≡ true
-or_first true c e = refl
-or_first false c e = absurd (false≢true e)
-
-or_second : (b c : Bool) → c ≡ true → (b || c) ≡ true
-or_second true c e = refl
-or_second false c e = e
-
-or_either : (b c d : Bool) → (b ≡ true → d ≡ true) → (c ≡ true → d ≡ true) →
-    (b || c) ≡ true → d ≡ true
-or_either true c d first second e = first refl
-or_either false c d first second e = second e
-
--- lists that aren't unequal are equal
-by_test : (r : Bool) (bits others : List Bool) → (r ≡ true → bits ≡ others) →
-    (bits ≡ others → r ≡ true) → ((bits ≢ others) → false ≡ true) → bits ≡ others
-by_test true bits others is test stays = is refl
-by_test false bits others is test stays =
-    absurd (false≢true (stays (λ same. absurd (false≢true (test same)))))
-
-pub not_unequal : (bits others : List Bool) → ((bits ≢ others) → false ≡ true) → bits ≡ others
-not_unequal bits others stays =
-    let decides = same_bits_decides bits others in
-    by_test (same_bits bits others) bits others decides.0 decides.1 stays
+use Rattle.vob_walk.specs.Matches.{has_value}
+use Rattle.vob.specs.Bits.{count_of, AreCombined, GainsBits}
+use Rattle.vob_users.specs.Reachable.{IsMatrix, IsWithin, IsClosed, IsRound}
+use Rattle.vob_users.proofs.SetLemmas.{GainsBits-more}
 
 -- ---- the rows of a matrix, as the code reads them
 
@@ -106,8 +51,7 @@ module _ (rows : List (List Bool)) (starts : List Bool) where
     pub kept : IsWithin starts bits
     pub least : (others : List Bool) → IsWithin starts others → IsClosed rows others →
         IsWithin bits others
-    pub grown : trues starts ≤ trues bits
-    pub more : changed ≡ true → trues starts < trues bits
+    pub gains : GainsBits changed starts bits
     pub none : changed ≡ false → (i : ℕ) → i < k → item bits i ≡ true →
         IsWithin (get_or rows i []) bits
 
@@ -115,8 +59,7 @@ module _ (rows : List (List Bool)) (starts : List Bool) where
   pub record IsRowAdded (bits : List Bool) (k : ℕ) (row after : List Bool) : Type 0 where
     pub reached : item bits k ≡ true
     pub is : get_or rows k [] ≡ row
-    pub long : length bits ≡ length row
-    pub added : after ≡ pointwise ◌||◌ bits row
+    pub added : AreCombined ◌||◌ bits row after
 
   module _ (bits : List Bool) (k : ℕ) (changed : Bool) (h : AreAdded bits k changed) where
     -- a node that isn't reached
@@ -125,8 +68,7 @@ module _ (rows : List (List Bool)) (starts : List Bool) where
       count = h.count;
       kept = h.kept;
       least = h.least;
-      grown = h.grown;
-      more = h.more;
+      gains = h.gains;
       none = λ e i less reached. elim (cases_eq i k) [
         | inl here ↦
             absurd (false≢true (sym unreached ∙ ap (item bits) (sym here) ∙ reached))
@@ -134,15 +76,13 @@ module _ (rows : List (List Bool)) (starts : List Bool) where
       ];
     }
 
-    module _ (row after : List Bool) (r : IsRowAdded bits k row after) where
-      each : (i : ℕ) → item after i ≡ (item bits i || item row i)
-      each i = ap (λ bs. item bs i) r.added ∙ item-pointwise ◌||◌ bits row r.long refl i
-
+    module _ (row after : List Bool) (r : IsRowAdded bits k row after) (flag : Bool)
+        (gains : GainsBits flag bits after) where
       wider : IsWithin bits after
-      wider i e = each i ∙ or_first (item bits i) (item row i) e
+      wider i e = r.added.each i ∙ or_left (item bits i) (item row i) e
 
       its_row : IsWithin row after
-      its_row i e = each i ∙ or_second (item bits i) (item row i) e
+      its_row i e = r.added.each i ∙ or_right (item bits i) (item row i) e
 
       still_least : (others : List Bool) → IsWithin starts others → IsClosed rows others →
           IsWithin after others
@@ -150,35 +90,30 @@ module _ (rows : List (List Bool)) (starts : List Bool) where
           let mine = h.least others within closed in
           let led : IsWithin row others =
           subst (λ (bs : List Bool). IsWithin bs others) r.is (closed k (mine k r.reached)) in
-          let now = sym (each i) ∙ e in
-          or_either (item bits i) (item row i) (item others i) (mine i) (led i) now
+          elim (or_cases (item bits i) (item row i) (sym (r.added.each i) ∙ e)) [
+            | inl old ↦ mine i old
+            | inr new ↦ led i new
+          ]
 
       -- its row adds a node
-      pub AreAdded-more : after ≢ bits → AreAdded after (k + 1) true
-      AreAdded-more differs =
-          let more = or_adds bits row r.long (λ same. differs (r.added ∙ same)) in
-          let adds : trues bits < trues after =
-          subst (λ (bs : List Bool). trues bits < trues bs) (sym r.added) more in
-          record {
-            count = ap length r.added ∙ length-pointwise ◌||◌ bits row r.long ∙ h.count;
-            kept = λ i e. wider i (h.kept i e);
-            least = still_least;
-            grown = omega (arith, h.grown, adds);
-            more = λ _. omega (arith, h.grown, adds);
-            none = λ e. absurd (false≢true (sym e));
-          }
+      pub AreAdded-more : flag ≡ true → AreAdded after (k + 1) true
+      AreAdded-more up = record {
+        count = r.added.len ∙ h.count;
+        kept = λ i e. wider i (h.kept i e);
+        least = still_least;
+        gains = GainsBits-more h.gains gains up;
+        none = λ e. absurd (false≢true (sym e));
+      }
 
       -- its row adds none
-      pub AreAdded-same : ((after ≢ bits) → false ≡ true) → AreAdded after (k + 1) changed
-      AreAdded-same stays =
-          let same : after ≡ bits = not_unequal after bits stays in
+      pub AreAdded-same : flag ≡ false → AreAdded after (k + 1) changed
+      AreAdded-same quiet =
+          let same = gains.same quiet in
           record {
-            count = ap length same ∙ h.count;
+            count = r.added.len ∙ h.count;
             kept = λ i e. wider i (h.kept i e);
             least = still_least;
-            grown = subst (λ (bs : List Bool). trues starts ≤ trues bs) (sym same) h.grown;
-            more = λ e.
-                subst (λ (bs : List Bool). trues starts < trues bs) (sym same) (h.more e);
+            gains = subst (λ (bs : List Bool). GainsBits changed starts bs) (sym same) h.gains;
             none = λ e i less up. elim (cases_eq i k) [
               | inl here ↦
                   let its = sym r.is ∙ ap (λ j. get_or rows j []) (sym here) in
@@ -201,7 +136,7 @@ module _ (rows : List (List Bool)) (starts : List Bool) where
     count = h.count;
     kept = h.kept;
     least = h.least;
-    more = h.more;
+    more = h.gains.more;
     none = λ e i reached. elim (cases_lt i (length rows)) [
       | inl less ↦ h.none e i (omega arith) reached
       | inr past ↦ past_rows i past bits
@@ -209,24 +144,20 @@ module _ (rows : List (List Bool)) (starts : List Bool) where
   }
 
 -- a row of the matrix that was read and added
-pub row_added : {X : Type 0} (bits_of : X → List Bool) (items : List X) (starts bits after : List Bool)
-    (k : ℕ) (changed : Bool) → IsMatrix (length starts) (map bits_of items) →
-    AreAdded (map bits_of items) starts bits k changed → item bits k ≡ true →
-    (row : X) → k < length items → row ≡ get_or items k row →
-    after ≡ pointwise ◌||◌ bits (bits_of row) →
+pub row_added : {X : Type 0} (bits_of : X → List Bool) (items : List X)
+    (starts bits after : List Bool) (k : ℕ) → item bits k ≡ true → (row : X) → k < length items →
+    row ≡ get_or items k row → AreCombined ◌||◌ bits (bits_of row) after →
     IsRowAdded (map bits_of items) starts bits k (bits_of row) after
-row_added bits_of items starts bits after k changed m h reached row inside is added =
-    let n = length starts in
-    record {
-      reached = reached;
-      is = row_bits bits_of items n k row inside is;
-      long = h.count ∙ sym (row_length bits_of items n m k row inside is);
-      added = added;
-    }
+row_added bits_of items starts bits after k reached row inside is added = record {
+  reached = reached;
+  is = row_bits bits_of items (length starts) k row inside is;
+  added = added;
+}
 
 -- a round that adds a node leaves fewer to add
 pub fewer_left : (rows : List (List Bool)) (bits after : List Bool) (changed : Bool) →
     IsRound rows bits after changed → changed ≡ true →
-    length after - trues after < length bits - trues bits
+    length after - count_of true after < length bits - count_of true bits
 fewer_left rows bits after changed round e =
-    omega (arith, round.more e, round.count, trues_le after, trues_le bits)
+    let most = count_by-le-length (has_value true) after in
+    omega (arith, most, round.more e, round.count)

@@ -1,6 +1,7 @@
 -- The nodes of a graph that others lead to. Bit j of row i says that node i leads to node j.
-use Rattle.std.specs.Prelude.{◌≡◌, ℕ, ◌+◌, ◌<◌, Bool, true, false, List, [], ◌∷◌, length, slice_index_or, All}
+use Rattle.std.specs.Prelude.{◌≡◌, ℕ, ◌<◌, Bool, true, false, List, [], length, slice_index_or, All}
 use Rattle.vob_block.specs.Packing.{item}
+use Rattle.vob.specs.Bits.{count_of}
 
 -- a row for each of some nodes, and in each row a bit for each of them
 pub record IsMatrix (nodes : ℕ) (rows : List (List Bool)) : Type 0 where
@@ -22,16 +23,10 @@ pub record AreReached (rows : List (List Bool)) (starts bits : List Bool) : Type
   pub closed : IsClosed rows bits
   pub least : (others : List Bool) → IsWithin starts others → IsClosed rows others → IsWithin bits others
 
--- how many bits are true
-abbrev pub trues : List Bool → ℕ
-trues [] = 0
-trues (true ∷ bits) = trues bits + 1
-trues (false ∷ bits) = trues bits
-
 -- more of what the nodes lead to, or none where they are closed
 pub record IsRound (rows : List (List Bool)) (before after : List Bool) (changed : Bool) : Type 0 where
   pub count : length after ≡ length before
   pub kept : IsWithin before after
   pub least : (others : List Bool) → IsWithin before others → IsClosed rows others → IsWithin after others
-  pub more : changed ≡ true → trues before < trues after
+  pub more : changed ≡ true → count_of true before < count_of true after
   pub none : changed ≡ false → IsClosed rows after

@@ -80,8 +80,8 @@ fn grammar_of(
     grammar
 }
 
-/// Compares both sets with digits: one for each nonterminal, and for each of these a row with one for
-/// each terminal.
+/// Compares both sets with digits: one for each nonterminal, and for each of these a row with one
+/// for each terminal.
 fn check_sets(rt: &(impl Abort + AllocGlobal), grammar: &Grammar, null: &str, rows: &[&str]) {
     check_bits(rt, &nullable(rt.alloc(), grammar).expect(rt, "a set"), null);
     let sets = first_sets(rt.alloc(), grammar).expect(rt, "sets");

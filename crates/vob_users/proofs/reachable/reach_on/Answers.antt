@@ -17,23 +17,23 @@ loop-node-preserved c =
     let bit = get_or_from_slice_get bits k _ false c.get_unchecked.ensures in
     let inside : k < length items = omega arith in
     let added = λ (after : List Bool).
-    row_added (λ row. row.bits) items starts bits after k changed c.requires h in
+    row_added (λ row. row.bits) items starts bits after k in
     elim c.if-get_unchecked.branch [
       | then-get_unchecked+then-or w ↦
           let row = w.index-rows-node in
           let reached = bit ∙ w.if-get_unchecked.true in
-          let more = added _ reached row.result inside row.is w.or.ensures.bits in
+          let more = added _ reached row.result inside row.is w.or.ensures.each in
           rw (w.reached-is, w.changed-is)
-          (AreAdded-more _ starts bits k changed h row.result.bits _ more
-          (w.or.ensures.changed.0 w.if-or.true))
+          (AreAdded-more _ starts bits k changed h row.result.bits _ more _ w.or.ensures.more
+          w.if-or.true)
       | else-get_unchecked w ↦ elim w.else-get_unchecked.branch [
         | else-get_unchecked-via-then-get_unchecked+else-or w' ↦
             let row = w'.index-rows-node in
             let reached = bit ∙ w'.if-get_unchecked.true in
-            let same = added _ reached row.result inside row.is w'.or.ensures.bits in
+            let same = added _ reached row.result inside row.is w'.or.ensures.each in
             rw (w.reached-is, w'.reached-is, w.changed-is)
-            (AreAdded-same _ starts bits k changed h row.result.bits _ same
-            (λ differs. sym w'.if-or.false ∙ w'.or.ensures.changed.1 differs))
+            (AreAdded-same _ starts bits k changed h row.result.bits _ same _ w'.or.ensures.more
+            w'.if-or.false)
         | else-get_unchecked-via-else-get_unchecked w' ↦
             rw (w.reached-is, w'.reached-is, w.changed-is)
             (AreAdded-skip _ starts bits k changed h (bit ∙ w'.if-get_unchecked.false))
