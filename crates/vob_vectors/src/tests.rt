@@ -3,6 +3,7 @@ mod agreement;
 mod commands;
 mod constructors;
 mod counts;
+mod draining;
 mod grammar;
 mod growing;
 mod hints;

@@ -95,6 +95,26 @@ fn a_cut_that_is_refused_leaves_all_bits(rt: HostRuntime) {
     tell(&rt, is_cut(&rt, &mut vob));
 }
 
+/// Whether bits were drained from among ten. If not, they are as they were.
+fn is_drained(rt: &impl Abort, vob: &mut Vob<u8>) -> bool {
+    if is_made(rt, vob.drain(2..5), 3, &[3]) {
+        check_blocks(rt, vob, 7, &[93]);
+        true
+    } else {
+        check_blocks(rt, vob, 10, &[237, 2]);
+        false
+    }
+}
+
+#[test]
+fn a_drain_that_is_refused_leaves_all_bits(rt: HostRuntime) {
+    request(&rt, FIRST);
+    let Ok(mut vob) = vob_of(rt.alloc(), "1011011101") else {
+        return;
+    };
+    tell(&rt, is_drained(&rt, &mut vob));
+}
+
 /// Whether each operator on two references made a Vob.
 fn are_combined(rt: &impl Abort, one: &Vob<u8>, two: &Vob<u8>) -> bool {
     assert!(rt; one.len() == two.len());

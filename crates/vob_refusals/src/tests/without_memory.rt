@@ -102,6 +102,8 @@ fn check_moved(rt: &impl Abort, vob: &mut Vob<u8>, other: &Vob<u8>) {
     check_blocks(rt, vob, 3, &[5]);
     let none = vob.split_off(3).expect(rt, "no bits");
     check_blocks(rt, &none, 0, &[]);
+    let drained = vob.drain(3..).expect(rt, "no bits");
+    check_blocks(rt, &drained, 0, &[]);
     let mut all = vob.split_off(0).expect(rt, "all bits");
     check_blocks(rt, vob, 0, &[]);
     check_blocks(rt, &all, 3, &[5]);

@@ -4,6 +4,7 @@
 ghost use Rattle.std.specs.Iterator.{IsFinite};
 
 use std::fmt::Debug;
+use std::ops::RangeBounds;
 use std::process::Abort;
 use vob::Vob;
 use vob_block::Block;
@@ -67,6 +68,15 @@ pub fn join<T: Block>(rt: &impl Abort, vob: &mut Vob<T>, other: &Vob<T>) {
 /// The bits from `index` on, which leave the Vob.
 pub fn cut<T: Block>(rt: &impl Abort, vob: &mut Vob<T>, index: usize) -> Vob<T> {
     vob.split_off(index).expect(rt, "memory")
+}
+
+/// The bits of a range, which leave the Vob.
+pub fn drained<T: Block, R: RangeBounds<usize>>(
+    rt: &impl Abort,
+    vob: &mut Vob<T>,
+    range: R,
+) -> Vob<T> {
+    vob.drain(range).expect(rt, "memory")
 }
 
 /// A Vob with the same bits.
