@@ -1,10 +1,12 @@
 -- Values of the definitions, worked out by hand and then by computation.
+use Rattle.std.specs.declared.ops.Bound.TheVariants.{Included, Excluded}
 use Rattle.std.proofs.Common.{◌≡◌, ℕ, zero, suc, ◌-◌, ◌/◌, ◌%◌, ◌^◌, ◌<◌, ◌≤◌, Bool, true, false, List, [], ◌∷◌, get_or, refl, sym, ap, ◌∙◌, inl, inr, arith, lit<, lit≤}
 use Rattle.std.proofs.lemmas.Bool.{cases_lt, false≢true}
 use Rattle.std.proofs.lemmas.List.{get_or_past}
 use Rattle.vob_block.proofs.PlaceLemmas.{place_above, place-zero}
 use Rattle.vob_block.specs.Places.{place, value}
 use Rattle.vob_block.specs.Packing.{need, packing, bit_at, unpacking, IsCanonical}
+use Rattle.vob.specs.Drain.{bits_where, bits_within, bits_outside}
 use Rattle.vob_users.specs.Matrix.{entry, IsPath}
 
 abbrev bits-101 : List Bool
@@ -132,6 +134,25 @@ not_canonical-too_many c = omega (arith, c.count)
 not_canonical-too_few : IsCanonical 9 (1 ∷ []) 8 → ⊥
 unfolding need
 not_canonical-too_few c = omega (arith, c.count)
+
+-- ---- a range taken out
+
+taken-2-to-5 : bits_within (Included 2) (Excluded 5) bits-1011011101 ≡ true ∷ true ∷ false ∷ []
+unfolding bits_where
+taken-2-to-5 = refl
+
+left-2-to-5 : bits_outside (Included 2) (Excluded 5) bits-1011011101
+    ≡ true ∷ false ∷ true ∷ true ∷ true ∷ false ∷ true ∷ []
+unfolding bits_where
+left-2-to-5 = refl
+
+taken-above-8 : bits_within (Excluded 8) (Included (2 ^ 64 - 1)) bits-1011011101 ≡ true ∷ []
+unfolding bits_where
+taken-above-8 = refl
+
+taken-3-to-1 : bits_within (Included 3) (Excluded 1) bits-1011011101 ≡ []
+unfolding bits_where
+taken-3-to-1 = refl
 
 -- ---- a matrix of three nodes, of which each leads to the next
 
