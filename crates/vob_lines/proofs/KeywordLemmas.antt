@@ -7,7 +7,7 @@ use Rattle.vob_lines.specs.Grammar.{form_of}
 use Rattle.vob_lines.specs.Kinds.{Kinds, a_number, a_bit, some_bits, nothing, numbers, before, kind_of, kinds_of}
 use Rattle.vob_lines.specs.Keywords.{keyword_named}
 use Rattle.vob_lines.specs.declared.keyword.Keyword.{Keyword}
-use Rattle.vob_lines.specs.declared.keyword.Keyword.TheVariants.{Fresh, Number, NumberNumber, BitNumber, NumberBit, NumberNumberBit, BitList, NumberBitList, Bytes, Raw, Record, Walk, Count}
+use Rattle.vob_lines.specs.declared.keyword.Keyword.TheVariants.{Fresh, Number, NumberNumber, BitNumber, NumberBit, NumberNumberBit, BitList, NumberBitList, Bytes, Raw, Record, Drain, Walk, Count}
 use Rattle.vob_lines.specs.declared.keyword.Number.TheVariants.{New, Clone, Room, Pop, Len, Empty, Clear, Negate, Shrink, Bits, Blocks}
 use Rattle.vob_lines.specs.declared.keyword.NumberNumber.TheVariants.{Get, GetUnchecked, Index, Truncate, Join, Split, And, Or, Xor, AndNew, OrNew, XorNew, Equal, Reserve}
 use Rattle.vob_lines.specs.declared.keyword.BitNumber.TheVariants.{Elem, Fill}
@@ -40,6 +40,7 @@ keyword_of (call.ExtendSlice v bs) = NumberBitList Append
 keyword_of (call.ExtendItems v bs) = NumberBitList Extend
 keyword_of (call.ExtendVob v u) = NumberNumber Join
 keyword_of (call.SplitOff v i) = NumberNumber Split
+keyword_of (call.Drain v start end) = Drain
 keyword_of (call.And v u) = NumberNumber And
 keyword_of (call.Or v u) = NumberNumber Or
 keyword_of (call.Xor v u) = NumberNumber Xor
@@ -120,6 +121,7 @@ call_from (NumberBitList Append) (number v ∷ bits bs ∷ []) = Some (call.Exte
 call_from (NumberBitList Extend) (number v ∷ bits bs ∷ []) = Some (call.ExtendItems v bs)
 call_from (NumberNumber Join) (number v ∷ number u ∷ []) = Some (call.ExtendVob v u)
 call_from (NumberNumber Split) (number v ∷ number i ∷ []) = Some (call.SplitOff v i)
+call_from Drain (number v ∷ range start end ∷ []) = Some (call.Drain v start end)
 call_from (NumberNumber And) (number v ∷ number u ∷ []) = Some (call.And v u)
 call_from (NumberNumber Or) (number v ∷ number u ∷ []) = Some (call.Or v u)
 call_from (NumberNumber Xor) (number v ∷ number u ∷ []) = Some (call.Xor v u)
@@ -201,6 +203,11 @@ belongs (call.ExtendItems v bs) = record {
 }
 belongs (call.ExtendVob v u) = record { named = refl; fits = fits_two v u; back = refl }
 belongs (call.SplitOff v i) = record { named = refl; fits = fits_two v i; back = refl }
+belongs (call.Drain v start end) = record {
+  named = refl;
+  fits = (_, _, refl, refl, (_, _, refl, refl, refl));
+  back = refl;
+}
 belongs (call.And v u) = record { named = refl; fits = fits_two v u; back = refl }
 belongs (call.Or v u) = record { named = refl; fits = fits_two v u; back = refl }
 belongs (call.Xor v u) = record { named = refl; fits = fits_two v u; back = refl }

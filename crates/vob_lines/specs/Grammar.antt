@@ -1,6 +1,6 @@
 -- Which words stand for which call.
 use Rattle.std.specs.Prelude.{◌≡◌, ℕ, List, [], ◌∷◌, map, codes}
-use Rattle.vob_run.specs.Call.{Call, New, FromElem, Copy, FromRaw, Push, Pop, GetBit, GetUnchecked, IndexBit, SetBit, SetUnchecked, Length, IsEmpty, Truncate, Clear, SetAll, Negate, Resize, ExtendSlice, ExtendItems, ExtendVob, SplitOff, And, Or, Xor, AndNew, OrNew, XorNew, Equal, Reserve, Shrink, Bits, Storage, Walk, Count, Fresh, WithCapacity, Fill, FromBytes, FromSlice, FromItems, FromRecord}
+use Rattle.vob_run.specs.Call.{Call, New, FromElem, Copy, FromRaw, Push, Pop, GetBit, GetUnchecked, IndexBit, SetBit, SetUnchecked, Length, IsEmpty, Truncate, Clear, SetAll, Negate, Resize, ExtendSlice, ExtendItems, ExtendVob, SplitOff, Drain, And, Or, Xor, AndNew, OrNew, XorNew, Equal, Reserve, Shrink, Bits, Storage, Walk, Count, Fresh, WithCapacity, Fill, FromBytes, FromSlice, FromItems, FromRecord}
 use Rattle.vob_lines.specs.Arguments.{Argument, number, bit, bits, bytes, range, pulls, AllSpell}
 
 -- a line: its first word, and the arguments behind it
@@ -42,6 +42,7 @@ form_of (ExtendSlice v bs) = form (codes "append") (number v ∷ bits bs ∷ [])
 form_of (ExtendItems v bs) = form (codes "extend") (number v ∷ bits bs ∷ [])
 form_of (ExtendVob v u) = form (codes "join") (number v ∷ number u ∷ [])
 form_of (SplitOff v i) = form (codes "split") (number v ∷ number i ∷ [])
+form_of (Drain v start end) = form (codes "drain") (number v ∷ range start end ∷ [])
 form_of (And v u) = form (codes "and") (number v ∷ number u ∷ [])
 form_of (Or v u) = form (codes "or") (number v ∷ number u ∷ [])
 form_of (Xor v u) = form (codes "xor") (number v ∷ number u ∷ [])

@@ -2,7 +2,7 @@
 use Rattle.std.specs.Prelude.{ℕ, List, [], ◌∷◌, codes, Option, find}
 use Rattle.std.specs.Str.{bytes_eq}
 use Rattle.vob_lines.specs.declared.keyword.Keyword.{Keyword}
-use Rattle.vob_lines.specs.declared.keyword.Keyword.TheVariants.{Fresh, Number, NumberNumber, BitNumber, NumberBit, NumberNumberBit, BitList, NumberBitList, Bytes, Raw, Record, Walk, Count}
+use Rattle.vob_lines.specs.declared.keyword.Keyword.TheVariants.{Fresh, Number, NumberNumber, BitNumber, NumberBit, NumberNumberBit, BitList, NumberBitList, Bytes, Raw, Record, Drain, Walk, Count}
 use Rattle.vob_lines.specs.declared.keyword.Number.TheVariants.{New, Clone, Room, Pop, Len, Empty, Clear, Negate, Shrink, Bits, Blocks}
 use Rattle.vob_lines.specs.declared.keyword.NumberNumber.TheVariants.{Get, GetUnchecked, Index, Truncate, Join, Split, And, Or, Xor, AndNew, OrNew, XorNew, Equal, Reserve}
 use Rattle.vob_lines.specs.declared.keyword.BitNumber.TheVariants.{Elem, Fill}
@@ -53,6 +53,7 @@ word_of (NumberBitList Extend) = codes "extend"
 word_of Bytes = codes "bytes"
 word_of Raw = codes "raw"
 word_of Record = codes "record"
+word_of Drain = codes "drain"
 word_of Walk = codes "walk"
 word_of Count = codes "count"
 
@@ -67,7 +68,7 @@ keywords =
     ∷ NumberNumber Reserve ∷ BitNumber Elem ∷ BitNumber Fill ∷ NumberBit Push
     ∷ NumberBit SetAll ∷ NumberNumberBit Set ∷ NumberNumberBit SetUnchecked
     ∷ NumberNumberBit Resize ∷ BitList Slice ∷ BitList Items ∷ NumberBitList Append
-    ∷ NumberBitList Extend ∷ Bytes ∷ Raw ∷ Record ∷ Walk ∷ Count ∷ []
+    ∷ NumberBitList Extend ∷ Bytes ∷ Raw ∷ Record ∷ Drain ∷ Walk ∷ Count ∷ []
 
 abbrev pub keyword_named : List ℕ → Option Keyword
 keyword_named word = find (λ keyword. bytes_eq (word_of keyword) word) keywords

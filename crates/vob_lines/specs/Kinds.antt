@@ -5,7 +5,7 @@ use Rattle.vob_lines.specs.Arguments.{Argument, number, bit, bits, bytes, range,
 use Rattle.vob_lines.specs.Grammar.{form_of}
 use Rattle.vob_lines.specs.Keywords.{word_of}
 use Rattle.vob_lines.specs.declared.keyword.Keyword.{Keyword}
-use Rattle.vob_lines.specs.declared.keyword.Keyword.TheVariants.{Fresh, Number, NumberNumber, BitNumber, NumberBit, NumberNumberBit, BitList, NumberBitList, Bytes, Raw, Record, Walk, Count}
+use Rattle.vob_lines.specs.declared.keyword.Keyword.TheVariants.{Fresh, Number, NumberNumber, BitNumber, NumberBit, NumberNumberBit, BitList, NumberBitList, Bytes, Raw, Record, Drain, Walk, Count}
 
 -- a kind of word
 pub data Kind : Type 0 where
@@ -43,6 +43,7 @@ kinds_of (NumberBitList word) = before a_number (before some_bits nothing)
 kinds_of Bytes = before some_bytes nothing
 kinds_of Raw = before a_number (before a_bit numbers)
 kinds_of Record = before a_number numbers
+kinds_of Drain = before a_number (before a_range nothing)
 kinds_of Walk = before a_number (before a_bit (before a_range (before some_pulls nothing)))
 kinds_of Count = before a_number (before a_bit (before a_range nothing))
 

@@ -7,7 +7,7 @@ ghost use Rattle.vob_lines.specs.Cuts.{words_of};
 ghost use Rattle.vob_lines.specs.Arguments.{number, bit, bits, bytes, range, pulls, AllSpell};
 ghost use Rattle.vob_lines.specs.Grammar.{Reads};
 ghost use Rattle.vob_lines.specs.Kinds.{a_number, a_bit, some_bits, some_bytes, a_range, some_pulls, nothing, numbers, before, kinds_of, Begins, Are, Takes, IsLine};
-ghost use Rattle.vob_lines.specs.declared.keyword.Keyword.TheVariants.{Fresh, Bytes, Raw, Record, Walk, Count};
+ghost use Rattle.vob_lines.specs.declared.keyword.Keyword.TheVariants.{Fresh, Bytes, Raw, Record, Drain, Walk, Count};
 
 use crate::keyword::Keyword;
 use crate::line::{LineError, first_place, is_blank, past_spaces};
@@ -245,6 +245,17 @@ impl<'a> Words<'a> {
         Ok(UsizeCommand::FromRecord { len, blocks })
     }
 
+    /// The command of `drain`.
+    fn drain(&mut self) -> Result<UsizeCommand, LineError>
+        ensures ok { IfOk result (λ command. IsLine Drain self.old (usize_call_of command)) }
+        ensures err { IsErrOf result LineError.Unreadable → Are self.old (kinds_of Drain) → ⊥ }
+    {
+        let which = self.number()?;
+        let bounds = self.range()?;
+        self.end()?;
+        Ok(UsizeCommand::Common(Command::Drain { which, bounds }))
+    }
+
     /// The command of `walk`.
     fn walk(&mut self, alloc: Global) -> Result<UsizeCommand, LineError>
         ensures ok { IfOk result (λ command. IsLine Walk self.old (usize_call_of command)) }
@@ -311,6 +322,7 @@ impl<'a> Words<'a> {
             Keyword::Bytes => self.from_bytes(alloc),
             Keyword::Raw => self.from_raw(alloc),
             Keyword::Record => self.from_record(alloc),
+            Keyword::Drain => self.drain(),
             Keyword::Walk => self.walk(alloc),
             Keyword::Count => self.count(),
         }

@@ -22,6 +22,7 @@ pub enum Keyword {
     Bytes,
     Raw,
     Record,
+    Drain,
     Walk,
     Count,
 }
@@ -98,7 +99,7 @@ pub enum NumberBitList {
 }
 
 impl Keyword {
-    const ALL: [Keyword; 42] = [
+    const ALL: [Keyword; 43] = [
         Keyword::Fresh,
         Keyword::Number(Number::New),
         Keyword::Number(Number::Clone),
@@ -139,6 +140,7 @@ impl Keyword {
         Keyword::Bytes,
         Keyword::Raw,
         Keyword::Record,
+        Keyword::Drain,
         Keyword::Walk,
         Keyword::Count,
     ];
@@ -165,6 +167,7 @@ impl Keyword {
             Keyword::Bytes => "bytes",
             Keyword::Raw => "raw",
             Keyword::Record => "record",
+            Keyword::Drain => "drain",
             Keyword::Walk => "walk",
             Keyword::Count => "count",
         }

@@ -9,7 +9,7 @@ use Rattle.vob.specs.Vob.{BitVector}
 use Rattle.vob_run.specs.Call.{Call, SplitOff}
 use Rattle.vob_run.specs.Answer.{Answer, outcome, made, refused}
 use Rattle.vob_run.specs.Memory.{TakesMemory, MayRefuse}
-use Rattle.vob_run.specs.Outcomes.{makes}
+use Rattle.vob_run.specs.Outcomes.{makes, divides}
 use Rattle.vob_run.specs.Placed.{IsPlaced}
 use Rattle.vob_run.specs.Step.{step}
 use Rattle.vob_run.specs.Run.{lists, IsStep}
@@ -60,7 +60,31 @@ module _ {width : ℕ} {before : List BitVector} {call : Call} {bits : List Bool
       inr (MayRefuse-made width before call bits makes, err.0, ap lists err.1)
   added_step (Err PastEnd) answer after fits same placed err = absurd (fits.1 refl)
 
--- a Vob that is cut in two, of which one part is put behind the others, or a refusal
+-- a Vob of which a part is put behind the others, or a refusal
+module _ (width : ℕ) {before : List BitVector} {which : ℕ} {old : BitVector}
+    (vob : IsLent before which old) (call : Call) (kept given : List Bool)
+    (is : step width (lists before) call ≡ divides (lists before) which kept given)
+    (takes : TakesMemory width (lists before) call) where
+  pub divided_step : (new part : BitVector) → new.bits ≡ kept → part.bits ≡ given
+      → IsStep width (lists before) call (made (length before))
+      (lists (set before which new ++ part ∷ []))
+  divided_step new part left taken =
+      inl (is ∙ rw (map_push, lists-set before which new, left, taken, length-map) refl)
+
+  pub undivided_step : (new : BitVector) → new.bits ≡ old.bits
+      → IsStep width (lists before) call (refused 2) (lists (set before which new))
+  undivided_step new same =
+      let answers : (step width (lists before) call).answer ≡ made (length (lists before)) =
+      ap (λ o. o.answer) is in
+      inr ((takes, (λ e. cc), (λ e. cc), (λ e. cc)), refl, lists-same vob new same)
+
+-- a refusal for nothing else is one for memory
+pub memory_alone : (refusal : VobError) → refusal ≢ TooLong → refusal ≢ PastEnd → refusal ≡ Memory
+memory_alone TooLong short near = absurd (short refl)
+memory_alone Memory short near = refl
+memory_alone PastEnd short near = absurd (near refl)
+
+-- a split
 module _ (width : ℕ) (before : List BitVector) (which index : ℕ) (old : BitVector)
     (vob : IsLent before which old) where
   -- an index past the end is refused first
@@ -68,30 +92,6 @@ module _ (width : ℕ) (before : List BitVector) (which index : ℕ) (old : BitV
       → step width (lists before) (SplitOff which index) ≡ outcome (refused 4) (lists before)
   past_end_step past = rw (list_at vob, lt-ltb (length old.bits) index past) refl
 
-  module _ (inside : index ≤ length old.bits) where
-    step-cut : step width (lists before) (SplitOff which index)
-        ≡ outcome (made (length (lists before)))
-        (set (lists before) which (take index old.bits) ++ drop index old.bits ∷ [])
-    step-cut = rw (list_at vob, le-ltb (length old.bits) index inside) refl
-
-    MayRefuse-cut : MayRefuse width (lists before) (SplitOff which index)
-    MayRefuse-cut =
-        let told = (step width (lists before) (SplitOff which index)).answer in
-        let answers : told ≡ made (length (lists before)) = ap (λ o. o.answer) step-cut in
-        (tt, (λ e. cc), (λ e. cc), (λ e. cc))
-
-    pub cut_step : (new rest : BitVector) → new.bits ≡ take index old.bits
-        → rest.bits ≡ drop index old.bits
-        → IsStep width (lists before) (SplitOff which index) (made (length before))
-        (lists (set before which new ++ rest ∷ []))
-    cut_step new rest kept cut =
-        inl (step-cut ∙ rw (map_push, lists-set before which new, kept, cut, length-map) refl)
-
-    -- only memory for the part may be refused
-    pub refused_step : (refusal : VobError) → refusal ≢ TooLong → refusal ≢ PastEnd
-        → (new : BitVector) → new.bits ≡ old.bits
-        → IsStep width (lists before) (SplitOff which index) (refused (refusal_number refusal))
-        (lists (set before which new))
-    refused_step TooLong short near new same = absurd (short refl)
-    refused_step Memory short near new same = inr (MayRefuse-cut, refl, lists-same vob new same)
-    refused_step PastEnd short near new same = absurd (near refl)
+  pub step-split : index ≤ length old.bits → step width (lists before) (SplitOff which index)
+      ≡ divides (lists before) which (take index old.bits) (drop index old.bits)
+  step-split inside = rw (list_at vob, le-ltb (length old.bits) index inside) refl

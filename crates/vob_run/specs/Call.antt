@@ -28,6 +28,7 @@ pub data Call : Type 0 where
   ExtendItems : (which : ℕ) (more : List Bool) → Call
   ExtendVob : (which other : ℕ) → Call
   SplitOff : (which index : ℕ) → Call
+  Drain : (which : ℕ) (start end : Bound ℕ) → Call
   And : (which other : ℕ) → Call
   Or : (which other : ℕ) → Call
   Xor : (which other : ℕ) → Call

@@ -1,10 +1,12 @@
 -- What the calls that change a list of bits leave in its place, and what they answer.
 use Rattle.std.specs.Prelude.{ℕ, ◌+◌, ◌-◌, List, [], ◌∷◌, ◌++◌, length, take, drop, slice_get, slice_set, nat_lt, Bool, not, if◌then◌else◌}
 use Rattle.std.specs.Option.{option_map_or}
+use Rattle.std.specs.declared.ops.Bound.{Bound}
 use Rattle.vob_block.specs.Pointwise.{differ, pointwise}
+use Rattle.vob.specs.Drain.{bits_within, bits_outside}
 use Rattle.vob.specs.Same.{same_bits}
-use Rattle.vob_run.specs.Answer.{done, bit, flag, made, skipped, refused, Outcome, outcome}
-use Rattle.vob_run.specs.Outcomes.{greatest_length, tells, leaves, unless_long}
+use Rattle.vob_run.specs.Answer.{done, bit, flag, skipped, refused, Outcome}
+use Rattle.vob_run.specs.Outcomes.{greatest_length, tells, leaves, divides, unless_long}
 
 module _ (lists : List (List Bool)) where
   -- the last bit taken off, and told
@@ -34,8 +36,12 @@ module _ (lists : List (List Bool)) where
   abbrev pub split : ℕ → ℕ → List Bool → Outcome
   split which index bits =
       if nat_lt (length bits) index then tells lists (refused 4)
-      else outcome (made (length lists))
-      (slice_set lists which (take index bits) ++ drop index bits ∷ [])
+      else divides lists which (take index bits) (drop index bits)
+
+  -- the bits of a range taken out, into a list behind the others
+  abbrev pub drained : ℕ → Bound ℕ → Bound ℕ → List Bool → Outcome
+  drained which start end bits =
+      divides lists which (bits_outside start end bits) (bits_within start end bits)
 
   -- two lists combined by f, bit by bit, in the place of the first; whether a bit changed is told
   abbrev pub combined : (Bool → Bool → Bool) → ℕ → List Bool → List Bool → Outcome

@@ -4,7 +4,7 @@ use Rattle.vob_run.specs.declared.command.Command.{Command}
 use Rattle.vob_run.specs.declared.command.Command.TheVariants as command
 use Rattle.vob_run.specs.declared.command.UsizeCommand.{UsizeCommand}
 use Rattle.vob_run.specs.declared.command.UsizeCommand.TheVariants as usize_command
-use Rattle.vob_run.specs.Call.{Call, New, FromElem, Copy, FromRaw, Push, Pop, GetBit, GetUnchecked, IndexBit, SetBit, SetUnchecked, Length, IsEmpty, Truncate, Clear, SetAll, Negate, Resize, ExtendSlice, ExtendItems, ExtendVob, SplitOff, And, Or, Xor, AndNew, OrNew, XorNew, Equal, Reserve, Shrink, Bits, Storage, Walk, Count, Fresh, WithCapacity, Fill, FromBytes, FromSlice, FromItems, FromRecord}
+use Rattle.vob_run.specs.Call.{Call, New, FromElem, Copy, FromRaw, Push, Pop, GetBit, GetUnchecked, IndexBit, SetBit, SetUnchecked, Length, IsEmpty, Truncate, Clear, SetAll, Negate, Resize, ExtendSlice, ExtendItems, ExtendVob, SplitOff, Drain, And, Or, Xor, AndNew, OrNew, XorNew, Equal, Reserve, Shrink, Bits, Storage, Walk, Count, Fresh, WithCapacity, Fill, FromBytes, FromSlice, FromItems, FromRecord}
 
 -- the call that a command of a block type is, whose blocks have these numbers
 abbrev pub call_of : {X : Type 0} → (X → ℕ) → Command X → Call
@@ -31,6 +31,7 @@ call_of block_number (command.ExtendSlice which more) = ExtendSlice which more.i
 call_of block_number (command.ExtendItems which more) = ExtendItems which more.items
 call_of block_number (command.ExtendVob which other) = ExtendVob which other
 call_of block_number (command.SplitOff which index) = SplitOff which index
+call_of block_number (command.Drain which bounds) = Drain which bounds.0 bounds.1
 call_of block_number (command.And which other) = And which other
 call_of block_number (command.Or which other) = Or which other
 call_of block_number (command.Xor which other) = Xor which other

@@ -1,7 +1,7 @@
 -- Which calls may be refused for want of memory.
 use Rattle.std.specs.Prelude.{◌≢◌, ℕ, ◌+◌, ◌<◌, List, [], length, get_or, slice_get, Bool, IsSomeAnd, ⊤}
 use Rattle.vob_block.specs.Packing.{need}
-use Rattle.vob_run.specs.Call.{Call, New, FromElem, Copy, FromRaw, Push, Resize, ExtendSlice, ExtendItems, ExtendVob, SplitOff, AndNew, OrNew, XorNew, Reserve, Bits, Storage, Walk, Fresh, WithCapacity, Fill, FromBytes, FromSlice, FromItems, FromRecord}
+use Rattle.vob_run.specs.Call.{Call, New, FromElem, Copy, FromRaw, Push, Resize, ExtendSlice, ExtendItems, ExtendVob, SplitOff, Drain, AndNew, OrNew, XorNew, Reserve, Bits, Storage, Walk, Fresh, WithCapacity, Fill, FromBytes, FromSlice, FromItems, FromRecord}
 use Rattle.vob_run.specs.Answer.{skipped, refused}
 use Rattle.vob_run.specs.Step.{step}
 
@@ -24,6 +24,7 @@ module _ (width : ℕ) (lists : List (List Bool)) where
   TakesMemory (ExtendVob which other) =
       Grows which (λ bits. length bits + length (get_or lists other []))
   TakesMemory (SplitOff which index) = ⊤
+  TakesMemory (Drain which start end) = ⊤
   TakesMemory (AndNew which other) = ⊤
   TakesMemory (OrNew which other) = ⊤
   TakesMemory (XorNew which other) = ⊤

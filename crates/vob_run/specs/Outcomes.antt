@@ -36,6 +36,11 @@ module _ (lists : List (List Bool)) where
   abbrev pub makes : List Bool → Outcome
   makes bits = outcome (made (length lists)) (lists ++ bits ∷ [])
 
+  -- a list made two: these bits in its place, and those in a list more behind the others
+  abbrev pub divides : ℕ → List Bool → List Bool → Outcome
+  divides which kept given =
+      outcome (made (length lists)) (slice_set lists which kept ++ given ∷ [])
+
   -- `refused 1` where the length asked for is past the greatest
   abbrev pub unless_long : ℕ → Outcome → Outcome
   unless_long asked o = if nat_lt greatest_length asked then tells (refused 1) else o

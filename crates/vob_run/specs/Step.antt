@@ -6,10 +6,10 @@ use Rattle.vob_block.specs.Pointwise.{differ, pointwise}
 use Rattle.vob_walk.specs.Matches.{matches}
 use Rattle.vob.specs.Same.{same_bits}
 use Rattle.vob_walk.specs.Walk.{answers}
-use Rattle.vob_run.specs.Call.{Call, New, FromElem, Copy, FromRaw, Push, Pop, GetBit, GetUnchecked, IndexBit, SetBit, SetUnchecked, Length, IsEmpty, Truncate, Clear, SetAll, Negate, Resize, ExtendSlice, ExtendItems, ExtendVob, SplitOff, And, Or, Xor, AndNew, OrNew, XorNew, Equal, Reserve, Shrink, Bits, Storage, Walk, Count, Fresh, WithCapacity, Fill, FromBytes, FromSlice, FromItems, FromRecord}
+use Rattle.vob_run.specs.Call.{Call, New, FromElem, Copy, FromRaw, Push, Pop, GetBit, GetUnchecked, IndexBit, SetBit, SetUnchecked, Length, IsEmpty, Truncate, Clear, SetAll, Negate, Resize, ExtendSlice, ExtendItems, ExtendVob, SplitOff, Drain, And, Or, Xor, AndNew, OrNew, XorNew, Equal, Reserve, Shrink, Bits, Storage, Walk, Count, Fresh, WithCapacity, Fill, FromBytes, FromSlice, FromItems, FromRecord}
 use Rattle.vob_run.specs.Answer.{done, bit, flag, number, bit_list, block_list, dealt, Outcome}
 use Rattle.vob_run.specs.Outcomes.{on, on_two, on_same_length, tells, leaves, makes, unless_long, tells_bit}
-use Rattle.vob_run.specs.Changes.{pushed, popped, written, extended, split, combined}
+use Rattle.vob_run.specs.Changes.{pushed, popped, written, extended, split, drained, combined}
 use Rattle.vob_run.specs.Blocks.{taken, taken_raw}
 
 -- what a call answers, and the lists after it; only calls that speak of blocks read the width
@@ -44,6 +44,7 @@ step width lists (ExtendItems which more) = on lists which (extended lists which
 step width lists (ExtendVob which other) =
     on_two lists which other (λ bits others. extended lists which others bits)
 step width lists (SplitOff which index) = on lists which (split lists which index)
+step width lists (Drain which start end) = on lists which (drained lists which start end)
 step width lists (And which other) = on_same_length lists which other (combined lists ◌&&◌ which)
 step width lists (Or which other) = on_same_length lists which other (combined lists ◌||◌ which)
 step width lists (Xor which other) = on_same_length lists which other (combined lists differ which)

@@ -120,6 +120,11 @@ pub enum Command<T> {
         which: usize,
         index: usize,
     },
+    /// Takes the bits of a range out, and makes a Vob of them: `Vob::drain`.
+    Drain {
+        which: usize,
+        bounds: (Bound<usize>, Bound<usize>),
+    },
     /// Keeps the bits that both have: `Vob::and`. Skipped where the numbers are the same or the
     /// lengths differ.
     And {

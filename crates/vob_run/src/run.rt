@@ -28,6 +28,7 @@ fn run_one<T: Block>(alloc: Global, vobs: &mut Vec<Vob<T>>, command: &Command<T>
             ref blocks,
         } => raw::from_raw(alloc, vobs, len, mask, blocks),
         Command::SplitOff { which, index } => make::split_off(vobs, which, index),
+        Command::Drain { which, bounds } => make::drain(vobs, which, bounds),
         Command::ExtendVob { which, other } => pair::extend_vob(vobs, which, other),
         Command::And { which, other } => pair::combine(vobs, Connective::And, which, other),
         Command::Or { which, other } => pair::combine(vobs, Connective::Or, which, other),

@@ -131,6 +131,17 @@ fn whole_vobs_are_joined_cut_filled_and_compared(rt: HostRuntime) {
                 "vob 0; done; bits 111; done; bits 000; done; done; number 0; true",
             ),
             (
+                "slice 1011011101; drain 0 2..5; bits 0; bits 1; split 0 8; split 0 7; \
+                    drain 0 3..1; drain 5 ..",
+                "vob 0; vob 1; bits 1011101; bits 110; refused 4; vob 2; vob 3; skipped",
+            ),
+            (
+                "slice 1011011101; drain 0 9..=18446744073709551615; bits 0; bits 1; \
+                    drain 0 >0..=2; bits 0; bits 2; drain 0 ..; bits 0; bits 3; drain 0 ..; bits 4",
+                "vob 0; vob 1; bits 101101110; bits 1; vob 2; bits 1101110; bits 01; vob 3; \
+                    bits -; bits 1101110; vob 4; bits -",
+            ),
+            (
                 "slice 101; split 0 5; bits 0; split 0 3; bits 0; bits 1; join 0 0; join 0 2; \
                     join 0 1; bits 0",
                 "vob 0; refused 4; bits 101; vob 1; bits 101; bits -; skipped; skipped; done; \
@@ -208,7 +219,10 @@ fn no_other_line_is_read(rt: HostRuntime) {
         b"count 0 1\n",
         b"count 0 1 . .\n",
         b"count 0 1 ..=18446744073709551616\n",
-        b"drain 0 ..\n",
+        b"drain 0\n",
+        b"drain 0 5\n",
+        b"drain 0 1 ..\n",
+        b"drain 0 .. 1\n",
         b"new\n",
         b"new +1\n",
         b"new -1\n",

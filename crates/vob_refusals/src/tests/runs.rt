@@ -47,7 +47,7 @@ fn add<C: Drop>(rt: &impl Abort, commands: &mut Vec<C>, command: C) {
     same(rt, "a command", commands.push(command).is_ok(), true);
 }
 
-/// Adds five commands that each ask for memory.
+/// Adds six commands that each ask for memory.
 fn add_commands(rt: &impl Abort, commands: &mut Vec<Command<u8>>) {
     let value = true;
     let which = 0;
@@ -55,13 +55,15 @@ fn add_commands(rt: &impl Abort, commands: &mut Vec<Command<u8>>) {
     add(rt, commands, Command::Copy { which });
     add(rt, commands, Command::Bits { which });
     add(rt, commands, Command::Storage { which });
+    let bounds = (Bound::Included(2), Bound::Excluded(5));
+    add(rt, commands, Command::Drain { which, bounds });
     add(rt, commands, Command::Shrink { which });
 }
 
 /// Whether a run in bytes was answered, behind so many requests.
 fn is_run(rt: &(impl Abort + AllocGlobal), behind: usize) -> bool {
     request(rt, behind);
-    let Ok(mut commands) = Vec::with_capacity(rt.alloc(), 5) else {
+    let Ok(mut commands) = Vec::with_capacity(rt.alloc(), 6) else {
         return false;
     };
     add_commands(rt, &mut commands);
@@ -79,6 +81,11 @@ fn a_run_is_refused_whole_or_in_one_command(rt: HostRuntime) {
 #[test]
 fn a_run_is_refused_whole_or_in_one_command_from_5_on(rt: HostRuntime) {
     tell(&rt, is_run(&rt, FIRST - 4));
+}
+
+#[test]
+fn a_run_is_refused_whole_or_in_one_command_from_9_on(rt: HostRuntime) {
+    tell(&rt, is_run(&rt, FIRST - 8));
 }
 
 /// A pull at each end of a walk over the set bits of the first Vob.

@@ -1,13 +1,14 @@
 //! The commands that make a Vob, at the end of the list.
 ghost use Rattle.std.specs.Prelude.{◌≡◌, IfOk, OnErr};
 ghost use Rattle.vob_run.specs.Answer.{answer_of, refused};
-ghost use Rattle.vob_run.specs.Call.{New, FromElem, Copy, SplitOff};
+ghost use Rattle.vob_run.specs.Call.{New, FromElem, Copy, SplitOff, Drain};
 ghost use Rattle.vob_run.specs.Placed.{IsPlaced};
 ghost use Rattle.vob_run.specs.Run.{lists, IsStep};
 
 use crate::calls::refused;
 use crate::command::Reply;
 use std::alloc::{AllocError, Global};
+use std::ops::Bound;
 use vob::{Vob, VobError};
 use vob_block::Block;
 
@@ -87,5 +88,29 @@ pub(crate) fn split_off<T: Block>(vobs: &mut Vec<Vob<T>>, which: usize, index: u
             Reply::Made(count)
         }
         Err(refusal) => refused(refusal),
+    }
+}
+
+pub(crate) fn drain<T: Block>(
+    vobs: &mut Vec<Vob<T>>,
+    which: usize,
+    bounds: (Bound<usize>, Bound<usize>),
+) -> Reply<T>
+    ensures { IsStep T.BITS (lists vobs.old.items) (Drain which bounds.0 bounds.1)
+        (answer_of T.number result) (lists vobs.new.items) }
+{
+    let count = vobs.len();
+    if which >= count {
+        return Reply::Skipped;
+    }
+    if vobs.reserve(1).is_err() {
+        return refused(VobError::Memory);
+    }
+    match vobs[which].drain(bounds) {
+        Ok(taken) => {
+            vobs.push_reserved(taken);
+            Reply::Made(count)
+        }
+        Err(refusal) => refused(VobError::from(refusal)),
     }
 }

@@ -1,6 +1,6 @@
 //! Runs of commands at block types that the program's lines don't reach.
 use super::support::same_text;
-use std::ops::Bound::Unbounded;
+use std::ops::Bound::{Excluded, Included, Unbounded};
 use std::process::Abort;
 use vob::{End, Vob};
 use vob_block::Block;
@@ -67,15 +67,21 @@ fn add_walks<T: Block>(rt: &(impl Abort + AllocGlobal), commands: &mut Vec<Comma
     add(rt, commands, count);
 }
 
-/// Makes a Vob of ten bits, walks over it, and cuts and joins it.
-fn check_mixed<T: Block>(rt: &(impl Abort + AllocGlobal)) {
-    let which = 0;
-    let mut commands: Vec<Command<T>> = Vec::new(rt.alloc());
+/// Commands that make Vob 0 of the ten bits `1011011101`.
+fn commands_of_ten<T: Block>(rt: &(impl Abort + AllocGlobal)) -> Vec<Command<T>> {
+    let mut commands = Vec::new(rt.alloc());
     let value = false;
     add(rt, &mut commands, Command::FromElem { value, len: 10 });
     for index in [0, 2, 3, 5, 6, 7, 9] {
-        add_set(rt, &mut commands, which, index);
+        add_set(rt, &mut commands, 0, index);
     }
+    commands
+}
+
+/// Makes a Vob of ten bits, walks over it, and cuts and joins it.
+fn check_mixed<T: Block>(rt: &(impl Abort + AllocGlobal)) {
+    let which = 0;
+    let mut commands: Vec<Command<T>> = commands_of_ten(rt);
     add_walks(rt, &mut commands);
     add(rt, &mut commands, Command::SplitOff { which, index: 5 });
     add(rt, &mut commands, Command::Bits { which });
@@ -101,6 +107,35 @@ fn check_mixed<T: Block>(rt: &(impl Abort + AllocGlobal)) {
 fn commands_answer_alike_at_two_block_types(rt: HostRuntime) {
     check_mixed::<u8>(&rt);
     check_mixed::<u128>(&rt);
+}
+
+/// Takes three of ten bits out, then none, and refuses a cut past the end of what is left.
+fn check_drained<T: Block>(rt: &(impl Abort + AllocGlobal)) {
+    let which = 0;
+    let mut commands: Vec<Command<T>> = commands_of_ten(rt);
+    let bounds = (Included(2), Excluded(5));
+    add(rt, &mut commands, Command::Drain { which, bounds });
+    add(rt, &mut commands, Command::Bits { which });
+    add(rt, &mut commands, Command::Bits { which: 1 });
+    add(rt, &mut commands, Command::SplitOff { which, index: 8 });
+    let bounds = (Included(3), Excluded(1));
+    add(rt, &mut commands, Command::Drain { which, bounds });
+    add(rt, &mut commands, Command::Length { which: 2 });
+    let bounds = (Unbounded, Unbounded);
+    add(rt, &mut commands, Command::Drain { which: 3, bounds });
+    check_run(
+        rt,
+        &commands,
+        "[Made(0), Flag(true), Flag(true), Flag(true), Flag(true), Flag(true), Flag(true), \
+            Flag(true), Made(1), BitList([true, false, true, true, true, false, true]), \
+            BitList([true, true, false]), Refused(4), Made(2), Number(0), Skipped]",
+    );
+}
+
+#[test]
+fn ranges_are_drained_alike_at_two_block_types(rt: HostRuntime) {
+    check_drained::<u8>(&rt);
+    check_drained::<u128>(&rt);
 }
 
 #[test]

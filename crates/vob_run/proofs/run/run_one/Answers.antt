@@ -1,7 +1,7 @@
 -- A command that makes no Vob, and is on no two, is on one.
 use Rattle.std.proofs.Common.{◌≡◌, refl}
 use Rattle.vob_run.specs.declared.command.Command.{Command}
-use Rattle.vob_run.specs.declared.command.Command.TheVariants.{New, FromElem, Copy, FromRaw, SplitOff, ExtendVob, And, Or, Xor, AndNew, OrNew, XorNew, Equal}
+use Rattle.vob_run.specs.declared.command.Command.TheVariants.{New, FromElem, Copy, FromRaw, SplitOff, Drain, ExtendVob, And, Or, Xor, AndNew, OrNew, XorNew, Equal}
 use Rattle.vob_run.specs.Groups.{IsOnOne}
 use Rattle.vob_run.proofs.run.run_one.Goals as goal
 
@@ -17,6 +17,7 @@ run_on_one-requires g c =
       | Copy which ↦ λ e. absurd (c.in_default.not-Copy which e)
       | FromRaw len mask blocks ↦ λ e. absurd (c.in_default.not-FromRaw len mask blocks e)
       | SplitOff which index ↦ λ e. absurd (c.in_default.not-SplitOff which index e)
+      | Drain which bounds ↦ λ e. absurd (c.in_default.not-Drain which bounds e)
       | ExtendVob which other ↦ λ e. absurd (c.in_default.not-ExtendVob which other e)
       | And which other ↦ λ e. absurd (c.in_default.not-And which other e)
       | Or which other ↦ λ e. absurd (c.in_default.not-Or which other e)
