@@ -37,6 +37,10 @@ enum class Call : uint32_t {
     unset_bits,
     count,
     first_free,
+    live,
+    matrix,
+    drain_aligned,
+    drain_shifted,
 };
 
 struct Input {
@@ -351,6 +355,17 @@ uint64_t hash(const Input &in, size_t rounds) {
     });
 }
 
+// So many bits from place `from` of a block in the middle drained, and joined again behind.
+uint64_t drained(const Input &in, size_t from, size_t count, size_t rounds) {
+    const size_t start = 8 * in.byte_count / 128 * 64 + from;
+    return changed<Vector>(in, rounds, [=](Vector &bits, size_t) {
+        const auto first = bits.begin() + start;
+        Vector part(first, first + count);
+        bits.erase(first, first + count);
+        bits.insert(bits.end(), part.begin(), part.end());
+    });
+}
+
 uint64_t run_vector(Call call, const Input &in, size_t rounds) {
     switch (call) {
     case Call::from_slice:
@@ -366,6 +381,10 @@ uint64_t run_vector(Call call, const Input &in, size_t rounds) {
         return changed<Vector>(in, rounds, [](Vector &bits, size_t) {
             bits = Vector(bits.begin() + 13, bits.end());
         });
+    case Call::drain_aligned:
+        return drained(in, 0, 64, rounds);
+    case Call::drain_shifted:
+        return drained(in, 13, 29, rounds);
     default:
         return run<Vector>(call, in, rounds);
     }

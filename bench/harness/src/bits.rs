@@ -72,6 +72,9 @@ pub trait Bits: Sized {
     fn split_off(&mut self, _at: usize) -> Self {
         unimplemented!()
     }
+    fn drain(&mut self, _from: usize, _to: usize) -> Self {
+        unimplemented!()
+    }
     fn and(&mut self, _other: &Self) -> bool {
         unimplemented!()
     }
@@ -196,6 +199,15 @@ fn joined<B: Bits>(input: &Input, at: usize, rounds: usize) -> u64 {
     changed(input, rounds, |bits: &mut B, _| {
         bits.truncate(at);
         bits.join(&other);
+    })
+}
+
+/// So many bits from place `from` of a block in the middle drained, and joined again behind.
+fn drained<B: Bits>(input: &Input, from: usize, count: usize, rounds: usize) -> u64 {
+    let start = 8 * input.bytes.len() / 128 * 64 + from;
+    changed(input, rounds, |bits: &mut B, _| {
+        let part = bits.drain(start, start + count);
+        bits.join(&part);
     })
 }
 
@@ -389,6 +401,8 @@ pub fn run<B: Bits>(call: Call, input: &Input, rounds: usize) -> u64 {
         }),
         Call::Hash => hashed::<B>(input, rounds),
         Call::SplitOff => changed(input, rounds, |bits: &mut B, _| *bits = bits.split_off(13)),
+        Call::DrainAligned => drained::<B>(input, 0, 64, rounds),
+        Call::DrainShifted => drained::<B>(input, 13, 29, rounds),
         Call::And => taken(input, rounds, B::and),
         Call::Or => taken(input, rounds, B::or),
         Call::Xor => taken(input, rounds, B::xor),

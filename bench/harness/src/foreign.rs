@@ -62,6 +62,8 @@ pub fn conthiral(call: Call, input: &Input, rounds: usize) -> u64 {
         Call::Clone => whole(5),
         Call::Hash => whole(6),
         Call::SplitOff => whole(7),
+        Call::DrainAligned => whole(8),
+        Call::DrainShifted => whole(9),
         Call::And => pair(0),
         Call::Or => pair(1),
         Call::Xor => pair(2),
@@ -171,6 +173,9 @@ pub fn twin_offer(library: Twin, call: Call) -> Offer {
         }
         (Twin::VectorBool, Call::SetAll) => Offer::Other("std::fill"),
         (Twin::VectorBool, Call::SplitOff) => Offer::Other("a copy of the range"),
+        (Twin::VectorBool, Call::DrainAligned | Call::DrainShifted) => {
+            Offer::Other("a copy of the range, and erase")
+        }
         (
             Twin::VectorBool,
             Call::Push

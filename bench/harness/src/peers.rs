@@ -27,11 +27,13 @@ fn sum_of(indices: impl Iterator<Item = usize>) -> u64 {
 const NO_FLAG: Offer = Offer::Less("no flag");
 const COLLECT: Offer = Offer::Other("collect");
 const EXTEND: Offer = Offer::Other("extend");
+const CUTS: Offer = Offer::Other("two cuts and a join");
 
 impl Bits for Vob {
     fn offer(call: Call) -> Offer {
         match call {
             Call::FromSlice => COLLECT,
+            Call::DrainAligned | Call::DrainShifted => CUTS,
             _ => Offer::Same,
         }
     }
@@ -102,6 +104,12 @@ impl Bits for Vob {
     }
     fn split_off(&mut self, at: usize) -> Vob {
         Vob::split_off(self, at)
+    }
+    fn drain(&mut self, from: usize, to: usize) -> Vob {
+        let rest = Vob::split_off(self, to);
+        let part = Vob::split_off(self, from);
+        self.extend_from_vob(&rest);
+        part
     }
     fn and(&mut self, other: &Vob) -> bool {
         Vob::and(self, other)
@@ -233,6 +241,8 @@ impl Bits for BitVec {
             | Call::Count
             | Call::FirstFree
             | Call::Filter => Offer::None,
+            // Its split_off within a block can leave a block too many, which append takes in.
+            Call::DrainAligned | Call::DrainShifted => Offer::None,
             _ => Offer::Same,
         }
     }

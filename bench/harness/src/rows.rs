@@ -33,6 +33,8 @@ pub enum Call {
     FirstFree,
     Live,
     Matrix,
+    DrainAligned,
+    DrainShifted,
     Filter,
 }
 
@@ -196,6 +198,8 @@ pub fn all() -> Vec<Row> {
             Word,
             Limit::Copy,
         ),
+        Row::over("drain aligned", Call::DrainAligned, MILLION, Word, Limit::Copy),
+        Row::over("drain misaligned", Call::DrainShifted, MILLION, Word, Limit::Copy),
         Row::over("equality", Call::Equal, MILLION, Word, Limit::Count),
         Row::over("hash", Call::Hash, MILLION, Word, Limit::Hasher),
     ]);

@@ -52,7 +52,8 @@ pub extern "C" fn vob_bench_single(
 }
 
 /// Calls on all bits: 0 `from_bytes`, 1 `iter`, 2 `resize` with true, 3 `set_all`, 4 `negate`,
-/// 5 `clone`, 6 `hash`, 7 `split_off` within a block.
+/// 5 `clone`, 6 `hash`, 7 `split_off` within a block, 8 `drain` of a whole block from the middle, 9
+/// `drain` of 29 bits within a block there.
 #[unsafe(no_mangle)]
 pub extern "C" fn vob_bench_whole(alloc: Global, row: u32, bytes: &[u8], rounds: usize) -> u64 {
     answer(match row {
@@ -63,7 +64,9 @@ pub extern "C" fn vob_bench_whole(alloc: Global, row: u32, bytes: &[u8], rounds:
         4 => whole::negate(alloc, bytes, rounds),
         5 => whole::clone(alloc, bytes, rounds),
         6 => whole::hash(alloc, bytes, rounds),
-        _ => whole::split_off(alloc, bytes, rounds),
+        7 => whole::split_off(alloc, bytes, rounds),
+        8 => whole::drain(alloc, bytes, 0, 64, rounds),
+        _ => whole::drain(alloc, bytes, 13, 29, rounds),
     })
 }
 

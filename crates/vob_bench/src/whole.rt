@@ -140,3 +140,24 @@ pub(crate) fn split_off(alloc: Global, bytes: &[u8], rounds: usize) -> Result<u6
     }
     Ok(checksum(&vob, times))
 }
+
+/// So many bits from place `from` of a block in the middle drained, and joined again behind the
+/// others.
+#[inline(never)]
+pub(crate) fn drain(
+    alloc: Global,
+    bytes: &[u8],
+    from: usize,
+    count: usize,
+    rounds: usize,
+) -> Result<u64, VobError> {
+    let mut times: u64 = 0;
+    let mut vob = Vob::from_bytes(alloc, bytes)?;
+    let start = (vob.len() / 128 * 64).saturating_add(from);
+    for round in 0..rounds {
+        let part = vob.drain(start..start.saturating_add(count))?;
+        vob.extend_from_vob(&part)?;
+        times = times.wrapping_add(sample(&vob, round) as u64);
+    }
+    Ok(checksum(&vob, times))
+}
