@@ -41,6 +41,7 @@ enum class Call : uint32_t {
     matrix,
     drain_aligned,
     drain_shifted,
+    filter,
 };
 
 struct Input {

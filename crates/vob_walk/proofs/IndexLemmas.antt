@@ -1,5 +1,5 @@
 -- A page for users: which indices a walk gives, in which order, and how many.
-use Rattle.std.specs.Prelude.{AllPairs}
+use Rattle.std.specs.Prelude.{AllPairs, Some}
 use Rattle.std.specs.Iterator.Adapters.{rev_source, rev_steps}
 use Rattle.std.specs.List.{range_with_len}
 use Rattle.std.specs.declared.iter.Rev.{Rev}
@@ -15,7 +15,7 @@ use Rattle.std.proofs.lemmas.List.Kept.{AllPairs-filter}
 use Rattle.std.proofs.lemmas.List.Sums.{length-filter, sum_by-cons}
 use Rattle.vob_block.specs.Packing.{item}
 use Rattle.vob_walk.specs.Matches.{within, has_value, matches}
-use Rattle.vob_walk.specs.Walk.{Walk, GivesFirst, GivesLast}
+use Rattle.vob_walk.specs.Walk.{Walk, IsFresh, GivesFirst, GivesLast}
 use Rattle.vob_walk.proofs.MatchesLemmas.{matches-only, matches-has}
 
 value_is : (value bit : Bool) → IsTrue (has_value value bit) → bit ≡ value
@@ -114,6 +114,14 @@ module _ (bits : List Bool) (value : Bool) (low high : Bound ℕ) where
   matches-none e i inside in_range equal =
       let there = (matches-exactly i).1 (inside, in_range, equal) in
       omega (arith, there.1, ap length e)
+
+-- the first index of a walk of which nothing was given yet
+pub IsFresh-first : {walk after : Walk} {bits : List Bool} {value : Bool} {low high : Bound ℕ}
+    {width i : ℕ} → IsFresh walk bits value low high width → GivesFirst walk (Some i) after
+    → (i < length bits) × IsTrue (within low high i) × (item bits i ≡ value)
+IsFresh-first {walk} {after} {bits} {value} {low} {high} {width} {i} fresh first =
+    let least = matches-first bits value low high i after.rest (sym fresh.rest ∙ first.gives) in
+    (least.0, least.1, least.2)
 
 -- ---- a walk as the source of other iterators, which std's lemmas on them start from
 
