@@ -1,5 +1,5 @@
 -- The numbers of the refusals, and when the items of an iterator are refused.
-use Rattle.std.specs.Prelude.{ℕ, ◌<◌, ◌-◌, ◌^◌}
+use Rattle.std.specs.Prelude.{◌≡◌, ◌≢◌, ◌↔◌, ℕ, ◌<◌, ◌-◌, ◌^◌, Bool, List, length, Result, Err}
 use Rattle.vob.specs.declared.error.VobError.{VobError}
 use Rattle.vob.specs.declared.error.VobError.TheVariants.{TooLong, Memory, PastEnd}
 
@@ -14,3 +14,8 @@ abbrev pub MayRefuseItems : VobError → ℕ → Type 0
 MayRefuseItems TooLong n = 2 ^ 64 - 1 < n
 MayRefuseItems Memory n = 0 < n
 MayRefuseItems PastEnd n = ⊥
+
+-- what a call at an index refuses: one past the end always, and no length as too great
+pub record RefusesPastEnd {A : Type 0} (bits : List Bool) (at : ℕ) (result : Result A VobError) : Type 0 where
+  pub past_end : (result ≡ Err PastEnd) ↔ (length bits < at)
+  pub too_long : result ≢ Err TooLong

@@ -7,6 +7,7 @@ ghost use Rattle.vob_block.specs.Reading.{AreReadOnce};
 ghost use Rattle.vob_walk.specs.Matches.{within};
 ghost use Rattle.vob.specs.Drain.{bits_within, IsDrained};
 ghost use Rattle.vob.specs.Extending.{AddsAll, IsExtended, RefusesItem, RefusesMore};
+ghost use Rattle.vob.specs.Refusal.{RefusesPastEnd};
 ghost use Rattle.vob.specs.Vob.{HasRoomFor};
 
 use crate::error::VobError;
@@ -151,9 +152,8 @@ impl<T: Block> Vob<T> {
         ensures ok { OnOk result (self.new.bits ≡ take at self.old.bits) }
         ensures err { OnErr result (self.new.bits ≡ self.old.bits) }
 
-        // An index past the end is refused first, and no length is too great.
-        ensures past_end { (result ≡ Err VobError.PastEnd) ↔ (length self.old.bits < at) }
-        ensures too_long { result ≢ Err VobError.TooLong }
+        // An index past the end is refused first, and memory is the only other refusal.
+        ensures refused { RefusesPastEnd self.old.bits at result }
 
         // Where one part is empty, no memory is asked for.
         ensures whole { at ≡ 0 → IsOk result }

@@ -2,6 +2,8 @@
 ghost use Rattle.vob.specs.declared.error.VobError.TheVariants.{Memory};
 
 use std::alloc::AllocError;
+use std::error::Error;
+use std::fmt;
 
 /// Why a call was refused. vob 4.0.1 panics, or ends the process, in its place.
 #[derive(Clone, Copy, Debug, PartialEq, Eq)]
@@ -30,6 +32,18 @@ impl VobError {
         }
     }
 }
+
+impl fmt::Display for VobError {
+    fn fmt<W: fmt::Write>(&self, f: &mut fmt::Formatter<W>) -> fmt::Result {
+        f.write_str(match self {
+            VobError::TooLong => "the length would pass usize::MAX",
+            VobError::Memory => "out of memory",
+            VobError::PastEnd => "the index is past the end",
+        })
+    }
+}
+
+impl Error for VobError {}
 
 impl From<AllocError> for VobError {
     ghost use Rattle.std.specs.Prelude.{◌≡◌};

@@ -83,7 +83,13 @@ fn check_pattern<T: Block>(
         } else {
             index.saturating_add(further)
         };
-        same(rt, "a bit", index, vob.get(index), Some(pattern_bit(seed, at)));
+        same(
+            rt,
+            "a bit",
+            index,
+            vob.get(index),
+            Some(pattern_bit(seed, at)),
+        );
     }
 }
 

@@ -5,6 +5,7 @@ use super::support::{
     vob_of,
 };
 use std::process::Abort;
+use std::test::Fail;
 use vob::{Vob, VobError};
 use vob_block::Block;
 
@@ -84,6 +85,17 @@ fn a_cut_past_the_end_is_refused(rt: HostRuntime) {
     check_blocks(&rt, &vob, 3, &[5]);
     check_made(&rt, vob.split_off(3), 0, &[]);
     check_blocks(&rt, &vob, 3, &[5]);
+}
+
+#[test]
+fn a_refusal_says_why(rt: HostRuntime) -> Result<(), Fail> {
+    let long = format!(in rt.alloc(); "{}", VobError::TooLong)?;
+    assert_eq!(rt; long.as_str(), "the length would pass usize::MAX");
+    let memory = format!(in rt.alloc(); "{}", VobError::Memory)?;
+    assert_eq!(rt; memory.as_str(), "out of memory");
+    let past = format!(in rt.alloc(); "{}", VobError::PastEnd)?;
+    assert_eq!(rt; past.as_str(), "the index is past the end");
+    Ok(())
 }
 
 #[test]

@@ -6,9 +6,11 @@ use Rattle.vob_block.proofs.PackingLemmas.{length-unpacking}
 use Rattle.vob_store.proofs.StorageLemmas.{canonical_nothing, unpacking-zero}
 use Rattle.vob.proofs.vob.Vob.split_off.Goals as goal
 
-pub returns-then-at-self-clause-past_end : goal.returns-then-at-self-clause-past_end
-returns-then-at-self-clause-past_end g c = rw (← c.self.view_is, length-unpacking)
-    ((λ e. c.if-at-self.true), (λ h. refl))
+pub returns-then-at-self-clause-refused : goal.returns-then-at-self-clause-refused
+returns-then-at-self-clause-refused g c = record {
+  past_end = rw (← c.self.view_is, length-unpacking) ((λ e. c.if-at-self.true), (λ h. refl));
+  too_long = λ e. cc;
+}
 
 pub returns-then-at-self-clause-nothing : goal.returns-then-at-self-clause-nothing
 returns-then-at-self-clause-nothing g c = rw (← c.self.view_is, length-unpacking)
@@ -30,9 +32,12 @@ returns-then-at-self-2-clause-ok g c =
     rw (← c.self.view_is, length-unpacking) (omega (arith, c.if-at-self-2.true)) in
     sym (take_all c.args.at c.args.self.now.bits end)
 
-pub returns-then-at-self-2-clause-past_end : goal.returns-then-at-self-2-clause-past_end
-returns-then-at-self-2-clause-past_end g c = rw (← c.self.view_is, length-unpacking)
-    ((λ e. cc), (λ h. absurd (omega (arith, h, c.if-at-self-2.true))))
+pub returns-then-at-self-2-clause-refused : goal.returns-then-at-self-2-clause-refused
+returns-then-at-self-2-clause-refused g c = record {
+  past_end = rw (← c.self.view_is, length-unpacking)
+      ((λ e. cc), (λ h. absurd (omega (arith, h, c.if-at-self-2.true))));
+  too_long = λ e. cc;
+}
 
 pub invariant_of-replace : goal.invariant_of-replace
 invariant_of-replace g c = rw c.new-then-at-eq0.ensures.items
@@ -42,16 +47,22 @@ pub returns-then-at-eq0-clause-ok : goal.returns-then-at-eq0-clause-ok
 returns-then-at-eq0-clause-ok g c = ap (λ v. v.bits) c.replace.ensures.after ∙ unpacking-zero _ _
     ∙ sym (ap (λ k. take k c.args.self.now.bits) c.if-at-eq0.true)
 
-pub returns-in_err-vec-clause-past_end : goal.returns-in_err-vec-clause-past_end
-returns-in_err-vec-clause-past_end g c =
+pub returns-in_err-vec-clause-refused : goal.returns-in_err-vec-clause-refused
+returns-in_err-vec-clause-refused g c =
     let p = err_from_is_err_and c.from_residual.result c.from_residual.ensures.1 in
-    rw (← c.self.view_is, length-unpacking, p.1, p.2)
-    ((λ e. cc), (λ h. absurd (omega (arith, h, c.if-at-self.false))))
+    rw (p.1, p.2) (record {
+      past_end = rw (← c.self.view_is, length-unpacking)
+          ((λ e. cc), (λ h. absurd (omega (arith, h, c.if-at-self.false))));
+      too_long = λ e. cc;
+    })
 
 pub returns-in_err-vec-clause-nothing : goal.returns-in_err-vec-clause-nothing
 returns-in_err-vec-clause-nothing g c = rw (← c.self.view_is, length-unpacking)
     (λ h. absurd (c.if-at-self-2.false h))
 
-pub returns-clause-past_end : goal.returns-clause-past_end
-returns-clause-past_end g c = rw (← c.self.view_is, length-unpacking)
-    ((λ e. cc), (λ h. absurd (omega (arith, h, c.if-at-self.false))))
+pub returns-clause-refused : goal.returns-clause-refused
+returns-clause-refused g c = record {
+  past_end = rw (← c.self.view_is, length-unpacking)
+      ((λ e. cc), (λ h. absurd (omega (arith, h, c.if-at-self.false))));
+  too_long = λ e. cc;
+}

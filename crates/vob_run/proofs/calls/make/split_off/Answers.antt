@@ -52,8 +52,8 @@ returns-in-Err g c =
     omega (arith, c.if-index-len.false, c.len.ensures.len, count) in
     let call = c.in-Err.ensures in
     let memory : c.in-Err.refusal ≡ Memory = memory_alone c.in-Err.refusal
-    (λ e. call.too_long (ap Err e))
-    (λ e. absurd (omega (arith, inside, call.past_end.0 (ap Err e)))) in
+    (λ e. call.refused.too_long (ap Err e))
+    (λ e. absurd (omega (arith, inside, call.refused.past_end.0 (ap Err e)))) in
     rw (c.refused-in-Err.ensures, memory, room)
     (undivided_step g.T.Block.BITS vob (SplitOff which at) (take at old.bits) (drop at old.bits)
     (step-split g.T.Block.BITS items which at old vob inside) tt c.split_off.new.self call.err)
