@@ -1,10 +1,11 @@
 -- Why an `extend` is refused, by what its calls say.
-use Rattle.std.specs.Prelude.{Ok, Err, Result, ⊤, Option, Bool, IsOk, is_ok, OnOk, IfErr}
+use Rattle.std.specs.Prelude.{Ok, Err, Result, ⊤, Option, Bool, List, IsOk, is_ok, OnOk, IfErr}
 use Rattle.std.proofs.Common.{◌≡◌, ℕ, ◌+◌, ◌-◌, ◌^◌, ◌<◌, ◌≤◌, ◌++◌, inr, length, zero, suc, refl, sym, ap, ◌∙◌, arith}
 use Rattle.std.proofs.lemmas.Bool.{false≢true}
 use Rattle.vob_block.specs.Packing.{need}
 use Rattle.vob.specs.declared.error.VobError.{VobError}
 use Rattle.vob.specs.declared.error.VobError.TheVariants.{TooLong, Memory, PastEnd}
+use Rattle.vob.specs.Refusal.{RefusesPastEnd}
 use Rattle.vob.specs.Vob.{BitVector, IsTooLong, NeedsMemory}
 use Rattle.vob.specs.Extending.{AddsAll, IsExtended, MayRefuse, RefusesItem, RefusesMore}
 
@@ -30,6 +31,24 @@ module _ (w : ℕ) (vob : BitVector) (n : ℕ) where
     too_long = ((λ e. cc), (λ far. absurd (near far)));
     memory = λ e. cc;
     past_end = λ e. cc;
+  }
+
+-- the three answers of a call at an index
+module _ {A : Type 0} (bits : List Bool) (at : ℕ) where
+  pub RefusesPastEnd-far : length bits < at → RefusesPastEnd {A = A} bits at (Err PastEnd)
+  RefusesPastEnd-far far = record { past_end = ((λ _. far), (λ _. refl)); too_long = λ e. cc }
+
+  pub RefusesPastEnd-memory : (length bits < at → ⊥) → RefusesPastEnd {A = A} bits at (Err Memory)
+  RefusesPastEnd-memory near = record {
+    past_end = ((λ e. cc), (λ far. absurd (near far)));
+    too_long = λ e. cc;
+  }
+
+  pub RefusesPastEnd-nothing : (value : A) → (length bits < at → ⊥)
+      → RefusesPastEnd bits at (Ok value)
+  RefusesPastEnd-nothing value near = record {
+    past_end = ((λ e. cc), (λ far. absurd (near far)));
+    too_long = λ e. cc;
   }
 
 -- memory isn't wanted for no bits
