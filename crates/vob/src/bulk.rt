@@ -18,7 +18,7 @@ use std::ops::RangeBounds;
 use vob_block::{Block, Blocks};
 use vob_store::drain::remove_bits;
 use vob_store::fill::append_fill;
-use vob_store::join::{join, join_copied};
+use vob_store::join::{join, join_slice};
 use vob_store::mask::truncate_to;
 use vob_store::pack::append_slice;
 use vob_store::room::reserve_bits;
@@ -111,21 +111,6 @@ impl<T: Block> Vob<T> {
         self.len += more;
     }
 
-    /// Appends the bits of `other`, in the room that there is. Behind whole blocks its blocks are
-    /// copied all at once.
-    fn append_vob(&mut self, other: &Vob<T>)
-        requires room { HasRoomFor self.old (length other.now.bits) }
-        ensures bits { self.new.bits ≡ self.old.bits ++ other.now.bits }
-        ensures capacity { self.old.capacity ≤ self.new.capacity }
-    {
-        if self.len % T::BITS != 0 {
-            self.append_blocks(&mut other.blocks(), other.len);
-            return;
-        }
-        join_copied(&mut self.vec, self.len, other.vec.as_slice(), other.len);
-        self.len += other.len;
-    }
-
     /// Appends the bits of `other`. vob 4.0.1 ends the process where memory is refused, and panics
     /// where the length would pass `usize::MAX`.
     pub fn extend_from_vob(&mut self, other: &Vob<T>) -> Result<(), VobError>
@@ -140,7 +125,8 @@ impl<T: Block> Vob<T> {
             return Err(VobError::TooLong);
         }
         reserve_bits(&mut self.vec, self.len + other.len)?;
-        self.append_vob(other);
+        join_slice(&mut self.vec, self.len, other.vec.as_slice(), other.len);
+        self.len += other.len;
         Ok(())
     }
 

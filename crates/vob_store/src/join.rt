@@ -93,7 +93,7 @@ pub fn join<T: Block>(own: &mut Vec<T>, len: usize, other: &mut Blocks<'_, T>, m
 }
 
 /// Copies the blocks of `more` bits behind `len` bits that fill theirs, in the room that is there.
-pub fn join_copied<T: Block>(blocks: &mut Vec<T>, len: usize, others: &[T], more: usize)
+fn join_copied<T: Block>(blocks: &mut Vec<T>, len: usize, others: &[T], more: usize)
     requires canonical { IsCanonical len (map T.number blocks.old.items) T.BITS }
     requires other { IsCanonical more (map T.number others.now) T.BITS }
     requires room { len + more ≤ vec_capacity blocks.old * T.BITS }
@@ -104,4 +104,22 @@ pub fn join_copied<T: Block>(blocks: &mut Vec<T>, len: usize, others: &[T], more
 {
     // There is room, so this isn't refused.
     let _ = blocks.extend_from_slice(others);
+}
+
+/// Joins the `more` bits of `others` behind `len` bits, in the room that is there. Behind whole blocks
+/// the others are copied all at once.
+pub fn join_slice<T: Block>(blocks: &mut Vec<T>, len: usize, others: &[T], more: usize)
+    requires canonical { IsCanonical len (map T.number blocks.old.items) T.BITS }
+    requires other { IsCanonical more (map T.number others.now) T.BITS }
+    requires fits { len + more ≤ usize.MAX }
+    requires room { len + more ≤ vec_capacity blocks.old * T.BITS }
+    ensures joined { IsJoined T.BITS len more (map T.number blocks.old.items) (map T.number others.now)
+        (map T.number blocks.new.items) }
+    ensures capacity { vec_capacity blocks.old ≤ vec_capacity blocks.new }
+{
+    if len % T::BITS == 0 {
+        join_copied(blocks, len, others, more);
+    } else {
+        join(blocks, len, &mut Blocks::new(others), more);
+    }
 }

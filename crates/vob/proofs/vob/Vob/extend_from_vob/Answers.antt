@@ -25,14 +25,12 @@ returns-in_err-reserve_bits-clause-refused g c =
     absurd (omega (arith, far, c.if-self-other.false))))
     (rw (← c.self.view_is, ← c.other.view_is, length-unpacking, length-unpacking) (short, omega (arith, full, count, vec.ok))))
 
-pub append_vob-requires : goal.append_vob-requires
-append_vob-requires g c =
-    record {
-      room = rw (← c.other.view_is, length-unpacking, length-unpacking)
-          (room_from_need g.T.Block.BITS g.met.T.Block.wide_law
-          (c.self.inside.len + c.other.inside.len) _ c.in_ok-reserve_bits.ensures.ok
-          (omega (arith, c.if-self-other.false, c.self.ranges)));
-    }
+pub join_slice-requires-clause-room : goal.join_slice-requires-clause-room
+join_slice-requires-clause-room g c = omega (
+  arith,
+  room_from_need g.T.Block.BITS g.met.T.Block.wide_law (c.self.inside.len + c.other.inside.len) _
+      c.in_ok-reserve_bits.ensures.ok (omega (arith, c.if-self-other.false, c.self.ranges)),
+)
 
 pub returns-clause-refused : goal.returns-clause-refused
 returns-clause-refused g c =
