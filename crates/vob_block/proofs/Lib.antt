@@ -1,5 +1,6 @@
 pub mod ByteLemmas
 pub mod KernelLemmas
+pub mod LaneLemmas
 pub mod NeedLemmas
 pub mod NumberLemmas
 pub mod OnesLemmas

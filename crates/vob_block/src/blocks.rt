@@ -1,6 +1,6 @@
 //! Blocks to be read, with a count of the reads that contracts alone see. The module is private, so
-//! that no other code reads past the count: one tick stands beside each read.
-ghost use Rattle.std.specs.Prelude.{◌≡◌, ◌+◌, ◌<◌, length, slice_get, Some};
+//! that no other code reads past the count: a tick stands beside each block that is read.
+ghost use Rattle.std.specs.Prelude.{◌≡◌, ◌+◌, ◌<◌, ◌≤◌, length, take, drop, slice_get, Some};
 
 use std::marker::Model;
 use std::mem;
@@ -44,6 +44,20 @@ impl Count {
         *self = Count {
             before: Snapshot::of(&before),
         };
+    }
+
+    /// Eight times in one, as a loop would have to say how far it is.
+    fn tick_eight(&mut self)
+        ensures { self.new ≡ self.old + 8 }
+    {
+        self.tick();
+        self.tick();
+        self.tick();
+        self.tick();
+        self.tick();
+        self.tick();
+        self.tick();
+        self.tick();
     }
 }
 
@@ -93,5 +107,16 @@ impl<'a, T: Copy> Blocks<'a, T> {
     {
         self.count.tick();
         self.slice[k]
+    }
+
+    /// Reads the eight blocks from `k` on.
+    pub fn chunk(&mut self, k: usize) -> [T; 8]
+        requires { k + 8 ≤ length self.old.items }
+        ensures blocks { result ≡ take 8 (drop k self.old.items) }
+        ensures items { self.new.items ≡ self.old.items }
+        ensures reads { self.new.reads ≡ self.old.reads + 8 }
+    {
+        self.count.tick_eight();
+        *self.slice[k..k + 8].first_chunk::<8>().unwrap()
     }
 }

@@ -1,8 +1,11 @@
-//! The six unsigned types as blocks: constants alone, since every body stands in the trait.
+//! The six unsigned types as blocks: constants alone, since every body stands in the trait, but the
+//! three kernels at `usize`, which take eight blocks at a time.
 ghost use Rattle.std.specs.Prelude.{◌-◌, ◌^◌};
 ghost use Rattle.std.proofs.Common.{refl, ap, eq-eqb, eqb-true, lit<};
 
 use crate::block::Block;
+use crate::blocks::Blocks;
+use crate::lanes::{And, Or, Xor, combine_blocks};
 use std::hash::Hash;
 
 impl Block for u8 {
@@ -247,6 +250,18 @@ impl Block for usize {
     fn in_range(self) {}
 
     fn all_in_range(blocks: &[Self]) {}
+
+    fn and_into(own: &mut [Self], other: &mut Blocks<'_, Self>) -> bool {
+        combine_blocks::<And>(own, other)
+    }
+
+    fn or_into(own: &mut [Self], other: &mut Blocks<'_, Self>) -> bool {
+        combine_blocks::<Or>(own, other)
+    }
+
+    fn xor_into(own: &mut [Self], other: &mut Blocks<'_, Self>) -> bool {
+        combine_blocks::<Xor>(own, other)
+    }
 
     ghost number_law = { λ x. refl };
 

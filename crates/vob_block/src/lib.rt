@@ -4,6 +4,7 @@
 pub mod block;
 mod blocks;
 mod impls;
+mod lanes;
 
 pub use block::Block;
 pub use blocks::Blocks;

@@ -1,6 +1,7 @@
 -- By the lemmas on a loop that takes blocks together.
-use Rattle.std.proofs.Common.{◌≡◌, ◌&&◌, ap, map, length, arith, rules, sym, ◌∙◌}
+use Rattle.std.proofs.Common.{◌≡◌, ℕ, ◌^◌, ◌<◌, ◌&&◌, ap, map, length, subst, arith, rules, sym, ◌∙◌}
 use Rattle.std.proofs.lemmas.List.{length-map}
+use Rattle.std.proofs.lemmas.Nat.{pow_pos}
 use Rattle.vob_block.proofs.KernelLemmas.{AreTaken-none, item-more, IsCombined-taken}
 use Rattle.vob_block.proofs.block.Block.and_into.Goals as goal
 
@@ -8,6 +9,8 @@ pub loop-k-init : goal.loop-k-init
 loop-k-init g c = record {
   taken = AreTaken-none g.Self.Block.BITS ◌&&◌ _ _ _
       (ap g.Self.Block.number c.ZERO-changed.ensures ∙ g.met.Self.Block.zero_number_law);
+  small = subst (λ (x : ℕ). x < 2 ^ g.Self.Block.BITS) (sym (ap g.Self.Block.number
+      c.ZERO-changed.ensures ∙ g.met.Self.Block.zero_number_law)) (pow_pos g.Self.Block.BITS);
   items = search rules;
   reads = omega arith;
 }
@@ -19,12 +22,13 @@ loop-k-preserved g c =
     let their = c.block.ensures.block in
     record {
       taken = item-more number g.Self.Block.BITS ◌&&◌ c.args.own.now c.args.other.now.items
-          c.loop-k.own c.loop-k.k (number c.loop-k.changed) so_far.taken (omega arith)
+          c.loop-k.own c.loop-k.k (number c.loop-k.changed) so_far.taken so_far.small (omega arith)
           c.index-own-k.result c.block.result c.band-new.result c.bxor.result c.bor-changed.result
           c.index-own-k.is (rw so_far.items at their)
           c.in_range.ensures c.band-new.ensures.within c.bxor.ensures.within
           c.bor-changed.ensures.within
           c.band-new.ensures.places c.bxor.ensures.places c.bor-changed.ensures.places;
+      small = c.bor-changed.ensures.within;
       items = c.block.ensures.items ∙ so_far.items;
       reads = omega (arith, c.block.ensures.reads, so_far.reads);
     }

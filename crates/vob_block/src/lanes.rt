@@ -1,0 +1,132 @@
+//! The kernels at `usize`, eight blocks at a time.
+ghost use Rattle.std.specs.Prelude.{◌≡◌, ◌+◌, ◌*◌, ◌/◌, ◌^◌, ◌<◌, length};
+ghost use Rattle.std.specs.Simd.Lanes.{Each1, zip2};
+ghost use Rattle.vob_block.specs.Kernel.{Connective, conjunction, disjunction, difference};
+ghost use Rattle.vob_block.specs.Kernel.{on_bits, on_numbers, AreTaken};
+ghost use Rattle.vob_block.specs.Pointwise.{IsCombined};
+ghost use Rattle.vob_block.specs.Reading.{AreReadOnce};
+
+use crate::blocks::Blocks;
+use std::simd::prelude::*;
+
+/// A way to combine two blocks, or two in each of eight lanes.
+pub(crate) trait Combine {
+    ghost connective: { Connective };
+
+    fn block(own: usize, other: usize) -> usize
+        ensures { result ≡ on_numbers connective own other };
+
+    fn lanes(own: usizex8, others: usizex8) -> usizex8
+        ensures { result ≡ zip2 (on_numbers connective) own others };
+}
+
+pub(crate) struct And;
+
+impl Combine for And {
+    ghost connective = { conjunction };
+
+    #[inline(always)]
+    fn block(own: usize, other: usize) -> usize {
+        own & other
+    }
+
+    #[inline(always)]
+    fn lanes(own: usizex8, others: usizex8) -> usizex8 {
+        own & others
+    }
+}
+
+pub(crate) struct Or;
+
+impl Combine for Or {
+    ghost connective = { disjunction };
+
+    #[inline(always)]
+    fn block(own: usize, other: usize) -> usize {
+        own | other
+    }
+
+    #[inline(always)]
+    fn lanes(own: usizex8, others: usizex8) -> usizex8 {
+        own | others
+    }
+}
+
+pub(crate) struct Xor;
+
+impl Combine for Xor {
+    ghost connective = { difference };
+
+    #[inline(always)]
+    fn block(own: usize, other: usize) -> usize {
+        own ^ other
+    }
+
+    #[inline(always)]
+    fn lanes(own: usizex8, others: usizex8) -> usizex8 {
+        own ^ others
+    }
+}
+
+/// Does nothing: lanes at hand are in the range of their type, which a proof sees at a parameter.
+#[inline(always)]
+fn in_range(lanes: usizex8)
+    ensures { Each1 (λ x. x < 2 ^ 64) lanes }
+{}
+
+/// Combines the blocks in whole chunks of eight, and leaves the rest. The number is 0 exactly where
+/// none of them changed.
+#[inline(always)]
+fn combine_chunks<C: Combine>(own: &mut [usize], other: &mut Blocks<'_, usize>) -> usize
+    requires { length own.old ≡ length other.old.items }
+    ensures taken { AreTaken 64 (on_bits C.connective) own.old other.old.items own.new
+        (length own.old / 8 * 8) result }
+    ensures items { other.new.items ≡ other.old.items }
+    ensures reads { other.new.reads ≡ other.old.reads + length own.old / 8 * 8 }
+{
+    let mut changed = usizex8::splat(0);
+    for i in 0..own.len() / 8 {
+        let at = 8 * i;
+        let old = usizex8::from_slice(&own[at..]);
+        let new = C::lanes(old, usizex8::from_array(other.chunk(at)));
+        in_range(new);
+        new.copy_to_slice(&mut own[at..]);
+        changed |= old ^ new;
+    }
+    changed.reduce_or()
+}
+
+/// Combines the one block that there is, with no loop.
+#[inline(always)]
+fn combine_one<C: Combine>(own: &mut [usize], other: &mut Blocks<'_, usize>) -> bool
+    requires own { length own.old ≡ 1 }
+    requires other { length other.old.items ≡ 1 }
+    ensures combined { IsCombined 64 (on_bits C.connective) own.old other.old.items own.new result }
+    ensures read { AreReadOnce other.old other.new }
+{
+    let old = own[0];
+    let new = C::block(old, other.block(0));
+    own[0] = new;
+    old ^ new != 0
+}
+
+/// Combines the blocks, eight at a time and the last ones alone, and answers whether one changed.
+#[inline(always)]
+pub(crate) fn combine_blocks<C: Combine>(own: &mut [usize], other: &mut Blocks<'_, usize>) -> bool
+    requires { length own.old ≡ length other.old.items }
+    ensures combined { IsCombined 64 (on_bits C.connective) own.old other.old.items own.new result }
+    ensures read { AreReadOnce other.old other.new }
+{
+    if own.len() == 1 {
+        return combine_one::<C>(own, other);
+    }
+    let chunked = own.len() / 8 * 8;
+    let mut changed = combine_chunks::<C>(own, other);
+    for k in chunked..own.len() {
+        let old = own[k];
+        let new = C::block(old, other.block(k));
+        own[k] = new;
+        changed |= old ^ new;
+    }
+    changed != 0
+}
