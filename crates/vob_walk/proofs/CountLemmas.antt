@@ -163,7 +163,7 @@ module _ (w : ℕ) (xs : List ℕ) where
       ≡ ones_between w xs low high
   ones-masked start stop k low high x y read places first last ordered =
       sym (length-block_indices w (k * w) y) ∙ ap length
-      (block_indices-masked w xs true start stop k x y read places)
+      (block_indices-masked w xs true start stop k x read y places)
       ∙ ap length (indices_where-alike (is_hit w xs true start stop) (bit_at xs w) (k * w) w low
       (high - low)
       (λ i from below holds. let hit = hit_parts true start stop i holds in

@@ -4,7 +4,9 @@ pub mod CursorLemmas
 pub mod IndexLemmas
 pub mod MatchesLemmas
 pub mod PullLemmas
+pub mod ReadLemmas
 pub mod ScanLemmas
+pub mod SkipLemmas
 pub mod WalkLemmas
 pub mod WhereLemmas
 pub mod WindowLemmas

@@ -25,6 +25,11 @@ unfoldable pub unread : ℕ → List ℕ → Bool → ℕ → ℕ → ℕ → �
 unread width blocks value start stop k end =
     indices_where (is_hit width blocks value start stop) (k * width) ((end - k) * width)
 
+-- those of the bits of the value in one block, from start to below stop; place 0 is index `at`
+abbrev pub indices_in : ℕ → ℕ → ℕ → Bool → ℕ → ℕ → List ℕ
+indices_in width block at value start stop = indices_where
+    (λ i. nat_le start i && nat_lt i stop && has_value value (place (i - at) block)) at width
+
 -- a block in hand: within the width, and its indices fit the type of lengths
 pub record IsBlockBits (width at block : ℕ) : Type 0 where
   pub within : block < 2 ^ width

@@ -2,4 +2,5 @@ pub mod Count
 pub mod Cursor
 pub mod Laws
 pub mod Matches
+pub mod Skip
 pub mod Walk

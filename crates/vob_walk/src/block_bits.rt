@@ -27,6 +27,7 @@ impl<T: Block> Model for BlockBits<T> {
 }
 
 /// Whether no place is true.
+#[inline(always)]
 pub(crate) fn is_zero<T: Block>(block: T) -> bool
     ensures { IsTrue result ↔ (T.number block ≡ 0) }
 {
@@ -34,6 +35,7 @@ pub(crate) fn is_zero<T: Block>(block: T) -> bool
 }
 
 /// The block with its true place `j` made false.
+#[inline(always)]
 fn without_place<T: Block>(block: T, j: usize) -> T
     requires inside { j < T.BITS }
     requires there { place j (T.number block) ≡ true }
@@ -64,6 +66,7 @@ impl<T: Block> BlockBits<T> {
     }
 
     /// Whether no index is left.
+    #[inline(always)]
     pub(crate) fn is_empty(&self) -> bool
         ensures { IsTrue result ↔ (self.now ≡ []) }
     {
@@ -78,6 +81,7 @@ impl<T: Block> BlockBits<T> {
     }
 
     /// The first index that is left, taken.
+    #[inline(always)]
     pub(crate) fn next(&mut self) -> Option<usize>
         ensures { YieldsFirst (λ rest. rest) self.old result self.new }
     {
@@ -92,6 +96,7 @@ impl<T: Block> BlockBits<T> {
     }
 
     /// The last index that is left, taken.
+    #[inline(always)]
     pub(crate) fn next_back(&mut self) -> Option<usize>
         ensures { YieldsLast (λ rest. rest) self.old result self.new }
     {

@@ -37,6 +37,7 @@ impl<'a, T: Block> Model for Cursor<'a, T> {
 
 /// Where the front has no index in hand, it gets those of the first block that has some, or else
 /// what the back has. So it has none afterwards only where none is left at all.
+#[inline(always)]
 fn fill_front<T: Block>(
     unread: &mut Unread<'_, T>,
     front: &mut BlockBits<T>,
@@ -59,6 +60,7 @@ fn fill_front<T: Block>(
 
 /// Where the back has no index in hand, it gets those of the last block that has some, or else what
 /// the front has. So it has none afterwards only where none is left at all.
+#[inline(always)]
 fn fill_back<T: Block>(
     unread: &mut Unread<'_, T>,
     front: &mut BlockBits<T>,
@@ -101,6 +103,7 @@ impl<'a, T: Block> Cursor<'a, T> {
     }
 
     /// The first index that is left, taken.
+    #[inline(always)]
     pub(crate) fn next(&mut self) -> Option<usize>
         ensures steps { YieldsFirst (λ (walk : Walk). walk.rest) self.old result self.new }
         ensures goes { MakesProgress (λ (walk : Walk). ⊤) (item_count (λ (walk : Walk). walk.rest))
@@ -112,6 +115,7 @@ impl<'a, T: Block> Cursor<'a, T> {
     }
 
     /// The last index that is left, taken.
+    #[inline(always)]
     pub(crate) fn next_back(&mut self) -> Option<usize>
         ensures steps { YieldsLast (λ (walk : Walk). walk.rest) self.old result self.new }
         ensures goes { MakesProgress (λ (walk : Walk). ⊤) (item_count (λ (walk : Walk). walk.rest))

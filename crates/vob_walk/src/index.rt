@@ -63,6 +63,7 @@ impl<'a, T: Block> Iterator for IterSetBits<'a, T> {
 
     ghost remaining = { item_count (λ walk. walk.rest) };
 
+    #[inline(always)]
     fn next(&mut self) -> Option<usize> {
         self.cursor.next()
     }
@@ -71,6 +72,7 @@ impl<'a, T: Block> Iterator for IterSetBits<'a, T> {
 impl<'a, T: Block> DoubleEndedIterator for IterSetBits<'a, T> {
     ghost next_back_gives = { GivesLast };
 
+    #[inline(always)]
     fn next_back(&mut self) -> Option<usize> {
         self.cursor.next_back()
     }
@@ -139,6 +141,7 @@ impl<'a, T: Block> Iterator for IterUnsetBits<'a, T> {
 
     ghost remaining = { item_count (λ walk. walk.rest) };
 
+    #[inline(always)]
     fn next(&mut self) -> Option<usize> {
         self.cursor.next()
     }
@@ -147,6 +150,7 @@ impl<'a, T: Block> Iterator for IterUnsetBits<'a, T> {
 impl<'a, T: Block> DoubleEndedIterator for IterUnsetBits<'a, T> {
     ghost next_back_gives = { GivesLast };
 
+    #[inline(always)]
     fn next_back(&mut self) -> Option<usize> {
         self.cursor.next_back()
     }

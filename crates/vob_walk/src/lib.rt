@@ -8,6 +8,7 @@ mod cursor;
 mod index;
 pub mod range;
 mod scan;
+mod skip;
 mod walk;
 mod window;
 

@@ -3,18 +3,31 @@
 ghost use Rattle.std.specs.Prelude.{◌≡◌, ℕ, ◌+◌, ◌-◌, ◌*◌, ◌^◌, ◌<◌, ◌≤◌, [], ◌++◌, map, length};
 ghost use Rattle.vob_block.specs.Packing.{need, unpacking};
 ghost use Rattle.vob_walk.specs.Matches.{matches, blocks_met};
-ghost use Rattle.vob_walk.specs.Cursor.{unread};
+ghost use Rattle.vob_walk.specs.Cursor.{indices_in, unread};
+ghost use Rattle.vob_walk.specs.Skip.{ReadsUp, ReadsDown};
 
-use crate::block_bits::{BlockBits, is_zero};
+use crate::block_bits::BlockBits;
 use crate::count::count_between;
 use crate::range::{blocks_of, first_index, past_last_index};
-use crate::window::{Window, masked};
+use crate::skip::{first_other, last_other};
+use crate::window::{Window, block_without, masked};
 use std::marker::Model;
 use std::ops::RangeBounds;
 use vob_block::{Block, Blocks};
 
+/// The indices that the window looks for in block `k`.
+#[inline(always)]
+fn bits_in<T: Block>(block: T, k: usize, window: Window) -> BlockBits<T>
+    requires { k * T.BITS < window.stop }
+    ensures { result ≡ indices_in T.BITS (T.number block) (k * T.BITS) window.value window.start
+        window.stop }
+{
+    BlockBits::of(masked(block, k, window), k * T::BITS)
+}
+
 /// Reads blocks from `next` on until one has an index to give, and answers that one's. Where none
 /// has, all up to `end` are read.
+#[inline(always)]
 fn find_front<T: Block>(
     blocks: &mut Blocks<'_, T>,
     window: Window,
@@ -24,20 +37,18 @@ fn find_front<T: Block>(
     requires order { next.old ≤ end }
     requires count { end ≤ length blocks.old.items }
     requires below { (k : ℕ) → k < end → k * T.BITS < window.stop }
-    ensures rest { result ++ unread T.BITS (map T.number blocks.old.items) window.value
-        window.start window.stop next.new end
-        ≡ unread T.BITS (map T.number blocks.old.items) window.value window.start window.stop next.old end }
+    ensures reads { ReadsUp T.number (λ xs. unread T.BITS xs window.value window.start window.stop)
+        blocks.old blocks.new next.old end next.new result }
     ensures none { result ≡ [] → next.new ≡ end }
-    ensures rises { next.old ≤ next.new }
-    ensures order { next.new ≤ end }
-    ensures items { blocks.new.items ≡ blocks.old.items }
-    ensures reads { blocks.new.reads + (end - next.new) ≡ blocks.old.reads + (end - next.old) }
 {
-    for k in *next..end {
-        let word = masked(blocks.block(k), k, window);
-        if !is_zero(word) {
-            *next = k + 1;
-            return BlockBits::of(word, k * T::BITS);
+    let skip = block_without(window.value);
+    let mut from = *next;
+    while let Some(found) = first_other(blocks, skip, from, end) {
+        from = found.0 + 1;
+        let bits = bits_in(found.1, found.0, window);
+        if !bits.is_empty() {
+            *next = from;
+            return bits;
         }
     }
     *next = end;
@@ -46,6 +57,7 @@ fn find_front<T: Block>(
 
 /// Reads blocks from below `end` down until one has an index to give, and answers that one's. Where
 /// none has, all down to `next` are read.
+#[inline(always)]
 fn find_back<T: Block>(
     blocks: &mut Blocks<'_, T>,
     window: Window,
@@ -55,20 +67,18 @@ fn find_back<T: Block>(
     requires order { next ≤ end.old }
     requires count { end.old ≤ length blocks.old.items }
     requires below { (k : ℕ) → k < end.old → k * T.BITS < window.stop }
-    ensures rest { unread T.BITS (map T.number blocks.old.items) window.value window.start
-        window.stop next end.new ++ result
-        ≡ unread T.BITS (map T.number blocks.old.items) window.value window.start window.stop next end.old }
+    ensures reads { ReadsDown T.number (λ xs. unread T.BITS xs window.value window.start window.stop)
+        blocks.old blocks.new next end.old end.new result }
     ensures none { result ≡ [] → end.new ≡ next }
-    ensures falls { end.new ≤ end.old }
-    ensures order { next ≤ end.new }
-    ensures items { blocks.new.items ≡ blocks.old.items }
-    ensures reads { blocks.new.reads + (end.new - next) ≡ blocks.old.reads + (end.old - next) }
 {
-    for k in (next..*end).rev() {
-        let word = masked(blocks.block(k), k, window);
-        if !is_zero(word) {
-            *end = k;
-            return BlockBits::of(word, k * T::BITS);
+    let skip = block_without(window.value);
+    let mut till = *end;
+    while let Some(found) = last_other(blocks, skip, next, till) {
+        till = found.0;
+        let bits = bits_in(found.1, found.0, window);
+        if !bits.is_empty() {
+            *end = till;
+            return bits;
         }
     }
     *end = next;
@@ -132,6 +142,7 @@ impl<'a, T: Block> Unread<'a, T> {
     }
 
     /// The indices of the first block that has some, which is read.
+    #[inline(always)]
     pub(crate) fn next_bits(&mut self) -> BlockBits<T>
         ensures rest { result ++ self.new.rest ≡ self.old.rest }
         ensures none { result ≡ [] → self.new.rest ≡ [] }
@@ -142,6 +153,7 @@ impl<'a, T: Block> Unread<'a, T> {
     }
 
     /// The indices of the last block that has some, which is read.
+    #[inline(always)]
     pub(crate) fn next_back_bits(&mut self) -> BlockBits<T>
         ensures rest { self.new.rest ++ result ≡ self.old.rest }
         ensures none { result ≡ [] → self.new.rest ≡ [] }

@@ -1,5 +1,5 @@
 //! What a walk looks for, and the places of a block that it finds there.
-ghost use Rattle.std.specs.Prelude.{◌+◌, ◌*◌, ◌^◌, ◌<◌, ◌≤◌, ◌&&◌, nat_le, nat_lt};
+ghost use Rattle.std.specs.Prelude.{◌≡◌, ◌+◌, ◌-◌, ◌*◌, ◌^◌, ◌<◌, ◌≤◌, ◌&&◌, if◌then◌else◌, nat_le, nat_lt};
 ghost use Rattle.vob_block.specs.Places.{place, HasPlaces};
 ghost use Rattle.vob_walk.specs.Matches.{has_value};
 
@@ -11,6 +11,14 @@ pub(crate) struct Window {
     pub(crate) value: bool,
     pub(crate) start: usize,
     pub(crate) stop: usize,
+}
+
+/// The block of which no place has the value.
+#[inline(always)]
+pub(crate) fn block_without<T: Block>(value: bool) -> T
+    ensures { T.number result ≡ (if value then 0 else 2 ^ T.BITS - 1) }
+{
+    if value { T::ZERO } else { T::ONES }
 }
 
 /// The places whose bits have the value.

@@ -1,51 +1,71 @@
--- By the lemmas on the last block that is not read yet.
-use Rattle.std.proofs.Common.{◌≡◌, ◌-◌, ◌*◌, ◌++◌, ◌∙◌, map, sym, ap, arith}
-use Rattle.vob_block.proofs.NumberLemmas.{number_read}
-use Rattle.vob_walk.specs.Cursor.{block_indices, unread}
-use Rattle.vob_walk.proofs.BlockBitsLemmas.{some_index}
-use Rattle.vob_walk.proofs.ScanLemmas.{unread-last_block_indices, unread-last_skipped}
+-- By the lemmas on blocks that are read one after another.
+use Rattle.std.proofs.Common.{◌-◌, ◌<◌, ◌∙◌, [], length, sym, ap, arith}
+use Rattle.std.proofs.lemmas.Bool.{false≢true}
+use Rattle.vob_walk.proofs.ReadLemmas.{ScansDown-inside, ReadsDown-start, ReadsDown-found, ReadsDown-end}
 use Rattle.vob_walk.proofs.scan.find_back.Goals as goal
 
-pub loop-k-preserved : goal.loop-k-preserved
-loop-k-preserved g c =
-    let number = g.T.Block.number in
-    let so_far = c.loop-k.invariant in
-    let window = c.args.window in
-    let read = number_read number c.args.blocks.now.items (c.loop-k.k - 1) c.block.result
-    (rw so_far.items at c.block.ensures.block) in
-    record {
-      order = omega (arith, c.loop-k-test.true);
-      rest = unread-last_skipped g.T.Block.BITS (map number c.args.blocks.now.items) window.value
-          window.start window.stop (c.loop-k.k - 1) (number c.block.result)
-          (number c.masked-word.result) read
-          c.masked-word.ensures.places c.args.next c.loop-k.k (omega (arith, c.loop-k-test.true))
-          (omega (arith, c.loop-k-test.true)) (c.is_zero.ensures.0 c.if-not-is_zero.false)
-          ∙ so_far.rest;
-      items = c.block.ensures.items ∙ so_far.items;
-      reads = omega (arith, c.block.ensures.reads, so_far.reads, c.loop-k-test.true);
-    }
+pub loop-found-init : goal.loop-found-init
+loop-found-init g c = ReadsDown-start g.T.Block.BITS c.args.window.value c.args.window.start
+    c.args.window.stop g.T.Block.number c.args.blocks.now c.args.next c.args.end.now
+    c.requires.order
 
-pub returns-then-not-is_zero-clause-rest : goal.returns-then-not-is_zero-clause-rest
-returns-then-not-is_zero-clause-rest g c =
-    let w = g.T.Block.BITS in
-    let number = g.T.Block.number in
-    let xs = map number c.args.blocks.now.items in
-    let so_far = c.loop-k.invariant in
-    let window = c.args.window in
-    let read = number_read number c.args.blocks.now.items (c.loop-k.k - 1) c.block.result
-    (rw so_far.items at c.block.ensures.block) in
-    let made : c.of.result ≡ block_indices w ((c.loop-k.k - 1) * w)
-    (number c.masked-word.result) = c.of.ensures
-    ∙ ap (λ v. block_indices w ((c.loop-k.k - 1) * v) (number c.masked-word.result))
-    c.BITS.ensures in
-    ap (λ l. unread w xs window.value window.start window.stop c.args.next (c.loop-k.k - 1) ++ l)
-    made
-    ∙ unread-last_block_indices w xs window.value window.start window.stop (c.loop-k.k - 1)
-    (number c.block.result) (number c.masked-word.result) read c.masked-word.ensures.places
-    c.args.next c.loop-k.k (omega (arith, c.loop-k-test.true))
-    (omega (arith, c.loop-k-test.true)) ∙ so_far.rest
+pub last_other-requires-clause-order : goal.last_other-requires-clause-order
+last_other-requires-clause-order g c = c.loop-found.invariant.order
 
-pub returns-then-not-is_zero-clause-none : goal.returns-then-not-is_zero-clause-none
-returns-then-not-is_zero-clause-none g c = λ none.
-    absurd (some_index _ _ _ c.is_zero.result c.is_zero.ensures c.masked-word.ensures.within
-    c.if-not-is_zero.true (sym c.of.ensures ∙ none))
+pub last_other-requires-clause-count : goal.last_other-requires-clause-count
+last_other-requires-clause-count g c =
+    omega (
+      arith,
+      c.requires.count,
+      c.loop-found.invariant.falls,
+      ap length c.loop-found.invariant.items,
+    )
+
+pub bits_in-bits-requires : goal.bits_in-bits-requires
+bits_in-bits-requires g c =
+    let inside = ScansDown-inside g.T.Block.number c.block_without-skip.result c.loop-found.blocks
+    c.last_other.new.blocks c.args.next c.loop-found.till c.last_other.result c.in-Some.found
+    c.in-Some.is c.last_other.ensures in
+    c.requires.below c.in-Some.found.0 (omega (arith, inside.1, c.loop-found.invariant.falls))
+
+pub loop-found-preserved : goal.loop-found-preserved
+loop-found-preserved g c =
+    let window = c.args.window in
+    ReadsDown-found g.T.Block.BITS window.value window.start window.stop g.T.Block.number
+    c.block_without-skip.result c.block_without-skip.ensures c.args.blocks.now c.loop-found.blocks
+    c.last_other.new.blocks c.args.next c.loop-found.till c.args.end.now c.last_other.result []
+    c.in-Some.found c.loop-found.invariant c.in-Some.is c.last_other.ensures
+    (sym (c.is_empty.ensures.0 c.if-not-is_empty.false) ∙ c.bits_in-bits.ensures)
+
+pub loop-found-smaller : goal.loop-found-smaller
+loop-found-smaller g c =
+    let less : c.in-Some.found.0 - c.args.next < c.loop-found.till - c.args.next =
+    omega (
+      arith,
+      ScansDown-inside g.T.Block.number c.block_without-skip.result c.loop-found.blocks
+          c.last_other.new.blocks c.args.next c.loop-found.till c.last_other.result c.in-Some.found
+          c.in-Some.is c.last_other.ensures,
+    ) in
+    less
+
+pub returns-then-not-is_empty-clause-reads : goal.returns-then-not-is_empty-clause-reads
+returns-then-not-is_empty-clause-reads g c =
+    let window = c.args.window in
+    ReadsDown-found g.T.Block.BITS window.value window.start window.stop g.T.Block.number
+    c.block_without-skip.result c.block_without-skip.ensures c.args.blocks.now c.loop-found.blocks
+    c.last_other.new.blocks c.args.next c.loop-found.till c.args.end.now c.last_other.result
+    c.bits_in-bits.result c.in-Some.found c.loop-found.invariant c.in-Some.is
+    c.last_other.ensures c.bits_in-bits.ensures
+
+pub returns-then-not-is_empty-clause-none : goal.returns-then-not-is_empty-clause-none
+returns-then-not-is_empty-clause-none g c = λ none.
+    absurd (false≢true (sym c.if-not-is_empty.true ∙ c.is_empty.ensures.1 none))
+
+pub returns-clause-reads : goal.returns-clause-reads
+returns-clause-reads g c =
+    let window = c.args.window in
+    ReadsDown-end g.T.Block.BITS window.value window.start window.stop g.T.Block.number
+    c.block_without-skip.result c.block_without-skip.ensures c.args.blocks.now c.loop-found.blocks
+    c.last_other.new.blocks c.args.next c.loop-found.till c.args.end.now c.last_other.result
+    c.none.result c.loop-found.invariant c.in_default.not-Some c.last_other.ensures
+    c.none.ensures
