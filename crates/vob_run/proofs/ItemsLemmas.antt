@@ -10,15 +10,17 @@ use Rattle.vob.specs.declared.error.VobError.TheVariants.{TooLong, Memory, PastE
 use Rattle.vob.specs.Extending.{IsExtended, RefusesHint, RefusesItem}
 use Rattle.vob.specs.Vob.{BitVector}
 
+-- what takes all items of an iterator that gives these one by one has taken these
+pub all_taken : {S A : Type 0} (steps : S → Option A → S → Type 0) (it : S) (items : List A)
+    → YieldsList steps (λ (x : A). x) it items
+    → (added : List A) → Drains steps it added → added ≡ items
+all_taken steps it items road added drained =
+    let end = YieldsList-end road added drained.1.0 drained.1.1 None drained.0 refl drained.1.2 in
+    sym (map-id added) ∙ end.0
+
 -- an iterator that gives these items one by one
 module _ {S : Type 0} (steps : S → Option Bool → S → Type 0) (it : S) (items : List Bool)
     (road : YieldsList steps (λ (x : Bool). x) it items) where
-  -- a constructor that took all of them has them as its bits
-  pub all_taken : (added : List Bool) → Drains steps it added → added ≡ items
-  all_taken added drained =
-      let end = YieldsList-end road added drained.1.0 drained.1.1 None drained.0 refl drained.1.2 in
-      sym (map-id added) ∙ end.0
-
   -- and it took no more of them than there are
   pub none_more : (xs : List Bool) (rest : S) → Yields steps it xs rest → length xs ≤ length items
   none_more xs rest yields =
@@ -49,7 +51,7 @@ module _ {S : Type 0} (steps : S → Option Bool → S → Type 0) (it : S) (ite
     pub all_added : (result : Result ⊤ VobError) → IsExtended steps it hint before after result
         → (result ≡ Ok tt) × (after.bits ≡ before.bits ++ items)
     all_added (Ok done) did =
-        (refl, did.ok.2 ∙ ap (λ l. before.bits ++ l) (all_taken did.ok.0 did.ok.1))
+        (refl, did.ok.2 ∙ ap (λ l. before.bits ++ l) (all_taken _ it items road did.ok.0 did.ok.1))
     all_added (Err refusal) did = absurd (not_refused refusal did.err)
 
 -- a constructor's result, whose iterator is one that another call gave

@@ -243,7 +243,7 @@ pub enum Reply<T> {
     Dealt(Vec<Option<usize>>),
     /// No Vob has that number, or the call's condition doesn't hold; nothing was done.
     Skipped,
-    /// The call was refused, for the reason with this number (see `VobError::number`), and all Vobs
-    /// are as they were.
+    /// The call was refused, and all Vobs are as they were: 1, 2 and 4 are numbers of
+    /// `VobError::number`, and 3 is blocks that aren't the canonical ones of their length.
     Refused(u8),
 }

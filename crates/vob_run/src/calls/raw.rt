@@ -14,11 +14,13 @@ use std::alloc::{AllocError, Global};
 use vob::{RawVob, Vob, VobError};
 use vob_block::Block;
 
-// A copy of some blocks.
+// A copy of some blocks, by one request.
 pub(super) fn copied<T: Block>(alloc: Global, blocks: &[T]) -> Result<Vec<T>, AllocError>
     ensures { IfOk result (λ copy. copy.items ≡ blocks.now) }
 {
-    blocks.iter().copied().collect(alloc)
+    let mut copy = Vec::with_capacity(alloc, blocks.len())?;
+    copy.extend_from_slice(blocks)?;
+    Ok(copy)
 }
 
 // Puts a Vob at the end of the list, if its blocks were taken.

@@ -67,11 +67,14 @@ pub(crate) fn is_empty<T: Block>(vobs: &[Vob<T>], which: usize) -> Reply<T>
     }
 }
 
-// The bits, in a vector with room for all of them from the start.
+// The bits, in a vector that has room for all of them by one request, or the refusal of that one:
+// `collect` asks for less where the room for all was refused.
 fn bits_of<T: Block>(alloc: Global, vob: &Vob<T>) -> Result<Vec<bool>, AllocError>
     ensures { IfOk result (λ bits. bits.items ≡ vob.now.bits) }
 {
-    vob.iter().collect(alloc)
+    let mut bits = Vec::with_capacity(alloc, vob.len())?;
+    bits.extend(vob.iter())?;
+    Ok(bits)
 }
 
 pub(crate) fn bits<T: Block>(alloc: Global, vobs: &[Vob<T>], which: usize) -> Reply<T>
@@ -87,11 +90,13 @@ pub(crate) fn bits<T: Block>(alloc: Global, vobs: &[Vob<T>], which: usize) -> Re
     }
 }
 
-// The blocks, in a vector with room for all of them from the start.
+// The blocks, in a vector that has room for all of them by one request.
 fn blocks_of<T: Block>(alloc: Global, vob: &Vob<T>) -> Result<Vec<T>, AllocError>
     ensures { IfOk result (λ blocks. map T.number blocks.items ≡ packing vob.now.bits T.BITS) }
 {
-    vob.iter_storage().collect(alloc)
+    let mut blocks = Vec::with_capacity(alloc, vob.len().div_ceil(T::BITS))?;
+    blocks.extend(vob.iter_storage())?;
+    Ok(blocks)
 }
 
 pub(crate) fn storage<T: Block>(alloc: Global, vobs: &[Vob<T>], which: usize) -> Reply<T>

@@ -20,7 +20,7 @@ pub(crate) struct Selection {
     pub bounds: (Bound<usize>, Bound<usize>),
 }
 
-// What the pulls at a fresh walk answer.
+// What the pulls at a fresh walk answer, in a vector that has room for one answer a pull.
 fn dealt<T: Block>(
     alloc: Global,
     vob: &Vob<T>,
@@ -30,7 +30,7 @@ fn dealt<T: Block>(
     ensures { IfOk result (λ indices. indices.items ≡ answers
         (matches vob.now.bits selection.value selection.bounds.0 selection.bounds.1) pulls.now) }
 {
-    let mut indices = Vec::new(alloc);
+    let mut indices = Vec::with_capacity(alloc, pulls.len())?;
     if selection.value {
         deal(
             &mut vob.iter_set_bits(selection.bounds),
