@@ -5,3 +5,4 @@ pub mod SpellsLemmas
 pub mod KeywordLemmas
 pub mod ReadLemmas
 pub mod SessionLemmas
+pub mod WrittenLemmas

@@ -4,12 +4,18 @@ use Rattle.std.specs.Prelude.{find}
 use Rattle.std.specs.Str.{bytes_eq}
 use Rattle.std.proofs.lemmas.Option.{none-some, same_Some}
 use Rattle.std.proofs.lemmas.Slice.Eq.{bytes_eq-Decides}
+use Rattle.std.specs.declared.ops.Bound.TheVariants.{Unbounded}
 use Rattle.vob_run.specs.Call.{Call}
+use Rattle.vob_run.specs.Call as call
 use Rattle.vob_lines.specs.Arguments.{Argument, number, AllSpell}
-use Rattle.vob_lines.specs.Grammar.{form_of, Reads}
+use Rattle.vob_lines.specs.Errors.{TakesMemory}
+use Rattle.vob_lines.specs.Grammar.{form_of, Reads, HasList, BeginsAsList}
 use Rattle.vob_lines.specs.Kinds.{Kinds, nothing, numbers, before, kinds_of, Are, Begins, IsLine}
 use Rattle.vob_lines.specs.Keywords.{word_of, keywords, keyword_named}
 use Rattle.vob_lines.specs.declared.keyword.Keyword.{Keyword}
+use Rattle.vob_lines.specs.declared.keyword.Keyword.TheVariants.{Fresh, Number, NumberNumber, BitNumber, NumberBit, NumberNumberBit, BitList, NumberBitList, Bytes, Raw, Record, Drain, Walk, Count}
+use Rattle.vob_lines.specs.declared.keyword.BitList.TheVariants.{Slice, Items}
+use Rattle.vob_lines.specs.declared.keyword.NumberBitList.TheVariants.{Append, Extend}
 use Rattle.vob_lines.proofs.SpellsLemmas.{spells_once}
 use Rattle.vob_lines.proofs.KeywordLemmas.{keyword_of, Fits, belongs, call_from}
 
@@ -97,6 +103,26 @@ pub not_named : (line : List (List ℕ)) (word : List ℕ) (words : List (List �
 not_named line word words cut none c reads =
     let here = rw cut at reads in none-some (keyword_of c) (sym none ∙ named_call word words c here)
 
+-- a call that holds a list, for a keyword of such calls
+list_call : (k : Keyword) → TakesMemory (kinds_of k) →
+    (c : Call) × HasList c × ((form_of c).word ≡ word_of k)
+list_call (BitList Slice) takes = (call.FromSlice [], tt, refl)
+list_call (BitList Items) takes = (call.FromItems [], tt, refl)
+list_call (NumberBitList Append) takes = (call.ExtendSlice 0 [], tt, refl)
+list_call (NumberBitList Extend) takes = (call.ExtendItems 0 [], tt, refl)
+list_call Bytes takes = (call.FromBytes [], tt, refl)
+list_call Raw takes = (call.FromRaw 0 false [], tt, refl)
+list_call Record takes = (call.FromRecord 0 [], tt, refl)
+list_call Walk takes = (call.Walk 0 false Unbounded Unbounded [], tt, refl)
+list_call Fresh takes = absurd takes
+list_call (Number word) takes = absurd takes
+list_call (NumberNumber word) takes = absurd takes
+list_call (BitNumber word) takes = absurd takes
+list_call (NumberBit word) takes = absurd takes
+list_call (NumberNumberBit word) takes = absurd takes
+list_call Drain takes = absurd takes
+list_call Count takes = absurd takes
+
 module _ (line : List (List ℕ)) (word : List ℕ) (words : List (List ℕ)) (k : Keyword)
     (cut : line ≡ word ∷ words) where
   -- the keyword and its arguments
@@ -113,3 +139,14 @@ module _ (line : List (List ℕ)) (word : List ℕ) (words : List (List ℕ)) (k
       let same : Some k ≡ Some (keyword_of c) = sym named ∙ named_call word words c here in
       let key : k ≡ keyword_of c = cc in
       others (rw key (are_kinds words _ _ (belongs c).fits here.1))
+
+  -- only a keyword of calls that hold a list takes memory
+  pub begins_as_list : keyword_named word ≡ Some k → TakesMemory (kinds_of k) → BeginsAsList line
+  begins_as_list named takes =
+      let found = list_call k takes in
+      record {
+        call = found.0;
+        holds = found.1;
+        words = words;
+        first = cut ∙ ap (λ w. w ∷ words) (word_named word k named ∙ sym found.2);
+      }

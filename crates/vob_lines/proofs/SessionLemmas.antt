@@ -1,13 +1,17 @@
 -- Lines that are read as calls, one after another.
 use Rattle.std.proofs.Common.{◌≡◌, ◌≢◌, ℕ, ◌+◌, Bool, true, List, [], ◌∷◌, ◌++◌, length, map, refl, ap, sym, ◌∙◌, arith, length-append}
-use Rattle.std.specs.Prelude.{nat_lt, Option, None, Some, IfSome}
+use Rattle.std.proofs.Common.{inl, inr, codes}
+use Rattle.std.specs.Prelude.{nat_lt, Option, None, Some, Result, Ok, Err, OnOk, OnErr}
 use Rattle.std.proofs.lemmas.List.{append_assoc, append-nil, map-append}
 use Rattle.std.proofs.lemmas.Bool.{lt-ltb}
 use Rattle.std.proofs.lemmas.List.Elements.{filter-append}
 use Rattle.vob_run.specs.Call.{Call}
 use Rattle.vob_lines.specs.Cuts.{words_of}
 use Rattle.vob_lines.specs.Grammar.{Reads}
-use Rattle.vob_lines.specs.Conversation.{sentences, AllRead, IsFirstBad}
+use Rattle.vob_lines.specs.Conversation.{sentences, AllRead, IsFirstBad, Says, IsInput, Converses}
+use Rattle.vob_lines.specs.Texts.{line_of}
+use Rattle.vob_lines.specs.Written.{Puts}
+use Rattle.vob_lines.proofs.WrittenLemmas.{but_all, but_none}
 
 -- the first lines, of which there are so many, read as these calls
 pub record ReadsSoFar (lines rest : List (List ℕ)) (n : ℕ) (calls : List Call) : Type 0 where
@@ -99,7 +103,46 @@ pub reads_all : (lines : List (List ℕ)) (n : ℕ) (calls : List Call) →
     ReadsSoFar lines [] n calls → AllRead (sentences lines) calls
 reads_all lines n calls so_far = rw (so_far.cut ∙ append-nil so_far.before) so_far.read
 
--- what holds of each value holds of the one that there may be
-pub IfSome-each : {X : Type 0} (o : Option X) (P : X → Type 0) → ((x : X) → P x) → IfSome o P
-IfSome-each None P each = tt
-IfSome-each (Some x) P each = each x
+-- a reader's input, where it is known
+pub some_input : (remaining : Option (List ℕ)) → (text : List ℕ) × IsInput remaining text
+some_input None = ([], tt)
+some_input (Some all) = (all, refl)
+
+-- what is told was written, or some of it where that failed
+pub converses : {T E : Type 0} (written : Result T E) (remaining old new : Option (List ℕ))
+    (input text : List ℕ) (told status : ℕ) → IsInput remaining input → Says told input text →
+    Puts written old new text [] → OnOk written (status ≡ told) → OnErr written (status ≡ 1) →
+    Converses status remaining old new
+converses (Ok value) remaining old new input text told status read says puts ok err = record {
+  input = input;
+  read = read;
+  told = told;
+  text = text;
+  says = says;
+  whole = λ _. (ok, but_none old new text puts);
+  part = λ _. ([], puts);
+}
+converses (Err error) remaining old new input text told status read says puts ok err = record {
+  input = input;
+  read = read;
+  told = told;
+  text = text;
+  says = says;
+  whole = λ other. absurd (other err);
+  part = λ _. puts;
+}
+
+-- reading failed, and nothing was written
+pub converses_not : (remaining known : Option (List ℕ)) → Converses 1 remaining known known
+converses_not remaining known =
+    let input = some_input remaining in
+    let text = line_of (codes "memory") in
+    record {
+      input = input.0;
+      read = input.1;
+      told = 3;
+      text = text;
+      says = inr (inr (refl, refl));
+      whole = λ other. absurd (other refl);
+      part = λ _. (text, but_all known text);
+    }

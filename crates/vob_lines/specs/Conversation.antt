@@ -1,13 +1,15 @@
 -- What the program writes for what it reads.
-use Rattle.std.specs.Prelude.{◌≡◌, ◌≢◌, ◌⊎◌, ℕ, ◌+◌, Bool, List, [], ◌∷◌, ◌++◌, length, filter, map, nat_lt, codes, ⊤}
+use Rattle.std.specs.Prelude.{◌≡◌, ◌≢◌, ◌⊎◌, ℕ, ◌+◌, Bool, List, [], ◌∷◌, ◌++◌, length, filter, map, nat_lt, codes, ⊤, Option, IfSome}
 use Rattle.std.specs.List.{flat_map}
 use Rattle.std.specs.Fmt.{decimal}
+use Rattle.std.specs.Io.KnownBytes.{Appends}
 use Rattle.vob_run.specs.Call.{Call}
 use Rattle.vob_run.specs.Answer.{Answer}
 use Rattle.vob_run.specs.Run.{IsRun}
 use Rattle.vob_lines.specs.Cuts.{lines_of, words_of}
 use Rattle.vob_lines.specs.Grammar.{Reads}
 use Rattle.vob_lines.specs.Texts.{text_of, line_of}
+use Rattle.vob_lines.specs.Written.{AppendsPart}
 
 -- the words of each line that has some
 abbrev pub sentences : List (List ℕ) → List (List (List ℕ))
@@ -56,3 +58,18 @@ Says status input written =
     ((status ≡ 0) × Answers input written)
     ⊎ (((status ≡ 2) × Refuses input written)
     ⊎ ((status ≡ 3) × (written ≡ line_of (codes "memory"))))
+
+-- a text is all that a reader has left, where that is known
+abbrev pub IsInput : Option (List ℕ) → List ℕ → Type 0
+IsInput remaining text = IfSome remaining (λ all. text ≡ all)
+
+-- the exit status, and what becomes of the bytes that a writer holds, for what a reader has left:
+-- exactly a text that is told with this status was written, or a first part of one, and status 1
+pub record Converses (status : ℕ) (remaining old new : Option (List ℕ)) : Type 0 where
+  pub input : List ℕ
+  pub read : IsInput remaining input
+  pub told : ℕ
+  pub text : List ℕ
+  pub says : Says told input text
+  pub whole : status ≢ 1 → (status ≡ told) × Appends old new text
+  pub part : status ≡ 1 → AppendsPart old new text

@@ -4,6 +4,8 @@ pub mod Arguments
 pub mod Grammar
 pub mod Keywords
 pub mod Kinds
+pub mod Errors
 pub mod Texts
+pub mod Written
 pub mod Conversation
 pub mod Ends

@@ -1,11 +1,12 @@
 //! The command that a line reads as: its words, taken off one after another.
 
-ghost use Rattle.std.specs.Prelude.{◌≡◌, ◌≢◌, List, [], ◌∷◌, map, IfOk, OnOk, OnErr, IsErrOf, ℕ};
+ghost use Rattle.std.specs.Prelude.{◌≡◌, ◌≢◌, List, [], ◌∷◌, map, IfOk, OnOk, IsErrOf, ℕ};
 ghost use Rattle.vob_run.specs.Call.{Call};
 ghost use Rattle.vob_run.specs.Commands.{usize_call_of};
 ghost use Rattle.vob_lines.specs.Cuts.{words_of};
 ghost use Rattle.vob_lines.specs.Arguments.{number, bit, bits, bytes, range, pulls, AllSpell};
-ghost use Rattle.vob_lines.specs.Grammar.{Reads};
+ghost use Rattle.vob_lines.specs.Errors.{OnlyUnreadable, TakesMemory};
+ghost use Rattle.vob_lines.specs.Grammar.{Reads, BeginsAsList};
 ghost use Rattle.vob_lines.specs.Kinds.{a_number, a_bit, some_bits, some_bytes, a_range, some_pulls, nothing, numbers, before, kinds_of, Begins, Are, Takes, IsLine};
 ghost use Rattle.vob_lines.specs.declared.keyword.Keyword.TheVariants.{Fresh, Bytes, Raw, Record, Drain, Walk, Count};
 
@@ -35,7 +36,7 @@ impl<'a> Words<'a> {
     /// The first word.
     fn word(&mut self) -> Result<&'a [u8], LineError>
         ensures ok { IfOk result (λ word. self.old ≡ word.now ∷ self.new) }
-        ensures err { OnErr result (self.old ≡ []) }
+        ensures err { OnlyUnreadable result (self.old ≡ []) }
     {
         let rest = past_spaces(self.rest);
         if rest.is_empty() {
@@ -49,7 +50,7 @@ impl<'a> Words<'a> {
     /// The first word as a number.
     fn number(&mut self) -> Result<usize, LineError>
         ensures ok { IfOk result (λ n. Takes self.old (number n) self.new) }
-        ensures err { OnErr result (Begins self.old a_number → ⊥) }
+        ensures err { OnlyUnreadable result (Begins self.old a_number → ⊥) }
     {
         number_of(self.word()?)
     }
@@ -57,7 +58,7 @@ impl<'a> Words<'a> {
     /// The first word as a bit.
     fn bit(&mut self) -> Result<bool, LineError>
         ensures ok { IfOk result (λ value. Takes self.old (bit value) self.new) }
-        ensures err { OnErr result (Begins self.old a_bit → ⊥) }
+        ensures err { OnlyUnreadable result (Begins self.old a_bit → ⊥) }
     {
         bit_of(self.word()?)
     }
@@ -81,7 +82,7 @@ impl<'a> Words<'a> {
     /// The first word as a range.
     fn range(&mut self) -> Result<(Bound<usize>, Bound<usize>), LineError>
         ensures ok { IfOk result (λ bounds. Takes self.old (range bounds.0 bounds.1) self.new) }
-        ensures err { OnErr result (Begins self.old a_range → ⊥) }
+        ensures err { OnlyUnreadable result (Begins self.old a_range → ⊥) }
     {
         range_of(self.word()?)
     }
@@ -97,7 +98,7 @@ impl<'a> Words<'a> {
     /// Refuses words that are left.
     fn end(&self) -> Result<(), LineError>
         ensures ok { OnOk result (self.now ≡ []) }
-        ensures err { OnErr result (self.now ≢ []) }
+        ensures err { OnlyUnreadable result (self.now ≢ []) }
     {
         if is_blank(self.rest) {
             Ok(())
@@ -124,7 +125,7 @@ impl<'a> Words<'a> {
     /// One number.
     fn one_number(&mut self) -> Result<usize, LineError>
         ensures ok { IfOk result (λ n. AllSpell self.old (number n ∷ [])) }
-        ensures err { OnErr result (Are self.old (before a_number nothing) → ⊥) }
+        ensures err { OnlyUnreadable result (Are self.old (before a_number nothing) → ⊥) }
     {
         let n = self.number()?;
         self.end()?;
@@ -134,7 +135,7 @@ impl<'a> Words<'a> {
     /// Two numbers.
     fn two_numbers(&mut self) -> Result<(usize, usize), LineError>
         ensures ok { IfOk result (λ pair. AllSpell self.old (number pair.0 ∷ number pair.1 ∷ [])) }
-        ensures err { OnErr result (Are self.old (before a_number (before a_number nothing)) → ⊥) }
+        ensures err { OnlyUnreadable result (Are self.old (before a_number (before a_number nothing)) → ⊥) }
     {
         let first = self.number()?;
         let second = self.number()?;
@@ -145,7 +146,7 @@ impl<'a> Words<'a> {
     /// A bit and a number.
     fn bit_and_number(&mut self) -> Result<(bool, usize), LineError>
         ensures ok { IfOk result (λ pair. AllSpell self.old (bit pair.0 ∷ number pair.1 ∷ [])) }
-        ensures err { OnErr result (Are self.old (before a_bit (before a_number nothing)) → ⊥) }
+        ensures err { OnlyUnreadable result (Are self.old (before a_bit (before a_number nothing)) → ⊥) }
     {
         let value = self.bit()?;
         let n = self.number()?;
@@ -156,7 +157,7 @@ impl<'a> Words<'a> {
     /// A number and a bit.
     fn number_and_bit(&mut self) -> Result<(usize, bool), LineError>
         ensures ok { IfOk result (λ pair. AllSpell self.old (number pair.0 ∷ bit pair.1 ∷ [])) }
-        ensures err { OnErr result (Are self.old (before a_number (before a_bit nothing)) → ⊥) }
+        ensures err { OnlyUnreadable result (Are self.old (before a_number (before a_bit nothing)) → ⊥) }
     {
         let n = self.number()?;
         let value = self.bit()?;
@@ -168,7 +169,7 @@ impl<'a> Words<'a> {
     fn two_numbers_and_bit(&mut self) -> Result<(usize, usize, bool), LineError>
         ensures ok { IfOk result (λ three. AllSpell self.old
             (number three.0 ∷ number three.1 ∷ bit three.2 ∷ [])) }
-        ensures err { OnErr result (Are self.old
+        ensures err { OnlyUnreadable result (Are self.old
             (before a_number (before a_number (before a_bit nothing))) → ⊥) }
     {
         let first = self.number()?;
@@ -208,7 +209,7 @@ impl<'a> Words<'a> {
     /// The command of `fresh`.
     fn fresh(&mut self) -> Result<UsizeCommand, LineError>
         ensures ok { IfOk result (λ command. IsLine Fresh self.old (usize_call_of command)) }
-        ensures err { IsErrOf result LineError.Unreadable → Are self.old (kinds_of Fresh) → ⊥ }
+        ensures err { OnlyUnreadable result (Are self.old (kinds_of Fresh) → ⊥) }
     {
         self.end()?;
         Ok(UsizeCommand::Fresh)
@@ -248,7 +249,7 @@ impl<'a> Words<'a> {
     /// The command of `drain`.
     fn drain(&mut self) -> Result<UsizeCommand, LineError>
         ensures ok { IfOk result (λ command. IsLine Drain self.old (usize_call_of command)) }
-        ensures err { IsErrOf result LineError.Unreadable → Are self.old (kinds_of Drain) → ⊥ }
+        ensures err { OnlyUnreadable result (Are self.old (kinds_of Drain) → ⊥) }
     {
         let which = self.number()?;
         let bounds = self.range()?;
@@ -277,7 +278,7 @@ impl<'a> Words<'a> {
     /// The command of `count`.
     fn count(&mut self) -> Result<UsizeCommand, LineError>
         ensures ok { IfOk result (λ command. IsLine Count self.old (usize_call_of command)) }
-        ensures err { IsErrOf result LineError.Unreadable → Are self.old (kinds_of Count) → ⊥ }
+        ensures err { OnlyUnreadable result (Are self.old (kinds_of Count) → ⊥) }
     {
         let which = self.number()?;
         let value = self.bit()?;
@@ -294,6 +295,7 @@ impl<'a> Words<'a> {
     fn command(&mut self, alloc: Global, keyword: Keyword) -> Result<UsizeCommand, LineError>
         ensures ok { IfOk result (λ command. IsLine keyword self.old (usize_call_of command)) }
         ensures err { IsErrOf result LineError.Unreadable → Are self.old (kinds_of keyword) → ⊥ }
+        ensures memory { IsErrOf result LineError.Memory → TakesMemory (kinds_of keyword) }
     {
         match keyword {
             Keyword::Fresh => self.fresh(),
@@ -336,6 +338,7 @@ pub fn read_command(alloc: Global, line: &[u8]) -> Result<UsizeCommand, LineErro
         other ≡ usize_call_of command) }
     ensures only { IsErrOf result LineError.Unreadable →
         (call : Call) → Reads (words_of line.now) call → ⊥ }
+    ensures memory { IsErrOf result LineError.Memory → BeginsAsList (words_of line.now) }
 {
     let mut words = Words { rest: line };
     let keyword = Keyword::named(words.word()?).ok_or(LineError::Unreadable)?;

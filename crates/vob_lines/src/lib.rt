@@ -5,6 +5,7 @@
 mod command;
 mod keyword;
 mod line;
+mod piece;
 mod session;
 mod spelling;
 mod text;

@@ -1,20 +1,23 @@
 //! A conversation: the whole input is read, its lines are run as commands, and a line is printed
 //! for each reply.
 
-ghost use Rattle.std.specs.Prelude.{◌≡◌, ◌≢◌, ℕ, List, [], ◌++◌, map, IfOk, IfErr, OnOk, OnErr, IfSome, IsOkUnless, IsErrOf};
-ghost use Rattle.std.specs.Io.KnownBytes.{Appends};
+ghost use Rattle.std.specs.Prelude.{◌≡◌, ℕ, List, [], ◌++◌, map, codes, IfOk, IfErr, OnOk, OnErr, IsOkUnless, IsErrOf};
+ghost use Rattle.std.specs.Fmt.{decimal};
 ghost use Rattle.vob_run.specs.Run.{IsRun};
 ghost use Rattle.vob_run.specs.Call.{Call};
 ghost use Rattle.vob_run.specs.Commands.{usize_call_of};
 ghost use Rattle.vob_lines.specs.Cuts.{lines_of};
-ghost use Rattle.vob_lines.specs.Conversation.{sentences, AllRead, lines_for, Says};
+ghost use Rattle.vob_lines.specs.Conversation.{sentences, AllRead, lines_for, IsInput, Answers, Converses};
+ghost use Rattle.vob_lines.specs.Texts.{line_of};
+ghost use Rattle.vob_lines.specs.Written.{Puts};
 ghost use Rattle.vob_lines.specs.Ends.{Ends, ending_at};
 ghost use Rattle.vob_run.specs.Answer.{usize_answer_of};
 ghost use Rattle.vob_lines.specs.declared.session.Ending.TheVariants.{Memory};
 
 use crate::command::read_command;
 use crate::line::{LineError, cut_line, is_blank};
-use crate::text::ReplyText;
+use crate::piece::{Piece, add, add_named, put, write_out};
+use crate::text::add_replies;
 use std::alloc::{AllocError, AllocFailed, Global};
 use std::io;
 use std::io::{Read, Write};
@@ -68,7 +71,7 @@ impl LineError {
 
 /// Reads all there is, by `MOST_READS` reads at most.
 fn read_all<R: Read>(alloc: Global, input: &mut R) -> Result<Vec<u8>, Ending>
-    ensures ok { IfOk result (λ text. IfSome (R.remaining input.old) (λ all. text.items ≡ all)) }
+    ensures ok { IfOk result (λ text. IsInput (R.remaining input.old) text.items) }
     ensures err { IfErr result (λ ending. (lines : _) → Ends lines ending) }
 {
     let mut text = Vec::new(alloc);
@@ -120,11 +123,10 @@ fn answer(alloc: Global, commands: &[UsizeCommand]) -> Result<Vec<Reply<usize>>,
 
 /// Reads the whole input and runs its lines.
 fn replies_to<R: Read>(alloc: Global, input: &mut R) -> Result<Vec<Reply<usize>>, Ending>
-    ensures ok { IfOk result (λ replies. IfSome (R.remaining input.old) (λ text.
-        (calls : List Call) × AllRead (sentences (lines_of text)) calls
-        × ((after : _) × IsRun 64 [] calls (map usize_answer_of replies.items) after))) }
-    ensures err { IfErr result (λ ending. IfSome (R.remaining input.old) (λ text.
-        Ends (lines_of text) ending)) }
+    ensures ok { IfOk result (λ replies. (text : List ℕ) × IsInput (R.remaining input.old) text
+        × Answers text (lines_for (map usize_answer_of replies.items))) }
+    ensures err { IfErr result (λ ending. (text : List ℕ) × IsInput (R.remaining input.old) text
+        × Ends (lines_of text) ending) }
 {
     let text = read_all(alloc, input)?;
     let commands = read_commands(alloc, &text)?;
@@ -132,14 +134,24 @@ fn replies_to<R: Read>(alloc: Global, input: &mut R) -> Result<Vec<Reply<usize>>
 }
 
 /// Writes a line for each reply.
-fn write_replies<W: Write>(replies: &[Reply<usize>], output: &mut W) -> io::Result<()>
-    ensures { OnOk result (Appends (W.contents output.old) (W.contents output.new)
-        (lines_for (map usize_answer_of replies.now))) }
+fn write_replies<W: Write>(output: &mut W, replies: &[Reply<usize>]) -> io::Result<()>
+    ensures { Puts result (W.contents output.old) (W.contents output.new)
+        (lines_for (map usize_answer_of replies.now)) [] }
 {
-    for reply in replies {
-        writeln!(output, "{}", ReplyText(reply))?;
-    }
-    Ok(())
+    let mut piece = Piece::new();
+    add_replies(output, &mut piece, replies)?;
+    write_out(output, &mut piece)
+}
+
+/// Writes which line can't be read.
+fn write_bad_line<W: Write>(output: &mut W, line: usize) -> io::Result<()>
+    ensures { Puts result (W.contents output.old) (W.contents output.new)
+        (line_of (codes "bad line " ++ decimal line)) [] }
+{
+    let mut piece = Piece::new();
+    add_named(output, &mut piece, b"bad line ", line)?;
+    add(output, &mut piece, b"\n")?;
+    write_out(output, &mut piece)
 }
 
 /// The status of a conversation whose last text was written, or 1 where it wasn't.
@@ -153,19 +165,18 @@ fn status_after(written: io::Result<()>, status: u8) -> u8
 /// Reads command lines, and writes a line for each reply. The answer is the exit status:
 ///
 /// - 0: each line was read and run;
-/// - 1: reading or writing failed;
+/// - 1: reading or writing failed, and what was written is a first part of what would have been;
 /// - 2: a line can't be read, nothing was run, and `bad line` and its number is all that was
 ///   written;
 /// - 3: memory was refused, nothing was run, and `memory` is all that was written.
 pub fn converse<R: Read, W: Write>(alloc: Global, input: &mut R, output: &mut W) -> u8
-    ensures { result ≢ 1 → IfSome (R.remaining input.old) (λ text. (written : List ℕ)
-        × Appends (W.contents output.old) (W.contents output.new) written
-        × Says result text written) }
+    ensures { Converses result (R.remaining input.old)
+        (W.contents output.old) (W.contents output.new) }
 {
     match replies_to(alloc, input) {
-        Ok(replies) => status_after(write_replies(&replies, output), 0),
-        Err(Ending::BadLine(line)) => status_after(writeln!(output, "bad line {line}"), 2),
-        Err(Ending::Memory) => status_after(writeln!(output, "memory"), 3),
+        Ok(replies) => status_after(write_replies(output, &replies), 0),
+        Err(Ending::BadLine(line)) => status_after(write_bad_line(output, line), 2),
+        Err(Ending::Memory) => status_after(put(output, b"memory\n"), 3),
         Err(Ending::Failed) => 1,
     }
 }

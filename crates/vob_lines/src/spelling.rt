@@ -1,6 +1,7 @@
 //! What a single word stands for: one function for each kind of word.
 
-ghost use Rattle.std.specs.Prelude.{◌≡◌, ◌≢◌, ℕ, List, ◌∷◌, [], IfOk, IfSome, OnErr, IfNone, IsErrOf};
+ghost use Rattle.std.specs.Prelude.{◌≡◌, ◌≢◌, ℕ, List, ◌∷◌, [], IfOk, IfSome, IfNone, IsErrOf};
+ghost use Rattle.vob_lines.specs.Errors.{OnlyUnreadable};
 ghost use Rattle.vob_lines.specs.Spelling.{digit, initial, letters, IsPair, IsRange, IsStart, IsEnd, Writes, WritesBytes};
 
 use crate::line::{LineError, first_place};
@@ -11,7 +12,7 @@ use vob::End;
 /// The number that a word stands for: decimal digits alone, at most `usize::MAX`.
 pub fn number_of(word: &[u8]) -> Result<usize, LineError>
     ensures ok { IfOk result (λ n. Writes word.now n) }
-    ensures err { OnErr result ((n : ℕ) → Writes word.now n → ⊥) }
+    ensures err { OnlyUnreadable result ((n : ℕ) → Writes word.now n → ⊥) }
 {
     // `parse` takes a sign.
     if word.starts_with(b"+") {
@@ -26,7 +27,7 @@ pub fn number_of(word: &[u8]) -> Result<usize, LineError>
 /// The bit that a word stands for: `0` or `1`.
 pub fn bit_of(word: &[u8]) -> Result<bool, LineError>
     ensures ok { IfOk result (λ value. word.now ≡ digit value ∷ []) }
-    ensures err { OnErr result ((value : _) → word.now ≢ digit value ∷ []) }
+    ensures err { OnlyUnreadable result ((value : _) → word.now ≢ digit value ∷ []) }
 {
     match word {
         b"0" => Ok(false),
@@ -122,7 +123,7 @@ pub fn bytes_of(alloc: Global, word: &[u8]) -> Result<Vec<u8>, LineError>
 /// Where the range begins whose text stands before its dots.
 fn start_of(text: &[u8]) -> Result<Bound<usize>, LineError>
     ensures ok { IfOk result (λ start. IsStart text.now start) }
-    ensures err { OnErr result ((start : _) → IsStart text.now start → ⊥) }
+    ensures err { OnlyUnreadable result ((start : _) → IsStart text.now start → ⊥) }
 {
     if text.is_empty() {
         return Ok(Bound::Unbounded);
@@ -136,7 +137,7 @@ fn start_of(text: &[u8]) -> Result<Bound<usize>, LineError>
 /// Where the range ends whose text stands behind its dots.
 fn end_of(text: &[u8]) -> Result<Bound<usize>, LineError>
     ensures ok { IfOk result (λ end. IsEnd text.now end) }
-    ensures err { OnErr result ((end : _) → IsEnd text.now end → ⊥) }
+    ensures err { OnlyUnreadable result ((end : _) → IsEnd text.now end → ⊥) }
 {
     if text.is_empty() {
         return Ok(Bound::Unbounded);
@@ -150,7 +151,7 @@ fn end_of(text: &[u8]) -> Result<Bound<usize>, LineError>
 /// The range that a word stands for: a start, two dots, an end.
 pub fn range_of(word: &[u8]) -> Result<(Bound<usize>, Bound<usize>), LineError>
     ensures ok { IfOk result (λ bounds. IsRange word.now bounds.0 bounds.1) }
-    ensures err { OnErr result ((start end : _) → IsRange word.now start end → ⊥) }
+    ensures err { OnlyUnreadable result ((start end : _) → IsRange word.now start end → ⊥) }
 {
     let (front, back) = word.split_at(first_place(word, b'.'));
     let back = back.strip_prefix(b"..").ok_or(LineError::Unreadable)?;

@@ -1,5 +1,6 @@
 //! What no clause says: the words of the table, each command once, and when a status comes.
 
+mod large;
 mod rows;
 
 use crate::converse;
@@ -373,4 +374,33 @@ fn a_failed_write_is_told_by_the_status(rt: HostRuntime) {
             status
         );
     }
+}
+
+/// A writer that counts its calls and the bytes that come.
+#[derive(Drop)]
+struct Counting {
+    calls: usize,
+    bytes: usize,
+}
+
+impl Write for Counting {
+    fn write(&mut self, buf: &[u8]) -> io::Result<usize> {
+        self.calls = self.calls.saturating_add(1);
+        self.bytes = self.bytes.saturating_add(buf.len());
+        Ok(buf.len())
+    }
+
+    fn flush(&mut self) -> io::Result<()> {
+        Ok(())
+    }
+}
+
+#[test]
+fn replies_are_written_a_piece_at_a_time(rt: HostRuntime) {
+    let mut input = b"elem 1 9000\nbits 0\n".as_slice();
+    let mut output = Counting { calls: 0, bytes: 0 };
+    assert_eq!(rt; converse(rt.alloc(), &mut input, &mut output), 0);
+    // `vob 0`, `bits ` and 9000 digits, with a line feed each: 6 + 9006, in pieces of 4096.
+    assert_eq!(rt; output.bytes, 9012);
+    assert_eq!(rt; output.calls, 3);
 }

@@ -2,7 +2,7 @@
 use Rattle.std.proofs.Common.{◌≡◌, None, Some, sym, ◌∙◌, arith}
 use Rattle.std.proofs.lemmas.Result.{IfOk-weaker}
 use Rattle.vob_run.specs.Commands.{usize_call_of}
-use Rattle.vob_lines.proofs.ReadLemmas.{reads_once, reads_line, not_read, not_named}
+use Rattle.vob_lines.proofs.ReadLemmas.{reads_once, reads_line, not_read, not_named, begins_as_list}
 use Rattle.vob_lines.proofs.command.read_command.Goals as goal
 
 -- a word that is no keyword
@@ -31,3 +31,10 @@ returns-clause-only c =
     let found : c.named.result ≡ Some c.in_ok-keyword.keyword = grind arith in
     let named = sym c.named.ensures ∙ found in
     λ unreadable. not_read _ _ _ _ c.in_ok-word.ensures.ok named (c.command.ensures.err unreadable)
+
+-- its keyword takes memory
+pub returns-clause-memory : goal.returns-clause-memory
+returns-clause-memory c =
+    let found : c.named.result ≡ Some c.in_ok-keyword.keyword = grind arith in
+    let named = sym c.named.ensures ∙ found in
+    λ refused. begins_as_list _ _ _ _ c.in_ok-word.ensures.ok named (c.command.ensures.memory refused)

@@ -1,7 +1,7 @@
 -- A range is cut at its first dot.
 use Rattle.std.proofs.Common.{◌≡◌, ◌++◌, sym, ◌∙◌, arith, None, Some, ap, codes}
 use Rattle.std.proofs.lemmas.Bool.Decides.{Decides-eqb}
-use Rattle.std.proofs.lemmas.Result.{MatchResult-from_err}
+use Rattle.std.proofs.lemmas.Result.{err_from_is_err_and}
 use Rattle.std.proofs.lemmas.Slice.Eq.{strip_prefix_is}
 use Rattle.vob_lines.proofs.SpellingLemmas.{range-cut}
 use Rattle.vob_lines.proofs.spelling.range_of.Goals as goal
@@ -13,16 +13,26 @@ returns-in_err-back-clause-err c =
     let other =
     rw none at (strip_prefix_is Decides-eqb c.split_at.result.1.now (codes "..")
     c.strip_prefix.result c.strip_prefix.ensures.cases) in
-    MatchResult-from_err _ _ _ c.from_residual.ensures.0 (λ _ start end range.
-    let cut = range-cut _ start end _ range c.first_place.ensures.place in
-    other range.back (c.split_at.ensures.back ∙ cut.1))
+    let p = err_from_is_err_and c.from_residual.result c.from_residual.ensures.1 in
+    rw (p.1, p.2) (
+      grind arith,
+      λ start end range.
+          let cut = range-cut _ start end _ range c.first_place.ensures.place in
+          other range.back (c.split_at.ensures.back ∙ cut.1),
+    )
 
 -- no start before them
 pub returns-in_err-start_of-clause-err : goal.returns-in_err-start_of-clause-err
 returns-in_err-start_of-clause-err c =
-    MatchResult-from_err _ _ _ c.from_residual-in_err-start_of.ensures.0 (λ _ start end range.
-    let cut = range-cut _ start end _ range c.first_place.ensures.place in
-    c.in_err-start_of.ensures.err start (rw (c.split_at.ensures.front ∙ cut.0) range.begins))
+    let p =
+    err_from_is_err_and c.from_residual-in_err-start_of.result
+    c.from_residual-in_err-start_of.ensures.1 in
+    rw (p.1, p.2) (
+      c.in_err-start_of.ensures.err.0,
+      λ start end range.
+          let cut = range-cut _ start end _ range c.first_place.ensures.place in
+          c.in_err-start_of.ensures.err.1 start (rw (c.split_at.ensures.front ∙ cut.0) range.begins),
+    )
 
 -- no end behind them
 pub returns-in_err-end_of-clause-err : goal.returns-in_err-end_of-clause-err
@@ -31,12 +41,18 @@ returns-in_err-end_of-clause-err c =
     let dots =
     rw found at (strip_prefix_is Decides-eqb c.split_at.result.1.now (codes "..")
     c.strip_prefix.result c.strip_prefix.ensures.cases) in
-    MatchResult-from_err _ _ _ c.from_residual-in_err-end_of.ensures.0 (λ _ start end range.
-    let cut = range-cut _ start end _ range c.first_place.ensures.place in
-    let same : codes ".." ++ c.in_ok-back.back.now ≡ codes ".." ++ range.back =
-    sym dots ∙ c.split_at.ensures.back ∙ cut.1 in
-    let back : c.in_ok-back.back.now ≡ range.back = cc in
-    c.in_err-end_of.ensures.err end (rw back range.ends))
+    let p =
+    err_from_is_err_and c.from_residual-in_err-end_of.result
+    c.from_residual-in_err-end_of.ensures.1 in
+    rw (p.1, p.2) (
+      c.in_err-end_of.ensures.err.0,
+      λ start end range.
+          let cut = range-cut _ start end _ range c.first_place.ensures.place in
+          let same : codes ".." ++ c.in_ok-back.back.now ≡ codes ".." ++ range.back =
+          sym dots ∙ c.split_at.ensures.back ∙ cut.1 in
+          let back : c.in_ok-back.back.now ≡ range.back = cc in
+          c.in_err-end_of.ensures.err.1 end (rw back range.ends),
+    )
 
 pub returns-clause-ok : goal.returns-clause-ok
 returns-clause-ok c =

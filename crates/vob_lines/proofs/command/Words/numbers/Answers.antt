@@ -12,7 +12,7 @@ returns-in_err-number-clause-err c =
     let some : c.loop-self.self ≢ [] =
     λ none. let blank : c.is_blank.result ≡ true = c.is_blank.ensures.1 (c.self.view_is ∙ none) in
     grind arith in
-    λ _ all. no_number _ _ _ c.loop-self.invariant some c.in_err-number.ensures.err all
+    λ _ all. no_number _ _ _ c.loop-self.invariant some c.in_err-number.ensures.err.1 all
 
 -- one more
 pub loop-self-smaller : goal.loop-self-smaller
