@@ -157,3 +157,14 @@ fn an_item_that_is_refused_leaves_those_before_it(rt: HostRuntime) {
     let answer = vob.extend(Unhinted { rest });
     tell(&rt, is_extended(&rt, answer, &vob));
 }
+
+#[test]
+fn hinted_items_are_added_by_one_request(rt: HostRuntime) {
+    // The request for the Vob is the last that isn't refused.
+    request(&rt, FIRST - 1);
+    let Ok(mut vob) = vob_of(rt.alloc(), "101") else {
+        return;
+    };
+    let answer = vob.extend([true; 299]);
+    tell(&rt, is_grown(&rt, answer, &vob, 302));
+}

@@ -148,3 +148,13 @@ fn operators_make_a_vob_or_are_refused(rt: HostRuntime) {
 fn operators_make_a_vob_or_are_refused_from_5_on(rt: HostRuntime) {
     tell(&rt, are_operators_answered(&rt, FIRST - 4));
 }
+
+#[test]
+fn hinted_items_are_made_by_one_request(rt: HostRuntime) {
+    request(&rt, FIRST);
+    let all = usize::MAX;
+    // Four whole words, and 43 bits of a fifth.
+    let blocks = [all, all, all, all, 8_796_093_022_207];
+    let made = Vob::from_iter(rt.alloc(), [true; 299]);
+    tell(&rt, is_made(&rt, made, 299, &blocks));
+}

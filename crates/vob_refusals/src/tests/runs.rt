@@ -1,142 +1,279 @@
-//! Runs of commands: refused before the first of them, they ran none; refused within one, it says so,
-//! and the others answer.
-use super::support::{FIRST, request, same, tell};
+//! Runs of commands: refused before the first of them, they ran none. Where one command was refused, all
+//! is as after the same run with a command in its place that is skipped.
+use super::support::{FIRST, request, same, same_list, tell};
 use std::alloc::{AllocError, Global};
-use std::ops::Bound;
+use std::ops::Bound::{Excluded, Included, Unbounded};
 use std::process::Abort;
 use vob::{End, Vob};
 use vob_block::Block;
 use vob_run::run::{run, run_usize};
 use vob_run::{Command, Reply, UsizeCommand};
 
-/// The bounds of a range without any.
-const ALL: (Bound<usize>, Bound<usize>) = (Bound::Unbounded, Bound::Unbounded);
+/// The commands of one kind of run.
+trait Runs: Drop {
+    /// What the Vobs store their bits in.
+    type Stored: Block;
 
-/// How many replies say that memory was refused.
-fn count_refused<T: Block>(replies: &[Reply<T>]) -> usize {
-    let mut refused = 0usize;
-    for reply in replies {
+    /// A command that names no Vob.
+    fn skipped() -> Self;
+
+    /// Runs the commands.
+    fn run_all(
+        alloc: Global,
+        commands: &[Self],
+        vobs: &mut Vec<Vob<Self::Stored>>,
+        replies: &mut Vec<Reply<Self::Stored>>,
+    ) -> Result<(), AllocError>;
+}
+
+impl Runs for Command<u8> {
+    type Stored = u8;
+
+    fn skipped() -> Command<u8> {
+        Command::Pop { which: usize::MAX }
+    }
+
+    fn run_all(
+        alloc: Global,
+        commands: &[Command<u8>],
+        vobs: &mut Vec<Vob<u8>>,
+        replies: &mut Vec<Reply<u8>>,
+    ) -> Result<(), AllocError> {
+        run(alloc, commands, vobs, replies)
+    }
+}
+
+impl Runs for UsizeCommand {
+    type Stored = usize;
+
+    fn skipped() -> UsizeCommand {
+        UsizeCommand::Common(Command::Pop { which: usize::MAX })
+    }
+
+    fn run_all(
+        alloc: Global,
+        commands: &[UsizeCommand],
+        vobs: &mut Vec<Vob<usize>>,
+        replies: &mut Vec<Reply<usize>>,
+    ) -> Result<(), AllocError> {
+        run_usize(alloc, commands, vobs, replies)
+    }
+}
+
+/// Which command wanted memory that wasn't there, if one did; no other did.
+fn refused_at<T: Block>(rt: &impl Abort, replies: &[Reply<T>]) -> Option<usize> {
+    let mut found = None;
+    for (at, reply) in replies.iter().enumerate() {
         if let Reply::Refused(2) = reply {
-            refused = refused.saturating_add(1);
+            same(rt, "one request is refused", found, None);
+            found = Some(at);
         }
     }
-    refused
+    found
 }
 
-/// Whether nothing was refused; if something was, it was one command, or the whole run.
-fn is_answered<T: Block>(
-    rt: &impl Abort,
-    began: bool,
-    commands: usize,
-    vobs: &[Vob<T>],
-    replies: &[Reply<T>],
-) -> bool {
-    if !began {
-        same(rt, "the Vobs of no run", vobs.len(), 0);
-        same(rt, "the replies of no run", replies.len(), 0);
-        return false;
-    }
-    same(rt, "the replies", replies.len(), commands);
-    let refused = count_refused(replies);
-    same(rt, "one request is refused", refused <= 1, true);
-    refused == 0
+/// Compares what a run left with what the same run leaves where this command is skipped.
+fn check_others<C: Runs>(
+    rt: &(impl Abort + AllocGlobal),
+    at: usize,
+    commands: &mut [C],
+    vobs: &[Vob<C::Stored>],
+    replies: &mut [Reply<C::Stored>],
+) {
+    *commands.get_mut(at).expect(rt, "a command") = C::skipped();
+    *replies.get_mut(at).expect(rt, "its reply") = Reply::Skipped;
+    let mut left = Vec::new(rt.alloc());
+    let mut answered = Vec::new(rt.alloc());
+    C::run_all(rt.alloc(), commands, &mut left, &mut answered).expect(rt, "memory");
+    same_list(rt, "the replies", replies, &answered);
+    same_list(rt, "the Vobs", vobs, &left);
 }
 
-/// Adds a command, for which there is room.
-fn add<C: Drop>(rt: &impl Abort, commands: &mut Vec<C>, command: C) {
-    same(rt, "a command", commands.push(command).is_ok(), true);
-}
-
-/// Adds six commands that each ask for memory.
-fn add_commands(rt: &impl Abort, commands: &mut Vec<Command<u8>>) {
-    let value = true;
-    let which = 0;
-    add(rt, commands, Command::FromElem { value, len: 9 });
-    add(rt, commands, Command::Copy { which });
-    add(rt, commands, Command::Bits { which });
-    add(rt, commands, Command::Storage { which });
-    let bounds = (Bound::Included(2), Bound::Excluded(5));
-    add(rt, commands, Command::Drain { which, bounds });
-    add(rt, commands, Command::Shrink { which });
-}
-
-/// Whether a run in bytes was answered, behind so many requests.
-fn is_run(rt: &(impl Abort + AllocGlobal), behind: usize) -> bool {
-    request(rt, behind);
-    let Ok(mut commands) = Vec::with_capacity(rt.alloc(), 6) else {
-        return false;
-    };
-    add_commands(rt, &mut commands);
-    let mut vobs = Vec::new(rt.alloc());
-    let mut replies: Vec<Reply<u8>> = Vec::new(rt.alloc());
-    let began = run(rt.alloc(), &commands, &mut vobs, &mut replies).is_ok();
-    is_answered(rt, began, commands.len(), &vobs, &replies)
-}
-
-#[test]
-fn a_run_is_refused_whole_or_in_one_command(rt: HostRuntime) {
-    tell(&rt, is_run(&rt, FIRST));
-}
-
-#[test]
-fn a_run_is_refused_whole_or_in_one_command_from_5_on(rt: HostRuntime) {
-    tell(&rt, is_run(&rt, FIRST - 4));
-}
-
-#[test]
-fn a_run_is_refused_whole_or_in_one_command_from_9_on(rt: HostRuntime) {
-    tell(&rt, is_run(&rt, FIRST - 8));
-}
-
-/// A pull at each end of a walk over the set bits of the first Vob.
-fn walk_of(alloc: Global) -> Result<Command<usize>, AllocError> {
-    let pulls = [End::Front, End::Back].to_vec(alloc)?;
-    Ok(Command::Walk {
-        which: 0,
-        value: true,
-        bounds: ALL,
-        pulls,
-    })
-}
-
-/// Two pulls at a walk over the set bits of a Vob of these bits, and a Vob of this block.
-fn commands_of(
-    alloc: Global,
-    bits: &[bool],
-    block: usize,
-) -> Result<Vec<UsizeCommand>, AllocError> {
-    let mut commands = Vec::with_capacity(alloc, 3)?;
-    let bits = bits.to_vec(alloc)?;
-    commands.push(UsizeCommand::FromSlice { bits })?;
-    commands.push(UsizeCommand::Common(walk_of(alloc)?))?;
-    let blocks = [block].to_vec(alloc)?;
-    commands.push(UsizeCommand::FromRecord { len: 3, blocks })?;
-    Ok(commands)
-}
-
-/// Whether a run in words was answered, behind so many requests.
-fn is_run_of_words(rt: &(impl Abort + AllocGlobal), behind: usize) -> bool {
-    request(rt, behind);
-    let Ok(commands) = commands_of(rt.alloc(), &[true, false, true], 5) else {
+/// Whether all commands were run, and none wanted memory that wasn't there.
+fn is_run<C: Runs>(rt: &(impl Abort + AllocGlobal), commands: Result<Vec<C>, AllocError>) -> bool {
+    let Ok(mut commands) = commands else {
         return false;
     };
     let mut vobs = Vec::new(rt.alloc());
     let mut replies = Vec::new(rt.alloc());
-    let began = run_usize(rt.alloc(), &commands, &mut vobs, &mut replies).is_ok();
-    is_answered(rt, began, commands.len(), &vobs, &replies)
+    if C::run_all(rt.alloc(), &commands, &mut vobs, &mut replies).is_err() {
+        same(rt, "the Vobs of no run", vobs.len(), 0);
+        same(rt, "the replies of no run", replies.len(), 0);
+        return false;
+    }
+    same(rt, "the replies", replies.len(), commands.len());
+    let Some(at) = refused_at(rt, &replies) else {
+        return true;
+    };
+    check_others(rt, at, &mut commands, &vobs, &mut replies);
+    false
+}
+
+/// Commands that make Vobs of their own, or of other Vobs' bits.
+fn makers(alloc: Global) -> Result<Vec<Command<u8>>, AllocError> {
+    let value = true;
+    let blocks = [255, 1].to_vec(alloc)?;
+    let mut commands = Vec::with_capacity(alloc, 7)?;
+    commands.push(Command::New { capacity: 9 })?;
+    commands.push(Command::FromElem { value, len: 9 })?;
+    commands.push(Command::Copy { which: 1 })?;
+    let (len, mask) = (9, false);
+    commands.push(Command::FromRaw { len, mask, blocks })?;
+    commands.push(Command::SplitOff { which: 1, index: 5 })?;
+    let bounds = (Included(2), Excluded(5));
+    commands.push(Command::Drain { which: 2, bounds })?;
+    commands.push(Command::Length { which: 5 })?;
+    Ok(commands)
 }
 
 #[test]
-fn a_run_of_words_is_refused_whole_or_in_one_command(rt: HostRuntime) {
-    tell(&rt, is_run_of_words(&rt, FIRST));
+fn vobs_are_made_or_refused(rt: HostRuntime) {
+    request(&rt, FIRST);
+    tell(&rt, is_run(&rt, makers(rt.alloc())));
 }
 
 #[test]
-fn a_run_of_words_is_refused_whole_or_in_one_command_from_5_on(rt: HostRuntime) {
-    tell(&rt, is_run_of_words(&rt, FIRST - 4));
+fn vobs_are_made_or_refused_from_5_on(rt: HostRuntime) {
+    request(&rt, FIRST - 4);
+    tell(&rt, is_run(&rt, makers(rt.alloc())));
 }
 
 #[test]
-fn a_run_of_words_is_refused_whole_or_in_one_command_from_9_on(rt: HostRuntime) {
-    tell(&rt, is_run_of_words(&rt, FIRST - 8));
+fn vobs_are_made_or_refused_from_9_on(rt: HostRuntime) {
+    request(&rt, FIRST - 8);
+    tell(&rt, is_run(&rt, makers(rt.alloc())));
+}
+
+/// Commands that each make room behind eight bits, for more than the room before; the last gives it back.
+fn growers(alloc: Global) -> Result<Vec<Command<u8>>, AllocError> {
+    let (which, value) = (0, true);
+    let slice = [true; 99].to_vec(alloc)?;
+    let items = [false; 199].to_vec(alloc)?;
+    let mut commands = Vec::with_capacity(alloc, 9)?;
+    commands.push(Command::FromElem { value, len: 8 })?;
+    commands.push(Command::FromElem { value, len: 999 })?;
+    commands.push(Command::Push { which, value })?;
+    let len = 99;
+    commands.push(Command::Resize { which, len, value })?;
+    commands.push(Command::ExtendSlice { which, bits: slice })?;
+    commands.push(Command::ExtendItems { which, bits: items })?;
+    commands.push(Command::ExtendVob { which, other: 1 })?;
+    let additional = 9999;
+    commands.push(Command::Reserve { which, additional })?;
+    commands.push(Command::Shrink { which })?;
+    Ok(commands)
+}
+
+#[test]
+fn vobs_grow_or_are_refused(rt: HostRuntime) {
+    request(&rt, FIRST);
+    tell(&rt, is_run(&rt, growers(rt.alloc())));
+}
+
+#[test]
+fn vobs_grow_or_are_refused_from_5_on(rt: HostRuntime) {
+    request(&rt, FIRST - 4);
+    tell(&rt, is_run(&rt, growers(rt.alloc())));
+}
+
+#[test]
+fn vobs_grow_or_are_refused_from_9_on(rt: HostRuntime) {
+    request(&rt, FIRST - 8);
+    tell(&rt, is_run(&rt, growers(rt.alloc())));
+}
+
+#[test]
+fn vobs_grow_or_are_refused_from_13_on(rt: HostRuntime) {
+    request(&rt, FIRST - 12);
+    tell(&rt, is_run(&rt, growers(rt.alloc())));
+}
+
+/// Commands that combine two Vobs in a new one, and such that answer a list.
+fn readers(alloc: Global) -> Result<Vec<Command<u8>>, AllocError> {
+    let (which, other, value) = (0, 1, true);
+    let pulls = [End::Front, End::Back].to_vec(alloc)?;
+    let mut commands = Vec::with_capacity(alloc, 8)?;
+    commands.push(Command::FromElem { value, len: 9 })?;
+    commands.push(Command::Copy { which })?;
+    commands.push(Command::AndNew { which, other })?;
+    commands.push(Command::OrNew { which, other })?;
+    commands.push(Command::XorNew { which, other })?;
+    commands.push(Command::Bits { which })?;
+    commands.push(Command::Storage { which })?;
+    commands.push(Command::Walk {
+        which,
+        value,
+        bounds: (Unbounded, Unbounded),
+        pulls,
+    })?;
+    Ok(commands)
+}
+
+#[test]
+fn lists_are_answered_or_refused(rt: HostRuntime) {
+    request(&rt, FIRST);
+    tell(&rt, is_run(&rt, readers(rt.alloc())));
+}
+
+#[test]
+fn lists_are_answered_or_refused_from_5_on(rt: HostRuntime) {
+    request(&rt, FIRST - 4);
+    tell(&rt, is_run(&rt, readers(rt.alloc())));
+}
+
+#[test]
+fn lists_are_answered_or_refused_from_9_on(rt: HostRuntime) {
+    request(&rt, FIRST - 8);
+    tell(&rt, is_run(&rt, readers(rt.alloc())));
+}
+
+#[test]
+fn lists_are_answered_or_refused_from_13_on(rt: HostRuntime) {
+    request(&rt, FIRST - 12);
+    tell(&rt, is_run(&rt, readers(rt.alloc())));
+}
+
+/// Commands that only Vobs of the default block type have, and one that all have.
+fn makers_of_words(alloc: Global) -> Result<Vec<UsizeCommand>, AllocError> {
+    let bits = [true, false, true].to_vec(alloc)?;
+    let items = [true, false, true].to_vec(alloc)?;
+    let bytes = [160].to_vec(alloc)?;
+    let blocks = [5].to_vec(alloc)?;
+    let mut commands = Vec::with_capacity(alloc, 8)?;
+    commands.push(UsizeCommand::Fresh)?;
+    commands.push(UsizeCommand::WithCapacity { capacity: 65 })?;
+    commands.push(UsizeCommand::Fill {
+        value: true,
+        len: 65,
+    })?;
+    commands.push(UsizeCommand::FromBytes { bytes })?;
+    commands.push(UsizeCommand::FromSlice { bits })?;
+    commands.push(UsizeCommand::FromItems { bits: items })?;
+    commands.push(UsizeCommand::FromRecord { len: 3, blocks })?;
+    commands.push(UsizeCommand::Common(Command::Copy { which: 2 }))?;
+    Ok(commands)
+}
+
+#[test]
+fn vobs_of_words_are_made_or_refused(rt: HostRuntime) {
+    request(&rt, FIRST);
+    tell(&rt, is_run(&rt, makers_of_words(rt.alloc())));
+}
+
+#[test]
+fn vobs_of_words_are_made_or_refused_from_5_on(rt: HostRuntime) {
+    request(&rt, FIRST - 4);
+    tell(&rt, is_run(&rt, makers_of_words(rt.alloc())));
+}
+
+#[test]
+fn vobs_of_words_are_made_or_refused_from_9_on(rt: HostRuntime) {
+    request(&rt, FIRST - 8);
+    tell(&rt, is_run(&rt, makers_of_words(rt.alloc())));
+}
+
+#[test]
+fn vobs_of_words_are_made_or_refused_from_13_on(rt: HostRuntime) {
+    request(&rt, FIRST - 12);
+    tell(&rt, is_run(&rt, makers_of_words(rt.alloc())));
 }

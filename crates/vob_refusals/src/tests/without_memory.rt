@@ -1,10 +1,13 @@
 //! Calls that take no memory: no refusal reaches them.
-use super::support::{FIRST, check_blocks, request, same, tell, vob_of};
+use super::support::{FIRST, check_blocks, request, same, same_list, tell, vob_of};
 use std::alloc::{AllocError, Global};
 use std::fmt::Debug;
+use std::hash::{DefaultHasher, Hash, Hasher};
 use std::process::Abort;
 use vob::{End, IndexWalk, IterSetBits, IterUnsetBits, RawVob, Vob, VobError, count_ones_in, deal};
 use vob_block::{Block, Blocks};
+use vob_run::Reply;
+use vob_run::run::{run, run_usize};
 
 /// A Vob that is made without bits, and without room.
 fn check_empty<T: Block, E: Debug + Drop>(rt: &impl Abort, made: Result<Vob<T>, E>) {
@@ -28,6 +31,31 @@ fn no_bits_take_no_memory(rt: HostRuntime) {
     tell(&rt, true);
 }
 
+/// Runs of no commands.
+fn check_no_run(rt: &(impl Abort + AllocGlobal)) {
+    let mut vobs: Vec<Vob<u8>> = Vec::new(rt.alloc());
+    let mut replies: Vec<Reply<u8>> = Vec::new(rt.alloc());
+    let ran = run(rt.alloc(), &[], &mut vobs, &mut replies);
+    same(rt, "no commands", ran, Ok(()));
+    let mut vobs = Vec::new(rt.alloc());
+    let mut replies = Vec::new(rt.alloc());
+    let ran = run_usize(rt.alloc(), &[], &mut vobs, &mut replies);
+    same(rt, "no commands", ran, Ok(()));
+}
+
+#[test]
+fn refusals_and_no_commands_take_no_memory(rt: HostRuntime) {
+    same(&rt, "its number", VobError::Memory.number(), 2);
+    same(
+        &rt,
+        "its name",
+        VobError::from(AllocError),
+        VobError::Memory,
+    );
+    check_no_run(&rt);
+    tell(&rt, true);
+}
+
 /// Writes the first two bits of `101`.
 fn check_writes(rt: &impl Abort, vob: &mut Vob<u8>) {
     assert!(rt; vob.len() == 3);
@@ -41,6 +69,7 @@ fn check_writes(rt: &impl Abort, vob: &mut Vob<u8>) {
 fn check_reads(rt: &impl Abort, vob: &Vob<u8>) {
     same(rt, "empty", vob.is_empty(), false);
     same(rt, "past the end", vob.get(3), None);
+    same(rt, "room for it", vob.capacity() >= 3, true);
     same(rt, "the bits", vob.iter().len(), 3);
     same(rt, "the last bit", vob.iter().next_back(), Some(true));
     same(rt, "the first block", vob.iter_storage().next(), Some(6));
@@ -161,6 +190,55 @@ fn check_operators(rt: &impl Abort, vob: Vob<u8>, other: &Vob<u8>) {
     check_blocks(rt, &both, 3, &[3]);
 }
 
+/// `101` and `110`, of that all but `110`, and then or and xor `110`.
+fn check_other_operators(rt: &impl Abort, vob: Vob<u8>, other: &Vob<u8>) {
+    let mut vob = vob;
+    assert!(rt; vob.len() == other.len());
+    vob &= other;
+    check_blocks(rt, &vob, 3, &[1]);
+    assert!(rt; vob.len() == other.len());
+    vob ^= other;
+    check_blocks(rt, &vob, 3, &[2]);
+    assert!(rt; vob.len() == other.len());
+    let either = vob | other;
+    check_blocks(rt, &either, 3, &[3]);
+    assert!(rt; either.len() == other.len());
+    check_blocks(rt, &(either ^ other), 3, &[0]);
+}
+
+#[test]
+fn other_operators_change_their_left_side(rt: HostRuntime) {
+    request(&rt, FIRST);
+    let Ok(vob) = vob_of(rt.alloc(), "101") else {
+        return;
+    };
+    let Ok(other) = vob_of(rt.alloc(), "110") else {
+        return;
+    };
+    check_other_operators(&rt, vob, &other);
+    tell(&rt, true);
+}
+
+/// What a hasher answers that was fed the Vob.
+fn hash_of(vob: &Vob<u8>) -> u64 {
+    let mut state = DefaultHasher::new();
+    vob.hash(&mut state);
+    state.finish()
+}
+
+#[test]
+fn equal_bits_are_hashed_alike_in_place(rt: HostRuntime) {
+    request(&rt, FIRST);
+    let Ok(vob) = vob_of(rt.alloc(), "101") else {
+        return;
+    };
+    let Ok(like) = vob_of(rt.alloc(), "101") else {
+        return;
+    };
+    same(&rt, "the hashes", hash_of(&vob), hash_of(&like));
+    tell(&rt, true);
+}
+
 #[test]
 fn operators_change_their_left_side(rt: HostRuntime) {
     request(&rt, FIRST);
@@ -193,6 +271,23 @@ fn check_walks(rt: &impl Abort, alloc: Global, vob: &Vob<u8>) {
     same(rt, "the end", unset.pull(End::Front), None);
 }
 
+/// What all four walks over `101` say is left; copies of two of them.
+fn check_copies(rt: &impl Abort, vob: &Vob<u8>) {
+    same(rt, "the bits", vob.iter().clone().size_hint(), (3, Some(3)));
+    same(
+        rt,
+        "the blocks",
+        vob.iter_storage().clone().size_hint(),
+        (1, Some(1)),
+    );
+    let set = vob.iter_set_bits(..);
+    same(rt, "the set bits", set.size_hint(), (0, None));
+    same(rt, "the set bits", set.count(), 2);
+    let unset = vob.iter_unset_bits(..);
+    same(rt, "the unset bits", unset.size_hint(), (0, None));
+    same(rt, "the unset bits", unset.count(), 1);
+}
+
 /// Walks over the indices of a block.
 fn check_over(rt: &impl Abort) {
     let stored = [5u8];
@@ -209,6 +304,7 @@ fn indices_are_walked_in_place(rt: HostRuntime) {
         return;
     };
     check_walks(&rt, rt.alloc(), &vob);
+    check_copies(&rt, &vob);
     check_over(&rt);
     tell(&rt, true);
 }
@@ -217,6 +313,7 @@ fn indices_are_walked_in_place(rt: HostRuntime) {
 fn taken(rt: &impl Abort, raw: RawVob<u8>) -> Vob<u8> {
     let mut raw = raw;
     raw.set_len(2);
+    same_list(rt, "the blocks", raw.get_storage(), &[7]);
     let mut raw = raw
         .into_vob()
         .err()
@@ -251,5 +348,38 @@ fn raw_storage_is_taken_in_place(rt: HostRuntime) {
     check_blocks(&rt, &vob, 2, &[3]);
     check_counts(&rt, &vob);
     check_window(&rt);
+    tell(&rt, true);
+}
+
+/// Blocks that are written through their loan, and taken.
+fn check_parts(rt: &impl Abort, blocks: Vec<u8>) {
+    let mut raw = RawVob::from_parts(3, blocks);
+    if let Some(first) = raw.get_storage_mut().first_mut() {
+        *first = 6;
+    }
+    let vob = raw.into_vob().ok().expect(rt, "the blocks fit");
+    check_blocks(rt, &vob, 3, &[6]);
+}
+
+#[test]
+fn parts_are_taken_in_place(rt: HostRuntime) {
+    request(&rt, FIRST);
+    let Ok(blocks) = [5u8].to_vec(rt.alloc()) else {
+        return;
+    };
+    check_parts(&rt, blocks);
+    tell(&rt, true);
+}
+
+#[test]
+fn a_record_is_taken_in_place(rt: HostRuntime) {
+    request(&rt, FIRST);
+    let Ok(vob) = Vob::from_elem(rt.alloc(), true, 65) else {
+        return;
+    };
+    let record = vob.into_record();
+    same(&rt, "the length", record.len, 65);
+    let vob = record.into_vob().ok().expect(&rt, "it is canonical");
+    check_blocks(&rt, &vob, 65, &[usize::MAX, 1]);
     tell(&rt, true);
 }
