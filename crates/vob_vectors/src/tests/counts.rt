@@ -4,7 +4,7 @@ ghost use Rattle.std.specs.Prelude.{◌≡◌, ◌+◌, ◌∷◌, []};
 use super::support::{listed, pattern, same, vob_of};
 use super::walks::indices_of;
 use std::mem::size_of;
-use std::ops::Bound::{Included, Unbounded};
+use std::ops::Bound::{Excluded, Included, Unbounded};
 use std::process::Abort;
 use vob::{Vob, count_ones_in};
 use vob_block::{Block, Blocks};
@@ -22,6 +22,9 @@ fn a_range_that_ends_before_its_start_holds_nothing(rt: HostRuntime) {
     let three = vob_of::<usize>(&rt, "101");
     assert_eq!(rt; three.iter_unset_bits(3..1).count(), 0);
     assert_eq!(rt; three.iter_set_bits(3..1).count(), 0);
+    let none = (Excluded(1), Excluded(1));
+    assert_eq!(rt; three.iter_unset_bits(none).count(), 0);
+    assert_eq!(rt; three.iter_set_bits(none).count(), 0);
 }
 
 #[test]

@@ -8,13 +8,13 @@ use vob::Vob;
 use vob_block::Block;
 
 #[derive(Clone, Copy, Debug)]
-enum Call {
+pub(super) enum Call {
     And,
     Or,
     Xor,
 }
 
-const CALLS: [Call; 3] = [Call::And, Call::Or, Call::Xor];
+pub(super) const CALLS: [Call; 3] = [Call::And, Call::Or, Call::Xor];
 
 /// What a call makes of two bits.
 fn combined_bit(call: Call, bit: bool, other: bool) -> bool {
@@ -26,7 +26,12 @@ fn combined_bit(call: Call, bit: bool, other: bool) -> bool {
 }
 
 /// `and`, `or` or `xor` of two Vobs of one length.
-fn combine<T: Block>(rt: &impl Abort, call: Call, vob: &mut Vob<T>, other: &Vob<T>) -> bool {
+pub(super) fn combine<T: Block>(
+    rt: &impl Abort,
+    call: Call,
+    vob: &mut Vob<T>,
+    other: &Vob<T>,
+) -> bool {
     assert!(rt; vob.len() == other.len(), "{call:?}");
     match call {
         Call::And => vob.and(other),
@@ -128,9 +133,11 @@ fn check_equality<T: Block>(rt: &(impl Abort + AllocGlobal), len: usize, index: 
 
 #[test]
 fn one_bit_in_any_block_makes_unequal(rt: HostRuntime) {
-    // In bytes a chunk of 32 blocks is 256 bits: lengths around one and two chunks.
-    for len in [0, 7, 8, 255, 256, 257, 511, 512, 513, 600] {
-        for index in [0, 7, 8, 254, 255, 256, 257, 511, 512, 599] {
+    // A chunk of 64 blocks is 512 bits in bytes, and 4096 in words: lengths around one and two chunks.
+    for len in [
+        0, 7, 8, 511, 512, 513, 1023, 1024, 1025, 4095, 4096, 4097, 8191, 8192, 8193,
+    ] {
+        for index in [0, 7, 8, 511, 512, 1023, 1024, 4095, 4096, 8191, 8192] {
             check_equality::<u8>(&rt, len, index);
             check_equality::<usize>(&rt, len, index);
         }

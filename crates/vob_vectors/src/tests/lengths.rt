@@ -1,0 +1,110 @@
+//! Runs over many lengths where memory is there: no command is refused, and the room asked for is made.
+use super::support::same;
+use std::alloc::{AllocError, Global};
+use std::ops::Bound::{Excluded, Included, Unbounded};
+use std::process::Abort;
+use vob::{End, Vob};
+use vob_block::Block;
+use vob_run::run::{run, run_usize};
+use vob_run::{Command, Reply, UsizeCommand};
+
+/// Commands that make Vobs of about `len` bits, each in another way.
+fn makers<T: Block>(alloc: Global, len: usize) -> Result<Vec<Command<T>>, AllocError> {
+    let value = true;
+    let mut commands = Vec::new(alloc);
+    commands.push(Command::New { capacity: len })?;
+    commands.push(Command::FromElem { value, len })?;
+    commands.push(Command::Copy { which: 1 })?;
+    commands.push(Command::AndNew { which: 1, other: 2 })?;
+    commands.push(Command::OrNew { which: 1, other: 2 })?;
+    commands.push(Command::XorNew { which: 1, other: 2 })?;
+    let index = len / 2;
+    commands.push(Command::SplitOff { which: 3, index })?;
+    let bounds = (Included(index), Excluded(len));
+    commands.push(Command::Drain { which: 4, bounds })?;
+    Ok(commands)
+}
+
+/// Commands that add to Vob 1, and answer what is in Vob 2.
+fn growers<T: Block>(alloc: Global, len: usize) -> Result<Vec<Command<T>>, AllocError> {
+    let (which, other, value) = (1, 2, true);
+    let slice = Vec::from_elem(alloc, value, len)?;
+    let items = Vec::from_elem(alloc, value, len)?;
+    let pulls = Vec::from_elem(alloc, End::Front, len)?;
+    let bounds = (Unbounded, Unbounded);
+    let mut commands = Vec::new(alloc);
+    commands.push(Command::Push { which, value })?;
+    commands.push(Command::ExtendSlice { which, bits: slice })?;
+    commands.push(Command::ExtendItems { which, bits: items })?;
+    commands.push(Command::ExtendVob { which, other })?;
+    let more = len.saturating_mul(5);
+    commands.push(Command::Resize {
+        which,
+        len: more,
+        value,
+    })?;
+    commands.push(Command::Reserve {
+        which,
+        additional: len,
+    })?;
+    commands.push(Command::Bits { which: other })?;
+    commands.push(Command::Storage { which: other })?;
+    commands.push(Command::Walk {
+        which: other,
+        value,
+        bounds,
+        pulls,
+    })?;
+    Ok(commands)
+}
+
+/// Compares that no reply is a refusal.
+fn check_replies<T: Block>(rt: &impl Abort, len: usize, replies: &[Reply<T>], count: usize) {
+    same(rt, "replies of length", len, replies.len(), count);
+    for reply in replies {
+        if let Reply::Refused(reason) = reply {
+            same(rt, "a refusal at length", len, *reason, 0);
+        }
+    }
+}
+
+/// Compares that a Vob has room for so many bits at least.
+fn check_room<T: Block>(rt: &impl Abort, vobs: &[Vob<T>], which: usize, room: usize) {
+    let found = vobs.get(which).expect(rt, "a Vob");
+    same(rt, "room for", room, found.capacity() >= room, true);
+}
+
+/// Runs all of them at this length.
+fn check_length<T: Block>(rt: &(impl Abort + AllocGlobal), len: usize) {
+    let mut vobs: Vec<Vob<T>> = Vec::new(rt.alloc());
+    let mut replies = Vec::new(rt.alloc());
+    let makers = makers(rt.alloc(), len).expect(rt, "memory");
+    run(rt.alloc(), &makers, &mut vobs, &mut replies).expect(rt, "memory");
+    check_replies(rt, len, &replies, 8);
+    check_room(rt, &vobs, 0, len);
+    let growers = growers(rt.alloc(), len).expect(rt, "memory");
+    run(rt.alloc(), &growers, &mut vobs, &mut replies).expect(rt, "memory");
+    check_replies(rt, len, &replies, 17);
+    check_room(rt, &vobs, 1, len.saturating_mul(6));
+}
+
+#[test]
+fn no_length_is_refused_where_memory_is_there(rt: HostRuntime) {
+    for len in 0..130 {
+        check_length::<u8>(&rt, len);
+    }
+    for len in [1, 2, 63, 64, 65, 128, 192, 193, 256, 257, 512, 1000, 4097] {
+        check_length::<u16>(&rt, len);
+        check_length::<usize>(&rt, len);
+    }
+}
+
+#[test]
+fn room_in_words_is_made(rt: HostRuntime) {
+    let mut vobs = Vec::new(rt.alloc());
+    let mut replies = Vec::new(rt.alloc());
+    let room = UsizeCommand::WithCapacity { capacity: 65 };
+    run_usize(rt.alloc(), &[room], &mut vobs, &mut replies).expect(&rt, "memory");
+    check_replies(&rt, 65, &replies, 1);
+    check_room(&rt, &vobs, 0, 65);
+}
