@@ -1,6 +1,7 @@
 //! Draining: worked rows, and every range of patterns against a push of each bit.
 use super::support::{
-    check_bits, check_blocks, check_same, drained, pattern_bit, push, same, vob_of,
+    check_bits, check_blocks, check_same, copy_of, drained, pattern, pattern_bit, push, same,
+    vob_of,
 };
 use std::ops::Bound::{Excluded, Included, Unbounded};
 use std::ops::RangeBounds;
@@ -62,60 +63,35 @@ fn every_pair_of_bounds_is_drained(rt: HostRuntime) {
     check_row(&rt, ..=0, "1", "011011101");
 }
 
-/// Adds the bits of the pattern with this seed from one index to below another.
-fn push_pattern<T: Block>(rt: &impl Abort, vob: &mut Vob<T>, seed: usize, from: usize, to: usize) {
-    for index in from..to {
-        push(rt, vob, pattern_bit(seed, index));
+/// A Vob without a range, whose bits are what was drained; the rest is what pushes leave.
+fn check_drain<T: Block>(rt: &impl Abort, whole: &Vob<T>, from: usize, drained_bits: &Vob<T>) {
+    let to = from.saturating_add(drained_bits.len());
+    let mut vob = copy_of(rt, whole);
+    check_same(rt, &drained(rt, &mut vob, from..to), drained_bits);
+    let mut left = copy_of(rt, whole);
+    left.truncate(from);
+    for index in to..whole.len() {
+        push(rt, &mut left, pattern_bit(whole.len(), index));
     }
+    check_same(rt, &vob, &left);
 }
 
-/// The bits of a Vob are those of a pattern: the first ones, and behind them those further on.
-fn check_pattern<T: Block>(
-    rt: &impl Abort,
-    vob: &Vob<T>,
-    seed: usize,
-    first: usize,
-    further: usize,
-) {
-    for index in 0..vob.len() {
-        let at = if index < first {
-            index
-        } else {
-            index.saturating_add(further)
-        };
-        same(
-            rt,
-            "a bit",
-            index,
-            vob.get(index),
-            Some(pattern_bit(seed, at)),
-        );
+/// Every range from one index on of the pattern that has its length as its seed.
+fn check_drains_from<T: Block>(rt: &(impl Abort + AllocGlobal), whole: &Vob<T>, from: usize) {
+    let mut drained_bits = vob_of::<T>(rt, "");
+    for index in from..whole.len() {
+        check_drain(rt, whole, from, &drained_bits);
+        push(rt, &mut drained_bits, pattern_bit(whole.len(), index));
     }
-}
-
-/// A pattern of which a range is drained gives and leaves what pushes leave.
-fn check_drain<T: Block>(rt: &(impl Abort + AllocGlobal), len: usize, from: usize, to: usize) {
-    let mut vob = vob_of::<T>(rt, "");
-    push_pattern(rt, &mut vob, len, 0, len);
-    let given = drained(rt, &mut vob, from..to);
-    let mut wanted = vob_of::<T>(rt, "");
-    push_pattern(rt, &mut wanted, len, from, to);
-    check_same(rt, &given, &wanted);
-    check_pattern(rt, &given, len, 0, from);
-    wanted.clear();
-    push_pattern(rt, &mut wanted, len, 0, from);
-    push_pattern(rt, &mut wanted, len, to, len);
-    check_same(rt, &vob, &wanted);
-    check_pattern(rt, &vob, len, from, to.saturating_sub(from));
+    check_drain(rt, whole, from, &drained_bits);
 }
 
 /// Every range of a pattern of each length below 70.
 fn check_drains<T: Block>(rt: &(impl Abort + AllocGlobal)) {
     for len in 0..70 {
-        for to in 0..len + 1 {
-            for from in 0..to + 1 {
-                check_drain::<T>(rt, len, from, to);
-            }
+        let whole = pattern::<T>(rt, len, len);
+        for from in 0..len + 1 {
+            check_drains_from(rt, &whole, from);
         }
     }
 }
@@ -128,4 +104,35 @@ fn drains_of_bytes_leave_what_pushes_leave(rt: HostRuntime) {
 #[test]
 fn drains_of_words_leave_what_pushes_leave(rt: HostRuntime) {
     check_drains::<usize>(&rt);
+}
+
+/// The bits that a range gives and those that it leaves are those of the pattern there.
+fn check_drained_bits<T: Block>(
+    rt: &(impl Abort + AllocGlobal),
+    len: usize,
+    from: usize,
+    to: usize,
+) {
+    let mut vob = pattern::<T>(rt, len, len);
+    let given = drained(rt, &mut vob, from..to);
+    for index in 0..len {
+        let bit = if index < from {
+            vob.get(index)
+        } else if index < to {
+            given.get(index.saturating_sub(from))
+        } else {
+            vob.get(index.saturating_sub(given.len()))
+        };
+        same(rt, "a bit", index, bit, Some(pattern_bit(len, index)));
+    }
+}
+
+#[test]
+fn drained_bits_are_those_of_the_list(rt: HostRuntime) {
+    for to in 0..20 {
+        for from in 0..to + 1 {
+            check_drained_bits::<u8>(&rt, 19, from, to);
+            check_drained_bits::<usize>(&rt, 130, from, to.saturating_add(60));
+        }
+    }
 }
