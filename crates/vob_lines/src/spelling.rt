@@ -1,6 +1,6 @@
 //! What a single word stands for: one function for each kind of word.
 
-ghost use Rattle.std.specs.Prelude.{◌≡◌, ◌≢◌, ℕ, List, ◌∷◌, [], IfOk, IfSome, IfNone, IsErrOf};
+ghost use Rattle.std.specs.Prelude.{◌≡◌, ◌≢◌, ℕ, List, ◌∷◌, [], ◌++◌, codes, IfOk, IfSome, IfNone, IsErrOf};
 ghost use Rattle.vob_lines.specs.Errors.{OnlyUnreadable};
 ghost use Rattle.vob_lines.specs.Spelling.{digit, initial, letters, IsPair, IsRange, IsStart, IsEnd, Writes, WritesBytes};
 
@@ -148,12 +148,23 @@ fn end_of(text: &[u8]) -> Result<Bound<usize>, LineError>
     }
 }
 
+/// What stands before the first two dots of a word, and what behind them.
+fn around_dots(word: &[u8]) -> Result<(&[u8], &[u8]), LineError>
+    ensures ok { IfOk result (λ parts. word.now ≡ parts.0.now ++ (codes ".." ++ parts.1.now)) }
+    ensures alone { IfOk result (λ parts. (start end : _) → (range : IsRange word.now start end)
+        → (parts.0.now ≡ range.front) × (parts.1.now ≡ range.back)) }
+    ensures err { OnlyUnreadable result ((start end : _) → IsRange word.now start end → ⊥) }
+{
+    let (front, back) = word.split_at(first_place(word, b'.'));
+    let back = back.strip_prefix(b"..").ok_or(LineError::Unreadable)?;
+    Ok((front, back))
+}
+
 /// The range that a word stands for: a start, two dots, an end.
 pub fn range_of(word: &[u8]) -> Result<(Bound<usize>, Bound<usize>), LineError>
     ensures ok { IfOk result (λ bounds. IsRange word.now bounds.0 bounds.1) }
     ensures err { OnlyUnreadable result ((start end : _) → IsRange word.now start end → ⊥) }
 {
-    let (front, back) = word.split_at(first_place(word, b'.'));
-    let back = back.strip_prefix(b"..").ok_or(LineError::Unreadable)?;
+    let (front, back) = around_dots(word)?;
     Ok((start_of(front)?, end_of(back)?))
 }

@@ -52,7 +52,7 @@ fn lines_lie_across_the_ends_of_reads(rt: HostRuntime) {
 
 #[test]
 fn words_are_as_long_as_they_come(rt: HostRuntime) {
-    // A number of a hundred digits, 300 bits that are read back, and 150 pulls at them.
+    // A number of a hundred digits, 300 bits, 150 pulls, and 60 bytes of 120 digits.
     let input = text_of(&rt, "new ", "0", 99, "7\nlen 0\n");
     expect(&rt, &input, b"vob 0\nnumber 0\n", 0);
     let input = text_of(&rt, "slice ", "101", 100, "\nbits 0\n");
@@ -61,8 +61,8 @@ fn words_are_as_long_as_they_come(rt: HostRuntime) {
     let input = text_of(&rt, "elem 1 1\nwalk 0 1 .. ", "F", 150, "\n");
     let output = text_of(&rt, "vob 0\ndealt 0", " none", 149, "\n");
     expect(&rt, &input, &output, 0);
-    let input = text_of(&rt, "bytes ", "80", 40, "\nbits 0\n");
-    let output = text_of(&rt, "vob 0\nbits ", "10000000", 40, "\n");
+    let input = text_of(&rt, "bytes ", "80", 60, "\nbits 0\n");
+    let output = text_of(&rt, "vob 0\nbits ", "10000000", 60, "\n");
     expect(&rt, &input, &output, 0);
 }
 

@@ -1,25 +1,6 @@
--- A range is cut at its first dot.
-use Rattle.std.proofs.Common.{◌≡◌, ◌++◌, sym, ◌∙◌, arith, None, Some, ap, codes}
-use Rattle.std.proofs.lemmas.Bool.Decides.{Decides-eqb}
+-- Whatever range the word were, its start and its end would be those beside these dots.
 use Rattle.std.proofs.lemmas.Result.{err_from_is_err_and}
-use Rattle.std.proofs.lemmas.Slice.Eq.{strip_prefix_is}
-use Rattle.vob_lines.proofs.SpellingLemmas.{range-cut}
 use Rattle.vob_lines.proofs.spelling.range_of.Goals as goal
-
--- no dots
-pub returns-in_err-back-clause-err : goal.returns-in_err-back-clause-err
-returns-in_err-back-clause-err c =
-    let none : c.strip_prefix.result ≡ None = grind arith in
-    let other =
-    rw none at (strip_prefix_is Decides-eqb c.split_at.result.1.now (codes "..")
-    c.strip_prefix.result c.strip_prefix.ensures.cases) in
-    let p = err_from_is_err_and c.from_residual.result c.from_residual.ensures.1 in
-    rw (p.1, p.2) (
-      grind arith,
-      λ start end range.
-          let cut = range-cut _ start end _ range c.first_place.ensures.place in
-          other range.back (c.split_at.ensures.back ∙ cut.1),
-    )
 
 -- no start before them
 pub returns-in_err-start_of-clause-err : goal.returns-in_err-start_of-clause-err
@@ -29,41 +10,18 @@ returns-in_err-start_of-clause-err c =
     c.from_residual-in_err-start_of.ensures.1 in
     rw (p.1, p.2) (
       c.in_err-start_of.ensures.err.0,
-      λ start end range.
-          let cut = range-cut _ start end _ range c.first_place.ensures.place in
-          c.in_err-start_of.ensures.err.1 start (rw (c.split_at.ensures.front ∙ cut.0) range.begins),
+      λ start end range. c.in_err-start_of.ensures.err.1 start
+          (rw (c.in_ok-front.ensures.alone start end range).0 range.begins),
     )
 
 -- no end behind them
 pub returns-in_err-end_of-clause-err : goal.returns-in_err-end_of-clause-err
 returns-in_err-end_of-clause-err c =
-    let found : c.strip_prefix.result ≡ Some c.in_ok-back.back = grind arith in
-    let dots =
-    rw found at (strip_prefix_is Decides-eqb c.split_at.result.1.now (codes "..")
-    c.strip_prefix.result c.strip_prefix.ensures.cases) in
     let p =
     err_from_is_err_and c.from_residual-in_err-end_of.result
     c.from_residual-in_err-end_of.ensures.1 in
     rw (p.1, p.2) (
       c.in_err-end_of.ensures.err.0,
-      λ start end range.
-          let cut = range-cut _ start end _ range c.first_place.ensures.place in
-          let same : codes ".." ++ c.in_ok-back.back.now ≡ codes ".." ++ range.back =
-          sym dots ∙ c.split_at.ensures.back ∙ cut.1 in
-          let back : c.in_ok-back.back.now ≡ range.back = cc in
-          c.in_err-end_of.ensures.err.1 end (rw back range.ends),
+      λ start end range. c.in_err-end_of.ensures.err.1 end
+          (rw (c.in_ok-front.ensures.alone start end range).1 range.ends),
     )
-
-pub returns-clause-ok : goal.returns-clause-ok
-returns-clause-ok c =
-    let found : c.strip_prefix.result ≡ Some c.in_ok-back.back = grind arith in
-    let dots =
-    rw found at (strip_prefix_is Decides-eqb c.split_at.result.1.now (codes "..")
-    c.strip_prefix.result c.strip_prefix.ensures.cases) in
-    record {
-      front = c.split_at.result.0.now;
-      back = c.in_ok-back.back.now;
-      cut = c.split_at.ensures.by_index.0 ∙ ap (λ xs. c.split_at.result.0.now ++ xs) dots;
-      begins = c.in_ok-start_of.ensures.ok;
-      ends = c.in_ok-end_of.ensures.ok;
-    }
