@@ -7,17 +7,17 @@ use Rattle.vob_walk.proofs.SkipLemmas.{ScansUp-is, ScansUp-nothing, ScansDown-is
 use Rattle.vob_walk.proofs.ScanLemmas.{unread-first_found, unread-last_found, unread-up, unread-up_none, unread-down, unread-down_none, found_up, found_down}
 
 -- the block that was found is one of those that were looked at
-pub ScansUp-inside : {X : Type 0} (number : X → ℕ) (skip : X) (x y : Reading X) (a b : ℕ)
-    (found : Option (ℕ × X)) (p : ℕ × X) → found ≡ Some p → ScansUp number skip x y a b found
+pub ScansUp-inside : {X : Type 0} {number : X → ℕ} {skip : X} {x y : Reading X} {a b : ℕ}
+    {found : Option (ℕ × X)} {p : ℕ × X} → found ≡ Some p → ScansUp number skip x y a b found
     → (a ≤ p.0) × (p.0 < b)
-ScansUp-inside number skip x y a b found p is scan =
+ScansUp-inside {X} {number} {skip} {x} {y} {a} {b} {found} {p} is scan =
     let known = ScansUp-is number skip x y a b found (Some p) is scan in
     (known.found.0.from, known.found.0.below)
 
-pub ScansDown-inside : {X : Type 0} (number : X → ℕ) (skip : X) (x y : Reading X) (a b : ℕ)
-    (found : Option (ℕ × X)) (p : ℕ × X) → found ≡ Some p → ScansDown number skip x y a b found
+pub ScansDown-inside : {X : Type 0} {number : X → ℕ} {skip : X} {x y : Reading X} {a b : ℕ}
+    {found : Option (ℕ × X)} {p : ℕ × X} → found ≡ Some p → ScansDown number skip x y a b found
     → (a ≤ p.0) × (p.0 < b)
-ScansDown-inside number skip x y a b found p is scan =
+ScansDown-inside {X} {number} {skip} {x} {y} {a} {b} {found} {p} is scan =
     let known = ScansDown-is number skip x y a b found (Some p) is scan in
     (known.found.0.from, known.found.0.below)
 
@@ -25,7 +25,7 @@ module _ (w : ℕ) (value : Bool) (start stop : ℕ) where
   abbrev left : List ℕ → ℕ → ℕ → List ℕ
   left xs = unread w xs value start stop
 
-  module _ {X : Type 0} (number : X → ℕ) where
+  module _ {X : Type 0} {number : X → ℕ} where
     -- nothing is read yet
     pub ReadsUp-start : (x : Reading X) (a b : ℕ) → a ≤ b → ReadsUp number left x x a b a []
     ReadsUp-start x a b order =
@@ -40,14 +40,14 @@ module _ (w : ℕ) (value : Bool) (start stop : ℕ) where
       items = refl;
     }
 
-    module _ (skip : X) (without : number skip ≡ cond value 0 (2 ^ w - 1)) (x y z : Reading X)
-        (a m b : ℕ) (found : Option (ℕ × X)) (given : List ℕ) where
+    module _ {skip : X} (without : number skip ≡ cond value 0 (2 ^ w - 1)) {x y z : Reading X}
+        {a m b : ℕ} {found : Option (ℕ × X)} {given : List ℕ} where
       -- a scan found a block, whose indices are given
-      pub ReadsUp-found : (p : ℕ × X) → ReadsUp number left x y a b m [] → found ≡ Some p
+      pub ReadsUp-found : {p : ℕ × X} → ReadsUp number left x y a b m [] → found ≡ Some p
           → ScansUp number skip y z m b found
           → given ≡ indices_in w (number p.1) (p.0 * w) value start stop
           → ReadsUp number left x z a b (p.0 + 1) given
-      ReadsUp-found p so_far is scan gives =
+      ReadsUp-found {p} so_far is scan gives =
           let known = ScansUp-is number skip y z m b found (Some p) is scan in
           let xs = map number x.items in
           let same = ap (map number) so_far.items in
@@ -67,11 +67,11 @@ module _ (w : ℕ) (value : Bool) (start stop : ℕ) where
             items = known.items ∙ so_far.items;
           }
 
-      pub ReadsDown-found : (p : ℕ × X) → ReadsDown number left x y a b m [] → found ≡ Some p
+      pub ReadsDown-found : {p : ℕ × X} → ReadsDown number left x y a b m [] → found ≡ Some p
           → ScansDown number skip y z a m found
           → given ≡ indices_in w (number p.1) (p.0 * w) value start stop
           → ReadsDown number left x z a b p.0 given
-      ReadsDown-found p so_far is scan gives =
+      ReadsDown-found {p} so_far is scan gives =
           let known = ScansDown-is number skip y z a m found (Some p) is scan in
           let xs = map number x.items in
           let same = ap (map number) so_far.items in

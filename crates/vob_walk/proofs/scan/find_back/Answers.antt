@@ -6,7 +6,7 @@ use Rattle.vob_walk.proofs.scan.find_back.Goals as goal
 
 pub loop-found-init : goal.loop-found-init
 loop-found-init g c = ReadsDown-start g.T.Block.BITS c.args.window.value c.args.window.start
-    c.args.window.stop g.T.Block.number c.args.blocks.now c.args.next c.args.end.now
+    c.args.window.stop c.args.blocks.now c.args.next c.args.end.now
     c.requires.order
 
 pub last_other-requires-clause-order : goal.last_other-requires-clause-order
@@ -23,18 +23,13 @@ last_other-requires-clause-count g c =
 
 pub bits_in-bits-requires : goal.bits_in-bits-requires
 bits_in-bits-requires g c =
-    let inside = ScansDown-inside g.T.Block.number c.block_without-skip.result c.loop-found.blocks
-    c.last_other.new.blocks c.args.next c.loop-found.till c.last_other.result c.in-Some.found
-    c.in-Some.is c.last_other.ensures in
+    let inside = ScansDown-inside c.in-Some.is c.last_other.ensures in
     c.requires.below c.in-Some.found.0 (omega (arith, inside.1, c.loop-found.invariant.falls))
 
 pub loop-found-preserved : goal.loop-found-preserved
 loop-found-preserved g c =
     let window = c.args.window in
-    ReadsDown-found g.T.Block.BITS window.value window.start window.stop g.T.Block.number
-    c.block_without-skip.result c.block_without-skip.ensures c.args.blocks.now c.loop-found.blocks
-    c.last_other.new.blocks c.args.next c.loop-found.till c.args.end.now c.last_other.result []
-    c.in-Some.found c.loop-found.invariant c.in-Some.is c.last_other.ensures
+    ReadsDown-found g.T.Block.BITS window.value window.start window.stop c.block_without-skip.ensures c.loop-found.invariant c.in-Some.is c.last_other.ensures
     (sym (c.is_empty.ensures.0 c.if-not-is_empty.false) ∙ c.bits_in-bits.ensures)
 
 pub loop-found-smaller : goal.loop-found-smaller
@@ -42,19 +37,14 @@ loop-found-smaller g c =
     let less : c.in-Some.found.0 - c.args.next < c.loop-found.till - c.args.next =
     omega (
       arith,
-      ScansDown-inside g.T.Block.number c.block_without-skip.result c.loop-found.blocks
-          c.last_other.new.blocks c.args.next c.loop-found.till c.last_other.result c.in-Some.found
-          c.in-Some.is c.last_other.ensures,
+      ScansDown-inside c.in-Some.is c.last_other.ensures,
     ) in
     less
 
 pub returns-then-not-is_empty-clause-reads : goal.returns-then-not-is_empty-clause-reads
 returns-then-not-is_empty-clause-reads g c =
     let window = c.args.window in
-    ReadsDown-found g.T.Block.BITS window.value window.start window.stop g.T.Block.number
-    c.block_without-skip.result c.block_without-skip.ensures c.args.blocks.now c.loop-found.blocks
-    c.last_other.new.blocks c.args.next c.loop-found.till c.args.end.now c.last_other.result
-    c.bits_in-bits.result c.in-Some.found c.loop-found.invariant c.in-Some.is
+    ReadsDown-found g.T.Block.BITS window.value window.start window.stop c.block_without-skip.ensures c.loop-found.invariant c.in-Some.is
     c.last_other.ensures c.bits_in-bits.ensures
 
 pub returns-then-not-is_empty-clause-none : goal.returns-then-not-is_empty-clause-none
@@ -64,8 +54,5 @@ returns-then-not-is_empty-clause-none g c = λ none.
 pub returns-clause-reads : goal.returns-clause-reads
 returns-clause-reads g c =
     let window = c.args.window in
-    ReadsDown-end g.T.Block.BITS window.value window.start window.stop g.T.Block.number
-    c.block_without-skip.result c.block_without-skip.ensures c.args.blocks.now c.loop-found.blocks
-    c.last_other.new.blocks c.args.next c.loop-found.till c.args.end.now c.last_other.result
-    c.none.result c.loop-found.invariant c.in_default.not-Some c.last_other.ensures
+    ReadsDown-end g.T.Block.BITS window.value window.start window.stop c.block_without-skip.ensures c.loop-found.invariant c.in_default.not-Some c.last_other.ensures
     c.none.ensures

@@ -6,7 +6,7 @@ use Rattle.vob_walk.proofs.scan.find_front.Goals as goal
 
 pub loop-found-init : goal.loop-found-init
 loop-found-init g c = ReadsUp-start g.T.Block.BITS c.args.window.value c.args.window.start
-    c.args.window.stop g.T.Block.number c.args.blocks.now c.args.next.now c.args.end
+    c.args.window.stop c.args.blocks.now c.args.next.now c.args.end
     c.requires.order
 
 pub first_other-requires-clause-order : goal.first_other-requires-clause-order
@@ -19,24 +19,17 @@ first_other-requires-clause-count g c =
 pub overflow_add-from : goal.overflow_add-from
 overflow_add-from g c = omega (
   arith,
-  ScansUp-inside g.T.Block.number
-      c.block_without-skip.result c.loop-found.blocks c.first_other.new.blocks c.loop-found.from
-      c.args.end c.first_other.result c.in-Some.found c.in-Some.is c.first_other.ensures,
+  ScansUp-inside c.in-Some.is c.first_other.ensures,
   c.ranges.end.fits,
 )
 
 pub bits_in-bits-requires : goal.bits_in-bits-requires
-bits_in-bits-requires g c = c.requires.below c.in-Some.found.0 (ScansUp-inside g.T.Block.number
-    c.block_without-skip.result c.loop-found.blocks c.first_other.new.blocks c.loop-found.from
-    c.args.end c.first_other.result c.in-Some.found c.in-Some.is c.first_other.ensures).1
+bits_in-bits-requires g c = c.requires.below c.in-Some.found.0 (ScansUp-inside c.in-Some.is c.first_other.ensures).1
 
 pub loop-found-preserved : goal.loop-found-preserved
 loop-found-preserved g c =
     let window = c.args.window in
-    ReadsUp-found g.T.Block.BITS window.value window.start window.stop g.T.Block.number
-    c.block_without-skip.result c.block_without-skip.ensures c.args.blocks.now c.loop-found.blocks
-    c.first_other.new.blocks c.args.next.now c.loop-found.from c.args.end c.first_other.result []
-    c.in-Some.found c.loop-found.invariant c.in-Some.is c.first_other.ensures
+    ReadsUp-found g.T.Block.BITS window.value window.start window.stop c.block_without-skip.ensures c.loop-found.invariant c.in-Some.is c.first_other.ensures
     (sym (c.is_empty.ensures.0 c.if-not-is_empty.false) ∙ c.bits_in-bits.ensures)
 
 pub loop-found-smaller : goal.loop-found-smaller
@@ -44,19 +37,14 @@ loop-found-smaller g c =
     let less : c.args.end - (c.in-Some.found.0 + 1) < c.args.end - c.loop-found.from =
     omega (
       arith,
-      ScansUp-inside g.T.Block.number
-          c.block_without-skip.result c.loop-found.blocks c.first_other.new.blocks c.loop-found.from
-          c.args.end c.first_other.result c.in-Some.found c.in-Some.is c.first_other.ensures,
+      ScansUp-inside c.in-Some.is c.first_other.ensures,
     ) in
     less
 
 pub returns-then-not-is_empty-clause-reads : goal.returns-then-not-is_empty-clause-reads
 returns-then-not-is_empty-clause-reads g c =
     let window = c.args.window in
-    ReadsUp-found g.T.Block.BITS window.value window.start window.stop g.T.Block.number
-    c.block_without-skip.result c.block_without-skip.ensures c.args.blocks.now c.loop-found.blocks
-    c.first_other.new.blocks c.args.next.now c.loop-found.from c.args.end c.first_other.result
-    c.bits_in-bits.result c.in-Some.found c.loop-found.invariant c.in-Some.is
+    ReadsUp-found g.T.Block.BITS window.value window.start window.stop c.block_without-skip.ensures c.loop-found.invariant c.in-Some.is
     c.first_other.ensures c.bits_in-bits.ensures
 
 pub returns-then-not-is_empty-clause-none : goal.returns-then-not-is_empty-clause-none
@@ -66,8 +54,5 @@ returns-then-not-is_empty-clause-none g c = λ none.
 pub returns-clause-reads : goal.returns-clause-reads
 returns-clause-reads g c =
     let window = c.args.window in
-    ReadsUp-end g.T.Block.BITS window.value window.start window.stop g.T.Block.number
-    c.block_without-skip.result c.block_without-skip.ensures c.args.blocks.now c.loop-found.blocks
-    c.first_other.new.blocks c.args.next.now c.loop-found.from c.args.end c.first_other.result
-    c.none.result c.loop-found.invariant c.in_default.not-Some c.first_other.ensures
+    ReadsUp-end g.T.Block.BITS window.value window.start window.stop c.block_without-skip.ensures c.loop-found.invariant c.in_default.not-Some c.first_other.ensures
     c.none.ensures
