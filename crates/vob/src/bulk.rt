@@ -28,6 +28,12 @@ use vob_walk::range::{first_index, past_last_index};
 impl<T: Block> Vob<T> {
     /// Cuts the bits to `new_len`, or adds bits of `value` up to `new_len`. vob 4.0.1 ends the process
     /// where memory is refused, and panics where it adds true bits behind whole blocks.
+    ///
+    /// ```
+    /// let mut vob = vob::vob!(alloc; false)?;
+    /// vob.resize(3, true)?;
+    /// assert!(rt; vob == vob::vob!(alloc; false, true, true)?);
+    /// ```
     pub fn resize(&mut self, new_len: usize, value: bool) -> Result<(), VobError>
         ensures ok { OnOk result (self.new.bits
             ≡ take new_len self.old.bits ++ replicate (new_len - length self.old.bits) value) }
@@ -113,6 +119,12 @@ impl<T: Block> Vob<T> {
 
     /// Appends the bits of `other`. vob 4.0.1 ends the process where memory is refused, and panics
     /// where the length would pass `usize::MAX`.
+    ///
+    /// ```
+    /// let mut vob = vob::vob!(alloc; true, false)?;
+    /// vob.extend_from_vob(&vob::vob!(alloc; true)?)?;
+    /// assert!(rt; vob == vob::vob!(alloc; true, false, true)?);
+    /// ```
     pub fn extend_from_vob(&mut self, other: &Vob<T>) -> Result<(), VobError>
         ensures ok { OnOk result (self.new.bits ≡ self.old.bits ++ other.now.bits) }
         ensures err { OnErr result (self.new.bits ≡ self.old.bits) }
@@ -133,6 +145,12 @@ impl<T: Block> Vob<T> {
     /// Keeps the bits below `at`, and gives the others: none where `at` is the length. An `at` past
     /// the end is refused, and the bits stay; vob 4.0.1 gives an empty Vob there, and ends the
     /// process where memory is refused.
+    ///
+    /// ```
+    /// let mut vob = vob::vob!(alloc; true, false, true)?;
+    /// let rest = vob.split_off(1)?;
+    /// assert!(rt; rest == vob::vob!(alloc; false, true)?);
+    /// ```
     pub fn split_off(&mut self, at: usize) -> Result<Vob<T>, VobError>
         ensures rest { IfOk result (λ vob. vob.bits ≡ drop at self.old.bits) }
         ensures ok { OnOk result (self.new.bits ≡ take at self.old.bits) }
@@ -174,6 +192,12 @@ impl<T: Block> Vob<T> {
     /// Takes the bits of a range out, and gives them; the others close up in order. Every pair of
     /// bounds is accepted, and an index belongs to the range where it is below the length and meets
     /// both as whole numbers. Where none does, no memory is asked for. vob 4.0.1 hasn't this call.
+    ///
+    /// ```
+    /// let mut vob = vob::vob!(alloc; true, false, true)?;
+    /// assert!(rt; vob.drain(1..2)? == vob::vob!(alloc; false)?);
+    /// assert!(rt; vob == vob::vob!(alloc; true, true)?);
+    /// ```
     pub fn drain<R: RangeBounds<usize>>(&mut self, range: R) -> Result<Vob<T>, AllocError>
         ensures ok { R.has_bounds range → IfOk result (λ vob.
             IsDrained (R.start_bound range) (R.end_bound range) self.old.bits vob.bits self.new.bits) }

@@ -37,6 +37,12 @@ impl<'a, T: Block> Model for Iter<'a, T> {
 
 impl<T: Block> Vob<T> {
     /// A walk over the bits, index 0 first.
+    ///
+    /// ```
+    /// let vob = vob::vob!(alloc; true, false)?;
+    /// let mut bits = vob.iter();
+    /// assert_eq!(rt; bits.next_back(), Some(false));
+    /// ```
     pub fn iter(&self) -> Iter<'_, T>
         ensures bits { result ≡ self.now.bits }
         ensures longest { length result ≤ usize.MAX }
@@ -63,6 +69,13 @@ impl<T: Block> Vob<T> {
 
     /// The indices of the set bits within a range, the least first. vob 4.0.1 adds 1 to an included
     /// end and to an excluded start unchecked, so `usize::MAX` there panics or wraps.
+    ///
+    /// ```
+    /// let vob = vob::vob!(alloc; true, false, true)?;
+    /// let mut indices = vob.iter_set_bits(1..);
+    /// assert_eq!(rt; indices.next(), Some(2));
+    /// assert_eq!(rt; indices.next(), None);
+    /// ```
     pub fn iter_set_bits<R: RangeBounds<usize>>(&self, range: R) -> IterSetBits<'_, T>
         ensures fresh { R.has_bounds range
             → IsFresh result self.now.bits true (R.start_bound range) (R.end_bound range) T.BITS }

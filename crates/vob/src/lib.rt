@@ -1,11 +1,18 @@
 //! A packed vector of bits: `Vec<bool>` at one bit an item, rounded up to whole blocks.
 //!
 //! ```
-//! /// Takes the first free slot, if one is free. A set bit is a slot that is taken.
-//! pub fn take_slot(slots: &mut Vob) -> Option<usize> {
-//!     let slot = slots.iter_unset_bits(..).next()?;
-//!     slots.set(slot, true);
-//!     Some(slot)
+//! ghost use Rattle.std.specs.Prelude.{◌≡◌, ◌++◌, IfOk};
+//!
+//! use std::alloc::Global;
+//! use vob::{Vob, VobError};
+//!
+//! /// The bits of both slices, one behind the other.
+//! pub fn joined(alloc: Global, first: &[bool], second: &[bool]) -> Result<Vob, VobError>
+//!     ensures { IfOk result (λ vob. vob.bits ≡ first.now ++ second.now) }
+//! {
+//!     let mut vob = Vob::from_slice(alloc, first)?;
+//!     vob.extend_from_vob(&Vob::from_slice(alloc, second)?)?;
+//!     Ok(vob)
 //! }
 //! ```
 //!
@@ -13,6 +20,8 @@
 //! 2. The unused bits of the last block are 0 after every call.
 //! 3. What fits within the capacity is never refused, and a refused call leaves all bits as they
 //!    were; `extend` alone may keep a first part of its items.
+//!
+//! In the examples of the calls `alloc` is the allocator, and `rt` what a test stops by.
 #![tactic(auto)]
 
 pub mod bulk;

@@ -21,6 +21,12 @@ use vob_store::same::same_blocks;
 
 impl<T: Block> Vob<T> {
     /// Makes every bit `value`.
+    ///
+    /// ```
+    /// let mut vob = vob::vob!(alloc; true, false)?;
+    /// vob.set_all(true);
+    /// assert!(rt; vob == vob::vob!(alloc; true, true)?);
+    /// ```
     pub fn set_all(&mut self, value: bool)
         ensures bits { self.new.bits ≡ replicate (length self.old.bits) value }
         ensures each { IsChanged (λ _. value) self.old.bits self.new.bits }
@@ -30,6 +36,12 @@ impl<T: Block> Vob<T> {
     }
 
     /// Negates every bit.
+    ///
+    /// ```
+    /// let mut vob = vob::vob!(alloc; true, false)?;
+    /// vob.negate();
+    /// assert!(rt; vob == vob::vob!(alloc; false, true)?);
+    /// ```
     pub fn negate(&mut self)
         ensures bits { self.new.bits ≡ map not self.old.bits }
         ensures each { IsChanged not self.old.bits self.new.bits }
@@ -40,6 +52,12 @@ impl<T: Block> Vob<T> {
 
     /// Keeps the bits that both have, and answers whether a bit changed. vob 4.0.1 panics on
     /// unequal lengths.
+    ///
+    /// ```
+    /// let mut vob = vob::vob!(alloc; true, true)?;
+    /// assert!(rt; vob.and(&vob::vob!(alloc; true, false)?));
+    /// assert!(rt; vob == vob::vob!(alloc; true, false)?);
+    /// ```
     pub fn and(&mut self, other: &Vob<T>) -> bool
         requires { HaveSameLength self.old other.now }
         ensures bits { self.new.bits ≡ pointwise ◌&&◌ self.old.bits other.now.bits }
@@ -53,6 +71,12 @@ impl<T: Block> Vob<T> {
 
     /// Gets the bits that either has, and answers whether a bit changed. vob 4.0.1 panics on
     /// unequal lengths.
+    ///
+    /// ```
+    /// let mut vob = vob::vob!(alloc; true, false)?;
+    /// assert!(rt; vob.or(&vob::vob!(alloc; true, true)?));
+    /// assert!(rt; vob == vob::vob!(alloc; true, true)?);
+    /// ```
     pub fn or(&mut self, other: &Vob<T>) -> bool
         requires { HaveSameLength self.old other.now }
         ensures bits { self.new.bits ≡ pointwise ◌||◌ self.old.bits other.now.bits }

@@ -76,6 +76,11 @@ impl<T: Block> Vob<T> {
     }
 
     /// A Vob with the same bits. The copy of an empty Vob takes no memory.
+    ///
+    /// ```
+    /// let vob = vob::vob!(alloc; true, false)?;
+    /// assert!(rt; vob.clone()? == vob);
+    /// ```
     pub fn clone(&self) -> Result<Vob<T>, AllocError>
         ensures bits { IfOk result (λ vob. vob.bits ≡ self.now.bits) }
         ensures nothing { self.now.bits ≡ [] → IsOk result }
@@ -86,6 +91,11 @@ impl<T: Block> Vob<T> {
     }
 
     /// The number of bits.
+    ///
+    /// ```
+    /// let vob = vob::vob!(alloc; true, false)?;
+    /// assert_eq!(rt; vob.len(), 2);
+    /// ```
     pub fn len(&self) -> usize
         ensures len { result ≡ length self.now.bits }
         ensures within { result ≤ self.now.capacity }
@@ -142,6 +152,12 @@ impl<T: Block> Vob<T> {
     }
 
     /// Bit `index`, or `None` from the length on.
+    ///
+    /// ```
+    /// let vob = vob::vob!(alloc; true, false)?;
+    /// assert_eq!(rt; vob.get(1), Some(false));
+    /// assert_eq!(rt; vob.get(2), None);
+    /// ```
     pub fn get(&self, index: usize) -> Option<bool>
         ensures { result ≡ slice_get self.now.bits index }
     {
@@ -161,6 +177,12 @@ impl<T: Block> Vob<T> {
     }
 
     /// Writes bit `index`, and answers whether it changed. vob 4.0.1 panics from the length on.
+    ///
+    /// ```
+    /// let mut vob = vob::vob!(alloc; true, false)?;
+    /// assert!(rt; vob.set(1, true));
+    /// assert!(rt; !vob.set(1, true));
+    /// ```
     pub fn set(&mut self, index: usize, value: bool) -> bool
         requires in_range { index < length self.old.bits }
         ensures bits { self.new.bits ≡ slice_set self.old.bits index value }
@@ -187,6 +209,12 @@ impl<T: Block> Vob<T> {
 
     /// Adds `value` behind the last bit. vob 4.0.1 ends the process where memory is refused, and
     /// panics at the greatest length.
+    ///
+    /// ```
+    /// let mut vob = Vob::new(alloc);
+    /// vob.push(true)?;
+    /// assert_eq!(rt; vob.get(0), Some(true));
+    /// ```
     pub fn push(&mut self, value: bool) -> Result<(), VobError>
         ensures ok { OnOk result (self.new.bits ≡ self.old.bits ++ value ∷ []) }
         ensures err { OnErr result (self.new.bits ≡ self.old.bits) }
@@ -204,6 +232,11 @@ impl<T: Block> Vob<T> {
     }
 
     /// Takes off the last bit and answers it, or answers `None` where there are no bits.
+    ///
+    /// ```
+    /// let mut vob = vob::vob!(alloc; true, false)?;
+    /// assert_eq!(rt; vob.pop(), Some(false));
+    /// ```
     pub fn pop(&mut self) -> Option<bool>
         ensures last { result ≡ slice_get self.old.bits (length self.old.bits - 1) }
         ensures bits { self.new.bits ≡ take (length self.old.bits - 1) self.old.bits }
@@ -220,6 +253,12 @@ impl<T: Block> Vob<T> {
     }
 
     /// Takes off the bits from `len` on. Where there are none, nothing changes.
+    ///
+    /// ```
+    /// let mut vob = vob::vob!(alloc; true, false, true)?;
+    /// vob.truncate(1);
+    /// assert!(rt; vob == vob::vob!(alloc; true)?);
+    /// ```
     pub fn truncate(&mut self, len: usize)
         ensures bits { self.new.bits ≡ take len self.old.bits }
         ensures capacity { self.new.capacity ≡ self.old.capacity }
@@ -256,6 +295,11 @@ impl<T: Block> Vob<T> {
 
 impl Vob<usize> {
     /// An empty Vob of the default block type. Takes no memory.
+    ///
+    /// ```
+    /// let vob = Vob::new(alloc);
+    /// assert!(rt; vob.is_empty());
+    /// ```
     pub fn new(alloc: Global) -> Vob<usize>
         ensures { result.bits ≡ [] }
     {
@@ -275,6 +319,11 @@ impl Vob<usize> {
     }
 
     /// `len` times `value`. Length 0 takes no memory.
+    ///
+    /// ```
+    /// let vob = Vob::from_elem(alloc, true, 129)?;
+    /// assert_eq!(rt; vob.iter_set_bits(..).count(), 129);
+    /// ```
     pub fn from_elem(alloc: Global, value: bool, len: usize) -> Result<Vob<usize>, AllocError>
         ensures bits { IfOk result (λ vob. vob.bits ≡ replicate len value) }
         ensures room { IfOk result (λ vob. len ≤ vob.capacity) }
@@ -284,6 +333,11 @@ impl Vob<usize> {
     }
 
     /// The bits of a slice. No bits take no memory.
+    ///
+    /// ```
+    /// let vob = Vob::from_slice(alloc, &[true, false, true])?;
+    /// assert_eq!(rt; vob.get(1), Some(false));
+    /// ```
     pub fn from_slice(alloc: Global, bits: &[bool]) -> Result<Vob<usize>, AllocError>
         ensures bits { IfOk result (λ vob. vob.bits ≡ bits.now) }
         ensures nothing { bits.now ≡ [] → IsOk result }

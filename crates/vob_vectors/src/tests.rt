@@ -4,6 +4,7 @@ mod commands;
 mod constructors;
 mod counts;
 mod draining;
+mod examples;
 mod grammar;
 mod growing;
 mod hints;

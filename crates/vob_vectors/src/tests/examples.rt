@@ -1,0 +1,178 @@
+//! The examples in the doc comments of `vob`, each as it stands there.
+use std::test::Fail;
+use vob::Vob;
+
+#[test]
+fn a_new_vob_has_no_bits(rt: HostRuntime) -> Result<(), Fail> {
+    let alloc = rt.alloc();
+    let vob = Vob::new(alloc);
+    assert!(rt; vob.is_empty());
+    Ok(())
+}
+
+#[test]
+fn one_bit_many_times_is_a_vob(rt: HostRuntime) -> Result<(), Fail> {
+    let alloc = rt.alloc();
+    let vob = Vob::from_elem(alloc, true, 129)?;
+    assert_eq!(rt; vob.iter_set_bits(..).count(), 129);
+    Ok(())
+}
+
+#[test]
+fn a_slice_is_a_vob(rt: HostRuntime) -> Result<(), Fail> {
+    let alloc = rt.alloc();
+    let vob = Vob::from_slice(alloc, &[true, false, true])?;
+    assert_eq!(rt; vob.get(1), Some(false));
+    Ok(())
+}
+
+#[test]
+fn a_copy_is_equal(rt: HostRuntime) -> Result<(), Fail> {
+    let alloc = rt.alloc();
+    let vob = vob::vob!(alloc; true, false)?;
+    assert!(rt; vob.clone()? == vob);
+    Ok(())
+}
+
+#[test]
+fn the_length_is_in_bits(rt: HostRuntime) -> Result<(), Fail> {
+    let alloc = rt.alloc();
+    let vob = vob::vob!(alloc; true, false)?;
+    assert_eq!(rt; vob.len(), 2);
+    Ok(())
+}
+
+#[test]
+fn a_bit_past_the_end_is_none(rt: HostRuntime) -> Result<(), Fail> {
+    let alloc = rt.alloc();
+    let vob = vob::vob!(alloc; true, false)?;
+    assert_eq!(rt; vob.get(1), Some(false));
+    assert_eq!(rt; vob.get(2), None);
+    Ok(())
+}
+
+#[test]
+fn a_write_says_whether_it_changed_the_bit(rt: HostRuntime) -> Result<(), Fail> {
+    let alloc = rt.alloc();
+    let mut vob = vob::vob!(alloc; true, false)?;
+    assert!(rt; vob.set(1, true));
+    assert!(rt; !vob.set(1, true));
+    Ok(())
+}
+
+#[test]
+fn a_bit_is_pushed(rt: HostRuntime) -> Result<(), Fail> {
+    let alloc = rt.alloc();
+    let mut vob = Vob::new(alloc);
+    vob.push(true)?;
+    assert_eq!(rt; vob.get(0), Some(true));
+    Ok(())
+}
+
+#[test]
+fn the_last_bit_is_popped(rt: HostRuntime) -> Result<(), Fail> {
+    let alloc = rt.alloc();
+    let mut vob = vob::vob!(alloc; true, false)?;
+    assert_eq!(rt; vob.pop(), Some(false));
+    Ok(())
+}
+
+#[test]
+fn the_first_bits_are_kept(rt: HostRuntime) -> Result<(), Fail> {
+    let alloc = rt.alloc();
+    let mut vob = vob::vob!(alloc; true, false, true)?;
+    vob.truncate(1);
+    assert!(rt; vob == vob::vob!(alloc; true)?);
+    Ok(())
+}
+
+#[test]
+fn bits_are_added(rt: HostRuntime) -> Result<(), Fail> {
+    let alloc = rt.alloc();
+    let mut vob = vob::vob!(alloc; false)?;
+    vob.resize(3, true)?;
+    assert!(rt; vob == vob::vob!(alloc; false, true, true)?);
+    Ok(())
+}
+
+#[test]
+fn a_vob_is_added(rt: HostRuntime) -> Result<(), Fail> {
+    let alloc = rt.alloc();
+    let mut vob = vob::vob!(alloc; true, false)?;
+    vob.extend_from_vob(&vob::vob!(alloc; true)?)?;
+    assert!(rt; vob == vob::vob!(alloc; true, false, true)?);
+    Ok(())
+}
+
+#[test]
+fn the_rest_is_split_off(rt: HostRuntime) -> Result<(), Fail> {
+    let alloc = rt.alloc();
+    let mut vob = vob::vob!(alloc; true, false, true)?;
+    let rest = vob.split_off(1)?;
+    assert!(rt; rest == vob::vob!(alloc; false, true)?);
+    Ok(())
+}
+
+#[test]
+fn a_range_is_drained(rt: HostRuntime) -> Result<(), Fail> {
+    let alloc = rt.alloc();
+    let mut vob = vob::vob!(alloc; true, false, true)?;
+    assert!(rt; vob.drain(1..2)? == vob::vob!(alloc; false)?);
+    assert!(rt; vob == vob::vob!(alloc; true, true)?);
+    Ok(())
+}
+
+#[test]
+fn all_bits_are_set(rt: HostRuntime) -> Result<(), Fail> {
+    let alloc = rt.alloc();
+    let mut vob = vob::vob!(alloc; true, false)?;
+    vob.set_all(true);
+    assert!(rt; vob == vob::vob!(alloc; true, true)?);
+    Ok(())
+}
+
+#[test]
+fn all_bits_are_negated(rt: HostRuntime) -> Result<(), Fail> {
+    let alloc = rt.alloc();
+    let mut vob = vob::vob!(alloc; true, false)?;
+    vob.negate();
+    assert!(rt; vob == vob::vob!(alloc; false, true)?);
+    Ok(())
+}
+
+#[test]
+fn bits_of_both_are_kept(rt: HostRuntime) -> Result<(), Fail> {
+    let alloc = rt.alloc();
+    let mut vob = vob::vob!(alloc; true, true)?;
+    assert!(rt; vob.and(&vob::vob!(alloc; true, false)?));
+    assert!(rt; vob == vob::vob!(alloc; true, false)?);
+    Ok(())
+}
+
+#[test]
+fn bits_of_either_are_there(rt: HostRuntime) -> Result<(), Fail> {
+    let alloc = rt.alloc();
+    let mut vob = vob::vob!(alloc; true, false)?;
+    assert!(rt; vob.or(&vob::vob!(alloc; true, true)?));
+    assert!(rt; vob == vob::vob!(alloc; true, true)?);
+    Ok(())
+}
+
+#[test]
+fn bits_are_walked_from_the_end(rt: HostRuntime) -> Result<(), Fail> {
+    let alloc = rt.alloc();
+    let vob = vob::vob!(alloc; true, false)?;
+    let mut bits = vob.iter();
+    assert_eq!(rt; bits.next_back(), Some(false));
+    Ok(())
+}
+
+#[test]
+fn set_bits_are_walked_from_an_index_on(rt: HostRuntime) -> Result<(), Fail> {
+    let alloc = rt.alloc();
+    let vob = vob::vob!(alloc; true, false, true)?;
+    let mut indices = vob.iter_set_bits(1..);
+    assert_eq!(rt; indices.next(), Some(2));
+    assert_eq!(rt; indices.next(), None);
+    Ok(())
+}
