@@ -7,3 +7,4 @@ pub mod HashLemmas
 pub mod ItemLemmas
 pub mod RestLemmas
 pub mod SameLemmas
+pub mod SetsLemmas

@@ -9,4 +9,5 @@ pub mod RawLends
 pub mod Refusal
 pub mod Rest
 pub mod Same
+pub mod Sets
 pub mod Vob

@@ -31,6 +31,7 @@ pub mod laws;
 mod macros;
 pub mod ops;
 pub mod raw;
+pub mod sets;
 pub mod vob;
 
 pub use error::VobError;

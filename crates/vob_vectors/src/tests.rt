@@ -16,6 +16,7 @@ mod paths;
 mod pointwise;
 mod raw;
 mod reads;
+mod sets;
 mod single_bits;
 mod support;
 mod users;

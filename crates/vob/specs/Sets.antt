@@ -1,0 +1,37 @@
+-- What calls on a Vob as a set of indices answer.
+use Rattle.std.specs.Prelude.{◌≡◌, ◌≢◌, ◌↔◌, ℕ, ◌<◌, ◌≤◌, Bool, List, length, Option, Some, None}
+use Rattle.vob_block.specs.Packing.{item}
+
+-- some bit of a list has a value
+abbrev pub HasBit : Bool → List Bool → Type 0
+HasBit value bits = (i : ℕ) × (i < length bits) × (item bits i ≡ value)
+
+-- every bit has it
+abbrev pub HasOnly : Bool → List Bool → Type 0
+HasOnly value bits = (i : ℕ) → i < length bits → item bits i ≡ value
+
+-- index i is the first one at or above another whose bit has the value
+pub record IsFirstFrom (value : Bool) (bits : List Bool) (from i : ℕ) : Type 0 where
+  pub above : from ≤ i
+  pub inside : i < length bits
+  pub there : item bits i ≡ value
+  pub between : (j : ℕ) → from ≤ j → j < i → item bits j ≢ value
+
+-- and the last one at or below another
+pub record IsLastUpTo (value : Bool) (bits : List Bool) (upto i : ℕ) : Type 0 where
+  pub below : i ≤ upto
+  pub inside : i < length bits
+  pub there : item bits i ≡ value
+  pub between : (j : ℕ) → i < j → j ≤ upto → j < length bits → item bits j ≢ value
+
+-- an answer is that first index, and None where no index at or above has such a bit
+pub record IsNext (value : Bool) (bits : List Bool) (from : ℕ) (answer : Option ℕ) : Type 0 where
+  pub some : (i : ℕ) → (answer ≡ Some i) ↔ IsFirstFrom value bits from i
+  pub none : (answer ≡ None)
+      ↔ ((i : ℕ) → from ≤ i → i < length bits → item bits i ≢ value)
+
+-- an answer is that last index, and None where no index at or below has such a bit
+pub record IsPrevious (value : Bool) (bits : List Bool) (upto : ℕ) (answer : Option ℕ) : Type 0 where
+  pub some : (i : ℕ) → (answer ≡ Some i) ↔ IsLastUpTo value bits upto i
+  pub none : (answer ≡ None)
+      ↔ ((i : ℕ) → i ≤ upto → i < length bits → item bits i ≢ value)
