@@ -29,23 +29,22 @@ bits_in-bits-requires g c =
 pub loop-found-preserved : goal.loop-found-preserved
 loop-found-preserved g c =
     let window = c.args.window in
-    ReadsDown-found g.T.Block.BITS window.value window.start window.stop c.block_without-skip.ensures c.loop-found.invariant c.in-Some.is c.last_other.ensures
+    ReadsDown-found g.T.Block.BITS window.value window.start window.stop
+    c.block_without-skip.ensures c.loop-found.invariant c.in-Some.is c.last_other.ensures
     (sym (c.is_empty.ensures.0 c.if-not-is_empty.false) ∙ c.bits_in-bits.ensures)
 
 pub loop-found-smaller : goal.loop-found-smaller
 loop-found-smaller g c =
     let less : c.in-Some.found.0 - c.args.next < c.loop-found.till - c.args.next =
-    omega (
-      arith,
-      ScansDown-inside c.in-Some.is c.last_other.ensures,
-    ) in
+    omega (arith, ScansDown-inside c.in-Some.is c.last_other.ensures) in
     less
 
 pub returns-then-not-is_empty-clause-reads : goal.returns-then-not-is_empty-clause-reads
 returns-then-not-is_empty-clause-reads g c =
     let window = c.args.window in
-    ReadsDown-found g.T.Block.BITS window.value window.start window.stop c.block_without-skip.ensures c.loop-found.invariant c.in-Some.is
-    c.last_other.ensures c.bits_in-bits.ensures
+    ReadsDown-found g.T.Block.BITS window.value window.start window.stop
+    c.block_without-skip.ensures c.loop-found.invariant c.in-Some.is c.last_other.ensures
+    c.bits_in-bits.ensures
 
 pub returns-then-not-is_empty-clause-none : goal.returns-then-not-is_empty-clause-none
 returns-then-not-is_empty-clause-none g c = λ none.
@@ -54,5 +53,6 @@ returns-then-not-is_empty-clause-none g c = λ none.
 pub returns-clause-reads : goal.returns-clause-reads
 returns-clause-reads g c =
     let window = c.args.window in
-    ReadsDown-end g.T.Block.BITS window.value window.start window.stop c.block_without-skip.ensures c.loop-found.invariant c.in_default.not-Some c.last_other.ensures
+    ReadsDown-end g.T.Block.BITS window.value window.start window.stop
+    c.block_without-skip.ensures c.loop-found.invariant c.in_default.not-Some c.last_other.ensures
     c.none.ensures

@@ -24,28 +24,29 @@ overflow_add-from g c = omega (
 )
 
 pub bits_in-bits-requires : goal.bits_in-bits-requires
-bits_in-bits-requires g c = c.requires.below c.in-Some.found.0 (ScansUp-inside c.in-Some.is c.first_other.ensures).1
+bits_in-bits-requires g c =
+    let inside = ScansUp-inside c.in-Some.is c.first_other.ensures in
+    c.requires.below c.in-Some.found.0 inside.1
 
 pub loop-found-preserved : goal.loop-found-preserved
 loop-found-preserved g c =
     let window = c.args.window in
-    ReadsUp-found g.T.Block.BITS window.value window.start window.stop c.block_without-skip.ensures c.loop-found.invariant c.in-Some.is c.first_other.ensures
+    ReadsUp-found g.T.Block.BITS window.value window.start window.stop
+    c.block_without-skip.ensures c.loop-found.invariant c.in-Some.is c.first_other.ensures
     (sym (c.is_empty.ensures.0 c.if-not-is_empty.false) ∙ c.bits_in-bits.ensures)
 
 pub loop-found-smaller : goal.loop-found-smaller
 loop-found-smaller g c =
     let less : c.args.end - (c.in-Some.found.0 + 1) < c.args.end - c.loop-found.from =
-    omega (
-      arith,
-      ScansUp-inside c.in-Some.is c.first_other.ensures,
-    ) in
+    omega (arith, ScansUp-inside c.in-Some.is c.first_other.ensures) in
     less
 
 pub returns-then-not-is_empty-clause-reads : goal.returns-then-not-is_empty-clause-reads
 returns-then-not-is_empty-clause-reads g c =
     let window = c.args.window in
-    ReadsUp-found g.T.Block.BITS window.value window.start window.stop c.block_without-skip.ensures c.loop-found.invariant c.in-Some.is
-    c.first_other.ensures c.bits_in-bits.ensures
+    ReadsUp-found g.T.Block.BITS window.value window.start window.stop
+    c.block_without-skip.ensures c.loop-found.invariant c.in-Some.is c.first_other.ensures
+    c.bits_in-bits.ensures
 
 pub returns-then-not-is_empty-clause-none : goal.returns-then-not-is_empty-clause-none
 returns-then-not-is_empty-clause-none g c = λ none.
@@ -54,5 +55,6 @@ returns-then-not-is_empty-clause-none g c = λ none.
 pub returns-clause-reads : goal.returns-clause-reads
 returns-clause-reads g c =
     let window = c.args.window in
-    ReadsUp-end g.T.Block.BITS window.value window.start window.stop c.block_without-skip.ensures c.loop-found.invariant c.in_default.not-Some c.first_other.ensures
+    ReadsUp-end g.T.Block.BITS window.value window.start window.stop
+    c.block_without-skip.ensures c.loop-found.invariant c.in_default.not-Some c.first_other.ensures
     c.none.ensures
