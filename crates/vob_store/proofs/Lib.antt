@@ -1,5 +1,6 @@
 pub mod AppendLemmas
 pub mod BuildLemmas
+pub mod CombinedLemmas
 pub mod CutLemmas
 pub mod DrainLemmas
 pub mod FillLemmas

@@ -1,3 +1,4 @@
 pub mod Building
+pub mod Combined
 pub mod Joining
 pub mod Same

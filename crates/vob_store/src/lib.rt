@@ -3,6 +3,7 @@
 
 pub mod bytes;
 pub mod canonical;
+pub mod combined;
 pub mod drain;
 pub mod fill;
 pub mod join;

@@ -1,0 +1,153 @@
+-- Blocks combined one after another: how many places are true so far, and whether one is.
+use Rattle.std.specs.List.{range_with_len}
+use Rattle.std.proofs.Common.{◌≡◌, ℕ, zero, suc, ◌+◌, ◌-◌, ◌*◌, ◌/◌, ◌%◌, ◌^◌, ◌<◌, ◌≤◌, Bool, not, ◌&&◌, ◌||◌, cond, List, get_or, count_by, refl, sym, ap, ◌∙◌, subst, arith, inl, inr, add-mul, mod-lt}
+use Rattle.std.proofs.lemmas.Bool.{cases_eq}
+use Rattle.std.proofs.lemmas.List.Sums.{sum_by-cons}
+use Rattle.std.proofs.lemmas.Nat.{div-mul-add, mul-le, pow_pos}
+use Rattle.vob_block.specs.Places.{place, HasPlaces, true_places}
+use Rattle.vob_block.specs.Packing.{bit_at}
+use Rattle.vob_block.proofs.KernelLemmas.{or-zero, zero-or}
+use Rattle.vob_block.proofs.PackingLemmas.{bit_at-in_block, bit_at-is_place}
+use Rattle.vob_block.proofs.PlaceLemmas.{same_from_places, place-zero}
+use Rattle.vob_store.specs.Combined.{without, combined_bit, ones_combined, HaveNone}
+
+-- what a block has where another, negated, has it too
+pub HasPlaces-without : (w own other negated both : ℕ)
+    → HasPlaces w negated (λ j. not (place j other))
+    → HasPlaces w both (λ j. place j own && place j negated)
+    → HasPlaces w both (λ j. without (place j own) (place j other))
+HasPlaces-without w own other negated both h g =
+    record { each = λ j less. g.each j less ∙ ap (λ b. place j own && b) (h.each j less) }
+
+-- ---- how many numbers of a stretch a test holds of
+
+pub count-along : (p q : ℕ → Bool) (a b n : ℕ) → ((i : ℕ) → i < n → p (a + i) ≡ q (b + i))
+    → count_by p (range_with_len a n) ≡ count_by q (range_with_len b n)
+count-along p q a b zero same = refl
+count-along p q a b (suc n) same =
+    let here : p a ≡ q b = ap p (omega arith) ∙ same 0 (omega arith) ∙ ap q (omega arith) in
+    let rest = count-along p q (a + 1) (b + 1) n (λ i less.
+    let mine : a + 1 + i ≡ a + suc i = omega arith in
+    let its : b + 1 + i ≡ b + suc i = omega arith in
+    ap p mine ∙ same (suc i) (omega arith) ∙ ap q (sym its)) in
+    sum_by-cons (λ i. cond (p i) 1 0) a (range_with_len (a + 1) n)
+    ∙ ap (λ v. cond v 1 0 + count_by p (range_with_len (a + 1) n)) here
+    ∙ ap (λ m. cond (q b) 1 0 + m) rest
+    ∙ sym (sum_by-cons (λ i. cond (q i) 1 0) b (range_with_len (b + 1) n))
+
+pub count-split : (p : ℕ → Bool) (a n m : ℕ) → count_by p (range_with_len a (n + m))
+    ≡ count_by p (range_with_len a n) + count_by p (range_with_len (a + n) m)
+count-split p a zero m =
+    let all : 0 + m ≡ m = omega arith in
+    let here : a ≡ a + 0 = omega arith in
+    let same : count_by p (range_with_len a (0 + m)) ≡ count_by p (range_with_len (a + 0) m) =
+    ap (λ n. count_by p (range_with_len a n)) all
+    ∙ ap (λ k. count_by p (range_with_len k m)) here in
+    omega (arith, same)
+count-split p a (suc n) m =
+    let more : suc n + m ≡ suc (n + m) = omega arith in
+    let there : a + 1 + n ≡ a + suc n = omega arith in
+    let first : count_by p (range_with_len a (suc n + m))
+    ≡ cond (p a) 1 0 + count_by p (range_with_len (a + 1) (n + m)) =
+    ap (λ k. count_by p (range_with_len a k)) more
+    ∙ sum_by-cons (λ i. cond (p i) 1 0) a (range_with_len (a + 1) (n + m)) in
+    let last : count_by p (range_with_len (a + 1 + n) m)
+    ≡ count_by p (range_with_len (a + suc n) m) =
+    ap (λ k. count_by p (range_with_len k m)) there in
+    let part : count_by p (range_with_len a (suc n))
+    ≡ cond (p a) 1 0 + count_by p (range_with_len (a + 1) n) =
+    sum_by-cons (λ i. cond (p i) 1 0) a (range_with_len (a + 1) n) in
+    omega (arith, first, count-split p (a + 1) n m, last, part)
+
+module _ (f : Bool → Bool → Bool) (w : ℕ) (xs ys : List ℕ) where
+  -- the places of a block that both combined make are the bits there
+  combined-in_block : (k x y z : ℕ) → x ≡ get_or xs k 0 → y ≡ get_or ys k 0
+      → HasPlaces w z (λ j. f (place j x) (place j y)) → (j : ℕ) → j < w
+      → combined_bit f w xs ys (k * w + j) ≡ place j z
+  combined-in_block k x y z is its places j less =
+      ap (λ b. f b (bit_at ys w (k * w + j)))
+      (bit_at-in_block xs w k j less ∙ ap (place j) (sym is))
+      ∙ ap (f (place j x)) (bit_at-in_block ys w k j less ∙ ap (place j) (sym its))
+      ∙ sym (places.each j less)
+
+  -- ---- how many
+
+  pub ones_combined-none : ones_combined f w xs ys 0 ≡ 0
+  unfolding ones_combined
+  ones_combined-none =
+      let nothing : 0 * w ≡ 0 = omega arith in
+      ap (λ n. count_by (combined_bit f w xs ys) (range_with_len 0 n)) nothing
+
+  -- one block more
+  pub ones_combined-more : (k x y z : ℕ) → x ≡ get_or xs k 0 → y ≡ get_or ys k 0
+      → HasPlaces w z (λ j. f (place j x) (place j y))
+      → ones_combined f w xs ys (k + 1) ≡ ones_combined f w xs ys k + true_places w z
+  unfolding ones_combined true_places
+  ones_combined-more k x y z is its places =
+      let p = combined_bit f w xs ys in
+      let whole : (k + 1) * w ≡ k * w + w = omega (arith, add-mul k 1 w) in
+      let block : count_by p (range_with_len (0 + k * w) w)
+      ≡ count_by (λ j. place j z) (range_with_len 0 w) =
+      count-along p (λ j. place j z) (0 + k * w) 0 w (λ j less.
+      let at : 0 + k * w + j ≡ k * w + j = omega arith in
+      let there : j ≡ 0 + j = omega arith in
+      ap p at ∙ combined-in_block k x y z is its places j less ∙ ap (λ i. place i z) there) in
+      ap (λ n. count_by p (range_with_len 0 n)) whole ∙ count-split p 0 (k * w) w
+      ∙ ap (λ n. count_by p (range_with_len 0 (k * w)) + n) block
+
+  -- more blocks have no fewer
+  pub ones_combined-le : (k m : ℕ) → k ≤ m → ones_combined f w xs ys k ≤ ones_combined f w xs ys m
+  unfolding ones_combined
+  ones_combined-le k m h =
+      let p = combined_bit f w xs ys in
+      let fewer : k * w ≤ m * w = mul-le k w m w h (omega arith) in
+      let parts : m * w ≡ k * w + (m * w - k * w) = omega arith in
+      let whole : count_by p (range_with_len 0 (m * w))
+      ≡ count_by p (range_with_len 0 (k * w + (m * w - k * w))) =
+      ap (λ n. count_by p (range_with_len 0 n)) parts in
+      omega (arith, whole, count-split p 0 (k * w) (m * w - k * w))
+
+  -- ---- whether there is one
+
+  -- blocks from one on, combined and gathered in a block that is 0 exactly where they have none
+  pub record IsFound (from k found : ℕ) : Type 0 where
+    pub small : found < 2 ^ w
+    pub none : found ≡ 0 → HaveNone f w from k xs ys
+    pub zero : HaveNone f w from k xs ys → found ≡ 0
+
+  pub IsFound-start : (from found : ℕ) → found ≡ 0 → IsFound from from found
+  IsFound-start from found e = record {
+    small = subst (λ (x : ℕ). x < 2 ^ w) (sym e) (pow_pos w);
+    none = λ _ i above below. absurd (omega arith);
+    zero = λ _. e;
+  }
+
+  module _ (wide : 0 < w) (from k found : ℕ) (h : IsFound from k found) (order : from ≤ k)
+      (x y z after : ℕ) (is : x ≡ get_or xs k 0) (its : y ≡ get_or ys k 0) (z-in : z < 2 ^ w)
+      (after-in : after < 2 ^ w) (places : HasPlaces w z (λ j. f (place j x) (place j y)))
+      (packed : HasPlaces w after (λ j. place j found || place j z)) where
+    none_more : after ≡ 0 → HaveNone f w from (k + 1) xs ys
+    none_more e i above below =
+        let parts = or-zero w found z after h.small z-in packed e in
+        elim (cases_eq (i / w) k) [
+          | inl here ↦
+              ap (λ b. f b (bit_at ys w i)) (bit_at-is_place xs w i
+              ∙ ap (λ q. place (i % w) (get_or xs q 0)) here ∙ ap (place (i % w)) (sym is))
+              ∙ ap (f (place (i % w) x)) (bit_at-is_place ys w i
+              ∙ ap (λ q. place (i % w) (get_or ys q 0)) here ∙ ap (place (i % w)) (sym its))
+              ∙ sym (places.each (i % w) (mod-lt i wide)) ∙ ap (place (i % w)) parts.1
+              ∙ place-zero (i % w)
+          | inr other ↦ h.none parts.0 i above (omega arith)
+        ]
+
+    zero_more : HaveNone f w from (k + 1) xs ys → after ≡ 0
+    zero_more all =
+        let earlier = h.zero (λ i above below. all i above (omega arith)) in
+        let this : z ≡ 0 = same_from_places w z 0 z-in (pow_pos w) (λ j less.
+        let at : (k * w + j) / w ≡ k = div-mul-add k w j less in
+        sym (combined-in_block k x y z is its places j less)
+        ∙ all (k * w + j) (omega (arith, at, order)) (omega (arith, at)) ∙ sym (place-zero j)) in
+        zero-or w found z after after-in packed earlier this
+
+    pub IsFound-more : IsFound from (k + 1) after
+    IsFound-more = record { small = after-in; none = none_more; zero = zero_more }

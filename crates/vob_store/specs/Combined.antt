@@ -1,0 +1,22 @@
+-- Two lists of blocks of one length, combined bit by bit.
+use Rattle.std.specs.Prelude.{◌≡◌, ℕ, ◌*◌, ◌/◌, ◌<◌, ◌≤◌, Bool, false, not, ◌&&◌, List, count_by}
+use Rattle.std.specs.List.{range_with_len}
+use Rattle.vob_block.specs.Packing.{bit_at}
+
+-- a bit that the first has and the other hasn't
+abbrev pub without : Bool → Bool → Bool
+without bit other = bit && not other
+
+-- bit i of both combined by f
+abbrev pub combined_bit : (Bool → Bool → Bool) → ℕ → List ℕ → List ℕ → ℕ → Bool
+combined_bit f width blocks others i = f (bit_at blocks width i) (bit_at others width i)
+
+-- how many bits are true in the first k blocks, combined
+unfoldable pub ones_combined : (Bool → Bool → Bool) → ℕ → List ℕ → List ℕ → ℕ → ℕ
+ones_combined f width blocks others k =
+    count_by (combined_bit f width blocks others) (range_with_len 0 (k * width))
+
+-- none is in the blocks from one to below another
+abbrev pub HaveNone : (Bool → Bool → Bool) → ℕ → ℕ → ℕ → List ℕ → List ℕ → Type 0
+HaveNone f width from to blocks others = (i : ℕ) → from ≤ i / width → i / width < to
+    → combined_bit f width blocks others i ≡ false
