@@ -5,6 +5,7 @@ pub mod DrainLemmas
 pub mod ExtendingLemmas
 pub mod HashLemmas
 pub mod ItemLemmas
+pub mod PairLemmas
 pub mod RestLemmas
 pub mod SameLemmas
 pub mod SetsLemmas

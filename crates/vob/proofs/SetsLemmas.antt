@@ -1,4 +1,5 @@
--- The index that is next to another, by a walk over those that match; and how many bits are set below one.
+-- The index that is next to another, by a walk over those that match, and how many bits are set
+-- below one.
 use Rattle.std.specs.Prelude.{Option, Some, None, MatchOption, replicate}
 use Rattle.std.specs.List.{AllPairs, range_with_len}
 use Rattle.std.specs.Option.{is_some}
@@ -145,8 +146,9 @@ module _ (value : Bool) (bits : List Bool) (from width : ℕ) (walk after : Walk
             omega (arith, most, more);
       }
 
-  pub IsPrevious-last : (answer : Option ℕ) → IsFresh walk bits value Unbounded (Included from) width
-      → GivesLast walk answer after → IsPrevious value bits from answer
+  pub IsPrevious-last : (answer : Option ℕ)
+      → IsFresh walk bits value Unbounded (Included from) width → GivesLast walk answer after
+      → IsPrevious value bits from answer
   IsPrevious-last answer fresh step =
       previous_is value bits from answer (last_given answer fresh step)
 

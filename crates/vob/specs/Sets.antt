@@ -1,5 +1,5 @@
 -- What calls on a Vob as a set of indices answer.
-use Rattle.std.specs.Prelude.{◌≡◌, ◌≢◌, ◌↔◌, ℕ, ◌<◌, ◌≤◌, Bool, List, length, Option, Some, None}
+use Rattle.std.specs.Prelude.{◌≡◌, ◌≢◌, ◌↔◌, ℕ, ◌<◌, ◌≤◌, Bool, false, IsTrue, List, length, Option, Some, None}
 use Rattle.vob_block.specs.Packing.{item}
 
 -- some bit of a list has a value
@@ -31,7 +31,16 @@ pub record IsNext (value : Bool) (bits : List Bool) (from : ℕ) (answer : Optio
       ↔ ((i : ℕ) → from ≤ i → i < length bits → item bits i ≢ value)
 
 -- an answer is that last index, and None where no index at or below has such a bit
-pub record IsPrevious (value : Bool) (bits : List Bool) (upto : ℕ) (answer : Option ℕ) : Type 0 where
+pub record IsPrevious (value : Bool) (bits : List Bool) (upto : ℕ) (answer : Option ℕ)
+    : Type 0 where
   pub some : (i : ℕ) → (answer ≡ Some i) ↔ IsLastUpTo value bits upto i
   pub none : (answer ≡ None)
       ↔ ((i : ℕ) → i ≤ upto → i < length bits → item bits i ≢ value)
+
+-- each index of one set is in another
+abbrev pub IsSubset : List Bool → List Bool → Type 0
+IsSubset bits others = (i : ℕ) → IsTrue (item bits i) → IsTrue (item others i)
+
+-- no index is in both
+abbrev pub AreDisjoint : List Bool → List Bool → Type 0
+AreDisjoint bits others = (i : ℕ) → IsTrue (item bits i) → item others i ≡ false

@@ -1,11 +1,16 @@
-//! A Vob as a set of indices, those of its set bits: whether there are some, the one that is next to
-//! another, and how many stand below one. vob 4.0.1 has none of these calls.
-ghost use Rattle.std.specs.Prelude.{◌≡◌, ◌≢◌, ◌↔◌, true, false, take, length, replicate, IsTrue};
-ghost use Rattle.vob.specs.Bits.{count_of};
-ghost use Rattle.vob.specs.Sets.{HasBit, HasOnly, IsNext, IsPrevious};
+//! A Vob as a set of indices, those of its set bits: whether there are some, the one that is next
+//! to another, how many stand below one, and two sets of one length. vob 4.0.1 has none of these
+//! calls.
+ghost use Rattle.std.specs.Prelude.{◌≡◌, ◌≢◌, ◌↔◌, ◌&&◌, ◌||◌, true, false, take, length, replicate, IsTrue};
+ghost use Rattle.vob_block.specs.Pointwise.{differ, pointwise};
+ghost use Rattle.vob_store.specs.Combined.{without};
+ghost use Rattle.vob.specs.Bits.{AreCombined, LosesBits, count_of};
+ghost use Rattle.vob.specs.Sets.{AreDisjoint, HasBit, HasOnly, IsNext, IsPrevious, IsSubset};
+ghost use Rattle.vob.specs.Vob.{HaveSameLength};
 
 use crate::vob::Vob;
 use vob_block::Block;
+use vob_store::combined::{And, Combine, Or, Without, Xor, combine_into, count_combined, has_none};
 use vob_walk::count_ones_in;
 
 impl<T: Block> Vob<T> {
@@ -68,7 +73,8 @@ impl<T: Block> Vob<T> {
         self.iter_set_bits(from..).next()
     }
 
-    /// The least index of an unset bit that is at or above `from`. From the length on there is none.
+    /// The least index of an unset bit that is at or above `from`. From the length on there is
+    /// none.
     pub fn next_unset(&self, from: usize) -> Option<usize>
         ensures { IsNext false self.now.bits from result }
     {
@@ -82,8 +88,8 @@ impl<T: Block> Vob<T> {
         self.iter_set_bits(..=from).next_back()
     }
 
-    /// The greatest index of an unset bit that is at or below `from`. No index from the length on is
-    /// one.
+    /// The greatest index of an unset bit that is at or below `from`. From the length on there is
+    /// none.
     pub fn previous_unset(&self, from: usize) -> Option<usize>
         ensures { IsPrevious false self.now.bits from result }
     {
@@ -95,5 +101,91 @@ impl<T: Block> Vob<T> {
         ensures { result ≡ count_of true (take index self.now.bits) }
     {
         count_ones_in(&mut self.blocks(), 0, index.min(self.len()))
+    }
+
+    /// Keeps the bits that the other hasn't, and answers whether a bit changed. Each block of the
+    /// other is read once.
+    pub fn and_not(&mut self, other: &Vob<T>) -> bool
+        requires { HaveSameLength self.old other.now }
+        ensures bits { self.new.bits ≡ pointwise without self.old.bits other.now.bits }
+        ensures each { AreCombined without self.old.bits other.now.bits self.new.bits }
+        ensures changed { IsTrue result ↔ (self.new.bits ≢ self.old.bits) }
+        ensures fewer { LosesBits result self.old.bits self.new.bits }
+        ensures capacity { self.new.capacity ≡ self.old.capacity }
+    {
+        combine_into::<Without, T>(self.vec.as_mut_slice(), &mut other.blocks())
+    }
+
+    /// Whether the other has each set bit too.
+    pub fn is_subset(&self, other: &Vob<T>) -> bool
+        requires { HaveSameLength self.now other.now }
+        ensures answer { IsTrue result ↔ IsSubset self.now.bits other.now.bits }
+        ensures list { IsTrue result ↔ (pointwise without self.now.bits other.now.bits
+            ≡ replicate (length self.now.bits) false) }
+    {
+        has_none::<Without, T>(self.vec.as_slice(), &mut other.blocks())
+    }
+
+    /// Whether each set bit of the other is set here too.
+    pub fn is_superset(&self, other: &Vob<T>) -> bool
+        requires { HaveSameLength self.now other.now }
+        ensures answer { IsTrue result ↔ IsSubset other.now.bits self.now.bits }
+        ensures list { IsTrue result ↔ (pointwise without other.now.bits self.now.bits
+            ≡ replicate (length other.now.bits) false) }
+    {
+        other.is_subset(self)
+    }
+
+    /// Whether no bit is set in both.
+    pub fn is_disjoint(&self, other: &Vob<T>) -> bool
+        requires { HaveSameLength self.now other.now }
+        ensures answer { IsTrue result ↔ AreDisjoint self.now.bits other.now.bits }
+        ensures list { IsTrue result ↔ (pointwise ◌&&◌ self.now.bits other.now.bits
+            ≡ replicate (length self.now.bits) false) }
+    {
+        has_none::<And, T>(self.vec.as_slice(), &mut other.blocks())
+    }
+
+    /// How many bits are set in both.
+    pub fn count_and(&self, other: &Vob<T>) -> usize
+        requires { HaveSameLength self.now other.now }
+        ensures { result ≡ count_of true (pointwise ◌&&◌ self.now.bits other.now.bits) }
+    {
+        self.combined_count::<And>(other)
+    }
+
+    /// How many bits are set in either.
+    pub fn count_or(&self, other: &Vob<T>) -> usize
+        requires { HaveSameLength self.now other.now }
+        ensures { result ≡ count_of true (pointwise ◌||◌ self.now.bits other.now.bits) }
+    {
+        self.combined_count::<Or>(other)
+    }
+
+    /// How many bits are set here and not in the other.
+    pub fn count_and_not(&self, other: &Vob<T>) -> usize
+        requires { HaveSameLength self.now other.now }
+        ensures { result ≡ count_of true (pointwise without self.now.bits other.now.bits) }
+    {
+        self.combined_count::<Without>(other)
+    }
+
+    /// How many bits are set in one of them alone.
+    pub fn count_xor(&self, other: &Vob<T>) -> usize
+        requires { HaveSameLength self.now other.now }
+        ensures { result ≡ count_of true (pointwise differ self.now.bits other.now.bits) }
+    {
+        self.combined_count::<Xor>(other)
+    }
+
+    /// How many bits are set in both, combined.
+    fn combined_count<C: Combine>(&self, other: &Vob<T>) -> usize
+        requires same { HaveSameLength self.now other.now }
+        requires none { C.of_bits false false ≡ false }
+        ensures { result ≡ count_of true (pointwise C.of_bits self.now.bits other.now.bits) }
+    {
+        // The length is in the range of its type: a proof knows it from this read.
+        let _len = self.len;
+        count_combined::<C, T>(self.vec.as_slice(), &mut other.blocks())
     }
 }

@@ -1,5 +1,5 @@
 //! A Vob as a set of indices, by patterns and by single bits, against one bit after another.
-use super::support::{filled, pattern, pattern_bit, same, write};
+use super::support::{copy_of, filled, pattern, pattern_bit, same, write};
 use std::process::Abort;
 use vob::Vob;
 use vob_block::Block;
@@ -111,5 +111,109 @@ fn a_single_bit_is_found_across_whole_blocks(rt: HostRuntime) {
         check_single::<u8>(&rt, value);
         check_single::<u64>(&rt, value);
         check_single::<u128>(&rt, value);
+    }
+}
+
+/// How many indices are set in both of two Vobs of one length, in the first alone, and in the other
+/// alone.
+fn plain_counts<T: Block>(vob: &Vob<T>, other: &Vob<T>) -> (usize, usize, usize) {
+    let (mut both, mut first, mut second) = (0usize, 0usize, 0usize);
+    for index in 0..vob.len() {
+        match (vob.get(index), other.get(index)) {
+            (Some(true), Some(true)) => both = both.saturating_add(1),
+            (Some(true), _) => first = first.saturating_add(1),
+            (_, Some(true)) => second = second.saturating_add(1),
+            _ => {}
+        }
+    }
+    (both, first, second)
+}
+
+/// Two Vobs of one length, in their order, against one bit after another.
+fn check_ordered<T: Block>(rt: &(impl Abort + AllocGlobal), vob: &Vob<T>, other: &Vob<T>) {
+    let len = vob.len();
+    if other.len() != len {
+        return;
+    }
+    let (both, first, second) = plain_counts(vob, other);
+    same(rt, "both", len, vob.count_and(other), both);
+    same(rt, "the first alone", len, vob.count_and_not(other), first);
+    let one = first.saturating_add(second);
+    same(rt, "one alone", len, vob.count_xor(other), one);
+    let some = one.saturating_add(both);
+    same(rt, "either", len, vob.count_or(other), some);
+    same(rt, "subset", len, vob.is_subset(other), first == 0);
+    same(rt, "superset", len, vob.is_superset(other), second == 0);
+    same(rt, "disjoint", len, vob.is_disjoint(other), both == 0);
+    check_difference(rt, vob, other, both != 0);
+}
+
+/// What is left without the bits of another, bit by bit, and whether that is a change.
+fn check_difference<T: Block>(
+    rt: &(impl Abort + AllocGlobal),
+    vob: &Vob<T>,
+    other: &Vob<T>,
+    changed: bool,
+) {
+    let mut left = copy_of(rt, vob);
+    if left.len() != other.len() {
+        return;
+    }
+    same(rt, "changed", vob.len(), left.and_not(other), changed);
+    for index in 0..vob.len() {
+        let stays = vob.get(index) == Some(true) && other.get(index) == Some(false);
+        same(rt, "what is left", index, left.get(index), Some(stays));
+    }
+    same(
+        rt,
+        "again",
+        vob.len(),
+        left.len() == other.len() && left.and_not(other),
+        false,
+    );
+}
+
+/// Two patterns of each length below 130, a pattern and a part of it, and one and its complement.
+fn check_pairs<T: Block>(rt: &(impl Abort + AllocGlobal), seed: usize) {
+    for len in 0..130 {
+        let vob = pattern::<T>(rt, seed, len);
+        let mut other = pattern::<T>(rt, len, len);
+        check_ordered(rt, &vob, &other);
+        if other.len() == vob.len() {
+            other.and(&vob);
+        }
+        check_ordered(rt, &other, &vob);
+        other.negate();
+        check_ordered(rt, &vob, &other);
+    }
+}
+
+#[test]
+fn pairs_of_patterns_at_narrow_blocks(rt: HostRuntime) {
+    check_pairs::<u8>(&rt, 1);
+}
+
+#[test]
+fn pairs_of_patterns_at_blocks_of_64(rt: HostRuntime) {
+    check_pairs::<u64>(&rt, 2);
+}
+
+#[test]
+fn pairs_of_patterns_at_wide_blocks(rt: HostRuntime) {
+    check_pairs::<u128>(&rt, 3);
+}
+
+/// More blocks than a chunk, with one bit in common, or one that the other hasn't.
+#[test]
+fn a_single_bit_is_met_behind_a_chunk(rt: HostRuntime) {
+    for index in [0, 511, 512, 1023, 1024, 1099] {
+        let mut vob = filled::<u8>(&rt, false, 1100);
+        let mut other = filled::<u8>(&rt, true, 1100);
+        write(&mut other, index, false);
+        check_ordered(&rt, &vob, &other);
+        write(&mut vob, index, true);
+        check_ordered(&rt, &vob, &other);
+        other.negate();
+        check_ordered(&rt, &vob, &other);
     }
 }

@@ -13,7 +13,8 @@ count_ones_in-requires-clause-enough g c =
     let bits = c.args.self.now.bits in
     omega (
       arith,
-      need-le-need w wide c.min.result (length bits) (omega (arith, c.min.ensures, c.len.ensures.len)),
+      need-le-need w wide c.min.result (length bits)
+          (omega (arith, c.min.ensures, c.len.ensures.len)),
       length-map c.blocks-2.result.items g.T.Block.number,
       ap length c.blocks-2.ensures.blocks,
       length-packing w wide bits,

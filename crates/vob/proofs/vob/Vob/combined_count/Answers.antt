@@ -1,0 +1,28 @@
+-- By the lemmas on the blocks of two Vobs of one length.
+use Rattle.std.proofs.Common.{ap, ◌∙◌, arith}
+use Rattle.vob.proofs.PairLemmas.{lent_as_many, lent_ones, lent_ones-le}
+use Rattle.vob.proofs.vob.Vob.combined_count.Goals as goal
+
+pub count_combined-requires-clause-count : goal.count_combined-requires-clause-count
+count_combined-requires-clause-count g c =
+    lent_as_many g.T.Block.number g.T.Block.BITS g.met.T.Block.wide_law c.self.inside.len
+    c.self.inside.vec.items c.blocks-2.result.items c.args.self.now.bits c.args.other.now.bits
+    c.self.invariant (ap (λ v. v.bits) c.self.view_is) c.requires.same c.blocks-2.ensures.blocks
+    g.C.Combine.of_bits c.requires.none c.as_slice.ensures.value
+
+pub count_combined-requires-clause-fits : goal.count_combined-requires-clause-fits
+count_combined-requires-clause-fits g c = omega (
+  arith,
+  lent_ones-le g.T.Block.number g.T.Block.BITS g.met.T.Block.wide_law c.self.inside.len
+      c.self.inside.vec.items c.blocks-2.result.items c.args.self.now.bits c.args.other.now.bits
+      c.self.invariant (ap (λ v. v.bits) c.self.view_is) c.requires.same c.blocks-2.ensures.blocks
+      g.C.Combine.of_bits c.requires.none c.as_slice.ensures.value,
+)
+
+pub returns : goal.returns
+returns g c =
+    c.count_combined.ensures.ones
+    ∙ lent_ones g.T.Block.number g.T.Block.BITS g.met.T.Block.wide_law c.self.inside.len
+    c.self.inside.vec.items c.blocks-2.result.items c.args.self.now.bits c.args.other.now.bits
+    c.self.invariant (ap (λ v. v.bits) c.self.view_is) c.requires.same c.blocks-2.ensures.blocks
+    g.C.Combine.of_bits c.requires.none c.as_slice.ensures.value
