@@ -24,14 +24,11 @@ loop-k-preserved g c =
     let their = c.block.ensures.block in
     record {
       taken = item-more number g.T.Block.BITS g.C.Combine.of_bits c.args.own.now
-          c.args.other.now.items
-          c.loop-k.own c.loop-k.k (number c.loop-k.changed) so_far.taken so_far.small (omega arith)
-          c.index-own-k.result c.block.result c.block-new.result c.bxor.result
-          c.bor-changed.result
-          c.index-own-k.is (rw so_far.items at their)
+          c.args.other.now.items c.loop-k.own c.loop-k.k (number c.loop-k.changed) so_far.taken
+          so_far.small (omega arith) c.index-own-k.result c.block.result c.block-new.result
+          c.bxor.result c.bor-changed.result c.index-own-k.is (rw so_far.items at their)
           c.in_range.ensures c.block-new.ensures.within c.bxor.ensures.within
-          c.bor-changed.ensures.within
-          c.block-new.ensures.places c.bxor.ensures.places c.bor-changed.ensures.places;
+          c.bor-changed.ensures.within c.block-new.ensures.places c.bxor.ensures.places c.bor-changed.ensures.places;
       small = c.bor-changed.ensures.within;
       items = c.block.ensures.items ∙ so_far.items;
       reads = omega (arith, c.block.ensures.reads, so_far.reads);
