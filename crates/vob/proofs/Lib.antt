@@ -9,3 +9,4 @@ pub mod PairLemmas
 pub mod RestLemmas
 pub mod SameLemmas
 pub mod SetsLemmas
+pub mod TextLemmas

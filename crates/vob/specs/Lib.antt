@@ -10,4 +10,5 @@ pub mod Refusal
 pub mod Rest
 pub mod Same
 pub mod Sets
+pub mod Text
 pub mod Vob

@@ -32,6 +32,7 @@ mod macros;
 pub mod ops;
 pub mod raw;
 pub mod sets;
+pub mod text;
 pub mod vob;
 
 pub use error::VobError;
@@ -39,5 +40,6 @@ pub use iter::{
     End, IndexWalk, Iter, IterSetBits, IterUnsetBits, StorageIter, count_ones_in, deal,
 };
 pub use raw::{RawVob, VobRecord};
+pub use text::DigitsError;
 pub use vob::Vob;
 pub use vob_block;

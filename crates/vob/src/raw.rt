@@ -3,7 +3,8 @@ ghost use Rattle.std.specs.Prelude.{◌≡◌, ◌↔◌, map, length, IsTrue, I
 ghost use Rattle.vob_block.specs.Packing.{need, packing, unpacking, IsCanonical};
 
 use crate::vob::Vob;
-use serde::{Deserialize, Serialize};
+use serde::{Described, Deserialize, Deserializer, Format, Serialize, Serializer};
+use std::alloc::Global;
 use std::marker::Model;
 use vob_block::Block;
 use vob_store::canonical::{is_canonical, mask};
@@ -158,6 +159,48 @@ impl Vob<usize> {
         VobRecord {
             len: self.len,
             vec: self.vec,
+        }
+    }
+}
+
+/// What is written of a Vob that stays.
+#[derive(Drop, Serialize)]
+struct Lent<'a, T> {
+    len: usize,
+    vec: &'a [T],
+}
+
+/// What is read before it is tested.
+#[derive(Drop, Deserialize)]
+struct Untested<T> {
+    len: usize,
+    vec: Vec<T>,
+}
+
+impl<T: Block> Described for Vob<T> {}
+
+impl<T: Block + Serialize> Serialize for Vob<T> {
+    /// Writes the length in bits and the blocks, as a `VobRecord` is written.
+    fn serialize<S: Serializer>(&self, out: &mut S) -> Result<(), S::Error> {
+        Lent {
+            len: self.len,
+            vec: self.vec.as_slice(),
+        }
+        .serialize(out)
+    }
+}
+
+impl<'de, T: Block + Deserialize<'de>> Deserialize<'de> for Vob<T> {
+    /// Reads what `serialize` writes. Where the blocks don't fit the length, or an unused bit is 1,
+    /// it is an error of the format.
+    fn deserialize<F: Format>(
+        alloc: Global,
+        from: &mut Deserializer<'de, '_, F>,
+    ) -> Result<Vob<T>, F::Error> {
+        let read = Untested::deserialize(alloc, from)?;
+        match vob_of_parts(read.len, read.vec) {
+            Ok(vob) => Ok(vob),
+            Err(_) => Err(from.custom("the blocks are not the storage of a Vob of that length")),
         }
     }
 }

@@ -1,8 +1,9 @@
 -- How numbers, bits, bytes, ranges and the ends of pulls are written as a word.
-use Rattle.std.specs.Prelude.{◌≡◌, ℕ, ◌^◌, ◌<◌, Bool, if◌then◌else◌, List, [], ◌∷◌, ◌++◌, map, codes}
+use Rattle.std.specs.Prelude.{◌≡◌, ℕ, ◌^◌, ◌<◌, Bool, List, [], ◌∷◌, ◌++◌, map, codes}
 use Rattle.std.specs.Str.Parse.{IsNumeral, digits_value}
 use Rattle.std.specs.declared.ops.Bound.{Bound}
 use Rattle.std.specs.declared.ops.Bound.TheVariants.{Included, Excluded, Unbounded}
+pub use Rattle.vob.specs.Text.{digit}
 use Rattle.vob_walk.specs.declared.walk.End.{End}
 use Rattle.vob_walk.specs.declared.walk.End.TheVariants.{Front, Back}
 
@@ -10,10 +11,7 @@ use Rattle.vob_walk.specs.declared.walk.End.TheVariants.{Front, Back}
 abbrev pub Writes : List ℕ → ℕ → Type 0
 Writes word n = IsNumeral 10 word × (digits_value 10 word ≡ n) × (n < 2 ^ 64)
 
--- the digit of a bit, and the letter of an end
-abbrev pub digit : Bool → ℕ
-digit value = if value then 49 else 48
-
+-- the letter of an end
 abbrev pub initial : End → ℕ
 initial Front = 70
 initial Back = 66

@@ -19,6 +19,7 @@ mod reads;
 mod sets;
 mod single_bits;
 mod support;
+mod text;
 mod users;
 mod walk_patterns;
 mod walks;

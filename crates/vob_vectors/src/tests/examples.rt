@@ -176,3 +176,11 @@ fn set_bits_are_walked_from_an_index_on(rt: HostRuntime) -> Result<(), Fail> {
     assert_eq!(rt; indices.next(), None);
     Ok(())
 }
+
+#[test]
+fn digits_are_a_vob(rt: HostRuntime) -> Result<(), Fail> {
+    let alloc = rt.alloc();
+    let vob: Vob = Vob::from_digits(alloc, "101")?;
+    assert_eq!(rt; vob.get(1), Some(false));
+    Ok(())
+}
