@@ -29,10 +29,12 @@ mkdir -p "$libs" "$out/vob/src" results
 
 # Ours: proved, then built by the toolchain's own compiler for this CPU.
 if [ "$cpu" = x86-64-v2 ]; then flag=(); else flag=("--cpu=$cpu"); fi
-(cd ../crates/vob_bench && rt lib "${flag[@]}") | tail -n 1
-# Each function of each library starts at a cache line: where a short loop lies among them can take
-# half of its time, and a change elsewhere would move it.
-objcopy --set-section-alignment '.text.*=64' ../crates/vob_bench/out/libvob_bench.a "$libs/libvob_bench.a"
+for made in vob_bench vob_limits; do
+    (cd "../crates/$made" && rt lib "${flag[@]}") | tail -n 1
+    # Each function of each library starts at a cache line: where a short loop lies among them can take
+    # half of its time, and a change elsewhere would move it.
+    objcopy --set-section-alignment '.text.*=64' "../crates/$made/out/lib$made.a" "$libs/lib$made.a"
+done
 gcc -O2 -march="$cpu" -c heap/heap.c -o "$libs/heap.o"
 ar rs "$libs/libvob_bench.a" "$libs/heap.o"
 

@@ -42,6 +42,10 @@ enum class Call : uint32_t {
     drain_aligned,
     drain_shifted,
     filter,
+    and_not,
+    subset,
+    count_and,
+    next_set,
 };
 
 struct Input {
@@ -274,6 +278,19 @@ template <class Take> uint64_t taken(const Input &in, size_t rounds, Take take) 
     return checksum(bits, 0);
 }
 
+uint64_t subset(const Input &in, size_t rounds) {
+    uint64_t times = 0;
+    Dynamic bits = made_of<Dynamic>(in.bytes, in.byte_count);
+    Dynamic other = made_of<Dynamic>(in.others, in.other_count);
+    other |= bits;
+    for (size_t round = 0; round < rounds; round++) {
+        touch(bits, round);
+        touch(other, round);
+        times += bits.is_subset_of(other);
+    }
+    return checksum(bits, times);
+}
+
 uint64_t set_bits(const Dynamic &bits) {
     uint64_t sum = 0;
     for (size_t index = bits.find_first(); index != Dynamic::npos; index = bits.find_next(index))
@@ -325,9 +342,19 @@ uint64_t run_dynamic(Call call, const Input &in, size_t rounds) {
         return taken(in, rounds, [](Dynamic &bits, const Dynamic &other) { bits |= other; });
     case Call::xor_:
         return taken(in, rounds, [](Dynamic &bits, const Dynamic &other) { bits ^= other; });
+    case Call::and_not:
+        return taken(in, rounds, [](Dynamic &bits, const Dynamic &other) { bits -= other; });
+    case Call::subset:
+        return subset(in, rounds);
+    case Call::count_and: {
+        Dynamic other = made_of<Dynamic>(in.others, in.other_count);
+        return seen<Dynamic>(in, rounds,
+                             [&](const Dynamic &bits, size_t) { return (bits & other).count(); });
+    }
     case Call::closure:
         return closure(in, rounds);
     case Call::set_bits:
+    case Call::next_set:
         return walk(in, rounds, set_bits);
     case Call::count:
         return walk(in, rounds, [](const Dynamic &bits) { return bits.count(); });

@@ -89,6 +89,20 @@ pub trait Bits: Sized {
     fn xor(&mut self, _other: &Self) -> bool {
         unimplemented!()
     }
+    fn and_not(&mut self, _other: &Self) -> bool {
+        unimplemented!()
+    }
+    fn subset(&self, _other: &Self) -> bool {
+        unimplemented!()
+    }
+    fn count_and(&self, _other: &Self) -> u64 {
+        unimplemented!()
+    }
+
+    /// The first set bit at or above an index.
+    fn next_set(&self, _from: usize) -> Option<usize> {
+        unimplemented!()
+    }
     fn same(&self, _other: &Self) -> bool {
         unimplemented!()
     }
@@ -221,6 +235,34 @@ fn equal<B: Bits>(input: &Input, rounds: usize) -> u64 {
         times += bits.same(&other) as u64;
     }
     checksum(&bits, times)
+}
+
+fn subset<B: Bits>(input: &Input, rounds: usize) -> u64 {
+    let mut times = 0;
+    let mut bits = B::from_bytes(&input.bytes);
+    let mut other = B::from_bytes(&input.others);
+    other.or(&bits);
+    for round in 0..rounds {
+        touch(&mut bits, round);
+        touch(&mut other, round);
+        times += bits.subset(&other) as u64;
+    }
+    checksum(&bits, times)
+}
+
+fn count_and<B: Bits>(input: &Input, rounds: usize) -> u64 {
+    let other = B::from_bytes(&input.others);
+    seen(input, rounds, |bits: &B, _| bits.count_and(&other))
+}
+
+fn next_bits<B: Bits>(bits: &B) -> u64 {
+    let mut sum = 0u64;
+    let mut from = 0;
+    while let Some(index) = bits.next_set(from) {
+        sum = sum.wrapping_add(index as u64);
+        from = index + 1;
+    }
+    sum
 }
 
 fn true_at<B: Bits>(bits: &B, indices: &[usize]) -> u64 {
@@ -406,6 +448,9 @@ pub fn run<B: Bits>(call: Call, input: &Input, rounds: usize) -> u64 {
         Call::And => taken(input, rounds, B::and),
         Call::Or => taken(input, rounds, B::or),
         Call::Xor => taken(input, rounds, B::xor),
+        Call::AndNot => taken(input, rounds, B::and_not),
+        Call::Subset => subset::<B>(input, rounds),
+        Call::CountAnd => count_and::<B>(input, rounds),
         Call::Equal => equal::<B>(input, rounds),
         Call::ExtendAligned => joined::<B>(input, 64, rounds),
         Call::ExtendShifted => joined::<B>(input, 64 + 13, rounds),
@@ -416,6 +461,7 @@ pub fn run<B: Bits>(call: Call, input: &Input, rounds: usize) -> u64 {
         Call::SetBits => walked(input, rounds, B::set_bits),
         Call::SetBitsBack => walked(input, rounds, B::set_bits_back),
         Call::UnsetBits => walked(input, rounds, B::unset_bits),
+        Call::NextSet => walked(input, rounds, next_bits::<B>),
         Call::Count => walked(input, rounds, B::counted),
         Call::FirstFree => seen(input, rounds, |bits: &B, _| bits.first_unset()),
     }
@@ -425,6 +471,6 @@ pub fn run<B: Bits>(call: Call, input: &Input, rounds: usize) -> u64 {
 pub fn counts_changes(call: Call) -> bool {
     matches!(
         call,
-        Call::Set | Call::And | Call::Or | Call::Xor | Call::Closure
+        Call::Set | Call::And | Call::Or | Call::Xor | Call::AndNot | Call::Closure
     )
 }

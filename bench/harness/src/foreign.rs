@@ -18,7 +18,6 @@ extern "C" {
     ) -> u64;
     fn vob_bench_whole(row: u32, bytes: *const u8, len: usize, rounds: usize) -> u64;
     fn vob_bench_walk(row: u32, bytes: *const u8, len: usize, rounds: usize) -> u64;
-    fn vob_bench_hash_words(words: *const usize, count: usize, rounds: usize) -> u64;
     fn vob_bench_pair(
         row: u32,
         bytes: *const u8,
@@ -30,6 +29,11 @@ extern "C" {
     fn vob_bench_closure(bytes: *const u8, len: usize, row_bytes: usize, rounds: usize) -> u64;
     fn vob_bench_matrix(steps: *const usize, count: usize, nodes: usize, rounds: usize) -> u64;
     fn vob_bench_live(numbers: *const usize, count: usize, vars: usize, rounds: usize) -> u64;
+}
+
+#[link(name = "vob_limits", kind = "static")]
+extern "C" {
+    fn vob_limits_hash_words(words: *const usize, count: usize, rounds: usize) -> u64;
 }
 
 /// Runs a workload of `vob_bench`. Its exports require nothing but what slices promise, which the
@@ -71,11 +75,15 @@ pub fn conthiral(call: Call, input: &Input, rounds: usize) -> u64 {
         Call::ExtendAligned => pair(4),
         Call::ExtendShifted => pair(5),
         Call::Filter => pair(6),
+        Call::AndNot => pair(7),
+        Call::Subset => pair(8),
+        Call::CountAnd => pair(9),
         Call::SetBits => walk(0),
         Call::SetBitsBack => walk(1),
         Call::UnsetBits => walk(2),
         Call::Count => walk(3),
         Call::FirstFree => walk(4),
+        Call::NextSet => walk(5),
         Call::Closure => unsafe {
             vob_bench_closure(bytes.as_ptr(), bytes.len(), input.row_bytes, rounds)
         },
@@ -90,7 +98,7 @@ pub fn conthiral(call: Call, input: &Input, rounds: usize) -> u64 {
 
 /// Feeds words to the hasher of the toolchain that builds Conthiral.
 pub fn hash_words(words: &[usize], rounds: usize) -> u64 {
-    unsafe { vob_bench_hash_words(words.as_ptr(), words.len(), rounds) }
+    unsafe { vob_limits_hash_words(words.as_ptr(), words.len(), rounds) }
 }
 
 /// The libraries of the C++ twin, by its numbers.
@@ -153,7 +161,9 @@ pub fn twin_offer(library: Twin, call: Call) -> Offer {
         (Twin::Boost, Call::Set) => Offer::Less("no test of the index"),
         (Twin::VectorBool, Call::Set) => Offer::Less("no flag, no test of the index"),
         (Twin::Boost, Call::Iterate) => Offer::Less("by index, no test of it"),
-        (Twin::Boost, Call::And | Call::Or | Call::Xor | Call::Closure) => NO_FLAG,
+        (Twin::Boost, Call::And | Call::Or | Call::Xor | Call::AndNot | Call::Closure) => NO_FLAG,
+        (Twin::Boost, Call::CountAnd) => Offer::Other("count of a new one"),
+        (Twin::Boost, Call::NextSet) => Offer::Other("find_first, then find_next"),
         (Twin::Boost, Call::ExtendAligned | Call::ExtendShifted) => {
             Offer::Other("append of blocks")
         }
@@ -165,6 +175,7 @@ pub fn twin_offer(library: Twin, call: Call) -> Offer {
             | Call::Negate
             | Call::Clone
             | Call::Equal
+            | Call::Subset
             | Call::SetBits
             | Call::Count,
         ) => Offer::Same,

@@ -34,6 +34,10 @@ impl Bits for Vob {
         match call {
             Call::FromSlice => COLLECT,
             Call::DrainAligned | Call::DrainShifted => CUTS,
+            Call::AndNot => Offer::Other("and with a negated copy"),
+            Call::Subset => Offer::Other("and of a copy, then =="),
+            Call::CountAnd => Offer::Other("and of a copy, then count"),
+            Call::NextSet => Offer::Other("iter_set_bits from there"),
             _ => Offer::Same,
         }
     }
@@ -120,6 +124,24 @@ impl Bits for Vob {
     fn xor(&mut self, other: &Vob) -> bool {
         Vob::xor(self, other)
     }
+    fn and_not(&mut self, other: &Vob) -> bool {
+        let mut not = other.clone();
+        not.negate();
+        Vob::and(self, &not)
+    }
+    fn subset(&self, other: &Vob) -> bool {
+        let mut both = self.clone();
+        both.and(other);
+        both == *self
+    }
+    fn count_and(&self, other: &Vob) -> u64 {
+        let mut both = self.clone();
+        both.and(other);
+        both.iter_set_bits(..).count() as u64
+    }
+    fn next_set(&self, from: usize) -> Option<usize> {
+        self.iter_set_bits(from..).next()
+    }
     fn same(&self, other: &Vob) -> bool {
         self == other
     }
@@ -132,7 +154,8 @@ impl Bits for FixedBitSet {
     fn offer(call: Call) -> Offer {
         match call {
             Call::Push => Offer::Less("pre-sized"),
-            Call::Set | Call::And | Call::Or | Call::Xor | Call::Closure => NO_FLAG,
+            Call::Set | Call::And | Call::Or | Call::Xor | Call::AndNot | Call::Closure => NO_FLAG,
+            Call::CountAnd => Offer::Other("intersection, counted"),
             Call::Iterate => Offer::Other("by index"),
             Call::SetAll => Offer::Other("insert_range or clear"),
             Call::Negate => Offer::Other("toggle_range"),
@@ -143,10 +166,21 @@ impl Bits for FixedBitSet {
             | Call::Clone
             | Call::Hash
             | Call::Equal
+            | Call::Subset
             | Call::SetBits
             | Call::Count => Offer::Same,
             _ => Offer::None,
         }
+    }
+    fn and_not(&mut self, other: &FixedBitSet) -> bool {
+        self.difference_with(other);
+        false
+    }
+    fn subset(&self, other: &FixedBitSet) -> bool {
+        self.is_subset(other)
+    }
+    fn count_and(&self, other: &FixedBitSet) -> u64 {
+        self.intersection(other).count() as u64
     }
     fn set_bits(&self) -> u64 {
         sum_of(self.ones())
@@ -239,6 +273,9 @@ impl Bits for BitVec {
             | Call::SetBitsBack
             | Call::UnsetBits
             | Call::Count
+            | Call::Subset
+            | Call::CountAnd
+            | Call::NextSet
             | Call::FirstFree
             | Call::Filter => Offer::None,
             // Its split_off within a block can leave a block too many, which append takes in.
@@ -313,6 +350,9 @@ impl Bits for BitVec {
     fn xor(&mut self, other: &BitVec) -> bool {
         BitVec::xor(self, other)
     }
+    fn and_not(&mut self, other: &BitVec) -> bool {
+        self.difference(other)
+    }
     fn same(&self, other: &BitVec) -> bool {
         self == other
     }
@@ -324,17 +364,29 @@ impl Bits for BitVec {
 impl Bits for BitSet {
     fn offer(call: Call) -> Offer {
         match call {
-            Call::And | Call::Or | Call::Xor | Call::Closure => NO_FLAG,
+            Call::And | Call::Or | Call::Xor | Call::AndNot | Call::Closure => NO_FLAG,
+            Call::CountAnd => Offer::Other("intersection, counted"),
             Call::Set => Offer::Other("insert or remove"),
             Call::Get
             | Call::Matrix
             | Call::Clone
             | Call::Hash
             | Call::Equal
+            | Call::Subset
             | Call::SetBits
             | Call::Count => Offer::Same,
             _ => Offer::None,
         }
+    }
+    fn and_not(&mut self, other: &BitSet) -> bool {
+        self.difference_with(other);
+        false
+    }
+    fn subset(&self, other: &BitSet) -> bool {
+        self.is_subset(other)
+    }
+    fn count_and(&self, other: &BitSet) -> u64 {
+        self.intersection(other).count() as u64
     }
     fn set_bits(&self) -> u64 {
         sum_of(self.iter())

@@ -36,6 +36,10 @@ pub enum Call {
     DrainAligned,
     DrainShifted,
     Filter,
+    AndNot,
+    Subset,
+    CountAnd,
+    NextSet,
 }
 
 /// What the machine can do at most, measured on the row's own size.
@@ -171,7 +175,14 @@ pub fn all() -> Vec<Row> {
         Row::over("negate", Call::Negate, MILLION, Word, Limit::Copy),
         Row::over("clone", Call::Clone, MILLION, Word, Limit::Copy),
     ];
-    for (name, call) in [("and", Call::And), ("or", Call::Or), ("xor", Call::Xor)] {
+    for (name, call) in [
+        ("and", Call::And),
+        ("or", Call::Or),
+        ("xor", Call::Xor),
+        ("and_not", Call::AndNot),
+        ("is_subset", Call::Subset),
+        ("count_and", Call::CountAnd),
+    ] {
         for bits in SIZES {
             rows.push(Row::over(name, call, bits, Word, Limit::Copy));
         }
@@ -207,6 +218,7 @@ pub fn all() -> Vec<Row> {
         ("iter_set_bits", Call::SetBits),
         ("iter_set_bits from the back", Call::SetBitsBack),
         ("iter_unset_bits", Call::UnsetBits),
+        ("next_set", Call::NextSet),
     ] {
         for (density, set) in DENSITIES {
             rows.push(Row::walk(name, call, density, set));

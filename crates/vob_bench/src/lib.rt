@@ -70,14 +70,9 @@ pub extern "C" fn vob_bench_whole(alloc: Global, row: u32, bytes: &[u8], rounds:
     })
 }
 
-/// The library's own hasher, fed so many words a round: a limit that no `hash` goes below.
-#[unsafe(no_mangle)]
-pub extern "C" fn vob_bench_hash_words(words: &[usize], rounds: usize) -> u64 {
-    whole::hash_words(words, rounds)
-}
-
 /// Calls on two Vobs: 0 `and`, 1 `or`, 2 `xor`, 3 `==`, 4 `extend_from_vob` behind one whole block,
-/// 5 `extend_from_vob` behind 13 bits more, 6 a filter over these columns and a third.
+/// 5 `extend_from_vob` behind 13 bits more, 6 a filter over these columns and a third, 7 `and_not`,
+/// 8 `is_subset`, 9 `count_and`.
 #[unsafe(no_mangle)]
 pub extern "C" fn vob_bench_pair(
     alloc: Global,
@@ -93,17 +88,20 @@ pub extern "C" fn vob_bench_pair(
         3 => pair::equal(alloc, bytes, rounds),
         4 => pair::extend(alloc, bytes, others, 64, rounds),
         5 => pair::extend(alloc, bytes, others, 64 + 13, rounds),
-        _ => pair::filter(alloc, bytes, others, rounds),
+        6 => pair::filter(alloc, bytes, others, rounds),
+        7 => pair::and_not(alloc, bytes, others, rounds),
+        8 => pair::subset(alloc, bytes, others, rounds),
+        _ => pair::count_and(alloc, bytes, others, rounds),
     })
 }
 
 /// Calls on indices: 0 `iter_set_bits`, 1 the same from the back, 2 `iter_unset_bits`, 3 `count`, 4 the
-/// first unset bit.
+/// first unset bit, 5 `next_set`.
 #[unsafe(no_mangle)]
 pub extern "C" fn vob_bench_walk(alloc: Global, row: u32, bytes: &[u8], rounds: usize) -> u64 {
     answer(match row {
-        0..=3 => walk::walk(alloc, row, bytes, rounds),
-        _ => walk::first_free(alloc, bytes, rounds),
+        4 => walk::first_free(alloc, bytes, rounds),
+        _ => walk::walk(alloc, row, bytes, rounds),
     })
 }
 

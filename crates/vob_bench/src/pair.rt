@@ -62,6 +62,69 @@ pub(crate) fn xor(
     Ok(checksum(&vob, times))
 }
 
+/// `and_not` with a Vob that is as long. Where it isn't, nothing is done.
+#[inline(never)]
+pub(crate) fn and_not(
+    alloc: Global,
+    bytes: &[u8],
+    others: &[u8],
+    rounds: usize,
+) -> Result<u64, VobError> {
+    let mut times: u64 = 0;
+    let mut vob = Vob::from_bytes(alloc, bytes)?;
+    let other = Vob::from_bytes(alloc, others)?;
+    for _ in 0..rounds {
+        if vob.len() == other.len() && vob.and_not(&other) {
+            times = times.wrapping_add(1);
+        }
+    }
+    Ok(checksum(&vob, times))
+}
+
+/// `is_subset` of a Vob whose bits another has in each round.
+#[inline(never)]
+pub(crate) fn subset(
+    alloc: Global,
+    bytes: &[u8],
+    others: &[u8],
+    rounds: usize,
+) -> Result<u64, VobError> {
+    let mut times: u64 = 0;
+    let mut vob = Vob::from_bytes(alloc, bytes)?;
+    let mut other = Vob::from_bytes(alloc, others)?;
+    if other.len() == vob.len() {
+        other.or(&vob);
+    }
+    for round in 0..rounds {
+        touch(&mut vob, round);
+        touch(&mut other, round);
+        if vob.len() == other.len() && vob.is_subset(&other) {
+            times = times.wrapping_add(1);
+        }
+    }
+    Ok(checksum(&vob, times))
+}
+
+/// `count_and` of a Vob that changes a little before each round.
+#[inline(never)]
+pub(crate) fn count_and(
+    alloc: Global,
+    bytes: &[u8],
+    others: &[u8],
+    rounds: usize,
+) -> Result<u64, VobError> {
+    let mut times: u64 = 0;
+    let mut vob = Vob::from_bytes(alloc, bytes)?;
+    let other = Vob::from_bytes(alloc, others)?;
+    for round in 0..rounds {
+        touch(&mut vob, round);
+        if vob.len() == other.len() {
+            times = times.wrapping_add(vob.count_and(&other) as u64);
+        }
+    }
+    Ok(checksum(&vob, times))
+}
+
 /// `==` of two Vobs that are equal in each round.
 #[inline(never)]
 pub(crate) fn equal(alloc: Global, bytes: &[u8], rounds: usize) -> Result<u64, VobError> {

@@ -34,6 +34,23 @@ fn unset_bits(vob: &Vob) -> u64 {
     sum
 }
 
+/// The sum of the indices of the set bits, each looked for behind the one before.
+#[inline(never)]
+fn next_bits(vob: &Vob) -> u64 {
+    let mut sum: u64 = 0;
+    let mut from: usize = 0;
+    for _ in 0..vob.len() {
+        match vob.next_set(from) {
+            Some(index) => {
+                sum = sum.wrapping_add(index as u64);
+                from = index.wrapping_add(1);
+            }
+            None => break,
+        }
+    }
+    sum
+}
+
 /// How many bits are set.
 #[inline(never)]
 fn counted(vob: &Vob) -> u64 {
@@ -41,7 +58,7 @@ fn counted(vob: &Vob) -> u64 {
 }
 
 /// A walk a round: 0 over the set bits, 1 over those from the back, 2 over the unset bits; or 3 a
-/// count.
+/// count; or 5 a call of `next_set` for each set bit.
 #[inline(never)]
 pub(crate) fn walk(alloc: Global, row: u32, bytes: &[u8], rounds: usize) -> Result<u64, VobError> {
     let mut times: u64 = 0;
@@ -52,6 +69,7 @@ pub(crate) fn walk(alloc: Global, row: u32, bytes: &[u8], rounds: usize) -> Resu
             0 => set_bits(&vob),
             1 => set_bits_back(&vob),
             2 => unset_bits(&vob),
+            5 => next_bits(&vob),
             _ => counted(&vob),
         };
         times = times.wrapping_add(sum);

@@ -113,22 +113,6 @@ pub(crate) fn hash(alloc: Global, bytes: &[u8], rounds: usize) -> Result<u64, Vo
     Ok(checksum(&vob, times))
 }
 
-/// The library's own hasher on so many words and no Vob: what the hash of one takes at least.
-#[inline(never)]
-pub(crate) fn hash_words(words: &[usize], rounds: usize) -> u64 {
-    let mut times: u64 = 0;
-    let mut last: u64 = 0;
-    for round in 0..rounds {
-        let mut state = DefaultHasher::new();
-        state.write_usize(round);
-        usize::hash_slice(words, &mut state);
-        let now = state.finish();
-        times = times.wrapping_add((now == last) as u64);
-        last = now;
-    }
-    times
-}
-
 /// The first 13 bits cut off: the others move down, into a new Vob.
 #[inline(never)]
 pub(crate) fn split_off(alloc: Global, bytes: &[u8], rounds: usize) -> Result<u64, VobError> {
