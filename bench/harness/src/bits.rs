@@ -92,6 +92,15 @@ pub trait Bits: Sized {
     fn and_not(&mut self, _other: &Self) -> bool {
         unimplemented!()
     }
+
+    /// What is in two and not in a third. A library with a difference by blocks takes that.
+    fn kept(first: &Self, second: &Self, without: &Self) -> Self {
+        let mut rows = without.copied();
+        rows.negate();
+        rows.and(first);
+        rows.and(second);
+        rows
+    }
     fn subset(&self, _other: &Self) -> bool {
         unimplemented!()
     }
@@ -329,11 +338,7 @@ fn filter<B: Bits>(input: &Input, rounds: usize) -> u64 {
     without.xor(&first);
     for round in 0..rounds {
         touch(&mut first, round);
-        let mut rows = without.copied();
-        rows.negate();
-        rows.and(&first);
-        rows.and(&second);
-        times += rows.counted();
+        times += B::kept(&first, &second, &without).counted();
     }
     checksum(&first, times)
 }

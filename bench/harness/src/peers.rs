@@ -172,6 +172,12 @@ impl Bits for FixedBitSet {
             _ => Offer::None,
         }
     }
+    fn kept(first: &FixedBitSet, second: &FixedBitSet, without: &FixedBitSet) -> FixedBitSet {
+        let mut rows = first.clone();
+        rows.intersect_with(second);
+        rows.difference_with(without);
+        rows
+    }
     fn and_not(&mut self, other: &FixedBitSet) -> bool {
         self.difference_with(other);
         false

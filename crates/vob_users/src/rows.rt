@@ -17,10 +17,9 @@ pub fn select(first: &Vob, second: &Vob, without: &Vob) -> Result<Vob, AllocErro
     ensures { IfOk result (λ rows.
         IsSelected first.now.bits second.now.bits without.now.bits rows.bits) }
 {
-    let mut rows = without.clone()?;
-    rows.negate();
-    rows.and(first);
+    let mut rows = first.clone()?;
     rows.and(second);
+    rows.and_not(without);
     Ok(rows)
 }
 
