@@ -8,5 +8,6 @@ pub mod ItemLemmas
 pub mod PairLemmas
 pub mod RestLemmas
 pub mod SameLemmas
+pub mod SelectLemmas
 pub mod SetsLemmas
 pub mod TextLemmas

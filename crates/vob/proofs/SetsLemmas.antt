@@ -24,19 +24,19 @@ use Rattle.vob.specs.Sets.{HasBit, HasOnly, IsFirstFrom, IsLastUpTo, IsNext, IsP
 -- says which does
 module _ (P : ℕ → Type 0) (N : Type 0) (once : (i j : ℕ) → P i → P j → i ≡ j)
     (apart : (i : ℕ) → P i → N → ⊥) where
-  some_where : (answer : Option ℕ) → MatchOption answer N P → (i : ℕ) → (answer ≡ Some i) ↔ P i
+  pub some_where : (answer : Option ℕ) → MatchOption answer N P → (i : ℕ) → (answer ≡ Some i) ↔ P i
   some_where None h i = (λ e. cc, λ p. absurd (apart i p h))
   some_where (Some j) h i = (
     (λ e. let same : j ≡ i = cc in subst P same h),
     (λ p. ap Some (once j i h p)),
   )
 
-  none_where : (answer : Option ℕ) → MatchOption answer N P → (answer ≡ None) ↔ N
+  pub none_where : (answer : Option ℕ) → MatchOption answer N P → (answer ≡ None) ↔ N
   none_where None h = (λ _. h, λ _. refl)
   none_where (Some j) h = (λ e. cc, λ none. absurd (apart j h none))
 
 -- two numbers of which neither is below the other
-equal_by : (i j : ℕ) → (i < j → ⊥) → (j < i → ⊥) → i ≡ j
+pub equal_by : (i j : ℕ) → (i < j → ⊥) → (j < i → ⊥) → i ≡ j
 equal_by i j below above = elim (cases_lt i j) [
   | inl less ↦ absurd (below less)
   | inr more ↦ elim (cases_lt j i) [

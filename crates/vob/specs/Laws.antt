@@ -1,10 +1,12 @@
 -- What lists of bits obey, and so the calls that stand for their operations.
-use Rattle.std.specs.Prelude.{◌≡◌, ◌≢◌, ◌↔◌, ℕ, ◌<◌, ◌≤◌, Bool, false, not, ◌&&◌, ◌||◌, List, [], ◌∷◌, ◌++◌, length, map, take, drop, replicate, slice_get, slice_set, Some, IsTrue}
+use Rattle.std.specs.Prelude.{◌≡◌, ◌≢◌, ◌↔◌, ℕ, ◌<◌, ◌≤◌, Bool, false, not, ◌&&◌, ◌||◌, true, List, [], ◌∷◌, ◌++◌, length, map, take, drop, replicate, slice_get, slice_set, Option, Some, IsTrue}
 use Rattle.std.specs.declared.ops.Bound.TheVariants.{Included, Unbounded}
 use Rattle.vob_block.specs.Packing.{item, packing}
 use Rattle.vob_block.specs.Pointwise.{differ, pointwise}
+use Rattle.vob.specs.Bits.{count_of}
 use Rattle.vob.specs.Drain.{bits_within, bits_outside}
 use Rattle.vob.specs.Same.{same_bits}
+use Rattle.vob.specs.Sets.{IsSelected}
 
 -- a list cut at an index and joined again is the list
 abbrev pub JoinUndoesCut : Type 0
@@ -69,3 +71,14 @@ XorOfEqual = (bits others : List Bool) → bits ≡ others → pointwise differ 
 abbrev pub NegatedAnd : Type 0
 NegatedAnd =
     (bits others : List Bool) → map not (pointwise ◌&&◌ bits others) ≡ pointwise ◌||◌ (map not bits) (map not others)
+
+-- the number that an index was selected by is how many set bits stand below it
+abbrev pub RankUndoesSelect : Type 0
+RankUndoesSelect =
+    (bits : List Bool) (k i : ℕ) → IsSelected bits k (Some i) → count_of true (take i bits) ≡ k
+
+-- the index of a set bit is the one that is selected by how many set bits stand below it
+abbrev pub SelectUndoesRank : Type 0
+SelectUndoesRank =
+    (bits : List Bool) (i : ℕ) (answer : Option ℕ) → IsTrue (item bits i)
+    → IsSelected bits (count_of true (take i bits)) answer → answer ≡ Some i

@@ -1,6 +1,7 @@
 -- What calls on a Vob as a set of indices answer.
-use Rattle.std.specs.Prelude.{◌≡◌, ◌≢◌, ◌↔◌, ℕ, ◌<◌, ◌≤◌, Bool, false, IsTrue, List, length, Option, Some, None}
+use Rattle.std.specs.Prelude.{◌≡◌, ◌≢◌, ◌↔◌, ℕ, ◌<◌, ◌≤◌, Bool, true, false, IsTrue, List, length, take, Option, Some, None}
 use Rattle.vob_block.specs.Packing.{item}
+use Rattle.vob.specs.Bits.{count_of}
 
 -- some bit of a list has a value
 abbrev pub HasBit : Bool → List Bool → Type 0
@@ -36,6 +37,16 @@ pub record IsPrevious (value : Bool) (bits : List Bool) (upto : ℕ) (answer : O
   pub some : (i : ℕ) → (answer ≡ Some i) ↔ IsLastUpTo value bits upto i
   pub none : (answer ≡ None)
       ↔ ((i : ℕ) → i ≤ upto → i < length bits → item bits i ≢ value)
+
+-- the bit at index i is set, and k set bits stand below it
+pub record IsOfRank (bits : List Bool) (k i : ℕ) : Type 0 where
+  pub there : item bits i ≡ true
+  pub below : count_of true (take i bits) ≡ k
+
+-- an answer is the index of that set bit, and None where there are at most k set bits
+pub record IsSelected (bits : List Bool) (k : ℕ) (answer : Option ℕ) : Type 0 where
+  pub some : (i : ℕ) → (answer ≡ Some i) ↔ IsOfRank bits k i
+  pub none : (answer ≡ None) ↔ (count_of true bits ≤ k)
 
 -- each index of one set is in another
 abbrev pub IsSubset : List Bool → List Bool → Type 0

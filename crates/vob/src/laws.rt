@@ -1,5 +1,5 @@
 //! The laws of the operations on lists of bits. Each function does nothing: its contract is the law.
-ghost use Rattle.vob.specs.Laws.{JoinUndoesCut, DrainFromIsSplit, JoinIsPushes, EqualWhereListsAre, EqualWhereStorageIs, UnequalWherePlacesDiffer, PointwiseChangesBits, SetChangesBit, NegateTwice, XorOfEqual, NegatedAnd};
+ghost use Rattle.vob.specs.Laws.{JoinUndoesCut, DrainFromIsSplit, JoinIsPushes, EqualWhereListsAre, EqualWhereStorageIs, UnequalWherePlacesDiffer, PointwiseChangesBits, SetChangesBit, NegateTwice, XorOfEqual, NegatedAnd, RankUndoesSelect, SelectUndoesRank};
 ghost use Rattle.vob_walk.specs.Laws.{MatchesShareNoIndex, MatchesFillTheRange, MatchesAddUp, MatchesExactly, MatchesRise, FirstMatchIsLeast, NoMatchIsNone, MatchesAreCounted, MatchesAreFew};
 ghost use Rattle.vob_walk.specs.Laws.{NoneIsForGood};
 
@@ -63,6 +63,16 @@ pub fn xor_of_equal()
 /// both negated.
 pub fn negated_and()
     ensures { NegatedAnd }
+{}
+
+/// The rank of an index that `select` gave is the number that it was given for.
+pub fn rank_undoes_select()
+    ensures { RankUndoesSelect }
+{}
+
+/// What `select` gives for the rank of a set bit is that bit's index.
+pub fn select_undoes_rank()
+    ensures { SelectUndoesRank }
 {}
 
 /// No index matches both values, so walks over the set and the unset bits of one range give no index

@@ -1,17 +1,17 @@
 //! A Vob as a set of indices, those of its set bits: whether there are some, the one that is next
-//! to another, how many stand below one, and two sets of one length. vob 4.0.1 has none of these
-//! calls.
+//! to another, how many stand below one, the one below which so many stand, and two sets of one
+//! length. vob 4.0.1 has none of these calls.
 ghost use Rattle.std.specs.Prelude.{◌≡◌, ◌≢◌, ◌↔◌, ◌&&◌, ◌||◌, true, false, take, length, replicate, IsTrue};
 ghost use Rattle.vob_block.specs.Pointwise.{differ, pointwise};
 ghost use Rattle.vob_store.specs.Combined.{without};
 ghost use Rattle.vob.specs.Bits.{AreCombined, LosesBits, count_of};
-ghost use Rattle.vob.specs.Sets.{AreDisjoint, HasBit, HasOnly, IsNext, IsPrevious, IsSubset};
+ghost use Rattle.vob.specs.Sets.{AreDisjoint, HasBit, HasOnly, IsNext, IsPrevious, IsSelected, IsSubset};
 ghost use Rattle.vob.specs.Vob.{HaveSameLength};
 
 use crate::vob::Vob;
 use vob_block::Block;
 use vob_store::combined::{And, Combine, Or, Without, Xor, combine_into, count_combined, has_none};
-use vob_walk::count_ones_in;
+use vob_walk::{count_ones_in, index_of_rank};
 
 impl<T: Block> Vob<T> {
     /// Whether some bit is set. Where there are no bits, none is.
@@ -101,6 +101,16 @@ impl<T: Block> Vob<T> {
         ensures { result ≡ count_of true (take index self.now.bits) }
     {
         count_ones_in(&mut self.blocks(), 0, index.min(self.len()))
+    }
+
+    /// The index of the set bit below which `k` set bits stand: of the first one where `k` is 0.
+    /// `None` where there are at most `k` set bits.
+    pub fn select(&self, k: usize) -> Option<usize>
+        ensures { IsSelected self.now.bits k result }
+    {
+        // The length is in the range of its type: a proof knows it from this read.
+        let _len = self.len;
+        index_of_rank(&mut self.blocks(), k)
     }
 
     /// Keeps the bits that the other hasn't, and answers whether a bit changed. Each block of the

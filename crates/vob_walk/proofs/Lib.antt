@@ -6,6 +6,7 @@ pub mod MatchesLemmas
 pub mod PullLemmas
 pub mod ReadLemmas
 pub mod ScanLemmas
+pub mod SelectLemmas
 pub mod SkipLemmas
 pub mod WalkLemmas
 pub mod WhereLemmas

@@ -2,5 +2,6 @@ pub mod Count
 pub mod Cursor
 pub mod Laws
 pub mod Matches
+pub mod Select
 pub mod Skip
 pub mod Walk

@@ -8,10 +8,12 @@ mod cursor;
 mod index;
 pub mod range;
 mod scan;
+mod select;
 mod skip;
 mod walk;
 mod window;
 
 pub use count::count_ones_in;
 pub use index::{IterSetBits, IterUnsetBits};
+pub use select::index_of_rank;
 pub use walk::{End, IndexWalk, deal};
