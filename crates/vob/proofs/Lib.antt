@@ -7,6 +7,7 @@ pub mod HashLemmas
 pub mod ItemLemmas
 pub mod PairLemmas
 pub mod RestLemmas
+pub mod RunsLemmas
 pub mod SameLemmas
 pub mod SelectLemmas
 pub mod SetsLemmas

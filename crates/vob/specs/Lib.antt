@@ -8,6 +8,7 @@ pub mod Raw
 pub mod RawLends
 pub mod Refusal
 pub mod Rest
+pub mod Runs
 pub mod Same
 pub mod Sets
 pub mod Text

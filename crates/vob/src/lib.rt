@@ -31,6 +31,7 @@ pub mod laws;
 mod macros;
 pub mod ops;
 pub mod raw;
+pub mod runs;
 pub mod sets;
 pub mod text;
 pub mod vob;
@@ -40,6 +41,7 @@ pub use iter::{
     End, IndexWalk, Iter, IterSetBits, IterUnsetBits, StorageIter, count_ones_in, deal,
 };
 pub use raw::{RawVob, VobRecord};
+pub use runs::Runs;
 pub use text::DigitsError;
 pub use vob::Vob;
 pub use vob_block;
