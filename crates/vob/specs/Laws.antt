@@ -1,10 +1,13 @@
 -- What lists of bits obey, and so the calls that stand for their operations.
 use Rattle.std.specs.Prelude.{◌≡◌, ◌≢◌, ◌↔◌, ℕ, ◌<◌, ◌≤◌, Bool, false, not, ◌&&◌, ◌||◌, true, List, [], ◌∷◌, ◌++◌, length, map, take, drop, replicate, slice_get, slice_set, Option, Some, IsTrue}
+use Rattle.std.specs.Iterator.{Drains}
 use Rattle.std.specs.declared.ops.Bound.TheVariants.{Included, Unbounded}
+use Rattle.std.specs.declared.ops.Range.{Range}
 use Rattle.vob_block.specs.Packing.{item, packing}
 use Rattle.vob_block.specs.Pointwise.{differ, pointwise}
 use Rattle.vob.specs.Bits.{count_of}
 use Rattle.vob.specs.Drain.{bits_within, bits_outside}
+use Rattle.vob.specs.Runs.{AreRuns, GivesRun, RunWalk}
 use Rattle.vob.specs.Same.{same_bits}
 use Rattle.vob.specs.Sets.{IsSelected}
 
@@ -82,3 +85,9 @@ abbrev pub SelectUndoesRank : Type 0
 SelectUndoesRank =
     (bits : List Bool) (i : ℕ) (answer : Option ℕ) → IsTrue (item bits i)
     → IsSelected bits (count_of true (take i bits)) answer → answer ≡ Some i
+
+-- a walk over runs from the first bit on, up to `None`, gives all of them
+abbrev pub WalkGivesRuns : Type 0
+WalkGivesRuns =
+    (walk : RunWalk) (runs : List (Range ℕ)) → walk.at ≡ 0 → Drains GivesRun walk runs
+    → AreRuns walk.bits runs

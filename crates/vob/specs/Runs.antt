@@ -1,5 +1,5 @@
 -- The runs of a list of bits: its longest stretches of set bits.
-use Rattle.std.specs.Prelude.{◌≡◌, ◌≢◌, ℕ, ◌+◌, ◌<◌, ◌≤◌, Bool, true, false, List, length, Option, MatchOption}
+use Rattle.std.specs.Prelude.{◌≡◌, ◌≢◌, ℕ, ◌+◌, ◌<◌, ◌≤◌, Bool, true, false, List, length, Option, MatchOption, All, Any, AllPairs}
 use Rattle.std.specs.declared.ops.Range.{Range}
 use Rattle.vob_block.specs.Packing.{item}
 use Rattle.vob.specs.Sets.{IsFirstFrom}
@@ -30,3 +30,9 @@ pub record GivesRun (walk : RunWalk) (answer : Option (Range ℕ)) (after : RunW
       (((i : ℕ) → walk.at ≤ i → i < length walk.bits → item walk.bits i ≢ true)
       × (after.at ≡ walk.at))
       (λ run. IsFirstRun walk.bits walk.at run.start run.end × (after.at ≡ run.end))
+
+-- a list has each run of the bits, in their order, and so each set bit in one of them
+pub record AreRuns (bits : List Bool) (runs : List (Range ℕ)) : Type 0 where
+  pub each : All (λ run. IsRun bits run.start run.end) runs
+  pub order : AllPairs (λ run next. run.end < next.start) runs
+  pub all : (i : ℕ) → item bits i ≡ true → Any (λ run. (run.start ≤ i) × (i < run.end)) runs

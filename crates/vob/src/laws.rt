@@ -1,5 +1,5 @@
 //! The laws of the operations on lists of bits. Each function does nothing: its contract is the law.
-ghost use Rattle.vob.specs.Laws.{JoinUndoesCut, DrainFromIsSplit, JoinIsPushes, EqualWhereListsAre, EqualWhereStorageIs, UnequalWherePlacesDiffer, PointwiseChangesBits, SetChangesBit, NegateTwice, XorOfEqual, NegatedAnd, RankUndoesSelect, SelectUndoesRank};
+ghost use Rattle.vob.specs.Laws.{JoinUndoesCut, DrainFromIsSplit, JoinIsPushes, EqualWhereListsAre, EqualWhereStorageIs, UnequalWherePlacesDiffer, PointwiseChangesBits, SetChangesBit, NegateTwice, XorOfEqual, NegatedAnd, RankUndoesSelect, SelectUndoesRank, WalkGivesRuns};
 ghost use Rattle.vob_walk.specs.Laws.{MatchesShareNoIndex, MatchesFillTheRange, MatchesAddUp, MatchesExactly, MatchesRise, FirstMatchIsLeast, NoMatchIsNone, MatchesAreCounted, MatchesAreFew};
 ghost use Rattle.vob_walk.specs.Laws.{NoneIsForGood};
 
@@ -73,6 +73,12 @@ pub fn rank_undoes_select()
 /// What `select` gives for the rank of a set bit is that bit's index.
 pub fn select_undoes_rank()
     ensures { SelectUndoesRank }
+{}
+
+/// All that a walk over runs gives, from `runs()` up to `None`, is each run in order, so that the set
+/// bits are those of the ranges that it gave.
+pub fn walk_gives_runs()
+    ensures { WalkGivesRuns }
 {}
 
 /// No index matches both values, so walks over the set and the unset bits of one range give no index
