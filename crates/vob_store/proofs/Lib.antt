@@ -8,6 +8,7 @@ pub mod FunnelLemmas
 pub mod JoinLemmas
 pub mod PackLemmas
 pub mod PushLemmas
+pub mod RangeLemmas
 pub mod RawLemmas
 pub mod ReverseLemmas
 pub mod RoomLemmas

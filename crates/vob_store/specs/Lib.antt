@@ -1,4 +1,5 @@
 pub mod Building
 pub mod Combined
 pub mod Joining
+pub mod Range
 pub mod Same

@@ -10,6 +10,7 @@ pub mod join;
 mod last;
 pub mod mask;
 pub mod pack;
+pub mod range;
 pub mod room;
 pub mod same;
 pub mod single;
