@@ -1,6 +1,7 @@
 pub mod AppendLemmas
 pub mod BuildLemmas
 pub mod CombinedLemmas
+pub mod CopyLemmas
 pub mod CutLemmas
 pub mod DrainLemmas
 pub mod FillLemmas

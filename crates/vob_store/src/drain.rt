@@ -40,7 +40,7 @@ fn close_blocks<T: Block>(blocks: &mut [T], first: usize, by: usize)
 }
 
 /// The places of `low` below `from`, and those of `high` from there on.
-fn spliced<T: Block>(low: T, high: T, from: usize) -> T
+pub(crate) fn spliced<T: Block>(low: T, high: T, from: usize) -> T
     requires { from ≤ T.BITS }
     ensures places { HasPlaces T.BITS (T.number result)
         (λ j. if nat_lt j from then place j (T.number low) else place j (T.number high)) }

@@ -4,6 +4,7 @@
 pub mod bytes;
 pub mod canonical;
 pub mod combined;
+pub mod copy;
 pub mod drain;
 pub mod fill;
 pub mod join;

@@ -1,0 +1,231 @@
+-- Bits of some blocks written over those of others, at a plain width.
+use Rattle.std.proofs.Common.{◌≡◌, ◌⊎◌, ℕ, ◌+◌, ◌-◌, ◌*◌, ◌/◌, ◌%◌, ◌<◌, ◌≤◌, min, ◌&&◌, cond, List, length, get_or, set, leb, ltb, refl, sym, ap, ◌∙◌, subst, arith, inl, inr, mod-lt, div-add-mod', add-mul, one-mul, zero-add, zero-mul}
+use Rattle.std.proofs.lemmas.Bool.{cases_lt, cases_eq, lt-ltb, le-ltb, le-leb, cond-true, cond-false}
+use Rattle.std.proofs.lemmas.List.{get_or-set_same}
+use Rattle.std.proofs.lemmas.Nat.{mul-le, le-div, div-mul-add}
+use Rattle.vob_block.specs.Places.{place, HasPlaces}
+use Rattle.vob_block.specs.Packing.{bit_at}
+use Rattle.vob_block.proofs.PackingLemmas.{bit_at-in_block, bit_at-is_place, bit_at-set_same, bit_at-set_other}
+use Rattle.vob_store.specs.Copying.{AreCopied}
+use Rattle.vob_store.proofs.FunnelLemmas.{places-funnel}
+
+-- ---- a block of the bits from an index on
+
+-- the block of an index and its place there; u is the width as the code read it
+pub block_and_place : (w at u : ℕ) → u ≡ w → at / u * w + at % u ≡ at
+block_and_place w at u same = ap (λ v. at / u * v + at % u) (sym same) ∙ div-add-mod' at u
+
+-- it is a whole block
+pub places-whole : (w from k x : ℕ) (source : List ℕ) → k * w ≡ from → x ≡ get_or source k 0
+    → HasPlaces w x (λ j. bit_at source w (from + j))
+places-whole w from k x source whole is = record {
+  each = λ j below. ap (place j) is ∙ sym (bit_at-in_block source w k j below)
+      ∙ ap (λ i. bit_at source w (i + j)) whole;
+}
+
+-- or made of two neighbours
+pub places-two : (w from k by y a b : ℕ) (source : List ℕ) → k * w + by ≡ from → by < w
+    → a ≡ get_or source k 0 → b ≡ get_or source (k + 1) 0
+    → HasPlaces w y (λ j. cond (ltb (j + by) w) (place (j + by) a) (place (j + by - w) b))
+    → HasPlaces w y (λ j. bit_at source w (from + j))
+places-two w from k by y a b source whole below low high places =
+    let both = places-funnel w source by k y a b below low high places in
+    record { each = λ j less. both.each j less ∙ ap (bit_at source w) (omega (arith, whole)) }
+
+-- ---- one stretch after another
+
+-- no bits
+pub AreCopied-none : {w at start : ℕ} {xs others : List ℕ} → AreCopied w at start 0 xs others xs
+AreCopied-none = record {
+  copied = λ j h. absurd (omega arith);
+  before = λ i _. refl;
+  behind = λ i _. refl;
+}
+
+-- no bits stand nowhere
+pub AreCopied-anywhere : {w at start : ℕ} {xs others ys : List ℕ} (a : ℕ)
+    → AreCopied w at start 0 xs others ys → AreCopied w a start 0 xs others ys
+AreCopied-anywhere {w} {at} {start} {xs} {others} {ys} a h = record {
+  copied = λ j none. absurd (omega arith);
+  before = λ i _. same i;
+  behind = λ i _. same i;
+}
+  where
+    same : (i : ℕ) → bit_at ys w i ≡ bit_at xs w i
+    same i = elim (cases_lt i at) [
+      | inl less ↦ h.before i less
+      | inr past ↦ h.behind i (omega (arith, past))
+    ]
+
+-- some bits, and those behind them
+pub AreCopied-then : {w at start n m : ℕ} {olds others mid after : List ℕ}
+    → AreCopied w at start n olds others mid
+    → AreCopied w (at + n) (start + n) m mid others after
+    → AreCopied w at start (n + m) olds others after
+AreCopied-then {w} {at} {start} {n} {m} {olds} {others} {mid} {after} p q = record {
+  copied = λ j below. elim (cases_lt j n) [
+    | inl low ↦ q.before (at + j) (omega arith) ∙ p.copied j low
+    | inr high ↦
+        let here : at + j ≡ at + n + (j - n) = omega arith in
+        ap (bit_at after w) here ∙ q.copied (j - n) (omega arith)
+        ∙ ap (bit_at others w) (omega arith)
+  ];
+  before = λ i less. q.before i (omega arith) ∙ p.before i less;
+  behind = λ i past. q.behind i (omega arith) ∙ p.behind i (omega arith);
+}
+
+-- ---- one block
+
+module _ (w : ℕ) (wide : 0 < w) (xs others : List ℕ) (k y : ℕ) (room : k < length xs) where
+  -- a bit whose place is as it was
+  kept : (i : ℕ) → (i / w ≡ k → place (i % w) y ≡ place (i % w) (get_or xs k 0))
+      → bit_at (set xs k y) w i ≡ bit_at xs w i
+  kept i same = elim (cases_eq (i / w) k) [
+    | inl here ↦ bit_at-set_same xs w k y i room here ∙ same here
+        ∙ ap (λ q. place (i % w) (get_or xs q 0)) (sym here) ∙ sym (bit_at-is_place xs w i)
+    | inr apart ↦ bit_at-set_other xs w k y i apart
+  ]
+
+  start_of : (i : ℕ) → i / w ≡ k → k * w + i % w ≡ i
+  start_of i here = ap (λ q. q * w + i % w) (sym here) ∙ div-add-mod' i w
+
+  -- stored with other places from one to below another
+  pub AreCopied-set : (used start n : ℕ) → used + n ≤ w
+      → ((j : ℕ) → j < n → place (used + j) y ≡ bit_at others w (start + j))
+      → ((j : ℕ) → j < used → place j y ≡ place j (get_or xs k 0))
+      → ((j : ℕ) → used + n ≤ j → j < w → place j y ≡ place j (get_or xs k 0))
+      → AreCopied w (k * w + used) start n xs others (set xs k y)
+  AreCopied-set used start n fits new low high = record {
+    copied = λ j below.
+        let here : k * w + used + j ≡ k * w + (used + j) = omega arith in
+        ap (bit_at (set xs k y) w) here
+        ∙ bit_at-in_block (set xs k y) w k (used + j) (omega arith)
+        ∙ ap (place (used + j)) (get_or-set_same xs k y 0 room) ∙ new j below;
+    before = λ i less. kept i (λ here. low (i % w) (omega (arith, less, start_of i here)));
+    behind = λ i past. kept i (λ here.
+        high (i % w) (omega (arith, past, start_of i here)) (mod-lt i wide));
+  }
+
+  -- stored whole
+  pub AreCopied-block : (start : ℕ) → HasPlaces w y (λ j. bit_at others w (start + j))
+      → AreCopied w (k * w) start w xs others (set xs k y)
+  AreCopied-block start places =
+      let first : k * w + 0 ≡ k * w = omega arith in
+      subst (λ (a : ℕ). AreCopied w a start w xs others (set xs k y)) first
+      (AreCopied-set 0 start w (omega arith) (λ j below. ap (λ i. place i y) (zero-add j) ∙ places.each j below)
+      (λ j none. absurd (omega arith)) (λ j past below. absurd (omega (arith, past, below))))
+
+  -- stored with its places spliced from those of bits that were moved up
+  pub AreCopied-spliced : (at used start n old bits moved mid : ℕ) → k * w + used ≡ at
+      → used + n ≤ w → old ≡ get_or xs k 0
+      → HasPlaces w bits (λ j. bit_at others w (start + j))
+      → HasPlaces w moved (λ j. leb used j && place (j - used) bits)
+      → HasPlaces w mid (λ j. cond (ltb j used) (place j old) (place j moved))
+      → HasPlaces w y (λ j. cond (ltb j (used + n)) (place j mid) (place j old))
+      → AreCopied w at start n xs others (set xs k y)
+  AreCopied-spliced at used start n old bits moved mid whole fits is its up lower upper =
+      let inside = λ (j : ℕ) (h : j < used + n). upper.each j (omega arith)
+      ∙ cond-true (ltb j (used + n)) (place j mid) (place j old) (lt-ltb j (used + n) h) in
+      subst (λ (a : ℕ). AreCopied w a start n xs others (set xs k y)) whole
+      (AreCopied-set used start n fits
+      (λ j below.
+      let here : used + j - used ≡ j = omega arith in
+      inside (used + j) (omega arith) ∙ lower.each (used + j) (omega arith)
+      ∙ cond-false (ltb (used + j) used) (place (used + j) old) (place (used + j) moved)
+      (le-ltb (used + j) used (omega arith))
+      ∙ up.each (used + j) (omega arith)
+      ∙ ap (λ b. b && place (used + j - used) bits) (le-leb used (used + j) (omega arith))
+      ∙ ap (λ p. place p bits) here ∙ its.each j (omega arith))
+      (λ j less. inside j (omega arith) ∙ lower.each j (omega arith)
+      ∙ cond-true (ltb j used) (place j old) (place j moved) (lt-ltb j used less)
+      ∙ ap (place j) is)
+      (λ j past below. upper.each j below
+      ∙ cond-false (ltb j (used + n)) (place j mid) (place j old) (le-ltb j (used + n) past)
+      ∙ ap (place j) is))
+
+  -- a whole block behind those before
+  pub AreCopied-next : (olds : List ℕ) (first start m from : ℕ) → first + m ≡ k
+      → from ≡ start + m * w → AreCopied w (first * w) start (m * w) olds others xs
+      → HasPlaces w y (λ j. bit_at others w (from + j))
+      → AreCopied w (first * w) start ((m + 1) * w) olds others (set xs k y)
+  AreCopied-next olds first start m from here its h places =
+      let after = set xs k y in
+      let there : k * w ≡ first * w + m * w = ap (λ q. q * w) (sym here) ∙ add-mul first m w in
+      let all : m * w + w ≡ (m + 1) * w = omega (arith, add-mul m 1 w, one-mul w) in
+      subst (λ (n : ℕ). AreCopied w (first * w) start n olds others after) all
+      (AreCopied-then h (subst (λ (a : ℕ). AreCopied w a (start + m * w) w xs others after) there
+      (subst (λ (s : ℕ). AreCopied w (k * w) s w xs others after) its
+      (AreCopied-block from places))))
+
+-- ---- where the parts of a stretch stand
+
+-- the block of a bit, where there are so many
+pub block_inside : (w k used at count : ℕ) → k * w + used ≡ at → at < count * w → k < count
+block_inside w k used at count whole below = elim (cases_lt k count) [
+  | inl less ↦ less
+  | inr past ↦
+      let row = mul-le count w k w past (omega arith) in absurd (omega (arith, row, whole, below))
+]
+
+-- the first part ends with its block, or no whole block is left; u is the width as the code read it
+module _ (w : ℕ) (wide : 0 < w) (at count head whole u : ℕ) (same : u ≡ w)
+    (first : head ≡ min count (u - at % u)) (rest : whole ≡ (count - head) / u) where
+  taken_w : head ≡ min count (w - at % w)
+  taken_w = first ∙ ap (λ v. min count (v - at % v)) same
+
+  rest_w : whole * w + (count - head) % w ≡ count - head
+  rest_w = ap (λ q. q * w + (count - head) % w) (rest ∙ ap (λ v. (count - head) / v) same)
+      ∙ div-add-mod' (count - head) w
+
+  pub head-le : (head ≤ count) × (at % w + head ≤ w)
+  head-le = (omega (arith, taken_w), omega (arith, taken_w, mod-lt at wide))
+
+  pub whole-le : head + whole * w ≤ count
+  whole-le = omega (arith, rest_w, head-le.0)
+
+  pub whole-few : whole ≤ count / w
+  whole-few = le-div whole count w wide (omega (arith, whole-le))
+
+  -- where bits are left behind the first part, a block begins there
+  at_block : head < count → (at + head) / w * w ≡ at + head
+  at_block more =
+      let end : (at / w + 1) * w + 0 ≡ at + head = omega
+      (arith, add-mul (at / w) 1 w, one-mul w, div-add-mod' at w, taken_w, more, mod-lt at wide) in
+      ap (λ n. n / w * w) (sym end) ∙ ap (λ q. q * w) (div-mul-add (at / w + 1) w 0 wide)
+      ∙ omega (arith, end)
+
+  pub whole_at : (whole ≡ 0) ⊎ ((at + head) / w * w ≡ at + head)
+  whole_at = elim (cases_eq whole 0) [
+    | inl none ↦ inl none
+    | inr some ↦
+        let row = mul-le 1 w whole w (omega (arith, some)) (omega arith) in
+        inr (at_block (omega (arith, row, one-mul w, whole-le, wide)))
+  ]
+
+  -- the three parts are the stretch
+  pub AreCopied-parts : {start : ℕ} {olds others a b c : List ℕ}
+      → AreCopied w at start head olds others a
+      → AreCopied w ((at + head) / u * w) (start + head) (whole * w) a others b
+      → AreCopied w (at + (head + whole * u)) (start + (head + whole * u))
+      (count - (head + whole * u)) b others c
+      → AreCopied w at start count olds others c
+  AreCopied-parts {start} {olds} {others} {a} {b} {c} front middle back =
+      let units : head + whole * u ≡ head + whole * w = ap (λ v. head + whole * v) same in
+      let placed : AreCopied w (at + head) (start + head) (whole * w) a others b =
+      elim whole_at [
+        | inl none ↦
+            let zero : whole * w ≡ 0 = ap (λ q. q * w) none ∙ zero-mul w in
+            subst (λ (n : ℕ). AreCopied w (at + head) (start + head) n a others b) (sym zero)
+            (AreCopied-anywhere (at + head)
+            (subst (λ (n : ℕ). AreCopied w ((at + head) / u * w) (start + head) n a others b) zero
+            middle))
+        | inr here ↦
+            let there : (at + head) / u * w ≡ at + head =
+            ap (λ v. (at + head) / v * w) same ∙ here in
+            subst (λ (p : ℕ). AreCopied w p (start + head) (whole * w) a others b) there middle
+      ] in
+      let all : head + whole * w + (count - (head + whole * w)) ≡ count =
+      omega (arith, whole-le) in
+      subst (λ (n : ℕ). AreCopied w at start n olds others c) all
+      (AreCopied-then (AreCopied-then front placed) (subst (λ (d : ℕ).
+      AreCopied w (at + d) (start + d) (count - d) b others c) units back))

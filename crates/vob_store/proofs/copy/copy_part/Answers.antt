@@ -1,0 +1,27 @@
+-- The block is made of itself and of the bits, moved up to their place.
+use Rattle.std.proofs.Common.{◌/◌, ◌%◌, length, map, ap, arith}
+use Rattle.std.proofs.lemmas.List.{length-map, map-set}
+use Rattle.vob_store.proofs.BuildLemmas.{number_indexed}
+use Rattle.vob_store.proofs.CopyLemmas.{block_and_place, block_inside, AreCopied-spliced}
+use Rattle.vob_store.proofs.copy.copy_part.Goals as goal
+
+pub returns-clause-copied : goal.returns-clause-copied
+returns-clause-copied g c =
+    let number = g.T.Block.number in
+    let w = g.T.Block.BITS in
+    let u = c.BITS-width.result in
+    let at = c.args.at in
+    let own = c.args.own.now in
+    let whole = block_and_place w at u c.BITS-width.ensures in
+    let room = block_inside w (at / u) (at % u) at (length own)
+    whole
+    (omega (arith, c.requires.inside, c.if-count-eq0.false)) in
+    rw map-set (AreCopied-spliced w g.met.T.Block.wide_law (map number own)
+    (map number c.args.other.now.items) (at / u) (number c.spliced-2.result)
+    (omega (arith, room, length-map own number)) at (at % u) c.args.start c.args.count
+    (number c.index-own-k.result) (number c.bits_at.result) (number c.up-bits.result)
+    (number c.spliced.result) whole
+    (omega (arith, c.requires.one, ap (λ v. at % v) c.BITS-width.ensures))
+    (number_indexed number own (at / u) c.index-own-k.result room c.index-own-k.is)
+    c.bits_at.ensures.places c.up-bits.ensures.places c.spliced.ensures.places
+    c.spliced-2.ensures.places)

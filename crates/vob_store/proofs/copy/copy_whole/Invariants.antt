@@ -1,0 +1,13 @@
+-- The blocks so far are copied, and the others are as they were.
+use Rattle.std.proofs.Common.{◌≡◌, ◌+◌, ◌*◌, ◌≤◌, map}
+use Rattle.vob_store.specs.Copying.{AreCopied}
+use Rattle.vob_store.proofs.copy.copy_whole.Given as goal
+
+abbrev pub invariant-loop-k : goal.invariant-loop-k
+invariant-loop-k g l = record {
+  copied : AreCopied g.T.Block.BITS (l.first * g.T.Block.BITS) l.start (l.k * g.T.Block.BITS)
+      (map g.T.Block.number l.fn.own) (map g.T.Block.number l.fn.other.items)
+      (map g.T.Block.number l.own);
+  items : l.other.items ≡ l.fn.other.items;
+  reads : l.other.reads ≤ l.fn.other.reads + 2 * l.k;
+}

@@ -1,0 +1,114 @@
+//! Copying: bits of some blocks written over those of others. Each block that is written takes its
+//! bits from two neighbours, where the offsets lie apart.
+ghost use Rattle.std.specs.Prelude.{◌≡◌, ◌+◌, ◌*◌, ◌/◌, ◌%◌, ◌^◌, ◌<◌, ◌≤◌, All, map, length, slice_index_or};
+ghost use Rattle.vob_block.specs.Places.{HasPlaces};
+ghost use Rattle.vob_block.specs.Packing.{bit_at};
+ghost use Rattle.vob_store.specs.Copying.{AreCopied};
+
+use crate::drain::spliced;
+use vob_block::{Block, Blocks};
+
+/// Block `k`, or an empty one where there is none. It is read once at most.
+fn read_or_zero<T: Block>(other: &mut Blocks<'_, T>, k: usize) -> T
+    ensures block { T.number result ≡ slice_index_or (map T.number other.old.items) k 0 }
+    ensures items { other.new.items ≡ other.old.items }
+    ensures reads { other.new.reads ≤ other.old.reads + 1 }
+{
+    if k < other.len() {
+        other.block(k)
+    } else {
+        T::ZERO
+    }
+}
+
+/// A block of the bits from index `from` on, false past the end. Two blocks are read at most.
+fn bits_at<T: Block>(other: &mut Blocks<'_, T>, from: usize) -> T
+    ensures places { HasPlaces T.BITS (T.number result)
+        (λ j. bit_at (map T.number other.old.items) T.BITS (from + j)) }
+    ensures items { other.new.items ≡ other.old.items }
+    ensures reads { other.new.reads ≤ other.old.reads + 2 }
+{
+    let width = T::BITS;
+    let k = from / width;
+    let places = from % width;
+    let low = read_or_zero(other, k);
+    if places == 0 {
+        return low;
+    }
+    low.funnel_down(read_or_zero(other, k + 1), places)
+}
+
+/// Writes the `count` bits of `other` from `start` on over those from `at` on, in one block.
+fn copy_part<T: Block>(
+    own: &mut [T],
+    at: usize,
+    other: &mut Blocks<'_, T>,
+    start: usize,
+    count: usize,
+)
+    requires one { at % T.BITS + count ≤ T.BITS }
+    requires inside { at + count ≤ length own.old * T.BITS }
+    ensures copied { AreCopied T.BITS at start count (map T.number own.old)
+        (map T.number other.old.items) (map T.number own.new) }
+    ensures items { other.new.items ≡ other.old.items }
+    ensures reads { other.new.reads ≤ other.old.reads + 2 }
+{
+    if count == 0 {
+        return;
+    }
+    let width = T::BITS;
+    let k = at / width;
+    let used = at % width;
+    let block = own[k];
+    let bits = bits_at(other, start).up(used);
+    own[k] = spliced(spliced(block, bits, used), block, used + count);
+}
+
+/// Stores `count` blocks of the bits of `other` from `start` on, from block `first` on.
+fn copy_whole<T: Block>(
+    own: &mut [T],
+    first: usize,
+    other: &mut Blocks<'_, T>,
+    start: usize,
+    count: usize,
+)
+    requires inside { first + count ≤ length own.old }
+    requires fits { start + count * T.BITS ≤ usize.MAX }
+    ensures copied { AreCopied T.BITS (first * T.BITS) start (count * T.BITS)
+        (map T.number own.old) (map T.number other.old.items) (map T.number own.new) }
+    ensures items { other.new.items ≡ other.old.items }
+    ensures reads { other.new.reads ≤ other.old.reads + 2 * count }
+{
+    let width = T::BITS;
+    for k in 0..count {
+        own[first + k] = bits_at(other, start + k * width);
+    }
+}
+
+/// Writes the `count` bits of `other` from `start` on over those from `at` on: up to the end of a
+/// block, then whole blocks, and then what is left. Two blocks are read at most for each written.
+pub fn copy_bits<T: Block>(
+    own: &mut [T],
+    at: usize,
+    other: &mut Blocks<'_, T>,
+    start: usize,
+    count: usize,
+)
+    requires inside { at + count ≤ length own.old * T.BITS }
+    requires own { at + count ≤ usize.MAX }
+    requires other { start + count ≤ usize.MAX }
+    ensures copied { AreCopied T.BITS at start count (map T.number own.old)
+        (map T.number other.old.items) (map T.number own.new) }
+    ensures within { All (λ n. n < 2 ^ T.BITS) (map T.number own.new) }
+    ensures items { other.new.items ≡ other.old.items }
+    ensures reads { other.new.reads ≤ other.old.reads + 2 * (count / T.BITS + 2) }
+{
+    let width = T::BITS;
+    let head = count.min(width - at % width);
+    copy_part(own, at, other, start, head);
+    let whole = (count - head) / width;
+    copy_whole(own, (at + head) / width, other, start + head, whole);
+    let done = head + whole * width;
+    copy_part(own, at + done, other, start + done, count - done);
+    T::all_in_range(own);
+}
