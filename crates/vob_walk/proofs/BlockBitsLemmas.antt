@@ -1,6 +1,6 @@
 -- A block in hand, and its first or last index taken.
 use Rattle.std.specs.List.{range_with_len}
-use Rattle.std.proofs.Common.{◌≡◌, ◌≢◌, ℕ, zero, suc, ◌+◌, ◌-◌, ◌^◌, ◌<◌, ◌≤◌, Bool, true, false, cond, List, [], ◌∷◌, ◌++◌, length, ◌↔◌, eqb, refl, sym, ap, ◌∙◌, subst, arith, inl, inr, append-nil}
+use Rattle.std.proofs.Common.{◌≡◌, ◌≢◌, ℕ, zero, suc, ◌+◌, ◌-◌, ◌^◌, ◌<◌, ◌≤◌, Bool, true, false, cond, List, [], ◌∷◌, ◌++◌, length, ◌↔◌, eqb, refl, sym, ap, ◌∙◌, subst, arith, inl, inr, append-nil, length-append}
 use Rattle.std.proofs.lemmas.Bool.{cases_eq, cases_lt, false≢true, eq-eqb, eqb-true, ne_eqb, cond-true, cond-false}
 use Rattle.std.proofs.lemmas.List.Sums.{length-filter}
 use Rattle.std.proofs.lemmas.Nat.{pow_pos}
@@ -158,6 +158,19 @@ pub length-block_indices : (w at x : ℕ) → length (block_indices w at x) ≡ 
 unfolding block_indices true_places
 length-block_indices w at x = length-indices_at (λ j. place j x) at at 0 w (omega arith)
     ∙ length-filter (λ j. place j x) (range_with_len 0 w)
+
+-- where some of a list are left there is one, and where the first or the last is taken one less is
+pub some_left : {xs : List ℕ} {left : ℕ} → left ≡ length xs → 0 < left → xs ≢ []
+some_left count some none = absurd (omega (arith, count ∙ ap length none, some))
+
+pub left-first : {xs ys : List ℕ} {left i : ℕ} → left ≡ length xs → xs ≡ i ∷ ys
+    → left - 1 ≡ length ys
+left-first count first = omega (arith, count ∙ ap length first)
+
+pub left-last : {xs : List ℕ} {left : ℕ} (ys : List ℕ) (i : ℕ) → left ≡ length xs
+    → xs ≡ ys ++ i ∷ [] → left - 1 ≡ length ys
+left-last ys i count last =
+    omega (arith, count ∙ ap length last ∙ length-append ys (i ∷ []))
 
 -- ---- one place made false, by `^` with it alone
 

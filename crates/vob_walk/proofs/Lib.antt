@@ -2,6 +2,7 @@ pub mod BlockBitsLemmas
 pub mod CountLemmas
 pub mod CursorLemmas
 pub mod IndexLemmas
+pub mod LowestLemmas
 pub mod MatchesLemmas
 pub mod PullLemmas
 pub mod ReadLemmas

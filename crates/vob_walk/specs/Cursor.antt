@@ -2,7 +2,7 @@
 -- No public contract cites this page.
 use Rattle.std.specs.Prelude.{◌≡◌, ℕ, ◌+◌, ◌-◌, ◌*◌, ◌/◌, ◌^◌, ◌<◌, ◌≤◌, Bool, true, ◌&&◌, nat_le, nat_lt, List, ◌++◌, length, min, filter}
 use Rattle.std.specs.List.{range_with_len}
-use Rattle.vob_block.specs.Places.{place}
+use Rattle.vob_block.specs.Places.{place, HasZerosLow}
 use Rattle.vob_block.specs.Packing.{need, bit_at}
 use Rattle.vob_walk.specs.Matches.{has_value}
 use Rattle.vob_walk.specs.Walk.{Walk}
@@ -34,6 +34,14 @@ indices_in width block at value start stop = indices_where
 pub record IsBlockBits (width at block : ℕ) : Type 0 where
   pub within : block < 2 ^ width
   pub fits : (j : ℕ) → j < width → place j block ≡ true → at + j < 2 ^ 64
+
+-- a block in hand with how many indices are left and the first of them, if there is one
+pub record IsReady (width at block left ready : ℕ) : Type 0 where
+  pub bits : IsBlockBits width at block
+  pub count : left ≡ length (block_indices width at block)
+  pub place : ℕ
+  pub zeros : HasZerosLow width block place
+  pub first : place < width → ready ≡ at + place
 
 -- the unread blocks of a walk: the indices that are left in them, how many blocks were read so far,
 -- and how many are unread

@@ -1,7 +1,7 @@
 //! The indices of one block, at an end of a walk.
-ghost use Rattle.std.specs.Prelude.{◌≡◌, ◌==◌, ◌↔◌, if◌then◌else◌, true, false, ◌^◌, ◌<◌, [], length, IsTrue};
+ghost use Rattle.std.specs.Prelude.{◌≡◌, ◌≢◌, ◌==◌, ◌↔◌, ℕ, if◌then◌else◌, true, false, ◌^◌, ◌<◌, [], length, IsTrue};
 ghost use Rattle.std.specs.Iterator.{YieldsFirst, YieldsLast};
-ghost use Rattle.vob_block.specs.Places.{place, HasPlaces};
+ghost use Rattle.vob_block.specs.Places.{place, HasPlaces, HasZerosLow};
 ghost use Rattle.vob_walk.specs.Cursor.{block_indices, IsBlockBits};
 
 use std::marker::Model;
@@ -13,17 +13,21 @@ use vob_block::Block;
 pub(crate) struct BlockBits<T: Block> {
     word: T,
     at: usize,
+    // How many are left. A loop ends by this count, which is known long before the last word is.
+    left: usize,
+    // The first of them, if there is one: so a loop that uses it needn't wait for its place.
+    ready: usize,
 }
 
 impl<T: Block> Model for BlockBits<T> {
     ghost use Rattle.std.specs.Prelude.{ℕ, List};
-    ghost use Rattle.vob_walk.specs.Cursor.{block_indices, IsBlockBits};
+    ghost use Rattle.vob_walk.specs.Cursor.{block_indices, IsReady};
 
     ghost Value = { List ℕ };
 
     ghost view = { λ bits. block_indices T.BITS bits.at (T.number bits.word) };
 
-    ghost invariant = { λ bits. IsBlockBits T.BITS bits.at (T.number bits.word) };
+    ghost invariant = { λ bits. IsReady T.BITS bits.at (T.number bits.word) bits.left bits.ready };
 }
 
 /// Whether no place is true.
@@ -46,23 +50,52 @@ fn without_place<T: Block>(block: T, j: usize) -> T
     block.bxor(T::ONE.up(j))
 }
 
+/// The block with its first true place made false. The number of that place isn't waited for.
+#[inline(always)]
+fn without_first<T: Block>(block: T) -> T
+    requires { T.number block ≢ 0 }
+    ensures places { (j : ℕ) → HasZerosLow T.BITS (T.number block) j
+        → HasPlaces T.BITS (T.number result)
+        (λ i. if i == j then false else place i (T.number block)) }
+    ensures within { T.number result < 2 ^ T.BITS }
+{
+    block.in_range();
+    let less = block - T::ONE;
+    block.band(less)
+}
+
 impl<T: Block> BlockBits<T> {
     /// No indices.
     pub(crate) fn none() -> BlockBits<T>
         ensures { result ≡ [] }
     {
+        BlockBits::counted(T::ZERO, 0, 0)
+    }
+
+    /// The indices of a block's true places, which are `left`.
+    #[inline(always)]
+    fn counted(word: T, at: usize, left: usize) -> BlockBits<T>
+        requires bits { IsBlockBits T.BITS at (T.number word) }
+        requires count { left ≡ length (block_indices T.BITS at (T.number word)) }
+        ensures { result ≡ block_indices T.BITS at (T.number word) }
+    {
+        // Where no place is true this is no index, and may be past the greatest one.
+        let ready = at.wrapping_add(word.zeros_low());
         BlockBits {
-            word: T::ZERO,
-            at: 0,
+            word,
+            at,
+            left,
+            ready,
         }
     }
 
     /// The indices of a block's true places.
+    #[inline(always)]
     pub(crate) fn of(word: T, at: usize) -> BlockBits<T>
         requires { IsBlockBits T.BITS at (T.number word) }
         ensures { result ≡ block_indices T.BITS at (T.number word) }
     {
-        BlockBits { word, at }
+        BlockBits::counted(word, at, word.ones_in())
     }
 
     /// Whether no index is left.
@@ -70,14 +103,14 @@ impl<T: Block> BlockBits<T> {
     pub(crate) fn is_empty(&self) -> bool
         ensures { IsTrue result ↔ (self.now ≡ []) }
     {
-        is_zero(self.word)
+        self.left == 0
     }
 
     /// How many indices are left.
     pub(crate) fn count(&self) -> usize
         ensures { result ≡ length self.now }
     {
-        self.word.ones_in()
+        self.left
     }
 
     /// The first index that is left, taken.
@@ -85,14 +118,12 @@ impl<T: Block> BlockBits<T> {
     pub(crate) fn next(&mut self) -> Option<usize>
         ensures { YieldsFirst (λ rest. rest) self.old result self.new }
     {
-        // Tested first: where a block isn't 0, the count of its zeros is one instruction.
-        let word = self.word;
-        if is_zero(word) {
+        if self.left == 0 {
             return None;
         }
-        let place = word.zeros_low();
-        self.word = without_place(word, place);
-        Some(self.at + place)
+        let index = self.ready;
+        *self = BlockBits::counted(without_first(self.word), self.at, self.left - 1);
+        Some(index)
     }
 
     /// The last index that is left, taken.
@@ -100,12 +131,12 @@ impl<T: Block> BlockBits<T> {
     pub(crate) fn next_back(&mut self) -> Option<usize>
         ensures { YieldsLast (λ rest. rest) self.old result self.new }
     {
-        let word = self.word;
-        if is_zero(word) {
+        if self.left == 0 {
             return None;
         }
+        let (word, at) = (self.word, self.at);
         let place = T::BITS - 1 - word.zeros_high();
-        self.word = without_place(word, place);
-        Some(self.at + place)
+        *self = BlockBits::counted(without_place(word, place), at, self.left - 1);
+        Some(at + place)
     }
 }

@@ -1,5 +1,5 @@
 -- By the lemmas on blocks that are read one after another.
-use Rattle.std.proofs.Common.{◌-◌, ◌<◌, ◌∙◌, [], length, sym, ap, arith}
+use Rattle.std.proofs.Common.{◌-◌, ◌<◌, ◌∙◌, length, sym, ap, arith}
 use Rattle.std.proofs.lemmas.Bool.{false≢true}
 use Rattle.vob_walk.proofs.ReadLemmas.{ScansDown-inside, ReadsDown-start, ReadsDown-found, ReadsDown-end}
 use Rattle.vob_walk.proofs.scan.find_back.Goals as goal

@@ -1,5 +1,5 @@
 -- By the lemmas on blocks that are read one after another.
-use Rattle.std.proofs.Common.{◌+◌, ◌-◌, ◌<◌, ◌∙◌, [], length, sym, ap, arith}
+use Rattle.std.proofs.Common.{◌+◌, ◌-◌, ◌<◌, ◌∙◌, length, sym, ap, arith}
 use Rattle.std.proofs.lemmas.Bool.{false≢true}
 use Rattle.vob_walk.proofs.ReadLemmas.{ScansUp-inside, ReadsUp-start, ReadsUp-found, ReadsUp-end}
 use Rattle.vob_walk.proofs.scan.find_front.Goals as goal

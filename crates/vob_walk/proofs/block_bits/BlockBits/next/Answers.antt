@@ -1,41 +1,39 @@
--- The first true place is the first index that is left.
-use Rattle.std.proofs.Common.{rules}
-use Rattle.vob_walk.proofs.BlockBitsLemmas.{block_indices-zero, some_index, first_there, block_indices-first}
+-- The first true place is the index that is ready, and one less is left.
+use Rattle.std.proofs.Common.{◌<◌, ◌∷◌, ◌∙◌, ap, sym, arith}
+use Rattle.vob_walk.specs.Cursor.{block_indices}
+use Rattle.vob_walk.proofs.BlockBitsLemmas.{block_indices-zero, some_left, first_there, block_indices-first, IsBlockBits-cleared, left-first}
 use Rattle.vob_walk.proofs.block_bits.BlockBits.next.Goals as goal
 
-pub returns-then-is_zero : goal.returns-then-is_zero
-returns-then-is_zero g c =
+pub without_first-requires : goal.without_first-requires
+without_first-requires g c =
     let s = c.self.inside in
-    let none = block_indices-zero g.T.Block.BITS s.at (g.T.Block.number s.word)
-    (c.is_zero.ensures.0 c.if-is_zero.true) in
-    rw (← c.self.view_is) (none, none)
+    let left : 0 < s.left = grind (arith, c.if-self-eq0.false) in
+    λ zero. some_left c.self.invariant.count left (block_indices-zero _ s.at _ zero)
 
-pub without_place-self-inside-requires-clause-inside :
-    goal.without_place-self-inside-requires-clause-inside
-without_place-self-inside-requires-clause-inside g c =
-    (first_there _ _ _ _ c.zeros_low-place.ensures
-    (some_index _ c.self.inside.at _ _ c.is_zero.ensures c.self.invariant.within
-    c.if-is_zero.false)).0
+pub counted-requires-clause-bits : goal.counted-requires-clause-bits
+counted-requires-clause-bits g c =
+    let h = c.self.invariant in
+    let left : 0 < c.self.inside.left = grind (arith, c.if-self-eq0.false) in
+    let first = first_there _ c.self.inside.at _ _ h.zeros (some_left h.count left) in
+    IsBlockBits-cleared _ _ _ _ h.place first.0 first.1
+    (c.without_first.ensures.places h.place h.zeros) c.without_first.ensures.within h.bits
 
-pub without_place-self-inside-requires-clause-there :
-    goal.without_place-self-inside-requires-clause-there
-without_place-self-inside-requires-clause-there g c =
-    (first_there _ _ _ _ c.zeros_low-place.ensures
-    (some_index _ c.self.inside.at _ _ c.is_zero.ensures c.self.invariant.within
-    c.if-is_zero.false)).1
-
-pub overflow_add-result : goal.overflow_add-result
-overflow_add-result g c =
-    let first = first_there _ _ _ _ c.zeros_low-place.ensures
-    (some_index _ c.self.inside.at _ _ c.is_zero.ensures c.self.invariant.within
-    c.if-is_zero.false) in
-    let fits = c.self.invariant.fits c.zeros_low-place.result first.0 first.1 in
-    search (fits, rules)
+pub counted-requires-clause-count : goal.counted-requires-clause-count
+counted-requires-clause-count g c =
+    let h = c.self.invariant in
+    let left : 0 < c.self.inside.left = grind (arith, c.if-self-eq0.false) in
+    let first = first_there _ c.self.inside.at _ _ h.zeros (some_left h.count left) in
+    left-first h.count (block_indices-first _ c.self.inside.at _ _ h.place first.0 first.1
+    (c.without_first.ensures.places h.place h.zeros) h.zeros)
 
 pub returns : goal.returns
 returns g c =
-    let first = first_there _ _ _ _ c.zeros_low-place.ensures
-    (some_index _ c.self.inside.at _ _ c.is_zero.ensures c.self.invariant.within
-    c.if-is_zero.false) in
-    rw (← c.self.view_is) (block_indices-first _ _ _ _ _ first.0 first.1
-    c.without_place-self-inside.ensures.places c.zeros_low-place.ensures)
+    let s = c.self.inside in
+    let h = c.self.invariant in
+    let left : 0 < s.left = grind (arith, c.if-self-eq0.false) in
+    let first = first_there _ c.self.inside.at _ _ h.zeros (some_left h.count left) in
+    rw (← c.self.view_is, c.self-2.view_is, c.counted.ensures)
+    (block_indices-first _ s.at _ _ h.place first.0 first.1
+    (c.without_first.ensures.places h.place h.zeros) h.zeros
+    ∙ ap (λ i. i ∷ block_indices g.T.Block.BITS s.at (g.T.Block.number c.without_first.result))
+    (sym (h.first first.0)))

@@ -1,33 +1,38 @@
--- The last true place is the last index that is left.
-use Rattle.std.proofs.Common.{◌-◌, ap}
-use Rattle.vob_walk.proofs.BlockBitsLemmas.{block_indices-zero, some_index, last_there, block_indices-last}
+-- The last true place is the last index that is left, and one less is left.
+use Rattle.std.proofs.Common.{◌-◌, ◌<◌, ap, arith}
+use Rattle.vob_walk.proofs.BlockBitsLemmas.{some_left, last_there, block_indices-last, left-last}
 use Rattle.vob_walk.proofs.block_bits.BlockBits.next_back.Goals as goal
-
-pub returns-then-is_zero : goal.returns-then-is_zero
-returns-then-is_zero g c =
-    let s = c.self.inside in
-    let none = block_indices-zero g.T.Block.BITS s.at (g.T.Block.number s.word)
-    (c.is_zero.ensures.0 c.if-is_zero.true) in
-    rw (← c.self.view_is) (none, none)
 
 pub overflow_sub-place-2 : goal.overflow_sub-place-2
 overflow_sub-place-2 g c =
-    (last_there _ _ _ _ _ c.BITS.ensures c.zeros_high.ensures
-    (some_index _ c.self.inside.at _ _ c.is_zero.ensures c.self.invariant.within
-    c.if-is_zero.false)).0
+    let h = c.self.invariant in
+    let left : 0 < c.self.inside.left = grind (arith, c.if-self-eq0.false) in
+    (last_there _ _ c.self.inside.at _ _ c.BITS.ensures c.zeros_high.ensures (some_left h.count left)).0
 
-pub without_place-self-inside-requires-clause-there :
-    goal.without_place-self-inside-requires-clause-there
-without_place-self-inside-requires-clause-there g c =
-    (last_there _ _ _ _ _ c.BITS.ensures c.zeros_high.ensures
-    (some_index _ c.self.inside.at _ _ c.is_zero.ensures c.self.invariant.within
-    c.if-is_zero.false)).2
+pub without_place-requires-clause-there : goal.without_place-requires-clause-there
+without_place-requires-clause-there g c =
+    let h = c.self.invariant in
+    let left : 0 < c.self.inside.left = grind (arith, c.if-self-eq0.false) in
+    (last_there _ _ c.self.inside.at _ _ c.BITS.ensures c.zeros_high.ensures (some_left h.count left)).2
+
+pub counted-requires-clause-count : goal.counted-requires-clause-count
+counted-requires-clause-count g c =
+    let h = c.self.invariant in
+    let left : 0 < c.self.inside.left = grind (arith, c.if-self-eq0.false) in
+    let last = last_there _ _ c.self.inside.at _ _ c.BITS.ensures c.zeros_high.ensures
+    (some_left h.count left) in
+    left-last _ _ h.count (block_indices-last _ c.self.inside.at _ _ _ last.1 last.2
+    c.without_place.ensures.places c.zeros_high.result c.zeros_high.ensures
+    (ap (λ m. m - 1 - c.zeros_high.result) c.BITS.ensures))
 
 pub returns : goal.returns
 returns g c =
-    let last = last_there _ _ _ _ _ c.BITS.ensures c.zeros_high.ensures
-    (some_index _ c.self.inside.at _ _ c.is_zero.ensures c.self.invariant.within
-    c.if-is_zero.false) in
-    rw (← c.self.view_is) (block_indices-last _ _ _ _ _ last.1 last.2
-    c.without_place-self-inside.ensures.places c.zeros_high.result c.zeros_high.ensures
+    let s = c.self.inside in
+    let h = c.self.invariant in
+    let left : 0 < s.left = grind (arith, c.if-self-eq0.false) in
+    let last = last_there _ _ c.self.inside.at _ _ c.BITS.ensures c.zeros_high.ensures
+    (some_left h.count left) in
+    rw (← c.self.view_is, c.self-2.view_is, c.counted.ensures)
+    (block_indices-last _ s.at _ _ _ last.1 last.2
+    c.without_place.ensures.places c.zeros_high.result c.zeros_high.ensures
     (ap (λ m. m - 1 - c.zeros_high.result) c.BITS.ensures))
