@@ -16,6 +16,7 @@ mod paths;
 mod pointwise;
 mod raw;
 mod reads;
+mod runs;
 mod sets;
 mod single_bits;
 mod support;
