@@ -124,7 +124,8 @@ module _ (bits : List Bool) (from : ℕ) (run : Range ℕ) (runs : List (Range �
     each = All-cons (IsAbove bits from) run runs (first.run, first.first.above) (λ k d below.
         let h = rest.each k d below in
         (h.0, omega (arith, h.1, first.run.some, first.first.above)));
-    order = AllPairs-cons (λ run next. run.end < next.start) run runs (λ k d below. above_end _ (rest.each k d below)) rest.order;
+    order = AllPairs-cons (λ run next. run.end < next.start) run runs
+        (λ k d below. above_end _ (rest.each k d below)) rest.order;
     all = λ i above there. elim (cases_lt i run.end) [
       | inl within ↦ elim (cases_lt i run.start) [
         | inl before ↦ absurd (first.first.between i above before there)

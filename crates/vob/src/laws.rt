@@ -75,7 +75,7 @@ pub fn select_undoes_rank()
     ensures { SelectUndoesRank }
 {}
 
-/// All that a walk over runs gives, from `runs()` up to `None`, is each run in order, so that the set
+/// All that a walk over runs gives, from `runs()` up to `None`, is each run in order, so the set
 /// bits are those of the ranges that it gave.
 pub fn walk_gives_runs()
     ensures { WalkGivesRuns }

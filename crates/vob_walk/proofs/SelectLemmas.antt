@@ -16,7 +16,8 @@ use Rattle.vob_walk.proofs.CountLemmas.{indices_where-alike, ones-indices_where,
 
 -- ---- the true places below one
 
-pub true_places-more : (n x : ℕ) → true_places (n + 1) x ≡ true_places n x + cond (place n x) 1 0
+pub true_places-more : (n x : ℕ) → true_places (n + 1) x
+    ≡ true_places n x + cond (place n x) 1 0
 unfolding true_places
 true_places-more n x = ap (count_by (λ j. place j x)) (range-more n)
     ∙ sum_by_push (λ j. cond (place j x) 1 0) (range_with_len 0 n) n
@@ -88,15 +89,22 @@ module _ (w : ℕ) (xs : List ℕ) (k x : ℕ) (read : x ≡ get_or xs k 0) wher
       ∙ ones-more w xs 0 k x (omega arith) read
       ∙ ap (λ n. ones_between w xs n (k * w) + true_places w x) none
 
-  pub HasRank-place : (rank left j : ℕ) → ones_between w xs 0 (k * w) + left ≡ rank → j < w
-      → place j x ≡ true → true_places j x ≡ left → HasRank w xs rank (k * w + j)
-  HasRank-place rank left j before inside there ones = record {
-    there = bit_at-place j inside there;
-    below = omega (
-      arith,
-      before,
-      ones,
-      ones-split w xs 0 (k * w) (k * w + j) (omega arith) (omega arith),
-      ones-part j (omega arith),
-    );
-  }
+  module _ {rank left j : ℕ} (before : ones_between w xs 0 (k * w) + left ≡ rank)
+      (inside : j < w) (there : place j x ≡ true) (ones : true_places j x ≡ left) where
+    pub HasRank-place : HasRank w xs rank (k * w + j)
+    HasRank-place = record {
+      there = bit_at-place j inside there;
+      below = omega (
+        arith,
+        before,
+        ones,
+        ones-split w xs 0 (k * w) (k * w + j) (omega arith) (omega arith),
+        ones-part j (omega arith),
+      );
+    }
+
+    -- (v is the width as the code read it)
+    pub place-fits : {v most : ℕ} → v ≡ w → ((i : ℕ) → bit_at xs w i ≡ true → i ≤ most)
+        → k * v + j ≤ most
+    place-fits width fits =
+        omega (arith, fits (k * w + j) HasRank-place.there, ap (λ u. k * u) width)

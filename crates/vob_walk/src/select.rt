@@ -11,9 +11,11 @@ use vob_block::{Block, Blocks};
 /// Reads the blocks up to the one that holds it once each, and no other. vob 4.0.1 has no public
 /// call like it.
 pub fn index_of_rank<T: Block>(blocks: &mut Blocks<'_, T>, rank: usize) -> Option<usize>
-    requires fits { (i : ℕ) → bit_at (map T.number blocks.old.items) T.BITS i ≡ true → i ≤ usize.MAX }
+    requires fits { (i : ℕ) → bit_at (map T.number blocks.old.items) T.BITS i ≡ true
+        → i ≤ usize.MAX }
     ensures found { MatchOption result
-        (ones_between T.BITS (map T.number blocks.old.items) 0 (length blocks.old.items * T.BITS) ≤ rank)
+        (ones_between T.BITS (map T.number blocks.old.items) 0
+        (length blocks.old.items * T.BITS) ≤ rank)
         (HasRank T.BITS (map T.number blocks.old.items) rank) }
     ensures reads { blocks.new.reads ≡ blocks.old.reads
         + unwrap_or (option_map (λ i. i / T.BITS + 1) result) (length blocks.old.items) }

@@ -1,5 +1,5 @@
-//! The set bit of a rank and the runs of set bits, by patterns and by ends at the borders of blocks,
-//! against one bit after another.
+//! The set bit of a rank and the runs of set bits, by patterns and by ends at the borders of
+//! blocks, against one bit after another.
 use super::support::{filled, pattern, same, write};
 use std::process::Abort;
 use vob::Vob;

@@ -1,8 +1,8 @@
 -- The blocks below hold as many true bits as were taken off, and this one holds the rest.
-use Rattle.std.proofs.Common.{◌+◌, ◌*◌, ◌∙◌, map, refl, ap, arith}
+use Rattle.std.proofs.Common.{◌*◌, ◌∙◌, map, refl, arith}
 use Rattle.vob_block.proofs.NumberLemmas.{number_read}
 use Rattle.vob_walk.proofs.CountLemmas.{ones-none}
-use Rattle.vob_walk.proofs.SelectLemmas.{HasRank-place, ones-whole}
+use Rattle.vob_walk.proofs.SelectLemmas.{HasRank-place, ones-whole, place-fits}
 use Rattle.vob_walk.proofs.select.index_of_rank.Goals as goal
 
 pub loop-k-init : goal.loop-k-init
@@ -33,37 +33,27 @@ loop-k-preserved g c =
 pub overflow_mul-result : goal.overflow_mul-result
 overflow_mul-result g c =
     let h = c.loop-k.invariant in
-    let items = c.args.blocks.now.items in
-    let place = c.place_of_rank-place in
-    let read = number_read g.T.Block.number items c.loop-k.k c.block-block.result
+    let at = c.place_of_rank-place.ensures in
+    let read = number_read g.T.Block.number c.args.blocks.now.items _ _
     (rw h.items at c.block-block.ensures.block) in
-    let ranked = HasRank-place g.T.Block.BITS (map g.T.Block.number items) c.loop-k.k
-    (g.T.Block.number c.block-block.result) read c.args.rank c.loop-k.left place.result h.ones
-    place.ensures.inside place.ensures.there place.ensures.rank in
-    let fits = c.requires.fits (c.loop-k.k * g.T.Block.BITS + place.result) ranked.there in
-    omega (arith, fits, ap (λ v. c.loop-k.k * v) c.BITS.ensures)
+    let fits = place-fits g.T.Block.BITS _ _ _ read h.ones at.inside at.there at.rank
+    c.BITS.ensures c.requires.fits in
+    omega (arith, fits)
 
 pub overflow_add-result : goal.overflow_add-result
 overflow_add-result g c =
     let h = c.loop-k.invariant in
-    let items = c.args.blocks.now.items in
-    let place = c.place_of_rank-place in
-    let read = number_read g.T.Block.number items c.loop-k.k c.block-block.result
+    let at = c.place_of_rank-place.ensures in
+    let read = number_read g.T.Block.number c.args.blocks.now.items _ _
     (rw h.items at c.block-block.ensures.block) in
-    let ranked = HasRank-place g.T.Block.BITS (map g.T.Block.number items) c.loop-k.k
-    (g.T.Block.number c.block-block.result) read c.args.rank c.loop-k.left place.result h.ones
-    place.ensures.inside place.ensures.there place.ensures.rank in
-    let fits = c.requires.fits (c.loop-k.k * g.T.Block.BITS + place.result) ranked.there in
-    omega (arith, fits, ap (λ v. c.loop-k.k * v) c.BITS.ensures)
+    let fits = place-fits g.T.Block.BITS _ _ _ read h.ones at.inside at.there at.rank
+    c.BITS.ensures c.requires.fits in
+    omega (arith, fits)
 
 pub returns-then-left-ones-clause-found : goal.returns-then-left-ones-clause-found
 returns-then-left-ones-clause-found g c =
     let h = c.loop-k.invariant in
-    let items = c.args.blocks.now.items in
-    let place = c.place_of_rank-place in
-    let read = number_read g.T.Block.number items c.loop-k.k c.block-block.result
+    let at = c.place_of_rank-place.ensures in
+    let read = number_read g.T.Block.number c.args.blocks.now.items _ _
     (rw h.items at c.block-block.ensures.block) in
-    rw c.BITS.ensures
-    (HasRank-place g.T.Block.BITS (map g.T.Block.number items) c.loop-k.k
-    (g.T.Block.number c.block-block.result) read c.args.rank c.loop-k.left place.result h.ones
-    place.ensures.inside place.ensures.there place.ensures.rank)
+    rw c.BITS.ensures (HasRank-place g.T.Block.BITS _ _ _ read h.ones at.inside at.there at.rank)
