@@ -6,6 +6,7 @@ pub mod ExtendingLemmas
 pub mod HashLemmas
 pub mod ItemLemmas
 pub mod PairLemmas
+pub mod RangeLemmas
 pub mod RestLemmas
 pub mod RunsLemmas
 pub mod SameLemmas

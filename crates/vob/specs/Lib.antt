@@ -4,6 +4,7 @@ pub mod Extending
 pub mod Fed
 pub mod Laws
 pub mod Packs
+pub mod Ranges
 pub mod Raw
 pub mod RawLends
 pub mod Refusal

@@ -225,7 +225,7 @@ impl<T: Block> Vob<T> {
 }
 
 /// Where the indices below `len` that belong to a range begin, and where they end.
-fn cut_range<R: RangeBounds<usize>>(range: &R, len: usize) -> (usize, usize)
+pub(crate) fn cut_range<R: RangeBounds<usize>>(range: &R, len: usize) -> (usize, usize)
     ensures ordered { result.0 ≤ result.1 }
     ensures inside { result.1 ≤ len }
     ensures window { R.has_bounds range.now → (i : ℕ) → i < len

@@ -30,6 +30,7 @@ pub mod iter;
 pub mod laws;
 mod macros;
 pub mod ops;
+pub mod ranges;
 pub mod raw;
 pub mod runs;
 pub mod sets;

@@ -1,0 +1,19 @@
+-- What calls do to the bits of a range.
+use Rattle.std.specs.Prelude.{◌≡◌, ℕ, ◌<◌, ◌≤◌, ◌&&◌, nat_le, nat_lt, Bool, false, IsTrue, List, length}
+use Rattle.std.specs.declared.ops.Bound.{Bound}
+use Rattle.vob_block.specs.Packing.{item}
+use Rattle.vob_walk.specs.Matches.{within}
+
+-- a list whose bits within a range are changed by f, and whose others are as they were
+pub record IsChangedWithin (f : Bool → Bool) (low high : Bound ℕ) (bits after : List Bool)
+    : Type 0 where
+  pub len : length after ≡ length bits
+  pub inside : (i : ℕ) → i < length bits → IsTrue (within low high i)
+      → item after i ≡ f (item bits i)
+  pub outside : (i : ℕ) → within low high i ≡ false → item after i ≡ item bits i
+
+-- of the indices below len a range has those from start to below stop
+pub record IsRangeOf (low high : Bound ℕ) (len start stop : ℕ) : Type 0 where
+  pub order : start ≤ stop
+  pub inside : stop ≤ len
+  pub each : (i : ℕ) → i < len → within low high i ≡ (nat_le start i && nat_lt i stop)

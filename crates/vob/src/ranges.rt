@@ -1,0 +1,60 @@
+//! The bits of a range made one value, or negated, in place. vob 4.0.1 has none of these calls.
+ghost use Rattle.std.specs.Prelude.{◌≡◌, ◌≢◌, ◌↔◌, ℕ, ◌-◌, ◌++◌, not, map, take, drop, length, replicate, IsTrue};
+ghost use Rattle.vob.specs.Ranges.{IsChangedWithin, IsRangeOf};
+
+use crate::bulk::cut_range;
+use crate::vob::Vob;
+use std::ops::RangeBounds;
+use vob_block::Block;
+use vob_store::range::{Negate, Set, Unset, change_range};
+
+impl<T: Block> Vob<T> {
+    /// Makes each bit of the range `value`, and answers whether a bit changed. The range is cut at
+    /// the length, and one whose end is before its start is empty. Only its first and its last block
+    /// are masked.
+    ///
+    /// ```
+    /// let mut vob = vob::vob!(alloc; false, false, false)?;
+    /// assert!(rt; vob.set_range(1.., true));
+    /// assert!(rt; !vob.set_range(1..3, true));
+    /// assert!(rt; vob == vob::vob!(alloc; false, true, true)?);
+    /// ```
+    pub fn set_range<R: RangeBounds<usize>>(&mut self, range: R, value: bool) -> bool
+        ensures each { R.has_bounds range → IsChangedWithin (λ _. value)
+            (R.start_bound range) (R.end_bound range) self.old.bits self.new.bits }
+        ensures bits { R.has_bounds range → (start stop : ℕ)
+            → IsRangeOf (R.start_bound range) (R.end_bound range) (length self.old.bits) start stop
+            → self.new.bits ≡ take start self.old.bits ++ replicate (stop - start) value
+            ++ drop stop self.old.bits }
+        ensures changed { IsTrue result ↔ (self.new.bits ≢ self.old.bits) }
+        ensures capacity { self.new.capacity ≡ self.old.capacity }
+    {
+        let (start, stop) = cut_range(&range, self.len);
+        if value {
+            change_range::<Set, T>(&mut self.vec, self.len, start, stop)
+        } else {
+            change_range::<Unset, T>(&mut self.vec, self.len, start, stop)
+        }
+    }
+
+    /// Negates each bit of the range. The range is cut at the length, and one whose end is before
+    /// its start is empty. Only its first and its last block are masked.
+    ///
+    /// ```
+    /// let mut vob = vob::vob!(alloc; true, false, true)?;
+    /// vob.negate_range(..2);
+    /// assert!(rt; vob == vob::vob!(alloc; false, true, true)?);
+    /// ```
+    pub fn negate_range<R: RangeBounds<usize>>(&mut self, range: R)
+        ensures each { R.has_bounds range → IsChangedWithin not
+            (R.start_bound range) (R.end_bound range) self.old.bits self.new.bits }
+        ensures bits { R.has_bounds range → (start stop : ℕ)
+            → IsRangeOf (R.start_bound range) (R.end_bound range) (length self.old.bits) start stop
+            → self.new.bits ≡ take start self.old.bits
+            ++ map not (take (stop - start) (drop start self.old.bits)) ++ drop stop self.old.bits }
+        ensures capacity { self.new.capacity ≡ self.old.capacity }
+    {
+        let (start, stop) = cut_range(&range, self.len);
+        let _ = change_range::<Negate, T>(&mut self.vec, self.len, start, stop);
+    }
+}
