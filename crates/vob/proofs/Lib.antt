@@ -4,6 +4,7 @@ pub mod CombineLemmas
 pub mod DrainLemmas
 pub mod ExtendingLemmas
 pub mod HashLemmas
+pub mod IndicesLemmas
 pub mod ItemLemmas
 pub mod PairLemmas
 pub mod RangeLemmas

@@ -2,6 +2,7 @@ pub mod Bits
 pub mod Drain
 pub mod Extending
 pub mod Fed
+pub mod Indices
 pub mod Laws
 pub mod Packs
 pub mod Ranges

@@ -54,3 +54,40 @@ impl From<AllocError> for VobError {
         VobError::Memory
     }
 }
+
+/// Why no Vob was made of indices.
+#[derive(Clone, Copy, Debug, PartialEq, Eq)]
+pub enum IndicesError {
+    /// There was no memory for the blocks.
+    Memory,
+    /// An index was at or past the length. Of the indices given, the one at `position` is the first
+    /// such one.
+    OutOfRange { position: usize },
+}
+
+impl fmt::Display for IndicesError {
+    fn fmt<W: fmt::Write>(&self, f: &mut fmt::Formatter<W>) -> fmt::Result {
+        match self {
+            IndicesError::Memory => write!(f, "out of memory"),
+            IndicesError::OutOfRange { position } => {
+                write!(
+                    f,
+                    "the index at position {position} is at or past the length"
+                )
+            }
+        }
+    }
+}
+
+impl Error for IndicesError {}
+
+impl From<AllocError> for IndicesError {
+    ghost use Rattle.std.specs.Prelude.{◌≡◌};
+    ghost use Rattle.vob.specs.declared.error.IndicesError.TheVariants.{Memory};
+
+    ghost from_gives = { λ _ refusal. refusal ≡ Memory };
+
+    fn from(_: AllocError) -> IndicesError {
+        IndicesError::Memory
+    }
+}

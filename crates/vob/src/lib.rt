@@ -37,7 +37,7 @@ pub mod sets;
 pub mod text;
 pub mod vob;
 
-pub use error::VobError;
+pub use error::{IndicesError, VobError};
 pub use iter::{
     End, IndexWalk, Iter, IterSetBits, IterUnsetBits, StorageIter, count_ones_in, deal,
 };

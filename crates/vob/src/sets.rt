@@ -1,19 +1,60 @@
 //! A Vob as a set of indices, those of its set bits: whether there are some, the one that is next
 //! to another, how many stand below one, the one below which so many stand, and two sets of one
 //! length. vob 4.0.1 has none of these calls.
-ghost use Rattle.std.specs.Prelude.{◌≡◌, ◌≢◌, ◌↔◌, ◌&&◌, ◌||◌, true, false, take, length, replicate, IsTrue};
+ghost use Rattle.std.specs.Prelude.{◌≡◌, ◌≢◌, ◌↔◌, ℕ, ◌<◌, ◌&&◌, ◌||◌, true, false, take, length, replicate, All, Err, IfOk, IsTrue, MatchOption};
 ghost use Rattle.vob_block.specs.Pointwise.{differ, pointwise};
 ghost use Rattle.vob_store.specs.Combined.{without};
 ghost use Rattle.vob.specs.Bits.{AreCombined, LosesBits, count_of};
+ghost use Rattle.vob.specs.Indices.{HasSet, IsFirstOutside, IsMadeOf};
 ghost use Rattle.vob.specs.Sets.{AreDisjoint, HasBit, HasOnly, IsNext, IsPrevious, IsSelected, IsSubset};
 ghost use Rattle.vob.specs.Vob.{HaveSameLength};
 
+use crate::error::IndicesError;
 use crate::vob::Vob;
+use std::alloc::Global;
 use vob_block::Block;
 use vob_store::combined::{And, Combine, Or, Without, Xor, combine_into, count_combined, has_none};
 use vob_walk::{count_ones_in, index_of_rank};
 
 impl<T: Block> Vob<T> {
+    /// The Vob of `len` bits of which those at the given indices are set. An index may stand among
+    /// them more than once. The first one that is at or past `len` is refused, before memory is
+    /// asked for. Length 0 takes no memory.
+    ///
+    /// ```
+    /// let vob = vob::Vob::<u8>::from_indices(alloc, 3, &[2, 0, 2])?;
+    /// assert_eq!(rt; vob.get(1), Some(false));
+    /// assert_eq!(rt; vob.get(2), Some(true));
+    /// ```
+    pub fn from_indices(
+        alloc: Global,
+        len: usize,
+        indices: &[usize],
+    ) -> Result<Vob<T>, IndicesError>
+        ensures bits { IfOk result (λ vob. IsMadeOf len indices.now vob.bits) }
+        ensures out_of_range { (position : ℕ)
+            → (result ≡ Err (IndicesError.OutOfRange position))
+            ↔ IsFirstOutside len indices.now position }
+        ensures nothing { len ≡ 0 → result ≢ Err IndicesError.Memory }
+    {
+        if let Some(position) = first_outside(indices, len) {
+            return Err(IndicesError::OutOfRange { position });
+        }
+        let mut vob = Vob::from_elem_with_storage_type(alloc, false, len)?;
+        vob.set_each(indices);
+        Ok(vob)
+    }
+
+    /// Sets the bits at the given indices.
+    fn set_each(&mut self, indices: &[usize])
+        requires { All (λ i. i < length self.old.bits) indices.now }
+        ensures { HasSet indices.now (length indices.now) self.old.bits self.new.bits }
+    {
+        for position in 0..indices.len() {
+            self.set(indices[position], true);
+        }
+    }
+
     /// Whether some bit is set. Where there are no bits, none is.
     pub fn any(&self) -> bool
         ensures answer { IsTrue result ↔ HasBit true self.now.bits }
@@ -198,4 +239,17 @@ impl<T: Block> Vob<T> {
         let _len = self.len;
         count_combined::<C, T>(self.vec.as_slice(), &mut other.blocks())
     }
+}
+
+/// The position of the first index that is at or past `len`.
+fn first_outside(indices: &[usize], len: usize) -> Option<usize>
+    ensures { MatchOption result (All (λ i. i < len) indices.now)
+        (IsFirstOutside len indices.now) }
+{
+    for position in 0..indices.len() {
+        if indices[position] >= len {
+            return Some(position);
+        }
+    }
+    None
 }
