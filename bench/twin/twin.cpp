@@ -46,6 +46,9 @@ enum class Call : uint32_t {
     subset,
     count_and,
     next_set,
+    set_range,
+    negate_range,
+    copy_range,
 };
 
 struct Input {
@@ -346,6 +349,13 @@ uint64_t run_dynamic(Call call, const Input &in, size_t rounds) {
         return taken(in, rounds, [](Dynamic &bits, const Dynamic &other) { bits -= other; });
     case Call::subset:
         return subset(in, rounds);
+    case Call::set_range:
+        return changed<Dynamic>(in, rounds, [&](Dynamic &bits, size_t round) {
+            bits.set(13, 8 * in.byte_count - 42, round % 2 == 1);
+        });
+    case Call::negate_range:
+        return changed<Dynamic>(
+            in, rounds, [&](Dynamic &bits, size_t) { bits.flip(13, 8 * in.byte_count - 42); });
     case Call::count_and: {
         Dynamic other = made_of<Dynamic>(in.others, in.other_count);
         return seen<Dynamic>(in, rounds,
@@ -409,6 +419,16 @@ uint64_t run_vector(Call call, const Input &in, size_t rounds) {
         return changed<Vector>(in, rounds, [](Vector &bits, size_t) {
             bits = Vector(bits.begin() + 13, bits.end());
         });
+    case Call::set_range:
+        return changed<Vector>(in, rounds, [&](Vector &bits, size_t round) {
+            std::fill(bits.begin() + 13, bits.end() - 29, round % 2 == 1);
+        });
+    case Call::copy_range: {
+        Vector other = made_of<Vector>(in.others, in.other_count);
+        return changed<Vector>(in, rounds, [&](Vector &bits, size_t) {
+            std::copy(other.begin() + 13, other.end() - 64, bits.begin() + 29);
+        });
+    }
     case Call::drain_aligned:
         return drained(in, 0, 64, rounds);
     case Call::drain_shifted:

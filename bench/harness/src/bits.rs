@@ -108,6 +108,39 @@ pub trait Bits: Sized {
         unimplemented!()
     }
 
+    fn set_range(&mut self, from: usize, to: usize, value: bool) {
+        for index in from..to {
+            self.set(index, value);
+        }
+    }
+    fn negate_range(&mut self, from: usize, to: usize) {
+        for index in from..to {
+            self.set(index, !self.get(index));
+        }
+    }
+    fn copy_range(&mut self, at: usize, other: &Self, from: usize, to: usize) {
+        for index in from..to {
+            self.set(at + index - from, other.get(index));
+        }
+    }
+    fn to_bytes(&self) -> Vec<u8> {
+        unimplemented!()
+    }
+    fn from_indices(_len: usize, _indices: &[usize]) -> Self {
+        unimplemented!()
+    }
+    fn first_set_at(&self, from: usize) -> Option<usize> {
+        self.next_set(from)
+    }
+    fn first_unset_at(&self, _from: usize) -> Option<usize> {
+        unimplemented!()
+    }
+
+    /// The set bit with so many before it.
+    fn select(&self, _k: usize) -> Option<usize> {
+        unimplemented!()
+    }
+
     /// The first set bit at or above an index.
     fn next_set(&self, _from: usize) -> Option<usize> {
         unimplemented!()
@@ -262,6 +295,30 @@ fn subset<B: Bits>(input: &Input, rounds: usize) -> u64 {
 fn count_and<B: Bits>(input: &Input, rounds: usize) -> u64 {
     let other = B::from_bytes(&input.others);
     seen(input, rounds, |bits: &B, _| bits.count_and(&other))
+}
+
+/// The last round's bytes, of which each round looks at one.
+fn bytes_of<B: Bits>(input: &Input, rounds: usize) -> u64 {
+    seen(input, rounds, |bits: &B, round| {
+        bits.to_bytes()[round % bits.len() / 8] as u64
+    })
+}
+
+fn run_sum<B: Bits>(bits: &B) -> u64 {
+    let mut sum = 0u64;
+    let mut from = 0;
+    while let Some(start) = bits.first_set_at(from) {
+        from = bits.first_unset_at(start).unwrap_or(bits.len());
+        sum = sum.wrapping_add(start as u64).wrapping_add(from as u64);
+    }
+    sum
+}
+
+fn selected<B: Bits>(input: &Input, rounds: usize) -> u64 {
+    let k = B::from_bytes(&input.bytes).counted() as usize / 2;
+    seen(input, rounds, |bits: &B, _| {
+        bits.select(k).unwrap_or(0) as u64
+    })
 }
 
 fn next_bits<B: Bits>(bits: &B) -> u64 {
@@ -443,6 +500,22 @@ pub fn run<B: Bits>(call: Call, input: &Input, rounds: usize) -> u64 {
             bits.set_all(round % 2 == 1)
         }),
         Call::Negate => changed(input, rounds, |bits: &mut B, _| bits.negate()),
+        Call::SetRange => changed(input, rounds, |bits: &mut B, round| {
+            bits.set_range(13, 8 * input.bytes.len() - 29, round % 2 == 1)
+        }),
+        Call::NegateRange => changed(input, rounds, |bits: &mut B, _| {
+            bits.negate_range(13, 8 * input.bytes.len() - 29)
+        }),
+        Call::CopyRange => {
+            let other = B::from_bytes(&input.others);
+            changed(input, rounds, |bits: &mut B, _| {
+                bits.copy_range(29, &other, 13, 8 * input.bytes.len() - 64)
+            })
+        }
+        Call::ToBytes => bytes_of::<B>(input, rounds),
+        Call::FromIndices => made(rounds, || {
+            B::from_indices(8 * input.bytes.len(), &input.indices)
+        }),
         Call::Clone => seen(input, rounds, |bits: &B, round| {
             sample(&bits.copied(), round)
         }),
@@ -467,6 +540,8 @@ pub fn run<B: Bits>(call: Call, input: &Input, rounds: usize) -> u64 {
         Call::SetBitsBack => walked(input, rounds, B::set_bits_back),
         Call::UnsetBits => walked(input, rounds, B::unset_bits),
         Call::NextSet => walked(input, rounds, next_bits::<B>),
+        Call::Runs => walked(input, rounds, run_sum::<B>),
+        Call::Select => selected::<B>(input, rounds),
         Call::Count => walked(input, rounds, B::counted),
         Call::FirstFree => seen(input, rounds, |bits: &B, _| bits.first_unset()),
     }

@@ -58,6 +58,7 @@ pub fn conthiral(call: Call, input: &Input, rounds: usize) -> u64 {
         Call::ExtendFromSlice => slice(2),
         Call::Get => single(0),
         Call::Set => single(1),
+        Call::FromIndices => single(2),
         Call::FromBytes => whole(0),
         Call::Iterate => whole(1),
         Call::Resize => whole(2),
@@ -68,6 +69,9 @@ pub fn conthiral(call: Call, input: &Input, rounds: usize) -> u64 {
         Call::SplitOff => whole(7),
         Call::DrainAligned => whole(8),
         Call::DrainShifted => whole(9),
+        Call::SetRange => whole(10),
+        Call::NegateRange => whole(11),
+        Call::ToBytes => whole(12),
         Call::And => pair(0),
         Call::Or => pair(1),
         Call::Xor => pair(2),
@@ -78,12 +82,15 @@ pub fn conthiral(call: Call, input: &Input, rounds: usize) -> u64 {
         Call::AndNot => pair(7),
         Call::Subset => pair(8),
         Call::CountAnd => pair(9),
+        Call::CopyRange => pair(10),
         Call::SetBits => walk(0),
         Call::SetBitsBack => walk(1),
         Call::UnsetBits => walk(2),
         Call::Count => walk(3),
         Call::FirstFree => walk(4),
         Call::NextSet => walk(5),
+        Call::Runs => walk(6),
+        Call::Select => walk(7),
         Call::Closure => unsafe {
             vob_bench_closure(bytes.as_ptr(), bytes.len(), input.row_bytes, rounds)
         },
@@ -163,6 +170,8 @@ pub fn twin_offer(library: Twin, call: Call) -> Offer {
         (Twin::Boost, Call::Iterate) => Offer::Less("by index, no test of it"),
         (Twin::Boost, Call::And | Call::Or | Call::Xor | Call::AndNot | Call::Closure) => NO_FLAG,
         (Twin::Boost, Call::CountAnd) => Offer::Other("count of a new one"),
+        (Twin::Boost, Call::SetRange) => NO_FLAG,
+        (Twin::Boost, Call::NegateRange) => Offer::Other("flip of a range"),
         (Twin::Boost, Call::NextSet) => Offer::Other("find_first, then find_next"),
         (Twin::Boost, Call::ExtendAligned | Call::ExtendShifted) => {
             Offer::Other("append of blocks")
@@ -182,7 +191,8 @@ pub fn twin_offer(library: Twin, call: Call) -> Offer {
         (Twin::VectorBool, Call::ExtendFromSlice | Call::ExtendAligned | Call::ExtendShifted) => {
             Offer::Other("insert")
         }
-        (Twin::VectorBool, Call::SetAll) => Offer::Other("std::fill"),
+        (Twin::VectorBool, Call::SetAll | Call::SetRange) => Offer::Other("std::fill"),
+        (Twin::VectorBool, Call::CopyRange) => Offer::Other("std::copy"),
         (Twin::VectorBool, Call::SplitOff) => Offer::Other("a copy of the range"),
         (Twin::VectorBool, Call::DrainAligned | Call::DrainShifted) => {
             Offer::Other("a copy of the range, and erase")

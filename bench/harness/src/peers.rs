@@ -38,6 +38,11 @@ impl Bits for Vob {
             Call::Subset => Offer::Other("and of a copy, then =="),
             Call::CountAnd => Offer::Other("and of a copy, then count"),
             Call::NextSet => Offer::Other("iter_set_bits from there"),
+            Call::SetRange | Call::NegateRange | Call::CopyRange => Offer::Other("bit by bit"),
+            Call::ToBytes => Offer::Other("its blocks, reversed"),
+            Call::FromIndices => Offer::Other("from_elem, then set"),
+            Call::Runs => Offer::Other("both walks in turn"),
+            Call::Select => Offer::Other("nth of a walk"),
             _ => Offer::Same,
         }
     }
@@ -142,6 +147,25 @@ impl Bits for Vob {
     fn next_set(&self, from: usize) -> Option<usize> {
         self.iter_set_bits(from..).next()
     }
+    fn first_unset_at(&self, from: usize) -> Option<usize> {
+        self.iter_unset_bits(from..).next()
+    }
+    fn select(&self, k: usize) -> Option<usize> {
+        self.iter_set_bits(..).nth(k)
+    }
+    fn to_bytes(&self) -> Vec<u8> {
+        self.iter_storage()
+            .flat_map(|block| block.reverse_bits().to_be_bytes())
+            .take(Vob::len(self).div_ceil(8))
+            .collect()
+    }
+    fn from_indices(len: usize, indices: &[usize]) -> Vob {
+        let mut vob = Vob::from_elem(false, len);
+        for index in indices {
+            vob.set(*index, true);
+        }
+        vob
+    }
     fn same(&self, other: &Vob) -> bool {
         self == other
     }
@@ -156,6 +180,9 @@ impl Bits for FixedBitSet {
             Call::Push => Offer::Less("pre-sized"),
             Call::Set | Call::And | Call::Or | Call::Xor | Call::AndNot | Call::Closure => NO_FLAG,
             Call::CountAnd => Offer::Other("intersection, counted"),
+            Call::SetRange => NO_FLAG,
+            Call::NegateRange => Offer::Other("toggle_range"),
+            Call::FromIndices => Offer::Other("insert by insert"),
             Call::Iterate => Offer::Other("by index"),
             Call::SetAll => Offer::Other("insert_range or clear"),
             Call::Negate => Offer::Other("toggle_range"),
@@ -184,6 +211,19 @@ impl Bits for FixedBitSet {
     }
     fn subset(&self, other: &FixedBitSet) -> bool {
         self.is_subset(other)
+    }
+    fn set_range(&mut self, from: usize, to: usize, value: bool) {
+        FixedBitSet::set_range(self, from..to, value);
+    }
+    fn negate_range(&mut self, from: usize, to: usize) {
+        self.toggle_range(from..to);
+    }
+    fn from_indices(len: usize, indices: &[usize]) -> FixedBitSet {
+        let mut set = FixedBitSet::with_capacity(len);
+        for index in indices {
+            set.insert(*index);
+        }
+        set
     }
     fn count_and(&self, other: &FixedBitSet) -> u64 {
         self.intersection(other).count() as u64
@@ -282,6 +322,12 @@ impl Bits for BitVec {
             | Call::Subset
             | Call::CountAnd
             | Call::NextSet
+            | Call::SetRange
+            | Call::NegateRange
+            | Call::CopyRange
+            | Call::FromIndices
+            | Call::Runs
+            | Call::Select
             | Call::FirstFree
             | Call::Filter => Offer::None,
             // Its split_off within a block can leave a block too many, which append takes in.
@@ -358,6 +404,9 @@ impl Bits for BitVec {
     }
     fn and_not(&mut self, other: &BitVec) -> bool {
         self.difference(other)
+    }
+    fn to_bytes(&self) -> Vec<u8> {
+        BitVec::to_bytes(self)
     }
     fn same(&self, other: &BitVec) -> bool {
         self == other

@@ -40,6 +40,13 @@ pub enum Call {
     Subset,
     CountAnd,
     NextSet,
+    SetRange,
+    NegateRange,
+    CopyRange,
+    ToBytes,
+    FromIndices,
+    Runs,
+    Select,
 }
 
 /// What the machine can do at most, measured on the row's own size.
@@ -92,7 +99,7 @@ impl Row {
         };
         let shape = match call {
             Call::Closure => Shape::Matrix,
-            Call::Get | Call::Set => Shape::Indices(INDICES),
+            Call::Get | Call::Set | Call::FromIndices => Shape::Indices(INDICES),
             Call::FirstFree => Shape::FreeAtTheEnd,
             Call::Live => Shape::Flow,
             Call::Matrix => Shape::Steps,
@@ -173,6 +180,10 @@ pub fn all() -> Vec<Row> {
         Row::over("resize true", Call::Resize, MILLION, Word, Limit::Fill),
         Row::over("set_all", Call::SetAll, MILLION, Word, Limit::Fill),
         Row::over("negate", Call::Negate, MILLION, Word, Limit::Copy),
+        Row::over("set_range", Call::SetRange, MILLION, Word, Limit::Fill),
+        Row::over("negate_range", Call::NegateRange, MILLION, Word, Limit::Copy),
+        Row::over("from_indices", Call::FromIndices, MILLION, Index, Limit::None),
+        Row::over("to_bytes", Call::ToBytes, MILLION, Word, Limit::Copy),
         Row::over("clone", Call::Clone, MILLION, Word, Limit::Copy),
     ];
     for (name, call) in [
@@ -211,6 +222,7 @@ pub fn all() -> Vec<Row> {
         ),
         Row::over("drain aligned", Call::DrainAligned, MILLION, Word, Limit::Copy),
         Row::over("drain misaligned", Call::DrainShifted, MILLION, Word, Limit::Copy),
+        Row::over("copy_range", Call::CopyRange, MILLION, Word, Limit::Copy),
         Row::over("equality", Call::Equal, MILLION, Word, Limit::Count),
         Row::over("hash", Call::Hash, MILLION, Word, Limit::Hasher),
     ]);
@@ -219,6 +231,7 @@ pub fn all() -> Vec<Row> {
         ("iter_set_bits from the back", Call::SetBitsBack),
         ("iter_unset_bits", Call::UnsetBits),
         ("next_set", Call::NextSet),
+        ("runs", Call::Runs),
     ] {
         for (density, set) in DENSITIES {
             rows.push(Row::walk(name, call, density, set));
@@ -226,6 +239,7 @@ pub fn all() -> Vec<Row> {
     }
     rows.extend([
         Row::over("count of set bits", Call::Count, MILLION, Word, Limit::Count),
+        Row::over("select in the middle", Call::Select, MILLION, Word, Limit::None),
         Row::over(
             "first unset bit, the last one",
             Call::FirstFree,

@@ -10,7 +10,7 @@ use Rattle.std.proofs.lemmas.List.Elements.{All-nil, All-cons}
 use Rattle.std.proofs.lemmas.List.Kept.{AllPairs-cons}
 use Rattle.vob_block.specs.Packing.{item}
 use Rattle.vob.specs.Sets.{IsFirstFrom, IsNext}
-use Rattle.vob.specs.Runs.{AreRuns, IsRun, IsFirstRun, RunWalk, GivesRun}
+use Rattle.vob.specs.Runs.{AreRuns, IsMaximalRun, IsFirstRun, RunWalk, GivesRun}
 use Rattle.vob.proofs.SelectLemmas.{inside}
 
 set_from : (b : Bool) → b ≢ false → b ≡ true
@@ -34,7 +34,7 @@ module _ (bits : List Bool) (from a : ℕ) (first : IsFirstFrom true bits from a
 
   -- none is unset above it
   run_to_end : ((i : ℕ) → a ≤ i → i < length bits → item bits i ≢ false)
-      → IsRun bits a (length bits)
+      → IsMaximalRun bits a (length bits)
   run_to_end none = record {
     some = first.inside;
     inside = omega arith;
@@ -43,7 +43,7 @@ module _ (bits : List Bool) (from a : ℕ) (first : IsFirstFrom true bits from a
     behind = get_or_past bits (length bits) false (omega arith);
   }
 
-  run_to : (b : ℕ) → IsFirstFrom false bits a b → IsRun bits a b
+  run_to : (b : ℕ) → IsFirstFrom false bits a b → IsMaximalRun bits a b
   run_to b stop = record {
     some = elim (cases_lt a b) [
       | inl less ↦ less
@@ -88,7 +88,7 @@ module _ (walk : RunWalk) (a b n : ℕ) (stop : Option ℕ)
 
 -- a run that begins at or above an index
 abbrev IsAbove : List Bool → ℕ → Range ℕ → Type 0
-IsAbove bits from run = IsRun bits run.start run.end × (from ≤ run.start)
+IsAbove bits from run = IsMaximalRun bits run.start run.end × (from ≤ run.start)
 
 -- a list has the runs from an index on
 record AreRunsFrom (bits : List Bool) (from : ℕ) (runs : List (Range ℕ)) : Type 0 where

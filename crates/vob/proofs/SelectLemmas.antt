@@ -10,7 +10,7 @@ use Rattle.vob_block.proofs.PackingLemmas.{bit_at-packing}
 use Rattle.vob_walk.specs.Count.{ones_between}
 use Rattle.vob_walk.specs.Select.{HasRank}
 use Rattle.vob.specs.Bits.{count_of}
-use Rattle.vob.specs.Sets.{IsOfRank, IsSelected}
+use Rattle.vob.specs.Sets.{IsOfRank, IsIndexOfRank}
 use Rattle.vob.proofs.SetsLemmas.{counted, rank_is, equal_by, some_where, none_where}
 
 -- ---- set bits below an index
@@ -52,7 +52,7 @@ module _ (bits : List Bool) (k : ℕ) where
       omega (arith, all, more, p.below, few)
 
   pub selected : (answer : Option ℕ) → MatchOption answer (count_of true bits ≤ k)
-      (IsOfRank bits k) → IsSelected bits k answer
+      (IsOfRank bits k) → IsIndexOfRank bits k answer
   selected answer h = record {
     some = some_where (IsOfRank bits k) (count_of true bits ≤ k) once_ranked too_few answer h;
     none = none_where (IsOfRank bits k) (count_of true bits ≤ k) once_ranked too_few answer h;
@@ -83,7 +83,7 @@ module _ (w : ℕ) (wide : 0 < w) (bits : List Bool) (xs : List ℕ)
         (omega (arith, true_inside i h.there)) blocks refl) ∙ h.below;
   }
 
-  pub IsSelected-blocks : (k m : ℕ) (answer : Option ℕ) → length bits ≤ m
-      → MatchOption answer (ones_between w xs 0 m ≤ k) (HasRank w xs k) → IsSelected bits k answer
-  IsSelected-blocks k m None fits h = selected bits k None (omega (arith, ones-all m fits, h))
-  IsSelected-blocks k m (Some i) fits h = selected bits k (Some i) (ranked k i h)
+  pub IsIndexOfRank-blocks : (k m : ℕ) (answer : Option ℕ) → length bits ≤ m
+      → MatchOption answer (ones_between w xs 0 m ≤ k) (HasRank w xs k) → IsIndexOfRank bits k answer
+  IsIndexOfRank-blocks k m None fits h = selected bits k None (omega (arith, ones-all m fits, h))
+  IsIndexOfRank-blocks k m (Some i) fits h = selected bits k (Some i) (ranked k i h)

@@ -9,7 +9,7 @@ use Rattle.vob.specs.Bits.{count_of}
 use Rattle.vob.specs.Drain.{bits_within, bits_outside}
 use Rattle.vob.specs.Runs.{AreRuns, GivesRun, RunWalk}
 use Rattle.vob.specs.Same.{same_bits}
-use Rattle.vob.specs.Sets.{IsSelected}
+use Rattle.vob.specs.Sets.{IsIndexOfRank}
 
 -- a list cut at an index and joined again is the list
 abbrev pub JoinUndoesCut : Type 0
@@ -78,13 +78,13 @@ NegatedAnd =
 -- the number that an index was selected by is how many set bits stand below it
 abbrev pub RankUndoesSelect : Type 0
 RankUndoesSelect =
-    (bits : List Bool) (k i : ℕ) → IsSelected bits k (Some i) → count_of true (take i bits) ≡ k
+    (bits : List Bool) (k i : ℕ) → IsIndexOfRank bits k (Some i) → count_of true (take i bits) ≡ k
 
 -- the index of a set bit is the one that is selected by how many set bits stand below it
 abbrev pub SelectUndoesRank : Type 0
 SelectUndoesRank =
     (bits : List Bool) (i : ℕ) (answer : Option ℕ) → IsTrue (item bits i)
-    → IsSelected bits (count_of true (take i bits)) answer → answer ≡ Some i
+    → IsIndexOfRank bits (count_of true (take i bits)) answer → answer ≡ Some i
 
 -- a walk over runs from the first bit on, up to `None`, gives all of them
 abbrev pub WalkGivesRuns : Type 0

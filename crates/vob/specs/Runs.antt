@@ -5,7 +5,7 @@ use Rattle.vob_block.specs.Packing.{item}
 use Rattle.vob.specs.Sets.{IsFirstFrom}
 
 -- the bits from index a to below b are set, and the ones beside them are not or are not there
-pub record IsRun (bits : List Bool) (a b : ℕ) : Type 0 where
+pub record IsMaximalRun (bits : List Bool) (a b : ℕ) : Type 0 where
   pub some : a < b
   pub inside : b ≤ length bits
   pub set : (i : ℕ) → a ≤ i → i < b → item bits i ≡ true
@@ -15,7 +15,7 @@ pub record IsRun (bits : List Bool) (a b : ℕ) : Type 0 where
 -- it begins at the first set bit at or above another index
 pub record IsFirstRun (bits : List Bool) (from a b : ℕ) : Type 0 where
   pub first : IsFirstFrom true bits from a
-  pub run : IsRun bits a b
+  pub run : IsMaximalRun bits a b
 
 -- a walk over runs: the bits, and the index below which each run was given
 pub record RunWalk : Type 0 where
@@ -33,6 +33,6 @@ pub record GivesRun (walk : RunWalk) (answer : Option (Range ℕ)) (after : RunW
 
 -- a list has each run of the bits, in their order, and so each set bit in one of them
 pub record AreRuns (bits : List Bool) (runs : List (Range ℕ)) : Type 0 where
-  pub each : All (λ run. IsRun bits run.start run.end) runs
+  pub each : All (λ run. IsMaximalRun bits run.start run.end) runs
   pub order : AllPairs (λ run next. run.end < next.start) runs
   pub all : (i : ℕ) → item bits i ≡ true → Any (λ run. (run.start ≤ i) × (i < run.end)) runs

@@ -44,7 +44,7 @@ pub record IsOfRank (bits : List Bool) (k i : ℕ) : Type 0 where
   pub below : count_of true (take i bits) ≡ k
 
 -- an answer is the index of that set bit, and None where there are at most k set bits
-pub record IsSelected (bits : List Bool) (k : ℕ) (answer : Option ℕ) : Type 0 where
+pub record IsIndexOfRank (bits : List Bool) (k : ℕ) (answer : Option ℕ) : Type 0 where
   pub some : (i : ℕ) → (answer ≡ Some i) ↔ IsOfRank bits k i
   pub none : (answer ≡ None) ↔ (count_of true bits ≤ k)
 

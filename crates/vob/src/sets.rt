@@ -6,7 +6,7 @@ ghost use Rattle.vob_block.specs.Pointwise.{differ, pointwise};
 ghost use Rattle.vob_store.specs.Combined.{without};
 ghost use Rattle.vob.specs.Bits.{AreCombined, LosesBits, count_of};
 ghost use Rattle.vob.specs.Indices.{HasSet, IsFirstOutside, IsMadeOf};
-ghost use Rattle.vob.specs.Sets.{AreDisjoint, HasBit, HasOnly, IsNext, IsPrevious, IsSelected, IsSubset};
+ghost use Rattle.vob.specs.Sets.{AreDisjoint, HasBit, HasOnly, IsIndexOfRank, IsNext, IsPrevious, IsSubset};
 ghost use Rattle.vob.specs.Vob.{HaveSameLength};
 
 use crate::error::IndicesError;
@@ -147,7 +147,7 @@ impl<T: Block> Vob<T> {
     /// The index of the set bit below which `k` set bits stand: of the first one where `k` is 0.
     /// `None` where there are at most `k` set bits.
     pub fn select(&self, k: usize) -> Option<usize>
-        ensures { IsSelected self.now.bits k result }
+        ensures { IsIndexOfRank self.now.bits k result }
     {
         // The length is in the range of its type: a proof knows it from this read.
         let _len = self.len;

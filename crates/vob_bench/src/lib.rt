@@ -36,7 +36,7 @@ pub extern "C" fn vob_bench_slice(alloc: Global, row: u32, bits: &[bool], rounds
     })
 }
 
-/// Calls on one bit at each of some indices: 0 `get`, 1 `set`.
+/// Calls on one bit at each of some indices: 0 `get`, 1 `set`, 2 `from_indices`.
 #[unsafe(no_mangle)]
 pub extern "C" fn vob_bench_single(
     alloc: Global,
@@ -47,13 +47,14 @@ pub extern "C" fn vob_bench_single(
 ) -> u64 {
     answer(match row {
         0 => single::get(alloc, bytes, indices, rounds),
-        _ => single::set(alloc, bytes, indices, rounds),
+        1 => single::set(alloc, bytes, indices, rounds),
+        _ => single::from_indices(alloc, bytes, indices, rounds),
     })
 }
 
 /// Calls on all bits: 0 `from_bytes`, 1 `iter`, 2 `resize` with true, 3 `set_all`, 4 `negate`,
 /// 5 `clone`, 6 `hash`, 7 `split_off` within a block, 8 `drain` of a whole block from the middle, 9
-/// `drain` of 29 bits within a block there.
+/// `drain` of 29 bits within a block there, 10 `set_range`, 11 `negate_range`, 12 `to_bytes`.
 #[unsafe(no_mangle)]
 pub extern "C" fn vob_bench_whole(alloc: Global, row: u32, bytes: &[u8], rounds: usize) -> u64 {
     answer(match row {
@@ -66,13 +67,16 @@ pub extern "C" fn vob_bench_whole(alloc: Global, row: u32, bytes: &[u8], rounds:
         6 => whole::hash(alloc, bytes, rounds),
         7 => whole::split_off(alloc, bytes, rounds),
         8 => whole::drain(alloc, bytes, 0, 64, rounds),
-        _ => whole::drain(alloc, bytes, 13, 29, rounds),
+        9 => whole::drain(alloc, bytes, 13, 29, rounds),
+        10 => whole::set_range(alloc, bytes, rounds),
+        11 => whole::negate_range(alloc, bytes, rounds),
+        _ => whole::to_bytes(alloc, bytes, rounds),
     })
 }
 
 /// Calls on two Vobs: 0 `and`, 1 `or`, 2 `xor`, 3 `==`, 4 `extend_from_vob` behind one whole block,
 /// 5 `extend_from_vob` behind 13 bits more, 6 a filter over these columns and a third, 7 `and_not`,
-/// 8 `is_subset`, 9 `count_and`.
+/// 8 `is_subset`, 9 `count_and`, 10 `copy_range`.
 #[unsafe(no_mangle)]
 pub extern "C" fn vob_bench_pair(
     alloc: Global,
@@ -91,16 +95,18 @@ pub extern "C" fn vob_bench_pair(
         6 => pair::filter(alloc, bytes, others, rounds),
         7 => pair::and_not(alloc, bytes, others, rounds),
         8 => pair::subset(alloc, bytes, others, rounds),
-        _ => pair::count_and(alloc, bytes, others, rounds),
+        9 => pair::count_and(alloc, bytes, others, rounds),
+        _ => pair::copy_range(alloc, bytes, others, rounds),
     })
 }
 
 /// Calls on indices: 0 `iter_set_bits`, 1 the same from the back, 2 `iter_unset_bits`, 3 `count`, 4 the
-/// first unset bit, 5 `next_set`.
+/// first unset bit, 5 `next_set`, 6 `runs`, 7 `select`.
 #[unsafe(no_mangle)]
 pub extern "C" fn vob_bench_walk(alloc: Global, row: u32, bytes: &[u8], rounds: usize) -> u64 {
     answer(match row {
         4 => walk::first_free(alloc, bytes, rounds),
+        7 => walk::select(alloc, bytes, rounds),
         _ => walk::walk(alloc, row, bytes, rounds),
     })
 }

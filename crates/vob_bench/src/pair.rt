@@ -125,6 +125,27 @@ pub(crate) fn count_and(
     Ok(checksum(&vob, times))
 }
 
+/// The bits from index 13 on, but for the last ones, written over another's from index 29 on.
+#[inline(never)]
+pub(crate) fn copy_range(
+    alloc: Global,
+    bytes: &[u8],
+    others: &[u8],
+    rounds: usize,
+) -> Result<u64, VobError> {
+    let mut times: u64 = 0;
+    let mut vob = Vob::from_bytes(alloc, bytes)?;
+    let other = Vob::from_bytes(alloc, others)?;
+    let end = other.len().saturating_sub(64);
+    for round in 0..rounds {
+        if vob.len() == other.len() && 64 <= vob.len() {
+            vob.copy_range(29, &other, 13..end);
+        }
+        times = times.wrapping_add(sample(&vob, round) as u64);
+    }
+    Ok(checksum(&vob, times))
+}
+
 /// `==` of two Vobs that are equal in each round.
 #[inline(never)]
 pub(crate) fn equal(alloc: Global, bytes: &[u8], rounds: usize) -> Result<u64, VobError> {

@@ -1,6 +1,6 @@
 //! Workloads of calls on one bit.
 
-use crate::checksum::{checksum, touch};
+use crate::checksum::{checksum, sample, touch};
 use std::alloc::Global;
 use vob::{Vob, VobError};
 
@@ -44,6 +44,26 @@ pub(crate) fn get(
         times = times.wrapping_add(true_at(&vob, indices));
     }
     Ok(checksum(&vob, times))
+}
+
+/// A new Vob of the indices a round.
+#[inline(never)]
+pub(crate) fn from_indices(
+    alloc: Global,
+    bytes: &[u8],
+    indices: &[usize],
+    rounds: usize,
+) -> Result<u64, VobError> {
+    let mut times: u64 = 0;
+    let mut last = Vob::from_bytes(alloc, bytes)?;
+    let len = last.len();
+    for round in 0..rounds {
+        if let Ok(made) = Vob::from_indices(alloc, len, indices) {
+            last = made;
+        }
+        times = times.wrapping_add(sample(&last, round) as u64);
+    }
+    Ok(checksum(&last, times))
 }
 
 /// Each round writes the bits at all indices.

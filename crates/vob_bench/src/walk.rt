@@ -51,6 +51,38 @@ fn next_bits(vob: &Vob) -> u64 {
     sum
 }
 
+/// The sum of the lengths of the runs of set bits, and of where each begins.
+#[inline(never)]
+fn run_sum(vob: &Vob) -> u64 {
+    let mut sum: u64 = 0;
+    for run in vob.runs() {
+        sum = sum.wrapping_add(run.start as u64).wrapping_add(run.end as u64);
+    }
+    sum
+}
+
+/// The index of the set bit in the middle of them all.
+#[inline(never)]
+fn selected(vob: &Vob, k: usize) -> u64 {
+    match vob.select(k) {
+        Some(index) => index as u64,
+        None => 0,
+    }
+}
+
+/// `select` of a set bit in the middle, once a round.
+#[inline(never)]
+pub(crate) fn select(alloc: Global, bytes: &[u8], rounds: usize) -> Result<u64, VobError> {
+    let mut times: u64 = 0;
+    let mut vob = Vob::from_bytes(alloc, bytes)?;
+    let k = vob.iter_set_bits(..).count() / 2;
+    for round in 0..rounds {
+        touch(&mut vob, round);
+        times = times.wrapping_add(selected(&vob, k));
+    }
+    Ok(checksum(&vob, times))
+}
+
 /// How many bits are set.
 #[inline(never)]
 fn counted(vob: &Vob) -> u64 {
@@ -58,7 +90,7 @@ fn counted(vob: &Vob) -> u64 {
 }
 
 /// A walk a round: 0 over the set bits, 1 over those from the back, 2 over the unset bits; or 3 a
-/// count; or 5 a call of `next_set` for each set bit.
+/// count; or 5 a call of `next_set` for each set bit, 6 the runs.
 #[inline(never)]
 pub(crate) fn walk(alloc: Global, row: u32, bytes: &[u8], rounds: usize) -> Result<u64, VobError> {
     let mut times: u64 = 0;
@@ -70,6 +102,7 @@ pub(crate) fn walk(alloc: Global, row: u32, bytes: &[u8], rounds: usize) -> Resu
             1 => set_bits_back(&vob),
             2 => unset_bits(&vob),
             5 => next_bits(&vob),
+            6 => run_sum(&vob),
             _ => counted(&vob),
         };
         times = times.wrapping_add(sum);

@@ -1,6 +1,6 @@
 //! Workloads on all bits of a Vob.
 
-use crate::checksum::{checksum, sample, touch};
+use crate::checksum::{checksum, index_of, sample, touch};
 use std::alloc::Global;
 use std::hash::{DefaultHasher, Hash, Hasher};
 use vob::{Vob, VobError};
@@ -109,6 +109,47 @@ pub(crate) fn hash(alloc: Global, bytes: &[u8], rounds: usize) -> Result<u64, Vo
         let now = hashed(&vob);
         times = times.wrapping_add((now == last) as u64);
         last = now;
+    }
+    Ok(checksum(&vob, times))
+}
+
+/// All bits but 13 at the front and 29 at the back made false, then true, and so on.
+#[inline(never)]
+pub(crate) fn set_range(alloc: Global, bytes: &[u8], rounds: usize) -> Result<u64, VobError> {
+    let mut times: u64 = 0;
+    let mut vob = Vob::from_bytes(alloc, bytes)?;
+    let end = vob.len().saturating_sub(29);
+    for round in 0..rounds {
+        vob.set_range(13..end, round % 2 == 1);
+        times = times.wrapping_add(sample(&vob, round) as u64);
+    }
+    Ok(checksum(&vob, times))
+}
+
+/// The same bits negated.
+#[inline(never)]
+pub(crate) fn negate_range(alloc: Global, bytes: &[u8], rounds: usize) -> Result<u64, VobError> {
+    let mut times: u64 = 0;
+    let mut vob = Vob::from_bytes(alloc, bytes)?;
+    let end = vob.len().saturating_sub(29);
+    for round in 0..rounds {
+        vob.negate_range(13..end);
+        times = times.wrapping_add(sample(&vob, round) as u64);
+    }
+    Ok(checksum(&vob, times))
+}
+
+/// The bytes of a Vob, of which one is looked at.
+#[inline(never)]
+pub(crate) fn to_bytes(alloc: Global, bytes: &[u8], rounds: usize) -> Result<u64, VobError> {
+    let mut times: u64 = 0;
+    let mut vob = Vob::from_bytes(alloc, bytes)?;
+    for round in 0..rounds {
+        touch(&mut vob, round);
+        let made = vob.to_bytes(alloc)?;
+        if let Some(byte) = made.get(index_of(&vob, round) / 8) {
+            times = times.wrapping_add(*byte as u64);
+        }
     }
     Ok(checksum(&vob, times))
 }

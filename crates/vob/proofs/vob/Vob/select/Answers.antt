@@ -3,7 +3,7 @@ use Rattle.std.proofs.Common.{◌*◌, arith, length, map, ap, sym}
 use Rattle.std.proofs.lemmas.List.{length-map}
 use Rattle.vob_block.proofs.NeedLemmas.{need_enough}
 use Rattle.vob_block.proofs.PackingLemmas.{length-packing, length-unpacking}
-use Rattle.vob.proofs.SelectLemmas.{true_inside, IsSelected-blocks}
+use Rattle.vob.proofs.SelectLemmas.{true_inside, IsIndexOfRank-blocks}
 use Rattle.vob.proofs.vob.Vob.select.Goals as goal
 
 pub index_of_rank-requires : goal.index_of_rank-requires
@@ -28,6 +28,6 @@ returns g c =
     let many = ap (λ n. n * w) (sym (length-map items g.T.Block.number)) in
     let whole = ap (λ xs. length xs * w) c.blocks-2.ensures.blocks in
     let need = ap (λ n. n * w) (length-packing w wide bits) in
-    IsSelected-blocks w wide bits _ c.blocks-2.ensures.blocks c.args.k (length items * w)
+    IsIndexOfRank-blocks w wide bits _ c.blocks-2.ensures.blocks c.args.k (length items * w)
     c.index_of_rank.result (omega (arith, many, whole, need, need_enough w wide (length bits)))
     c.index_of_rank.ensures.found
