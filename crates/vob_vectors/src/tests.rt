@@ -14,6 +14,7 @@ mod live;
 mod matrix;
 mod paths;
 mod pointwise;
+mod ranges;
 mod raw;
 mod reads;
 mod runs;

@@ -1,0 +1,206 @@
+//! Ranges of bits made one value or negated, and Vobs made of indices, against pushes of each bit.
+use super::support::{check_bits, check_same, filled, pattern, pattern_bit, push, same, vob_of};
+use std::ops::Bound::{Excluded, Included, Unbounded};
+use std::ops::RangeBounds;
+use std::process::Abort;
+use vob::{IndicesError, Vob};
+use vob_block::Block;
+
+/// The pattern of a length, in which the bits from one index to below another are made a value or,
+/// with none, negated; and whether one changed.
+fn changed_pattern<T: Block>(
+    rt: &(impl Abort + AllocGlobal),
+    len: usize,
+    (start, stop): (usize, usize),
+    value: Option<bool>,
+) -> (Vob<T>, bool) {
+    let mut vob = vob_of::<T>(rt, "");
+    let mut changed = false;
+    for index in 0..len {
+        let bit = pattern_bit(len, index);
+        let inside = start <= index && index < stop;
+        let wanted = if inside { value.unwrap_or(!bit) } else { bit };
+        changed = changed || wanted != bit;
+        push(rt, &mut vob, wanted);
+    }
+    (vob, changed)
+}
+
+/// A range made a value: once it may change bits, and never again.
+fn check_set<T: Block>(
+    rt: &(impl Abort + AllocGlobal),
+    len: usize,
+    (start, stop): (usize, usize),
+    value: bool,
+) {
+    let (wanted, changed) = changed_pattern::<T>(rt, len, (start, stop), Some(value));
+    let mut vob = pattern::<T>(rt, len, len);
+    let room = vob.capacity();
+    same(
+        rt,
+        "changed",
+        start,
+        vob.set_range(start..stop, value),
+        changed,
+    );
+    check_same(rt, &vob, &wanted);
+    same(rt, "again", start, vob.set_range(start..stop, value), false);
+    same(rt, "the capacity", len, vob.capacity(), room);
+}
+
+/// A range negated.
+fn check_negated<T: Block>(
+    rt: &(impl Abort + AllocGlobal),
+    len: usize,
+    (start, stop): (usize, usize),
+) {
+    let (wanted, _) = changed_pattern::<T>(rt, len, (start, stop), None);
+    let mut vob = pattern::<T>(rt, len, len);
+    vob.negate_range(start..stop);
+    check_same(rt, &vob, &wanted);
+}
+
+/// Ranges of a pattern of each length below 130, from each index on: some are empty, some end before
+/// they start, and some pass the end.
+fn check_ranges<T: Block>(rt: &(impl Abort + AllocGlobal)) {
+    for len in 0..130 {
+        for start in 0..len + 2 {
+            let range = (start, (start * 7 + len) % (len + 3));
+            check_set::<T>(rt, len, range, true);
+            check_set::<T>(rt, len, range, false);
+            check_negated::<T>(rt, len, range);
+        }
+    }
+}
+
+#[test]
+fn ranges_change_as_pushes_do_at_narrow_blocks(rt: HostRuntime) {
+    check_ranges::<u8>(&rt);
+}
+
+#[test]
+fn ranges_change_as_pushes_do_at_blocks_of_64(rt: HostRuntime) {
+    check_ranges::<u64>(&rt);
+}
+
+#[test]
+fn ranges_change_as_pushes_do_at_wide_blocks(rt: HostRuntime) {
+    check_ranges::<u128>(&rt);
+}
+
+/// What a range makes of `1011011101` where it is set, unset and negated.
+fn check_row<R: RangeBounds<usize> + Copy>(
+    rt: &(impl Abort + AllocGlobal),
+    range: R,
+    set: &str,
+    unset: &str,
+    negated: &str,
+) {
+    let mut vob = vob_of::<u8>(rt, "1011011101");
+    let _ = vob.set_range(range, true);
+    check_bits(rt, &vob, set);
+    let mut vob = vob_of::<u8>(rt, "1011011101");
+    let _ = vob.set_range(range, false);
+    check_bits(rt, &vob, unset);
+    let mut vob = vob_of::<u8>(rt, "1011011101");
+    vob.negate_range(range);
+    check_bits(rt, &vob, negated);
+}
+
+#[test]
+fn every_pair_of_bounds_is_changed(rt: HostRuntime) {
+    let most = usize::MAX;
+    let kept = "1011011101";
+    check_row(
+        &rt,
+        (Excluded(1), Included(4)),
+        "1011111101",
+        "1000011101",
+        "1000111101",
+    );
+    check_row(
+        &rt,
+        (Excluded(8), Excluded(most)),
+        kept,
+        "1011011100",
+        "1011011100",
+    );
+    check_row(
+        &rt,
+        (Included(1), Unbounded),
+        "1111111111",
+        "1000000000",
+        "1100100010",
+    );
+    check_row(
+        &rt,
+        (Unbounded, Excluded(2)),
+        "1111011101",
+        "0011011101",
+        "0111011101",
+    );
+    check_row(
+        &rt,
+        (Unbounded, Included(most)),
+        "1111111111",
+        "0000000000",
+        "0100100010",
+    );
+    check_row(&rt, (Excluded(most), Included(most)), kept, kept, kept);
+    check_row(&rt, (Included(7), Excluded(3)), kept, kept, kept);
+}
+
+/// The Vob of these indices, or the position of the first one that was refused.
+fn made_of<T: Block>(
+    rt: &(impl Abort + AllocGlobal),
+    len: usize,
+    indices: &[usize],
+) -> Result<Vob<T>, usize> {
+    match Vob::<T>::from_indices(rt.alloc(), len, indices) {
+        Ok(vob) => Ok(vob),
+        Err(IndicesError::OutOfRange { position }) => Err(position),
+        Err(IndicesError::Memory) => Err(usize::MAX),
+    }
+}
+
+/// The indices of a pattern give the pattern back.
+fn check_indices_of<T: Block>(rt: &(impl Abort + AllocGlobal), len: usize) {
+    let vob = pattern::<T>(rt, len, len);
+    let mut indices = Vec::new(rt.alloc());
+    for index in vob.iter_set_bits(..).rev() {
+        indices.push(index).expect(rt, "memory");
+    }
+    let made = made_of::<T>(rt, len, &indices).expect(rt, "a Vob");
+    check_same(rt, &made, &vob);
+}
+
+#[test]
+fn the_indices_of_a_pattern_give_it_back(rt: HostRuntime) {
+    for len in 0..130 {
+        check_indices_of::<u8>(&rt, len);
+        check_indices_of::<u64>(&rt, len);
+        check_indices_of::<u128>(&rt, len);
+    }
+}
+
+/// The position of the first index that is refused.
+fn refused(rt: &(impl Abort + AllocGlobal), len: usize, indices: &[usize]) -> Option<usize> {
+    made_of::<u8>(rt, len, indices).err()
+}
+
+#[test]
+fn the_first_index_past_the_end_is_named(rt: HostRuntime) {
+    let made = made_of::<u8>(&rt, 10, &[9, 0, 9, 3]).expect(&rt, "a Vob");
+    check_bits(&rt, &made, "1001000001");
+    let none = made_of::<u8>(&rt, 9, &[]).expect(&rt, "a Vob");
+    check_same(&rt, &none, &filled::<u8>(&rt, false, 9));
+    same(&rt, "refused", 10, refused(&rt, 10, &[9, 10, 11]), Some(1));
+    same(&rt, "refused", 0, refused(&rt, 0, &[0]), Some(0));
+    same(
+        &rt,
+        "refused",
+        3,
+        refused(&rt, 3, &[0, 1, 2, usize::MAX, 3]),
+        Some(3),
+    );
+}
