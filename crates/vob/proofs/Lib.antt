@@ -1,6 +1,7 @@
 pub mod BitsLemmas
 pub mod ChangeLemmas
 pub mod CombineLemmas
+pub mod CopyLemmas
 pub mod DrainLemmas
 pub mod ExtendingLemmas
 pub mod HashLemmas

@@ -1,4 +1,5 @@
 pub mod Bits
+pub mod Copy
 pub mod Drain
 pub mod Extending
 pub mod Fed

@@ -25,6 +25,7 @@
 #![tactic(auto)]
 
 pub mod bulk;
+pub mod copy;
 mod error;
 pub mod iter;
 pub mod laws;
