@@ -69,7 +69,8 @@ written-is {at} {start} {count} {bits} {others} {after} taken h is long fits =
     elim (cases_lt i at) [
       | inl less ↦
           h.before i less ∙ sym (get_or-take at bits i false less)
-          ∙ sym (get_or_append_left (take at bits) (taken ++ rest) false i (omega (arith, front, less)))
+          ∙ sym (get_or_append_left (take at bits) (taken ++ rest) false i
+          (omega (arith, front, less)))
       | inr past ↦
           let behind = get_or-append_right (take at bits) (taken ++ rest) at i false front past in
           elim (cases_lt (i - at) count) [
