@@ -85,8 +85,10 @@ IsChangedWithin-parts {f} {low} {high} {bits} {after} changed start stop range =
             let at : start + (i - start) ≡ i = omega (arith, past) in
             let within_middle : i - start < length middle = omega (arith, some, past, here) in
             changed.inside i less (within-there range i less past here)
-            ∙ ap (λ k. f (item bits k)) (sym at) ∙ ap f (sym (get_or-drop start bits (i - start) false))
-            ∙ ap f (sym (get_or-take (stop - start) own (i - start) false (omega (arith, past, here))))
+            ∙ ap (λ k. f (item bits k)) (sym at)
+            ∙ ap f (sym (get_or-drop start bits (i - start) false))
+            ∙ ap f (sym (get_or-take (stop - start) own (i - start) false
+            (omega (arith, past, here))))
             ∙ sym (get_or-map f middle (i - start) false false within_middle)
             ∙ sym (get_or_append_left (map f middle) (drop stop bits) false (i - start)
             (omega (arith, turned, past, here)))
@@ -135,8 +137,10 @@ module _ {X : Type 0} (number : X → ℕ) (w : ℕ) (wide : 0 < w) {low high : 
       let range : IsRangeOf low high n start stop =
       record { order = order; inside = inside; each = window } in
       let whole = IsChangedWithin-ranged w wide h canonical
-      (subst (λ (xs : List X). IsRanged w f start stop (map number xs) (map number own)) lent_is ranged)
+      (subst (λ (xs : List X). IsRanged w f start stop (map number xs) (map number own)) lent_is
+      ranged)
       range in
-      subst (λ (bs : List Bool). IsChangedWithin f low high bs (unpacking n (map number left) w)) view
+      subst (λ (bs : List Bool). IsChangedWithin f low high bs (unpacking n (map number left) w))
+      view
       (subst (λ (xs : List X). IsChangedWithin f low high (unpacking n (map number items) w)
       (unpacking n (map number xs) w)) (sym left_is) whole)

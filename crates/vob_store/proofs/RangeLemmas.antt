@@ -273,14 +273,16 @@ module _ {X : Type 0} (number : X → ℕ) (w : ℕ) (wide : 0 < w) (f : Bool �
       → IsRanged w f (k * w + from) (k * w + to) (map number items) (map number (set items k new))
   IsRanged-item from to mask fits masked small places = rw map-set
       (IsRanged-block w wide (map number items) k (number old) (number new)
-      (omega (arith, inside, length-map items number)) (number_indexed number items k old inside read)
+      (omega (arith, inside, length-map items number))
+      (number_indexed number items k old inside read)
       f from to mask fits masked small places)
 
   pub same_item : number old < 2 ^ w → number new < 2 ^ w → (number old ≡ number new)
       ↔ HaveSameBits w (map number items) (map number (set items k new))
   same_item small new_small = rw map-set
       (same_block w wide (map number items) k (number old) (number new)
-      (omega (arith, inside, length-map items number)) (number_indexed number items k old inside read)
+      (omega (arith, inside, length-map items number))
+      (number_indexed number items k old inside read)
       small new_small)
 
 -- ---- a range of several blocks; u is the width as the code read it

@@ -64,7 +64,8 @@ fn mask_between<T: Block>(from: usize, to: usize) -> T
     T::low_mask(to).band(T::low_mask(from).bnot())
 }
 
-/// Changes the places of block `k` from `from` to below `to`, and answers whether the block changed.
+/// Changes the places of block `k` from `from` to below `to`, and answers whether the block
+/// changed.
 fn change_places<C: Change, T: Block>(blocks: &mut [T], k: usize, from: usize, to: usize) -> bool
     requires inside { k < length blocks.old }
     requires from { from ≤ T.BITS }

@@ -60,8 +60,8 @@ fn check_negated<T: Block>(
     check_same(rt, &vob, &wanted);
 }
 
-/// Ranges of a pattern of each length below 130, from each index on: some are empty, some end before
-/// they start, and some pass the end.
+/// Ranges of a pattern of each length below 130, from each index on: some are empty, some end
+/// before they start, and some pass the end.
 fn check_ranges<T: Block>(rt: &(impl Abort + AllocGlobal)) {
     for len in 0..130 {
         for start in 0..len + 2 {

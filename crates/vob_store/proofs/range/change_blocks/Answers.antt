@@ -45,14 +45,12 @@ loop-k-preserved g c =
 
 pub returns : goal.returns
 returns g c =
-    let number = g.T.Block.number in
-    let w = g.T.Block.BITS in
     let last : c.loop-k.k ≡ c.args.to = omega (arith, c.loop-k.auto.k-end, c.requires.order) in
-    let zero = ap number c.ZERO.ensures ∙ g.met.T.Block.zero_number_law in
+    let zero = ap g.T.Block.number c.ZERO.ensures ∙ g.met.T.Block.zero_number_law in
     let test = g.met.T.Block.equal_law c.loop-k.changed c.ZERO.result in
     let h = c.loop-k.invariant in
     record {
-      ranged = IsRanged-ends h.ranged refl (ap (λ k. k * w) last);
+      ranged = IsRanged-ends h.ranged refl (ap (λ k. k * g.T.Block.BITS) last);
       changed = not_flag c.ne.result (g.T.PartialEq.eq c.loop-k.changed c.ZERO.result)
           c.ne.ensures (
             (λ e. h.flag.0 (test.0 e ∙ zero)),
