@@ -313,13 +313,6 @@ module _ (w : ℕ) (wide : 0 < w) (u : ℕ) (same : u ≡ w) where
   block_of i n inside = rw same (div_below i w n wide inside)
 
   module _ {f : Bool → Bool} {xs ys : List ℕ} (start stop : ℕ) (some : start < stop) where
-    -- within one block
-    pub IsRanged-one : start / u ≡ (stop - 1) / u
-        → IsRanged w f (start / u * w + start % u) (start / u * w + ((stop - 1) % u + 1)) xs ys
-        → IsRanged w f start stop xs ys
-    IsRanged-one here ranged = IsRanged-ends ranged (at_width start)
-        (ap (λ q. q * w + ((stop - 1) % u + 1)) here ∙ below_end stop (omega arith))
-
     -- a first block, those between, and a last one
     module _ {zs us : List ℕ} (order : start / u + 1 ≤ (stop - 1) / u)
         (head : IsRanged w f (start / u * w + start % u) (start / u * w + u) xs ys)
