@@ -73,7 +73,7 @@ module _ (bits others : List Bool) where
   )
 
 -- what is left without the bits of another is what the other, negated, has too
-without-and : (bits others : List Bool)
+pub without-and : (bits others : List Bool)
     → pointwise without bits others ≡ pointwise ◌&&◌ bits (map not others)
 without-and [] others = refl
 without-and (b ∷ bits) [] = refl

@@ -15,7 +15,7 @@ use Rattle.vob.proofs.SetsLemmas.{counted, rank_is, equal_by, some_where, none_w
 
 -- ---- set bits below an index
 
-count-cons : (b : Bool) (bits : List Bool) → count_of true (b ∷ bits)
+pub count-cons : (b : Bool) (bits : List Bool) → count_of true (b ∷ bits)
     ≡ cond b 1 0 + count_of true bits
 count-cons b bits = sum_by-cons (λ v. cond v 1 0) b bits
 

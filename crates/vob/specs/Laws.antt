@@ -5,6 +5,7 @@ use Rattle.std.specs.declared.ops.Bound.TheVariants.{Included, Unbounded}
 use Rattle.std.specs.declared.ops.Range.{Range}
 use Rattle.vob_block.specs.Packing.{item, packing}
 use Rattle.vob_block.specs.Pointwise.{differ, pointwise}
+use Rattle.vob_store.specs.Combined.{without}
 use Rattle.vob.specs.Bits.{count_of}
 use Rattle.vob.specs.Drain.{bits_within, bits_outside}
 use Rattle.vob.specs.Runs.{AreRuns, GivesRun, RunWalk}
@@ -74,6 +75,17 @@ XorOfEqual = (bits others : List Bool) → bits ≡ others → pointwise differ 
 abbrev pub NegatedAnd : Type 0
 NegatedAnd =
     (bits others : List Bool) → map not (pointwise ◌&&◌ bits others) ≡ pointwise ◌||◌ (map not bits) (map not others)
+
+-- what a list has and another hasn't is what both the first and the other negated have
+abbrev pub DifferenceIsAndNot : Type 0
+DifferenceIsAndNot =
+    (bits others : List Bool) → pointwise without bits others ≡ pointwise ◌&&◌ bits (map not others)
+
+-- so many bits are all false exactly where none of them is counted
+abbrev pub NoneIsCounted : Type 0
+NoneIsCounted =
+    (bits : List Bool) (n : ℕ) → length bits ≡ n
+    → (bits ≡ replicate n false) ↔ (count_of true bits ≡ 0)
 
 -- the number that an index was selected by is how many set bits stand below it
 abbrev pub RankUndoesSelect : Type 0

@@ -1,5 +1,5 @@
 //! The laws of the operations on lists of bits. Each function does nothing: its contract is the law.
-ghost use Rattle.vob.specs.Laws.{JoinUndoesCut, DrainFromIsSplit, JoinIsPushes, EqualWhereListsAre, EqualWhereStorageIs, UnequalWherePlacesDiffer, PointwiseChangesBits, SetChangesBit, NegateTwice, XorOfEqual, NegatedAnd, RankUndoesSelect, SelectUndoesRank, WalkGivesRuns};
+ghost use Rattle.vob.specs.Laws.{JoinUndoesCut, DrainFromIsSplit, JoinIsPushes, EqualWhereListsAre, EqualWhereStorageIs, UnequalWherePlacesDiffer, PointwiseChangesBits, SetChangesBit, NegateTwice, XorOfEqual, NegatedAnd, DifferenceIsAndNot, NoneIsCounted, RankUndoesSelect, SelectUndoesRank, WalkGivesRuns};
 ghost use Rattle.vob_walk.specs.Laws.{MatchesShareNoIndex, MatchesFillTheRange, MatchesAddUp, MatchesExactly, MatchesRise, FirstMatchIsLeast, NoMatchIsNone, MatchesAreCounted, MatchesAreFew};
 ghost use Rattle.vob_walk.specs.Laws.{NoneIsForGood};
 
@@ -73,6 +73,18 @@ pub fn rank_undoes_select()
 /// What `select` gives for the rank of a set bit is that bit's index.
 pub fn select_undoes_rank()
     ensures { SelectUndoesRank }
+{}
+
+/// A difference is "and" with the other negated, so `and_not` leaves what `and` with a negated copy
+/// leaves.
+pub fn difference_is_and_not()
+    ensures { DifferenceIsAndNot }
+{}
+
+/// Bits are all unset exactly where no set one is counted, so `is_disjoint` answers true exactly
+/// where `count_and` answers 0, and `is_subset` exactly where `count_and_not` does.
+pub fn none_is_counted()
+    ensures { NoneIsCounted }
 {}
 
 /// All that a walk over runs gives, from `runs()` up to `None`, is each run in order, so the set
