@@ -17,4 +17,5 @@ pub mod SameLemmas
 pub mod SplatLemmas
 pub mod StorageLemmas
 pub mod WholeLemmas
+pub mod WordLemmas
 pub mod WriteLemmas

@@ -1,7 +1,7 @@
-//! The blocks of some bytes.
-ghost use Rattle.std.specs.Prelude.{◌≡◌, ℕ, ◌+◌, ◌-◌, ◌*◌, ◌/◌, ◌%◌, ◌^◌, ◌<◌, ◌≤◌, ◌&&◌, ◌||◌, nat_le, nat_lt, [], ◌++◌, length, slice_index, vec_capacity, IsOk, IfOk};
+//! The blocks of some bytes, and the bytes of some blocks.
+ghost use Rattle.std.specs.Prelude.{◌≡◌, ℕ, ◌+◌, ◌-◌, ◌*◌, ◌/◌, ◌%◌, ◌^◌, ◌<◌, ◌≤◌, ◌&&◌, ◌||◌, nat_le, nat_lt, false, [], ◌++◌, length, replicate, slice_index, vec_capacity, IsOk, IfOk};
 ghost use Rattle.vob_block.specs.Places.{place, HasPlaces};
-ghost use Rattle.vob_block.specs.Packing.{item, need, packing, Stores};
+ghost use Rattle.vob_block.specs.Packing.{item, need, bit_at, packing, unpacking, IsCanonical, Stores};
 ghost use Rattle.vob_block.specs.Bytes.{bytes_list};
 
 use std::alloc::{AllocError, Global};
@@ -72,4 +72,39 @@ pub fn byte_blocks(alloc: Global, bytes: &[u8]) -> Result<Vec<usize>, AllocError
     }
     push_bytes(&mut blocks, rest);
     Ok(blocks)
+}
+
+/// The eight bytes whose bits are the places of a block.
+fn bytes_of_word(word: usize) -> [u8; 8]
+    ensures { HasPlaces 64 word (item (bytes_list result)) }
+{
+    reverse_each_byte(word).to_le_bytes()
+}
+
+/// Puts the eight bytes of each block into an empty vector that has room for them.
+fn push_words(bytes: &mut Vec<u8>, blocks: &[usize])
+    requires none { bytes.old.items ≡ [] }
+    requires room { 8 * length blocks.now ≤ vec_capacity bytes.old }
+    ensures count { length bytes.new.items ≡ 8 * length blocks.now }
+    ensures bits { (i : ℕ) → i < 64 * length blocks.now
+        → item (bytes_list bytes.new.items) i ≡ bit_at blocks.now 64 i }
+{
+    for k in 0..blocks.len() {
+        // There is room, so this isn't refused.
+        let _ = bytes.extend_from_slice(&bytes_of_word(blocks[k]));
+    }
+}
+
+/// The bytes of `len` bits: as many as they need, with false bits behind them in the last one.
+pub fn block_bytes(alloc: Global, blocks: &[usize], len: usize) -> Result<Vec<u8>, AllocError>
+    requires { IsCanonical len blocks.now 64 }
+    ensures count { IfOk result (λ bytes. length bytes.items ≡ need len 8) }
+    ensures bits { IfOk result (λ bytes. bytes_list bytes.items
+        ≡ unpacking len blocks.now 64 ++ replicate (8 * need len 8 - len) false) }
+    ensures nothing { len ≡ 0 → IsOk result }
+{
+    let mut bytes = Vec::with_capacity(alloc, 8 * blocks.len())?;
+    push_words(&mut bytes, blocks);
+    bytes.truncate(len.div_ceil(8));
+    Ok(bytes)
 }
