@@ -1,5 +1,8 @@
-//! A Vob as text: a digit for each bit, that of index 0 first. vob 4.0.1 has `Debug` alone.
-ghost use Rattle.std.specs.Prelude.{◌≡◌, ◌≤◌, ◌↔◌, ℕ, [], map, length, All, Some, None, Err, IsTrue, IsOk, IfOk};
+//! A Vob as text, a digit for each bit, that of index 0 first; and as bytes. vob 4.0.1 has `Debug`
+//! alone.
+ghost use Rattle.std.specs.Prelude.{◌≡◌, ◌≤◌, ◌↔◌, ℕ, ◌-◌, ◌*◌, ◌++◌, [], map, length, replicate, false, All, Some, None, Err, IsTrue, IsOk, IfOk};
+ghost use Rattle.vob_block.specs.Bytes.{bytes_list};
+ghost use Rattle.vob_block.specs.Packing.{need};
 ghost use Rattle.vob.specs.Text.{digit, IsDigit, IsFirstBad};
 ghost use Rattle.vob.specs.declared.text.DigitsError.TheVariants.{BadDigit, Memory};
 
@@ -8,6 +11,7 @@ use std::alloc::{AllocError, Global};
 use std::error::Error;
 use std::fmt;
 use vob_block::Block;
+use vob_store::bytes::block_bytes;
 
 /// Why a text wasn't read as bits.
 #[derive(Clone, Copy, Debug, PartialEq, Eq)]
@@ -100,5 +104,24 @@ impl<T: Block> Vob<T> {
         let mut vob = Vob::new_with_storage_type(alloc, digits.len())?;
         push_digits(&mut vob, digits);
         Ok(vob)
+    }
+}
+
+impl Vob<usize> {
+    /// The bytes of the bits, the most significant bit of each byte first: as many as the bits need,
+    /// the unused bits of the last one 0. `from_bytes` gives the bits back, and those behind them. No
+    /// bits take no memory.
+    ///
+    /// ```
+    /// let vob = vob::vob!(alloc; true, false, true)?;
+    /// assert_eq!(rt; vob.to_bytes(alloc)?.as_slice(), &[0b1010_0000]);
+    /// ```
+    pub fn to_bytes(&self, alloc: Global) -> Result<Vec<u8>, AllocError>
+        ensures bits { IfOk result (λ bytes. bytes_list bytes.items ≡ self.now.bits
+            ++ replicate (8 * need (length self.now.bits) 8 - length self.now.bits) false) }
+        ensures count { IfOk result (λ bytes. length bytes.items ≡ need (length self.now.bits) 8) }
+        ensures nothing { self.now.bits ≡ [] → IsOk result }
+    {
+        block_bytes(alloc, self.vec.as_slice(), self.len)
     }
 }
