@@ -3,6 +3,7 @@ use Rattle.std.specs.Prelude.{Some, slice_get, slice_set}
 use Rattle.std.specs.Bool.{Decides}
 use Rattle.std.specs.List.{range_with_len}
 use Rattle.std.specs.declared.ops.Bound.{Bound}
+use Rattle.std.specs.declared.ops.Bound.TheVariants.{Included, Excluded}
 use Rattle.std.proofs.Common.{not, ◌≡◌, ◌≢◌, ◌↔◌, ◌⊎◌, ℕ, zero, suc, ◌+◌, ◌-◌, ◌<◌, ◌≤◌, nat_le, nat_lt, Bool, true, false, ◌&&◌, ◌||◌, cond, List, [], ◌∷◌, ◌++◌, length, map, take, drop, replicate, refl, sym, ap, ◌∙◌, arith, inl, inr}
 use Rattle.std.proofs.lemmas.Bool.{false≢true, and_from, and_left, and_right, lt-ltb, le-ltb, le-leb, lt-leb}
 use Rattle.std.proofs.lemmas.List.{length-map, length-set, length-replicate, get_or-replicate, get_or-set_same, get_or-set_other, get_or-map, ext_get_or, append-nil, map-append, take_all, length-drop, length-take-le, get_or-drop, get_or-take}
@@ -277,3 +278,11 @@ module _ (low high : Bound ℕ) (bits : List Bool) (from to : ℕ) (ordered : fr
       (stretch bits 0 from (omega arith))
       ∙ ap (λ bs. take from bits ++ bs) (stretch bits to behind (omega arith)
       ∙ take_all behind (drop to bits) (omega (arith, length-drop to bits)))
+
+-- a range of indices that are there holds as many bits
+pub length-bits_within : (bits : List Bool) (start stop : ℕ) → start ≤ stop
+    → stop ≤ length bits → length (bits_within (Included start) (Excluded stop) bits) ≡ stop - start
+length-bits_within bits start stop order inside =
+    ap length (bits_within-cut (Included start) (Excluded stop) bits start stop order inside
+    (λ i _. refl)) ∙ length-take-le (stop - start) (drop start bits)
+    (omega (arith, length-drop start bits, inside))

@@ -114,7 +114,7 @@ impl Vob<usize> {
     ///
     /// ```
     /// let vob = vob::vob!(alloc; true, false, true)?;
-    /// assert_eq!(rt; vob.to_bytes(alloc)?.as_slice(), &[0b1010_0000]);
+    /// assert_eq!(rt; vob.to_bytes(alloc)?.as_slice(), [0b1010_0000].as_slice());
     /// ```
     pub fn to_bytes(&self, alloc: Global) -> Result<Vec<u8>, AllocError>
         ensures bits { IfOk result (λ bytes. bytes_list bytes.items ≡ self.now.bits

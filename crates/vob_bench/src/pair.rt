@@ -125,6 +125,13 @@ pub(crate) fn count_and(
     Ok(checksum(&vob, times))
 }
 
+/// The bits from `start` to below `end` written over those from `at` on, where they are there and fit.
+fn copy_bits(vob: &mut Vob, at: usize, other: &Vob, start: usize, end: usize) {
+    if start <= end && end <= other.len() && at <= vob.len() && end - start <= vob.len() - at {
+        vob.copy_range(at, other, start..end);
+    }
+}
+
 /// The bits from index 13 on, but for the last ones, written over another's from index 29 on.
 #[inline(never)]
 pub(crate) fn copy_range(
@@ -138,9 +145,7 @@ pub(crate) fn copy_range(
     let other = Vob::from_bytes(alloc, others)?;
     let end = other.len().saturating_sub(64);
     for round in 0..rounds {
-        if vob.len() == other.len() && 64 <= vob.len() {
-            vob.copy_range(29, &other, 13..end);
-        }
+        copy_bits(&mut vob, 29, &other, 13, end);
         times = times.wrapping_add(sample(&vob, round) as u64);
     }
     Ok(checksum(&vob, times))

@@ -56,7 +56,9 @@ fn next_bits(vob: &Vob) -> u64 {
 fn run_sum(vob: &Vob) -> u64 {
     let mut sum: u64 = 0;
     for run in vob.runs() {
-        sum = sum.wrapping_add(run.start as u64).wrapping_add(run.end as u64);
+        sum = sum
+            .wrapping_add(run.start as u64)
+            .wrapping_add(run.end as u64);
     }
     sum
 }

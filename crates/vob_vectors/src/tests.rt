@@ -2,6 +2,7 @@
 mod agreement;
 mod commands;
 mod constructors;
+mod copies;
 mod counts;
 mod draining;
 mod examples;

@@ -184,3 +184,59 @@ fn digits_are_a_vob(rt: HostRuntime) -> Result<(), Fail> {
     assert_eq!(rt; vob.get(1), Some(false));
     Ok(())
 }
+
+#[test]
+fn a_range_is_set(rt: HostRuntime) -> Result<(), Fail> {
+    let alloc = rt.alloc();
+    let mut vob = vob::vob!(alloc; false, false, false)?;
+    assert!(rt; vob.set_range(1.., true));
+    assert!(rt; !vob.set_range(1..3, true));
+    assert!(rt; vob == vob::vob!(alloc; false, true, true)?);
+    Ok(())
+}
+
+#[test]
+fn a_range_is_negated(rt: HostRuntime) -> Result<(), Fail> {
+    let alloc = rt.alloc();
+    let mut vob = vob::vob!(alloc; true, false, true)?;
+    vob.negate_range(..2);
+    assert!(rt; vob == vob::vob!(alloc; false, true, true)?);
+    Ok(())
+}
+
+#[test]
+fn runs_are_walked(rt: HostRuntime) -> Result<(), Fail> {
+    let alloc = rt.alloc();
+    let vob = vob::vob!(alloc; true, false, true, true)?;
+    let mut runs = vob.runs();
+    assert_eq!(rt; runs.next(), Some(0..1));
+    assert_eq!(rt; runs.next(), Some(2..4));
+    assert_eq!(rt; runs.next(), None);
+    Ok(())
+}
+
+#[test]
+fn indices_are_a_vob(rt: HostRuntime) -> Result<(), Fail> {
+    let alloc = rt.alloc();
+    let vob = vob::Vob::<u8>::from_indices(alloc, 3, &[2, 0, 2])?;
+    assert_eq!(rt; vob.get(1), Some(false));
+    assert_eq!(rt; vob.get(2), Some(true));
+    Ok(())
+}
+
+#[test]
+fn bits_are_copied_over_others(rt: HostRuntime) -> Result<(), Fail> {
+    let alloc = rt.alloc();
+    let mut vob = vob::vob!(alloc; false, false, false)?;
+    vob.copy_range(0, &vob::vob!(alloc; false, true, true)?, 1..);
+    assert!(rt; vob == vob::vob!(alloc; true, true, false)?);
+    Ok(())
+}
+
+#[test]
+fn bits_are_bytes(rt: HostRuntime) -> Result<(), Fail> {
+    let alloc = rt.alloc();
+    let vob = vob::vob!(alloc; true, false, true)?;
+    assert_eq!(rt; vob.to_bytes(alloc)?.as_slice(), [0b1010_0000].as_slice());
+    Ok(())
+}

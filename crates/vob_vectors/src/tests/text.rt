@@ -1,4 +1,4 @@
-//! A Vob as digits, and as serde writes and reads it where it stands.
+//! A Vob as digits and as bytes, and as serde writes and reads it where it stands.
 use super::support::{check_bits, check_same, pattern, same, same_text, vob_of};
 use serde::{Deserialize, Serialize};
 use std::alloc::Global;
@@ -25,6 +25,23 @@ fn a_vob_is_written_as_its_digits(rt: HostRuntime) {
     check_digits::<u128>(&rt);
 }
 
+/// The bytes of a Vob, which are as many as its bits need, are read as its bits and false ones.
+fn check_bytes(rt: &(impl Abort + AllocGlobal), vob: &Vob) {
+    let bytes = vob.to_bytes(rt.alloc()).expect(rt, "memory");
+    same(rt, "bytes", vob.len(), bytes.len(), vob.len().div_ceil(8));
+    let mut back = Vob::from_bytes(rt.alloc(), bytes.as_slice()).expect(rt, "memory");
+    same(rt, "behind", vob.len(), back.next_set(vob.len()), None);
+    back.truncate(vob.len());
+    check_same(rt, &back, vob);
+}
+
+#[test]
+fn bytes_are_read_back(rt: HostRuntime) {
+    for len in 0..200 {
+        check_bytes(&rt, &pattern(&rt, 2, len));
+    }
+}
+
 /// Why a text isn't read.
 fn refused(rt: &impl AllocGlobal, text: &str) -> Option<DigitsError> {
     Vob::<u8>::from_digits(rt.alloc(), text).err()
@@ -35,7 +52,13 @@ fn the_first_byte_that_is_no_digit_is_named(rt: HostRuntime) {
     let texts = ["2", "1\n", "01x1y", "0101010101é", "10 1", ""];
     let wanted = [Some(0), Some(1), Some(2), Some(10), Some(2), None];
     for (text, at) in texts.iter().zip(wanted) {
-        same(&rt, text, 0, refused(&rt, text), at.map(DigitsError::BadDigit));
+        same(
+            &rt,
+            text,
+            0,
+            refused(&rt, text),
+            at.map(DigitsError::BadDigit),
+        );
     }
     let text = format!(in rt.alloc(); "{}", DigitsError::BadDigit(7)).expect(&rt, "memory");
     same_text(&rt, "an error", text.as_str(), "neither 0 nor 1 at index 7");
@@ -70,9 +93,18 @@ fn a_struct_with_vobs_is_written_and_read(rt: HostRuntime) {
 #[test]
 fn a_vob_is_the_key_of_a_map(rt: HostRuntime) {
     let mut numbers: HashMap<Vob, usize> = HashMap::new(rt.alloc());
-    let _ = numbers.insert(vob_of(&rt, "101"), 7).ok().expect(&rt, "memory");
+    let _ = numbers
+        .insert(vob_of(&rt, "101"), 7)
+        .ok()
+        .expect(&rt, "memory");
     let (there, longer) = (vob_of::<usize>(&rt, "101"), vob_of::<usize>(&rt, "1010"));
-    same(&rt, "the same bits", 0, numbers.get(&there).copied(), Some(7));
+    same(
+        &rt,
+        "the same bits",
+        0,
+        numbers.get(&there).copied(),
+        Some(7),
+    );
     same(&rt, "one bit more", 0, numbers.get(&longer).copied(), None);
 }
 
@@ -85,7 +117,11 @@ fn bits_of(alloc: Global, text: &str) -> Result<Vob, anyhow::Error> {
 
 #[test]
 fn errors_go_into_any_error(rt: HostRuntime) {
-    check_bits(&rt, &bits_of(rt.alloc(), "10").ok().expect(&rt, "bits"), "101");
+    check_bits(
+        &rt,
+        &bits_of(rt.alloc(), "10").ok().expect(&rt, "bits"),
+        "101",
+    );
     let error = bits_of(rt.alloc(), "1 0").err().expect(&rt, "an error");
     let text = format!(in rt.alloc(); "{error}").expect(&rt, "memory");
     same_text(&rt, "an error", text.as_str(), "neither 0 nor 1 at index 1");
