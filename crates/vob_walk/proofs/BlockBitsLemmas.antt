@@ -1,7 +1,7 @@
 -- A block in hand, and its first or last index taken.
 use Rattle.std.specs.List.{range_with_len}
 use Rattle.std.proofs.Common.{◌≡◌, ◌≢◌, ℕ, zero, suc, ◌+◌, ◌-◌, ◌^◌, ◌<◌, ◌≤◌, Bool, true, false, cond, List, [], ◌∷◌, ◌++◌, length, ◌↔◌, eqb, refl, sym, ap, ◌∙◌, subst, arith, inl, inr, append-nil, length-append}
-use Rattle.std.proofs.lemmas.Bool.{cases_eq, cases_lt, false≢true, eq-eqb, eqb-true, ne_eqb, cond-true, cond-false}
+use Rattle.std.proofs.lemmas.Bool.{cases_eq, cases_order, cases_lt, false≢true, eq-eqb, eqb-true, ne_eqb, cond-true, cond-false}
 use Rattle.std.proofs.lemmas.List.Sums.{length-filter}
 use Rattle.std.proofs.lemmas.Nat.{pow_pos}
 use Rattle.vob_block.specs.Places.{place, HasPlaces, HasZerosLow, HasZerosHigh, true_places}
@@ -230,3 +230,27 @@ module _ (w at x y j : ℕ) (inside : j < w) (there : place j x ≡ true)
   unfolding block_indices
   block_indices-last n h e = indices_where-last _ _ (at + j) at w lacks
       (λ i low high. zeros_above w x n h (i - at) (omega arith) (omega arith))
+
+  -- where the last is taken and another is left, the first stays
+  pub first-stays : (n m : ℕ) → HasZerosHigh w x n → j ≡ w - 1 - n → HasZerosLow w x m
+      → block_indices w at y ≢ [] → HasZerosLow w y m
+  first-stays n m h e low some =
+      let below : (i : ℕ) → i < m → place i y ≡ false = λ i less. elim (cases_eq i j) [
+        | inl same ↦ ap (λ k. place k y) same ∙ cleared
+        | inr other ↦ kept i (omega (arith, low.bound)) other ∙ low.zeros i less
+      ] in
+      record {
+        bound = low.bound;
+        zeros = below;
+        first = λ here. elim (cases_eq m j) [
+          | inl same ↦ absurd (some (block_indices-none w at y (λ i h'. elim (cases_order i m) [
+            | inl it ↦ ap (λ k. place k y) (it ∙ same) ∙ cleared
+            | inr less ↦ elim less [
+              | inl under ↦ below i under
+              | inr over ↦ kept i h' (omega (arith, over, same))
+                  ∙ zeros_above w x n h i (omega (arith, over, same, e)) h'
+            ]
+          ])))
+          | inr other ↦ kept m here other ∙ low.first here
+        ];
+      }

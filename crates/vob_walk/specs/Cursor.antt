@@ -39,9 +39,7 @@ pub record IsBlockBits (width at block : ℕ) : Type 0 where
 pub record IsReady (width at block left ready : ℕ) : Type 0 where
   pub bits : IsBlockBits width at block
   pub count : left ≡ length (block_indices width at block)
-  pub place : ℕ
-  pub zeros : HasZerosLow width block place
-  pub first : place < width → ready ≡ at + place
+  pub first : 0 < left → (n : ℕ) × HasZerosLow width block n × (ready ≡ at + n)
 
 -- the unread blocks of a walk: the indices that are left in them, how many blocks were read so far,
 -- and how many are unread

@@ -134,9 +134,11 @@ impl<T: Block> BlockBits<T> {
         if self.left == 0 {
             return None;
         }
-        let (word, at) = (self.word, self.at);
+        // The first one stays, where this isn't it.
+        let word = self.word;
         let place = T::BITS - 1 - word.zeros_high();
-        *self = BlockBits::counted(without_place(word, place), at, self.left - 1);
-        Some(at + place)
+        self.word = without_place(word, place);
+        self.left -= 1;
+        Some(self.at + place)
     }
 }

@@ -14,26 +14,29 @@ pub counted-requires-clause-bits : goal.counted-requires-clause-bits
 counted-requires-clause-bits g c =
     let h = c.self.invariant in
     let left : 0 < c.self.inside.left = grind (arith, c.if-self-eq0.false) in
-    let first = first_there _ c.self.inside.at _ _ h.zeros (some_left h.count left) in
-    IsBlockBits-cleared _ _ _ _ h.place first.0 first.1
-    (c.without_first.ensures.places h.place h.zeros) c.without_first.ensures.within h.bits
+    let lowest = h.first left in
+    let first = first_there _ c.self.inside.at _ _ lowest.1 (some_left h.count left) in
+    IsBlockBits-cleared _ _ _ _ lowest.0 first.0 first.1
+    (c.without_first.ensures.places lowest.0 lowest.1) c.without_first.ensures.within h.bits
 
 pub counted-requires-clause-count : goal.counted-requires-clause-count
 counted-requires-clause-count g c =
     let h = c.self.invariant in
     let left : 0 < c.self.inside.left = grind (arith, c.if-self-eq0.false) in
-    let first = first_there _ c.self.inside.at _ _ h.zeros (some_left h.count left) in
-    left-first h.count (block_indices-first _ c.self.inside.at _ _ h.place first.0 first.1
-    (c.without_first.ensures.places h.place h.zeros) h.zeros)
+    let lowest = h.first left in
+    let first = first_there _ c.self.inside.at _ _ lowest.1 (some_left h.count left) in
+    left-first h.count (block_indices-first _ c.self.inside.at _ _ lowest.0 first.0 first.1
+    (c.without_first.ensures.places lowest.0 lowest.1) lowest.1)
 
 pub returns : goal.returns
 returns g c =
     let s = c.self.inside in
     let h = c.self.invariant in
     let left : 0 < s.left = grind (arith, c.if-self-eq0.false) in
-    let first = first_there _ c.self.inside.at _ _ h.zeros (some_left h.count left) in
+    let lowest = h.first left in
+    let first = first_there _ s.at _ _ lowest.1 (some_left h.count left) in
     rw (← c.self.view_is, c.self-2.view_is, c.counted.ensures)
-    (block_indices-first _ s.at _ _ h.place first.0 first.1
-    (c.without_first.ensures.places h.place h.zeros) h.zeros
+    (block_indices-first _ s.at _ _ lowest.0 first.0 first.1
+    (c.without_first.ensures.places lowest.0 lowest.1) lowest.1
     ∙ ap (λ i. i ∷ block_indices g.T.Block.BITS s.at (g.T.Block.number c.without_first.result))
-    (sym (h.first first.0)))
+    (sym lowest.2))

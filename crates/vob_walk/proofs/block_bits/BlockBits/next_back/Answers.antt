@@ -1,38 +1,54 @@
 -- The last true place is the last index that is left, and one less is left.
 use Rattle.std.proofs.Common.{◌-◌, ◌<◌, ap, arith}
-use Rattle.vob_walk.proofs.BlockBitsLemmas.{some_left, last_there, block_indices-last, left-last}
+use Rattle.vob_walk.proofs.BlockBitsLemmas.{some_left, last_there, block_indices-last, IsBlockBits-cleared, left-last, first-stays}
 use Rattle.vob_walk.proofs.block_bits.BlockBits.next_back.Goals as goal
 
 pub overflow_sub-place-2 : goal.overflow_sub-place-2
 overflow_sub-place-2 g c =
     let h = c.self.invariant in
     let left : 0 < c.self.inside.left = grind (arith, c.if-self-eq0.false) in
-    (last_there _ _ c.self.inside.at _ _ c.BITS.ensures c.zeros_high.ensures (some_left h.count left)).0
+    (last_there _ _ c.self.inside.at _ _ c.BITS.ensures c.zeros_high.ensures
+    (some_left h.count left)).0
 
-pub without_place-requires-clause-there : goal.without_place-requires-clause-there
-without_place-requires-clause-there g c =
+pub without_place-self-inside-requires-clause-there :
+    goal.without_place-self-inside-requires-clause-there
+without_place-self-inside-requires-clause-there g c =
     let h = c.self.invariant in
     let left : 0 < c.self.inside.left = grind (arith, c.if-self-eq0.false) in
-    (last_there _ _ c.self.inside.at _ _ c.BITS.ensures c.zeros_high.ensures (some_left h.count left)).2
+    (last_there _ _ c.self.inside.at _ _ c.BITS.ensures c.zeros_high.ensures
+    (some_left h.count left)).2
 
-pub counted-requires-clause-count : goal.counted-requires-clause-count
-counted-requires-clause-count g c =
+pub invariant_of-self : goal.invariant_of-self
+invariant_of-self g c =
+    let s = c.self.inside in
     let h = c.self.invariant in
-    let left : 0 < c.self.inside.left = grind (arith, c.if-self-eq0.false) in
-    let last = last_there _ _ c.self.inside.at _ _ c.BITS.ensures c.zeros_high.ensures
+    let left : 0 < s.left = grind (arith, c.if-self-eq0.false) in
+    let last = last_there _ _ s.at _ _ c.BITS.ensures c.zeros_high.ensures
     (some_left h.count left) in
-    left-last _ _ h.count (block_indices-last _ c.self.inside.at _ _ _ last.1 last.2
-    c.without_place.ensures.places c.zeros_high.result c.zeros_high.ensures
-    (ap (λ m. m - 1 - c.zeros_high.result) c.BITS.ensures))
+    let at_end = ap (λ m. m - 1 - c.zeros_high.result) c.BITS.ensures in
+    let places = c.without_place-self-inside.ensures.places in
+    let fewer = left-last _ _ h.count (block_indices-last _ s.at _ _ _ last.1 last.2
+    places c.zeros_high.result c.zeros_high.ensures at_end) in
+    record {
+      bits = IsBlockBits-cleared _ _ _ _ _ last.1 last.2 places
+          c.without_place-self-inside.ensures.within h.bits;
+      count = fewer;
+      first = λ more.
+          let lowest = h.first left in (
+            lowest.0,
+            first-stays _ s.at _ _ _ last.1 last.2 places c.zeros_high.result lowest.0
+                c.zeros_high.ensures at_end lowest.1 (some_left fewer more),
+            lowest.2,
+          );
+    }
 
 pub returns : goal.returns
 returns g c =
     let s = c.self.inside in
     let h = c.self.invariant in
     let left : 0 < s.left = grind (arith, c.if-self-eq0.false) in
-    let last = last_there _ _ c.self.inside.at _ _ c.BITS.ensures c.zeros_high.ensures
+    let last = last_there _ _ s.at _ _ c.BITS.ensures c.zeros_high.ensures
     (some_left h.count left) in
-    rw (← c.self.view_is, c.self-2.view_is, c.counted.ensures)
-    (block_indices-last _ s.at _ _ _ last.1 last.2
-    c.without_place.ensures.places c.zeros_high.result c.zeros_high.ensures
+    rw (← c.self.view_is) (block_indices-last _ s.at _ _ _ last.1 last.2
+    c.without_place-self-inside.ensures.places c.zeros_high.result c.zeros_high.ensures
     (ap (λ m. m - 1 - c.zeros_high.result) c.BITS.ensures))
