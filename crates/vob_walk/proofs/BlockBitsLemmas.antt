@@ -163,6 +163,10 @@ length-block_indices w at x = length-indices_at (λ j. place j x) at at 0 w (ome
 pub some_left : {xs : List ℕ} {left : ℕ} → left ≡ length xs → 0 < left → xs ≢ []
 some_left count some none = absurd (omega (arith, count ∙ ap length none, some))
 
+pub left_some : (xs : List ℕ) (left : ℕ) → left ≡ length xs → xs ≢ [] → 0 < left
+left_some [] left count some = absurd (some refl)
+left_some (x ∷ xs) left count some = omega (arith, count)
+
 pub left-first : {xs ys : List ℕ} {left i : ℕ} → left ≡ length xs → xs ≡ i ∷ ys
     → left - 1 ≡ length ys
 left-first count first = omega (arith, count ∙ ap length first)

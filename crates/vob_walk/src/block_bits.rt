@@ -106,6 +106,14 @@ impl<T: Block> BlockBits<T> {
         self.left == 0
     }
 
+    /// The same, tested by the block, as `next_back` tests it.
+    #[inline(always)]
+    pub(crate) fn is_all_given(&self) -> bool
+        ensures { IsTrue result ↔ (self.now ≡ []) }
+    {
+        is_zero(self.word)
+    }
+
     /// How many indices are left.
     pub(crate) fn count(&self) -> usize
         ensures { result ≡ length self.now }
@@ -131,11 +139,12 @@ impl<T: Block> BlockBits<T> {
     pub(crate) fn next_back(&mut self) -> Option<usize>
         ensures { YieldsLast (λ rest. rest) self.old result self.new }
     {
-        if self.left == 0 {
+        // Tested by the block: where it isn't 0, the count of its zeros is one instruction.
+        let word = self.word;
+        if is_zero(word) {
             return None;
         }
         // The first one stays, where this isn't it.
-        let word = self.word;
         let place = T::BITS - 1 - word.zeros_high();
         self.word = without_place(word, place);
         self.left -= 1;

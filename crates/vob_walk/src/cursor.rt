@@ -72,7 +72,7 @@ fn fill_back<T: Block>(
     ensures falls { unread.new.left ≤ unread.old.left }
     ensures reads { unread.new.reads + unread.new.left ≡ unread.old.reads + unread.old.left }
 {
-    if !back.is_empty() {
+    if !back.is_all_given() {
         return;
     }
     *back = unread.next_back_bits();
