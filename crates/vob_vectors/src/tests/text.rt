@@ -2,7 +2,6 @@
 use super::support::{check_bits, check_same, pattern, same, same_text, vob_of};
 use serde::{Deserialize, Serialize};
 use std::alloc::Global;
-use std::collections::HashMap;
 use std::process::Abort;
 use vob::{DigitsError, Vob};
 use vob_block::Block;
@@ -88,24 +87,6 @@ fn a_struct_with_vobs_is_written_and_read(rt: HostRuntime) {
     same_text(&rt, "a struct", text.as_str(), wanted);
     let read = shown_of(rt.alloc(), wanted).ok().expect(&rt, "read");
     same(&rt, "a struct", 0, read, shown);
-}
-
-#[test]
-fn a_vob_is_the_key_of_a_map(rt: HostRuntime) {
-    let mut numbers: HashMap<Vob, usize> = HashMap::new(rt.alloc());
-    let _ = numbers
-        .insert(vob_of(&rt, "101"), 7)
-        .ok()
-        .expect(&rt, "memory");
-    let (there, longer) = (vob_of::<usize>(&rt, "101"), vob_of::<usize>(&rt, "1010"));
-    same(
-        &rt,
-        "the same bits",
-        0,
-        numbers.get(&there).copied(),
-        Some(7),
-    );
-    same(&rt, "one bit more", 0, numbers.get(&longer).copied(), None);
 }
 
 /// The bits of a text and one more, or any error.
