@@ -14,12 +14,6 @@ impl<T: Block> Vob<T> {
     /// accepted: the range is cut at the other's length, and holds no bit where its end is before
     /// its start. What it holds has to fit behind `at`. The other bits stay, and no memory is asked
     /// for.
-    ///
-    /// ```
-    /// let mut vob = vob::vob!(alloc; false, false, false)?;
-    /// vob.copy_range(0, &vob::vob!(alloc; false, true, true)?, 1..);
-    /// assert!(rt; vob == vob::vob!(alloc; true, true, false)?);
-    /// ```
     pub fn copy_range<R: RangeBounds<usize>>(&mut self, at: usize, other: &Vob<T>, range: R)
         requires bounds { R.has_bounds range }
         requires fits { at + length

@@ -225,15 +225,6 @@ fn indices_are_a_vob(rt: HostRuntime) -> Result<(), Fail> {
 }
 
 #[test]
-fn bits_are_copied_over_others(rt: HostRuntime) -> Result<(), Fail> {
-    let alloc = rt.alloc();
-    let mut vob = vob::vob!(alloc; false, false, false)?;
-    vob.copy_range(0, &vob::vob!(alloc; false, true, true)?, 1..);
-    assert!(rt; vob == vob::vob!(alloc; true, true, false)?);
-    Ok(())
-}
-
-#[test]
 fn bits_are_bytes(rt: HostRuntime) -> Result<(), Fail> {
     let alloc = rt.alloc();
     let vob = vob::vob!(alloc; true, false, true)?;
