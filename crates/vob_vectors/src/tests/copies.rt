@@ -12,12 +12,7 @@ fn copy<T: Block>(vob: &mut Vob<T>, at: usize, other: &Vob<T>, start: usize, end
 }
 
 /// Each bit from `at` on is the other's from `start` on, `count` of them, and the others are old.
-fn check_copied<T: Block>(
-    rt: &(impl Abort + AllocGlobal),
-    at: usize,
-    start: usize,
-    count: usize,
-) {
+fn check_copied<T: Block>(rt: &(impl Abort + AllocGlobal), at: usize, start: usize, count: usize) {
     let old = pattern::<T>(rt, 1, 130);
     let other = pattern::<T>(rt, 3, 140);
     let mut vob = pattern::<T>(rt, 1, 130);
