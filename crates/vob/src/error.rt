@@ -2,17 +2,19 @@
 ghost use Rattle.vob.specs.declared.error.VobError.TheVariants.{Memory};
 
 use std::alloc::AllocError;
-use std::error::Error;
-use std::fmt;
+use thiserror::Error;
 
 /// Why a call was refused. vob 4.0.1 panics, or ends the process, in its place.
-#[derive(Clone, Copy, Debug, PartialEq, Eq)]
+#[derive(Clone, Copy, Debug, PartialEq, Eq, Error)]
 pub enum VobError {
     /// The new length would pass the greatest one, `usize::MAX`.
+    #[error("the length would pass usize::MAX")]
     TooLong,
     /// There was no memory for the blocks.
+    #[error("out of memory")]
     Memory,
     /// An index was past the end: above the length. `split_off` alone answers it.
+    #[error("the index is past the end")]
     PastEnd,
 }
 
@@ -33,18 +35,6 @@ impl VobError {
     }
 }
 
-impl fmt::Display for VobError {
-    fn fmt<W: fmt::Write>(&self, f: &mut fmt::Formatter<W>) -> fmt::Result {
-        f.write_str(match self {
-            VobError::TooLong => "the length would pass usize::MAX",
-            VobError::Memory => "out of memory",
-            VobError::PastEnd => "the index is past the end",
-        })
-    }
-}
-
-impl Error for VobError {}
-
 impl From<AllocError> for VobError {
     ghost use Rattle.std.specs.Prelude.{◌≡◌};
 
@@ -56,30 +46,16 @@ impl From<AllocError> for VobError {
 }
 
 /// Why no Vob was made of indices.
-#[derive(Clone, Copy, Debug, PartialEq, Eq)]
+#[derive(Clone, Copy, Debug, PartialEq, Eq, Error)]
 pub enum IndicesError {
     /// There was no memory for the blocks.
+    #[error("out of memory")]
     Memory,
     /// An index was at or past the length. Of the indices given, the one at `position` is the first
     /// such one.
+    #[error("the index at position {position} is at or past the length")]
     OutOfRange { position: usize },
 }
-
-impl fmt::Display for IndicesError {
-    fn fmt<W: fmt::Write>(&self, f: &mut fmt::Formatter<W>) -> fmt::Result {
-        match self {
-            IndicesError::Memory => write!(f, "out of memory"),
-            IndicesError::OutOfRange { position } => {
-                write!(
-                    f,
-                    "the index at position {position} is at or past the length"
-                )
-            }
-        }
-    }
-}
-
-impl Error for IndicesError {}
 
 impl From<AllocError> for IndicesError {
     ghost use Rattle.std.specs.Prelude.{◌≡◌};

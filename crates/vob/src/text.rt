@@ -8,30 +8,21 @@ ghost use Rattle.vob.specs.declared.text.DigitsError.TheVariants.{BadDigit, Memo
 
 use crate::vob::Vob;
 use std::alloc::{AllocError, Global};
-use std::error::Error;
 use std::fmt;
+use thiserror::Error;
 use vob_block::Block;
 use vob_store::bytes::block_bytes;
 
 /// Why a text wasn't read as bits.
-#[derive(Clone, Copy, Debug, PartialEq, Eq)]
+#[derive(Clone, Copy, Debug, PartialEq, Eq, Error)]
 pub enum DigitsError {
     /// The byte at this index is neither `0` nor `1`, and all before it are.
+    #[error("neither 0 nor 1 at index {0}")]
     BadDigit(usize),
     /// There was no memory for the blocks.
+    #[error("out of memory")]
     Memory,
 }
-
-impl fmt::Display for DigitsError {
-    fn fmt<W: fmt::Write>(&self, f: &mut fmt::Formatter<W>) -> fmt::Result {
-        match self {
-            DigitsError::BadDigit(index) => write!(f, "neither 0 nor 1 at index {index}"),
-            DigitsError::Memory => f.write_str("out of memory"),
-        }
-    }
-}
-
-impl Error for DigitsError {}
 
 impl From<AllocError> for DigitsError {
     ghost from_gives = { λ _ refusal. refusal ≡ Memory };

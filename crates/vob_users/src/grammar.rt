@@ -8,8 +8,7 @@ ghost use Rattle.vob_users.specs.Matrix.{HaveShapeOf};
 
 use crate::matrix::BitMatrix;
 use std::alloc::{AllocError, Global};
-use std::error::Error;
-use std::fmt;
+use thiserror::Error;
 use vob::Vob;
 
 /// A symbol of a grammar: terminals and nonterminals have numbers from 0 on, each kind its own.
@@ -43,11 +42,13 @@ pub struct FirstSets {
 }
 
 /// Why `nullable` or `first_sets` was refused.
-#[derive(Clone, Copy, Debug, PartialEq, Eq)]
+#[derive(Clone, Copy, Debug, PartialEq, Eq, Error)]
 pub enum GrammarError {
     /// There was no memory for the sets.
+    #[error("out of memory")]
     Memory,
     /// A rule names a terminal or a nonterminal that isn't there.
+    #[error("rule {rule} names a symbol that isn't there")]
     BadSymbol { rule: usize },
 }
 
@@ -65,20 +66,6 @@ impl GrammarError {
         }
     }
 }
-
-impl fmt::Display for GrammarError {
-    fn fmt<W: fmt::Write>(&self, f: &mut fmt::Formatter<W>) -> fmt::Result {
-        match self {
-            GrammarError::Memory => write!(f, "out of memory"),
-            GrammarError::BadSymbol { rule } => write!(
-                f,
-                "rule {rule} names a symbol that isn't there"
-            ),
-        }
-    }
-}
-
-impl Error for GrammarError {}
 
 impl From<AllocError> for GrammarError {
     ghost use Rattle.std.specs.Prelude.{◌≡◌};

@@ -7,8 +7,7 @@ ghost use Rattle.vob_users.specs.Live.{AreLive, bits_of};
 ghost use Rattle.vob_users.specs.LivePass.{AddsMembers, ArePossible, AreReads, AreReady, IsFault, IsNextAdded, IsPass, IsPossibleAdded, IsSetOf};
 
 use std::alloc::{AllocError, Global};
-use std::error::Error;
-use std::fmt;
+use thiserror::Error;
 use vob::Vob;
 
 /// A node of a flow graph: the variables that it reads, those that it writes behind that, and the
@@ -30,13 +29,16 @@ pub struct Live {
 }
 
 /// Why `liveness` was refused.
-#[derive(Clone, Copy, Debug, PartialEq, Eq)]
+#[derive(Clone, Copy, Debug, PartialEq, Eq, Error)]
 pub enum LiveError {
     /// There was no memory for the sets.
+    #[error("out of memory")]
     Memory,
     /// A node reads or writes what isn't a variable.
+    #[error("node {node} names no variable")]
     BadVariable { node: usize },
     /// What comes next to a node isn't a node.
+    #[error("node {node} leads to no node")]
     BadNext { node: usize },
 }
 
@@ -55,18 +57,6 @@ impl LiveError {
         }
     }
 }
-
-impl fmt::Display for LiveError {
-    fn fmt<W: fmt::Write>(&self, f: &mut fmt::Formatter<W>) -> fmt::Result {
-        match self {
-            LiveError::Memory => write!(f, "out of memory"),
-            LiveError::BadVariable { node } => write!(f, "node {node} names no variable"),
-            LiveError::BadNext { node } => write!(f, "node {node} leads to no node"),
-        }
-    }
-}
-
-impl Error for LiveError {}
 
 impl From<AllocError> for LiveError {
     ghost use Rattle.std.specs.Prelude.{◌≡◌};
