@@ -13,6 +13,7 @@ pub mod Refusal
 pub mod Rest
 pub mod Runs
 pub mod Same
+pub mod SetLaws
 pub mod Sets
 pub mod Text
 pub mod Vob

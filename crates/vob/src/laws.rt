@@ -1,5 +1,6 @@
 //! The laws of the operations on lists of bits. Each function does nothing: its contract is the law.
-ghost use Rattle.vob.specs.Laws.{JoinUndoesCut, DrainFromIsSplit, JoinIsPushes, EqualWhereListsAre, EqualWhereStorageIs, UnequalWherePlacesDiffer, PointwiseChangesBits, SetChangesBit, NegateTwice, XorOfEqual, NegatedAnd, DifferenceIsAndNot, NoneIsCounted, RankUndoesSelect, SelectUndoesRank, WalkGivesRuns};
+ghost use Rattle.vob.specs.Laws.{JoinUndoesCut, DrainFromIsSplit, JoinIsPushes, EqualWhereListsAre, EqualWhereStorageIs, UnequalWherePlacesDiffer, PointwiseChangesBits, SetChangesBit, NegateTwice, XorOfEqual, NegatedAnd};
+ghost use Rattle.vob.specs.SetLaws.{DifferenceIsAndNot, NoneIsCounted, RankUndoesSelect, SelectUndoesRank, WalkGivesRuns};
 ghost use Rattle.vob_walk.specs.Laws.{MatchesShareNoIndex, MatchesFillTheRange, MatchesAddUp, MatchesExactly, MatchesRise, FirstMatchIsLeast, NoMatchIsNone, MatchesAreCounted, MatchesAreFew};
 ghost use Rattle.vob_walk.specs.Laws.{NoneIsForGood};
 

@@ -9,7 +9,8 @@ use Rattle.vob_run.specs.Call.{Call}
 use Rattle.vob_run.specs.Call as call
 use Rattle.vob_lines.specs.Arguments.{Argument, number, AllSpell}
 use Rattle.vob_lines.specs.Errors.{TakesMemory}
-use Rattle.vob_lines.specs.Grammar.{form_of, Reads, HasList, BeginsAsList}
+use Rattle.vob_lines.specs.Grammar.{form_of, Reads}
+use Rattle.vob_lines.specs.Lists.{HasList, BeginsAsList}
 use Rattle.vob_lines.specs.Kinds.{Kinds, nothing, numbers, before, kinds_of, Are, Begins, IsLine}
 use Rattle.vob_lines.specs.Keywords.{word_of, keywords, keyword_named}
 use Rattle.vob_lines.specs.declared.keyword.Keyword.{Keyword}

@@ -1,5 +1,5 @@
 -- Which words stand for which call.
-use Rattle.std.specs.Prelude.{◌≡◌, ℕ, List, [], ◌∷◌, map, codes, ⊤}
+use Rattle.std.specs.Prelude.{◌≡◌, ℕ, List, [], ◌∷◌, map, codes}
 use Rattle.vob_run.specs.Call.{Call, New, FromElem, Copy, FromRaw, Push, Pop, GetBit, GetUnchecked, IndexBit, SetBit, SetUnchecked, Length, IsEmpty, Truncate, Clear, SetAll, Negate, Resize, ExtendSlice, ExtendItems, ExtendVob, SplitOff, Drain, And, Or, Xor, AndNew, OrNew, XorNew, Equal, Reserve, Shrink, Bits, Storage, Walk, Count, Fresh, WithCapacity, Fill, FromBytes, FromSlice, FromItems, FromRecord}
 use Rattle.vob_lines.specs.Arguments.{Argument, number, bit, bits, bytes, range, pulls, AllSpell}
 
@@ -62,22 +62,3 @@ form_of (Count v b start end) = form (codes "count") (number v ∷ bit b ∷ ran
 abbrev pub Reads : List (List ℕ) → Call → Type 0
 Reads [] call = ⊥
 Reads (word ∷ words) call = (word ≡ (form_of call).word) × AllSpell words (form_of call).arguments
-
--- the calls that hold a list of bits, bytes, blocks or pulls
-abbrev pub HasList : Call → Type 0
-HasList (FromRaw n b ks) = ⊤
-HasList (FromBytes hex) = ⊤
-HasList (FromSlice bs) = ⊤
-HasList (FromItems bs) = ⊤
-HasList (FromRecord n ks) = ⊤
-HasList (ExtendSlice v bs) = ⊤
-HasList (ExtendItems v bs) = ⊤
-HasList (Walk v b start end ends) = ⊤
-HasList call = ⊥
-
--- the first word is that of a call that holds a list
-pub record BeginsAsList (line : List (List ℕ)) : Type 0 where
-  pub call : Call
-  pub holds : HasList call
-  pub words : List (List ℕ)
-  pub first : line ≡ (form_of call).word ∷ words

@@ -1,11 +1,12 @@
-pub mod Cuts
-pub mod Spelling
 pub mod Arguments
+pub mod Conversation
+pub mod Cuts
+pub mod Ends
+pub mod Errors
 pub mod Grammar
 pub mod Keywords
 pub mod Kinds
-pub mod Errors
+pub mod Lists
+pub mod Spelling
 pub mod Texts
 pub mod Written
-pub mod Conversation
-pub mod Ends

@@ -6,7 +6,8 @@ ghost use Rattle.vob_run.specs.Commands.{usize_call_of};
 ghost use Rattle.vob_lines.specs.Cuts.{words_of};
 ghost use Rattle.vob_lines.specs.Arguments.{number, bit, bits, bytes, range, pulls, AllSpell};
 ghost use Rattle.vob_lines.specs.Errors.{OnlyUnreadable, TakesMemory};
-ghost use Rattle.vob_lines.specs.Grammar.{Reads, BeginsAsList};
+ghost use Rattle.vob_lines.specs.Grammar.{Reads};
+ghost use Rattle.vob_lines.specs.Lists.{BeginsAsList};
 ghost use Rattle.vob_lines.specs.Kinds.{a_number, a_bit, some_bits, some_bytes, a_range, some_pulls, nothing, numbers, before, kinds_of, Begins, Are, Takes, IsLine};
 ghost use Rattle.vob_lines.specs.declared.keyword.Keyword.TheVariants.{Fresh, Bytes, Raw, Record, Drain, Walk, Count};
 

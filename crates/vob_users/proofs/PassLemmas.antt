@@ -12,7 +12,8 @@ use Rattle.vob.specs.Vob.{BitVector}
 use Rattle.vob_users.specs.declared.live.Flow.{Flow}
 use Rattle.vob_users.specs.FlowFaults.{NamesNodes}
 use Rattle.vob_users.specs.Live.{AreSets, AreWithin, IsLive, IsLiveNext, bits_of}
-use Rattle.vob_users.specs.LivePass.{IsPossible, ArePossible, IsPossibleAdded, IsNextAdded, AreUnderway, true_places}
+use Rattle.vob_users.specs.LivePass.{AreUnderway, true_places}
+use Rattle.vob_users.specs.LiveSets.{IsPossible, ArePossible, IsPossibleAdded, IsNextAdded}
 use Rattle.vob_users.proofs.SetLemmas.{true_within, gained_le, AllZip-at, AllZip-length}
 use Rattle.vob_users.proofs.LiveLemmas.{IsStep, IsWalked, IsWalked-more, IsWalked-same}
 

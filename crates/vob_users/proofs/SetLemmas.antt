@@ -9,7 +9,7 @@ use Rattle.vob_block.specs.Packing.{item}
 use Rattle.vob.specs.Bits.{count_of, AreCombined, GainsBits, IsChanged, IsWritten}
 use Rattle.vob_users.specs.declared.live.Flow.{Flow}
 use Rattle.vob_users.specs.Live.{IsLive}
-use Rattle.vob_users.specs.LivePass.{AddsMembers, IsSetOf, IsPossible, IsNextAdded}
+use Rattle.vob_users.specs.LiveSets.{AddsMembers, IsSetOf, IsPossible, IsNextAdded}
 
 -- ---- bits
 

@@ -13,7 +13,8 @@ use Rattle.vob.specs.Vob.{BitVector}
 use Rattle.vob_walk.specs.Matches.{has_value}
 use Rattle.vob_users.specs.declared.live.Flow.{Flow}
 use Rattle.vob_users.specs.Live.{AreSets, IsLive, IsLiveNext, IsSolution, bits_of}
-use Rattle.vob_users.specs.LivePass.{IsSetOf, AreReads, AreUnderway, true_places}
+use Rattle.vob_users.specs.LivePass.{AreUnderway, true_places}
+use Rattle.vob_users.specs.LiveSets.{IsSetOf, AreReads}
 use Rattle.vob_users.proofs.SetLemmas.{item-replicate, AllZip-length, AllZip-at, AllZip-all}
 
 -- a node has a set where something is live

@@ -4,6 +4,7 @@ pub mod GrammarFaults
 pub mod GrammarPass
 pub mod Live
 pub mod LivePass
+pub mod LiveSets
 pub mod Matrix
 pub mod MatrixRows
 pub mod Reachable

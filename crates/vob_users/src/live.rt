@@ -4,7 +4,8 @@ ghost use Rattle.std.specs.Prelude.{◌≡◌, ◌≢◌, ◌↔◌, ℕ, ◌<�
 ghost use Rattle.vob.specs.Vob.{HaveSameLength};
 ghost use Rattle.vob_users.specs.FlowFaults.{IsBadNext, IsBadVariable, IsSound, NamesVariables};
 ghost use Rattle.vob_users.specs.Live.{AreLive, bits_of};
-ghost use Rattle.vob_users.specs.LivePass.{AddsMembers, ArePossible, AreReads, AreReady, IsFault, IsNextAdded, IsPass, IsPossibleAdded, IsSetOf};
+ghost use Rattle.vob_users.specs.LivePass.{AreReady, IsFault, IsPass};
+ghost use Rattle.vob_users.specs.LiveSets.{AddsMembers, ArePossible, AreReads, IsNextAdded, IsPossibleAdded, IsSetOf};
 
 use std::alloc::{AllocError, Global};
 use thiserror::Error;

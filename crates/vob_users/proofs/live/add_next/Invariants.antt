@@ -1,7 +1,7 @@
 -- What is live before the nodes so far was added.
 use Rattle.std.proofs.Common.{take}
 use Rattle.vob_users.specs.Live.{bits_of}
-use Rattle.vob_users.specs.LivePass.{IsNextAdded}
+use Rattle.vob_users.specs.LiveSets.{IsNextAdded}
 use Rattle.vob_users.proofs.live.add_next.Given as goal
 
 abbrev pub invariant-loop-node : goal.invariant-loop-node

@@ -1,7 +1,7 @@
 -- A node writes and reads variables, and its set goes behind the sets so far.
 use Rattle.std.proofs.Common.{List, ℕ, ◌∙◌, subst, sym, arith}
 use Rattle.vob_users.specs.FlowFaults.{IsSound}
-use Rattle.vob_users.specs.LivePass.{AddsMembers, IsPossible, IsSetOf}
+use Rattle.vob_users.specs.LiveSets.{AddsMembers, IsPossible, IsSetOf}
 use Rattle.vob_users.proofs.SetLemmas.{AllZip-more, IsPossible-added}
 use Rattle.vob_users.proofs.live.possible_sets.Goals as goal
 

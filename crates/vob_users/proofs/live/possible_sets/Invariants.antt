@@ -1,6 +1,6 @@
 -- The sets so far are those of the nodes so far.
 use Rattle.std.proofs.Common.{take}
-use Rattle.vob_users.specs.LivePass.{ArePossible}
+use Rattle.vob_users.specs.LiveSets.{ArePossible}
 use Rattle.vob_users.proofs.live.possible_sets.Given as goal
 
 abbrev pub invariant-loop-flow : goal.invariant-loop-flow

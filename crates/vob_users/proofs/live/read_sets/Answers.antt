@@ -1,7 +1,7 @@
 -- A node reads variables, and its set goes behind the others.
 use Rattle.std.proofs.Common.{List, ℕ, subst, sym}
 use Rattle.vob_users.specs.FlowFaults.{IsSound}
-use Rattle.vob_users.specs.LivePass.{IsSetOf}
+use Rattle.vob_users.specs.LiveSets.{IsSetOf}
 use Rattle.vob_users.proofs.SetLemmas.{AllZip-more}
 use Rattle.vob_users.proofs.live.read_sets.Goals as goal
 

@@ -1,6 +1,6 @@
 -- The sets so far are those of the nodes so far.
 use Rattle.std.proofs.Common.{take}
-use Rattle.vob_users.specs.LivePass.{AreReads}
+use Rattle.vob_users.specs.LiveSets.{AreReads}
 use Rattle.vob_users.proofs.live.read_sets.Given as goal
 
 abbrev pub invariant-loop-flow : goal.invariant-loop-flow

@@ -1,0 +1,38 @@
+-- What Vobs as sets of indices obey, and their runs.
+use Rattle.std.specs.Prelude.{◌≡◌, ◌↔◌, ℕ, Bool, true, false, not, ◌&&◌, List, length, map, take, replicate, Option, Some, IsTrue}
+use Rattle.std.specs.Iterator.{Drains}
+use Rattle.std.specs.declared.ops.Range.{Range}
+use Rattle.vob_block.specs.Packing.{item}
+use Rattle.vob_block.specs.Pointwise.{pointwise}
+use Rattle.vob_store.specs.Combined.{without}
+use Rattle.vob.specs.Bits.{count_of}
+use Rattle.vob.specs.Runs.{AreRuns, GivesRun, RunWalk}
+use Rattle.vob.specs.Sets.{IsIndexOfRank}
+
+-- what a list has and another hasn't is what both the first and the other negated have
+abbrev pub DifferenceIsAndNot : Type 0
+DifferenceIsAndNot =
+    (bits others : List Bool) → pointwise without bits others ≡ pointwise ◌&&◌ bits (map not others)
+
+-- so many bits are all false exactly where none of them is counted
+abbrev pub NoneIsCounted : Type 0
+NoneIsCounted =
+    (bits : List Bool) (n : ℕ) → length bits ≡ n
+    → (bits ≡ replicate n false) ↔ (count_of true bits ≡ 0)
+
+-- the number that an index was selected by is how many set bits stand below it
+abbrev pub RankUndoesSelect : Type 0
+RankUndoesSelect =
+    (bits : List Bool) (k i : ℕ) → IsIndexOfRank bits k (Some i) → count_of true (take i bits) ≡ k
+
+-- the index of a set bit is the one that is selected by how many set bits stand below it
+abbrev pub SelectUndoesRank : Type 0
+SelectUndoesRank =
+    (bits : List Bool) (i : ℕ) (answer : Option ℕ) → IsTrue (item bits i)
+    → IsIndexOfRank bits (count_of true (take i bits)) answer → answer ≡ Some i
+
+-- a walk over runs from the first bit on, up to `None`, gives all of them
+abbrev pub WalkGivesRuns : Type 0
+WalkGivesRuns =
+    (walk : RunWalk) (runs : List (Range ℕ)) → walk.at ≡ 0 → Drains GivesRun walk runs
+    → AreRuns walk.bits runs
