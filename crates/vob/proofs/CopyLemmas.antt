@@ -10,7 +10,7 @@ use Rattle.vob_block.proofs.NeedLemmas.{need_enough}
 use Rattle.vob_block.proofs.PackingLemmas.{bit_at-is_item, length-unpacking, packing_is}
 use Rattle.vob_store.specs.Copying.{AreCopied}
 use Rattle.vob_walk.specs.Matches.{from_start, up_to_end, within}
-use Rattle.vob.specs.Copy.{start_of, written_over, IsCopied}
+use Rattle.vob.specs.Copy.{start_of, written_over, IsCopied, FitsFrom, IsRangeCopied}
 use Rattle.vob.specs.Drain.{bits_within}
 use Rattle.vob.proofs.BitsLemmas.{bits_within-cut}
 
@@ -130,77 +130,73 @@ IsCopied-from {at} {start} {count} {bits} {others} {after} first same h = record
   behind = h.behind;
 }
 
--- ---- both, for a range
+-- ---- what a range holds
 
--- the range cut to the indices from one to below another, of bits that are m
-module _ (low high : Bound ℕ) (others : List Bool) (from to m : ℕ) (len : m ≡ length others)
+-- the range cut to the indices from one to below another
+module _ (low high : Bound ℕ) (others : List Bool) {from to m : ℕ} (len : m ≡ length others)
     (ordered : from ≤ to) (inside : to ≤ m)
     (window : (i : ℕ) → i < m → within low high i ≡ (nat_le from i && nat_lt i to)) where
   taken_is : bits_within low high others ≡ take (to - from) (drop from others)
   taken_is = bits_within-cut low high others from to ordered (omega (arith, inside, len))
       (λ i below. window i (omega (arith, below, len)))
 
-  count_is : length (bits_within low high others) ≡ to - from
+  pub count_is : length (bits_within low high others) ≡ to - from
   count_is = ap length taken_is ∙ length-take-le (to - from) (drop from others)
       (omega (arith, length-drop from others, inside, len))
 
-  -- items that store the n bits that are written over, and others that store those of the range
-  module _ {X : Type 0} (number : X → ℕ) (w : ℕ) (wide : 0 < w) (n at : ℕ) (items theirs : List X)
-      (bits : List Bool) (own : IsCanonical n (map number items) w)
-      (own_is : unpacking n (map number items) w ≡ bits)
-      (theirs_is : map number theirs ≡ packing others w)
-      (fits : at + length (bits_within low high others) ≤ length bits) where
-    -- they are within the length
-    pub copied_fits : at + (to - from) ≤ n
-    copied_fits = omega (
-      arith,
-      fits,
-      count_is,
-      ap length own_is,
-      length-unpacking n (map number items) w,
-    )
+  module _ {at : ℕ} {bits after : List Bool} (h : IsCopied at from (to - from) bits others after)
+    where
+      pub IsCopied-range : IsRangeCopied at low high bits others after
+      IsCopied-range = rw count_is (IsCopied-from (start_of low)
+          (λ some. start-is low high from to m inside window (omega (arith, some))) h)
 
-    -- and so within the blocks
-    pub copied_inside : at + (to - from) ≤ length items * w
-    copied_inside =
-        let count : need n w * w ≡ length items * w =
-        ap (λ k. k * w) (sym own.count ∙ length-map items number) in
-        omega (arith, copied_fits, need_enough w wide n, count)
+      pub IsCopied-list : FitsFrom at low high others bits
+          → after ≡ written_over at (bits_within low high others) bits
+      IsCopied-list fits = written-is (bits_within low high others) h taken_is count_is
+          (omega (arith, fits, count_is))
 
-    module _ {lent now left : List X} (lent_is : lent ≡ items) (left_is : left ≡ now)
-        (long : length now ≡ length lent) (small : All (λ x. x < 2 ^ w) (map number now))
-        (done : AreCopied w at from (to - from) (map number lent) (map number theirs)
-        (map number now)) where
+-- ---- the blocks of a Vob
+
+-- items that store the bits that are written over, and others that store those which are copied
+module _ {X : Type 0} (number : X → ℕ) (w : ℕ) (wide : 0 < w) (n at from count : ℕ)
+    (items theirs : List X) (bits others : List Bool) (own : IsCanonical n (map number items) w)
+    (own_is : unpacking n (map number items) w ≡ bits)
+    (theirs_is : map number theirs ≡ packing others w) (fits : at + count ≤ length bits) where
+  -- they are within the length
+  pub copied_fits : at + count ≤ n
+  copied_fits = omega (arith, fits, ap length own_is, length-unpacking n (map number items) w)
+
+  -- and so within the blocks
+  pub copied_inside : at + count ≤ length items * w
+  copied_inside =
+      let blocks : need n w * w ≡ length items * w =
+      ap (λ k. k * w) (sym own.count ∙ length-map items number) in
+      omega (arith, copied_fits, need_enough w wide n, blocks)
+
+  module _ {lent now left : List X} (lent_is : lent ≡ items) (left_is : left ≡ now)
+      (long : length now ≡ length lent) (small : All (λ x. x < 2 ^ w) (map number now))
+      (done : AreCopied w at from count (map number lent) (map number theirs) (map number now))
+    where
       pub record HasCopied : Type 0 where
         pub canonical : IsCanonical n (map number left) w
-        pub each : IsCopied at (start_of low) (length (bits_within low high others)) bits others
-            (unpacking n (map number left) w)
-        pub list : unpacking n (map number left) w
-            ≡ written_over at (bits_within low high others) bits
+        pub each : IsCopied at from count bits others (unpacking n (map number left) w)
 
       pub copied_here : HasCopied
       copied_here =
-          let stored = packing_is w wide others m (map number theirs) theirs_is (sym len) in
-          let moved : AreCopied w at from (to - from) (map number items) (map number theirs)
+          let stored = packing_is w wide others (length others) (map number theirs) theirs_is refl in
+          let moved : AreCopied w at from count (map number items) (map number theirs)
           (map number now) = rw lent_is at done in
           let size : length (map number now) ≡ length (map number items) = length-map now number
           ∙ long ∙ ap length lent_is ∙ sym (length-map items number) in
-          let whole : IsCopied at from (to - from) bits others (unpacking n (map number now) w) =
-          rw (own_is, stored.bits) at (IsCopied-blocks w wide at from (to - from) n m
+          let whole : IsCopied at from count bits others (unpacking n (map number now) w) =
+          rw (own_is, stored.bits) at (IsCopied-blocks w wide at from count n (length others)
           (map number items) (map number theirs) (map number now) own stored.canonical copied_fits
           size small moved) in
-          let after = IsCopied-from (start_of low)
-          (λ some. start-is low high from to m inside window (omega (arith, some))) whole in
           record {
             canonical = subst (λ (xs : List X). IsCanonical n (map number xs) w) (sym left_is)
-                (IsCanonical-copied w wide at from (to - from) n m (map number items)
+                (IsCanonical-copied w wide at from count n (length others) (map number items)
                 (map number theirs) (map number now) own stored.canonical copied_fits size small
                 moved);
-            each = subst (λ (xs : List X). IsCopied at (start_of low)
-                (length (bits_within low high others)) bits others (unpacking n (map number xs) w))
-                (sym left_is) (subst (λ (k : ℕ). IsCopied at (start_of low) k bits others
-                (unpacking n (map number now) w)) (sym count_is) after);
-            list = ap (λ xs. unpacking n (map number xs) w) left_is
-                ∙ written-is (bits_within low high others) whole taken_is count_is
-                (omega (arith, fits, count_is, ap length own_is));
+            each = subst (λ (xs : List X). IsCopied at from count bits others
+                (unpacking n (map number xs) w)) (sym left_is) whole;
           }

@@ -2,12 +2,12 @@
 use Rattle.std.specs.declared.ops.Bound.{Bound}
 use Rattle.std.proofs.Common.{◌≡◌, ℕ, ◌+◌, ◌-◌, ◌<◌, ◌≤◌, nat_le, nat_lt, Bool, true, false, ◌&&◌, List, [], ◌∷◌, ◌++◌, length, map, take, drop, replicate, refl, sym, ap, ◌∙◌, subst, arith, inl, inr, length-append}
 use Rattle.std.proofs.lemmas.Bool.{cases_lt, and_left, and_right, and_from, and_parts, lt-leb, le-leb, lt-ltb, le-ltb, ltb-true, leb-true, false≢true}
-use Rattle.std.proofs.lemmas.List.{ext_get_or, length-take-le, length-drop, length-map, get_or-take, get_or-drop, get_or-map, get_or_append_left, get_or-append_right, append_assoc}
+use Rattle.std.proofs.lemmas.List.{ext_get_or, length-take-le, length-drop, length-map, get_or-take, get_or-drop, get_or-map, get_or_append_left, get_or-append_right}
 use Rattle.vob_block.specs.Packing.{item, unpacking, IsCanonical}
 use Rattle.vob_block.proofs.PackingLemmas.{length-unpacking, bit_at-is_item}
 use Rattle.vob_store.specs.Range.{IsRanged}
 use Rattle.vob_walk.specs.Matches.{within}
-use Rattle.vob.specs.Ranges.{IsChangedWithin, IsRangeOf}
+use Rattle.vob.specs.Ranges.{replaced, IsChangedWithin, IsRangeOf}
 
 module _ {low high : Bound ℕ} {len start stop : ℕ} (range : IsRangeOf low high len start stop)
     (i : ℕ) (less : i < len) where
@@ -55,7 +55,7 @@ IsChangedWithin-ranged w wide {f} {low} {high} {n} {start} {stop} {xs} {ys} g h 
 pub IsChangedWithin-parts : {f : Bool → Bool} {low high : Bound ℕ} {bits after : List Bool}
     → IsChangedWithin f low high bits after → (start stop : ℕ)
     → IsRangeOf low high (length bits) start stop
-    → after ≡ take start bits ++ map f (take (stop - start) (drop start bits)) ++ drop stop bits
+    → after ≡ replaced start stop (map f (take (stop - start) (drop start bits))) bits
 IsChangedWithin-parts {f} {low} {high} {bits} {after} changed start stop range =
     let own = drop start bits in
     let middle = take (stop - start) own in
@@ -103,7 +103,6 @@ IsChangedWithin-parts {f} {low} {high} {bits} {after} changed start stop range =
             ∙ sym (get_or-append_right (take start bits) rest start i false first past)
       ]
     ])
-    ∙ sym (append_assoc (take start bits) (map f middle) (drop stop bits))
 
 map-one : (value : Bool) (bits : List Bool) → map (λ _. value) bits ≡ replicate (length bits) value
 map-one value [] = refl
@@ -112,7 +111,7 @@ map-one value (bit ∷ bits) = ap (λ bs. value ∷ bs) (map-one value bits)
 pub IsChangedWithin-value : {value : Bool} {low high : Bound ℕ} {bits after : List Bool}
     → IsChangedWithin (λ _. value) low high bits after → (start stop : ℕ)
     → IsRangeOf low high (length bits) start stop
-    → after ≡ take start bits ++ replicate (stop - start) value ++ drop stop bits
+    → after ≡ replaced start stop (replicate (stop - start) value) bits
 IsChangedWithin-value {value} {low} {high} {bits} changed start stop range =
     let order = range.order in
     let fits = range.inside in
@@ -120,7 +119,7 @@ IsChangedWithin-value {value} {low} {high} {bits} changed start stop range =
     let some : length middle ≡ stop - start =
     length-take-le (stop - start) (drop start bits) (omega (arith, length-drop start bits)) in
     IsChangedWithin-parts changed start stop range
-    ∙ ap (λ bs. take start bits ++ bs ++ drop stop bits)
+    ∙ ap (λ bs. replaced start stop bs bits)
     (map-one value middle ∙ ap (λ n. replicate n value) some)
 
 -- the same as the code lends the blocks and gets them back

@@ -1,8 +1,10 @@
 -- Bits of one list written over those of another.
-use Rattle.std.specs.Prelude.{◌≡◌, ℕ, ◌+◌, ◌<◌, ◌≤◌, Bool, List, ◌++◌, length, take, drop}
+use Rattle.std.specs.Prelude.{◌≡◌, ℕ, ◌+◌, ◌<◌, ◌≤◌, Bool, List, length}
 use Rattle.std.specs.declared.ops.Bound.{Bound}
 use Rattle.std.specs.declared.ops.Bound.TheVariants.{Included, Excluded, Unbounded}
 use Rattle.vob_block.specs.Packing.{item}
+use Rattle.vob.specs.Drain.{bits_within}
+use Rattle.vob.specs.Ranges.{replaced}
 
 -- the index that a range begins at
 abbrev pub start_of : Bound ℕ → ℕ
@@ -12,7 +14,7 @@ start_of Unbounded = 0
 
 -- a list with others in place of as many bits from an index on
 abbrev pub written_over : ℕ → List Bool → List Bool → List Bool
-written_over at others bits = take at bits ++ (others ++ drop (at + length others) bits)
+written_over at others bits = replaced at (at + length others) others bits
 
 -- as many bits of others from one index on stand in place of those from another on, and each bit
 -- before and behind is as it was
@@ -21,3 +23,12 @@ pub record IsCopied (at start count : ℕ) (bits others after : List Bool) : Typ
   pub copied : (j : ℕ) → j < count → item after (at + j) ≡ item others (start + j)
   pub before : (i : ℕ) → i < at → item after i ≡ item bits i
   pub behind : (i : ℕ) → at + count ≤ i → item after i ≡ item bits i
+
+-- what a range holds of others fits in place of as many bits from an index on
+abbrev pub FitsFrom : ℕ → Bound ℕ → Bound ℕ → List Bool → List Bool → Type 0
+FitsFrom at low high others bits = at + length (bits_within low high others) ≤ length bits
+
+-- what a range holds of others stands there, and each other bit is as it was
+abbrev pub IsRangeCopied : ℕ → Bound ℕ → Bound ℕ → List Bool → List Bool → List Bool → Type 0
+IsRangeCopied at low high bits others after =
+    IsCopied at (start_of low) (length (bits_within low high others)) bits others after

@@ -1,6 +1,6 @@
 //! Bits of another Vob copied over some of one's own. vob 4.0.1 has no such call.
-ghost use Rattle.std.specs.Prelude.{◌≡◌, ◌+◌, ◌≤◌, length};
-ghost use Rattle.vob.specs.Copy.{start_of, written_over, IsCopied};
+ghost use Rattle.std.specs.Prelude.{◌≡◌, ◌+◌, ◌-◌, ◌≤◌, length};
+ghost use Rattle.vob.specs.Copy.{written_over, FitsFrom, IsCopied, IsRangeCopied};
 ghost use Rattle.vob.specs.Drain.{bits_within};
 
 use crate::bulk::cut_range;
@@ -16,19 +16,28 @@ impl<T: Block> Vob<T> {
     /// for.
     pub fn copy_range<R: RangeBounds<usize>>(&mut self, at: usize, other: &Vob<T>, range: R)
         requires bounds { R.has_bounds range }
-        requires fits { at + length
-            (bits_within (R.start_bound range) (R.end_bound range) other.now.bits)
-            ≤ length self.old.bits }
+        requires fits { FitsFrom at (R.start_bound range) (R.end_bound range) other.now.bits
+            self.old.bits }
         ensures bits { self.new.bits ≡ written_over at
             (bits_within (R.start_bound range) (R.end_bound range) other.now.bits) self.old.bits }
-        ensures each { IsCopied at (start_of (R.start_bound range))
-            (length (bits_within (R.start_bound range) (R.end_bound range) other.now.bits))
-            self.old.bits other.now.bits self.new.bits }
+        ensures each { IsRangeCopied at (R.start_bound range) (R.end_bound range) self.old.bits
+            other.now.bits self.new.bits }
+        ensures capacity { self.new.capacity ≡ self.old.capacity }
+    {
+        let (start, end) = cut_range(&range, other.len());
+        self.copy_between(at, other, start, end);
+    }
+
+    /// Writes the other's bits from index `start` to below `end` over those from `at` on.
+    fn copy_between(&mut self, at: usize, other: &Vob<T>, start: usize, end: usize)
+        requires order { start ≤ end }
+        requires inside { end ≤ length other.now.bits }
+        requires fits { at + (end - start) ≤ length self.old.bits }
+        ensures each { IsCopied at start (end - start) self.old.bits other.now.bits self.new.bits }
         ensures capacity { self.new.capacity ≡ self.old.capacity }
     {
         // The length is in the range of its type: a proof knows it from this read.
         let _len = self.len;
-        let (start, end) = cut_range(&range, other.len);
         copy_bits(
             self.vec.as_mut_slice(),
             at,

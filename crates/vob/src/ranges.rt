@@ -1,6 +1,6 @@
 //! The bits of a range made one value, or negated, in place. vob 4.0.1 has none of these calls.
-ghost use Rattle.std.specs.Prelude.{◌≡◌, ◌≢◌, ◌↔◌, ℕ, ◌-◌, ◌++◌, not, map, take, drop, length, replicate, IsTrue};
-ghost use Rattle.vob.specs.Ranges.{IsChangedWithin, IsRangeOf};
+ghost use Rattle.std.specs.Prelude.{◌≡◌, ◌≢◌, ◌↔◌, ℕ, ◌-◌, not, map, take, drop, length, replicate, IsTrue};
+ghost use Rattle.vob.specs.Ranges.{replaced, IsChangedWithin, IsRangeOf};
 
 use crate::bulk::cut_range;
 use crate::vob::Vob;
@@ -24,8 +24,7 @@ impl<T: Block> Vob<T> {
             (R.start_bound range) (R.end_bound range) self.old.bits self.new.bits }
         ensures bits { R.has_bounds range → (start stop : ℕ)
             → IsRangeOf (R.start_bound range) (R.end_bound range) (length self.old.bits) start stop
-            → self.new.bits ≡ take start self.old.bits ++ replicate (stop - start) value
-            ++ drop stop self.old.bits }
+            → self.new.bits ≡ replaced start stop (replicate (stop - start) value) self.old.bits }
         ensures changed { IsTrue result ↔ (self.new.bits ≢ self.old.bits) }
         ensures capacity { self.new.capacity ≡ self.old.capacity }
     {
@@ -50,8 +49,8 @@ impl<T: Block> Vob<T> {
             (R.start_bound range) (R.end_bound range) self.old.bits self.new.bits }
         ensures bits { R.has_bounds range → (start stop : ℕ)
             → IsRangeOf (R.start_bound range) (R.end_bound range) (length self.old.bits) start stop
-            → self.new.bits ≡ take start self.old.bits
-            ++ map not (take (stop - start) (drop start self.old.bits)) ++ drop stop self.old.bits }
+            → self.new.bits ≡ replaced start stop
+            (map not (take (stop - start) (drop start self.old.bits))) self.old.bits }
         ensures capacity { self.new.capacity ≡ self.old.capacity }
     {
         let (start, stop) = cut_range(&range, self.len);
