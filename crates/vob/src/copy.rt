@@ -7,7 +7,7 @@ use crate::bulk::cut_range;
 use crate::vob::Vob;
 use std::ops::RangeBounds;
 use vob_block::Block;
-use vob_store::copy::copy_bits;
+use vob_store::copy::{Stretch, copy_bits};
 
 impl<T: Block> Vob<T> {
     /// Writes the other's bits of the range over those from `at` on. Every pair of bounds is
@@ -38,12 +38,10 @@ impl<T: Block> Vob<T> {
     {
         // The length is in the range of its type: a proof knows it from this read.
         let _len = self.len;
-        copy_bits(
-            self.vec.as_mut_slice(),
-            at,
-            &mut other.blocks(),
+        let bits = Stretch {
             start,
-            end - start,
-        );
+            count: end - start,
+        };
+        copy_bits(self.vec.as_mut_slice(), at, &mut other.blocks(), bits);
     }
 }

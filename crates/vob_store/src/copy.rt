@@ -8,6 +8,13 @@ ghost use Rattle.vob_store.specs.Copying.{AreCopied};
 use crate::drain::spliced;
 use vob_block::{Block, Blocks};
 
+/// What is copied: so many bits, or whole blocks of them, from index `start` on.
+#[derive(Clone, Copy)]
+pub struct Stretch {
+    pub start: usize,
+    pub count: usize,
+}
+
 /// Block `k`, or an empty one where there is none. It is read once at most.
 fn read_or_zero<T: Block>(other: &mut Blocks<'_, T>, k: usize) -> T
     ensures block { T.number result ≡ slice_index_or (map T.number other.old.items) k 0 }
@@ -38,77 +45,68 @@ fn bits_at<T: Block>(other: &mut Blocks<'_, T>, from: usize) -> T
     low.funnel_down(read_or_zero(other, k + 1), places)
 }
 
-/// Writes the `count` bits of `other` from `start` on over those from `at` on, in one block.
-fn copy_part<T: Block>(
-    own: &mut [T],
-    at: usize,
-    other: &mut Blocks<'_, T>,
-    start: usize,
-    count: usize,
-)
-    requires one { at % T.BITS + count ≤ T.BITS }
-    requires inside { at + count ≤ length own.old * T.BITS }
-    ensures copied { AreCopied T.BITS at start count (map T.number own.old)
+/// Writes the bits of a stretch of `other` over those from `at` on, in one block.
+fn copy_part<T: Block>(own: &mut [T], at: usize, other: &mut Blocks<'_, T>, bits: Stretch)
+    requires one { at % T.BITS + bits.count ≤ T.BITS }
+    requires inside { at + bits.count ≤ length own.old * T.BITS }
+    ensures copied { AreCopied T.BITS at bits.start bits.count (map T.number own.old)
         (map T.number other.old.items) (map T.number own.new) }
     ensures items { other.new.items ≡ other.old.items }
     ensures reads { other.new.reads ≤ other.old.reads + 2 }
 {
-    if count == 0 {
+    if bits.count == 0 {
         return;
     }
     let width = T::BITS;
     let k = at / width;
     let used = at % width;
     let block = own[k];
-    let bits = bits_at(other, start).up(used);
-    own[k] = spliced(spliced(block, bits, used), block, used + count);
+    let new = bits_at(other, bits.start).up(used);
+    own[k] = spliced(spliced(block, new, used), block, used + bits.count);
 }
 
-/// Stores `count` blocks of the bits of `other` from `start` on, from block `first` on.
-fn copy_whole<T: Block>(
-    own: &mut [T],
-    first: usize,
-    other: &mut Blocks<'_, T>,
-    start: usize,
-    count: usize,
-)
-    requires inside { first + count ≤ length own.old }
-    requires fits { start + count * T.BITS ≤ usize.MAX }
-    ensures copied { AreCopied T.BITS (first * T.BITS) start (count * T.BITS)
+/// Stores the blocks of a stretch of `other`, from block `first` on.
+fn copy_whole<T: Block>(own: &mut [T], first: usize, other: &mut Blocks<'_, T>, blocks: Stretch)
+    requires inside { first + blocks.count ≤ length own.old }
+    requires fits { blocks.start + blocks.count * T.BITS ≤ usize.MAX }
+    ensures copied { AreCopied T.BITS (first * T.BITS) blocks.start (blocks.count * T.BITS)
         (map T.number own.old) (map T.number other.old.items) (map T.number own.new) }
     ensures items { other.new.items ≡ other.old.items }
-    ensures reads { other.new.reads ≤ other.old.reads + 2 * count }
+    ensures reads { other.new.reads ≤ other.old.reads + 2 * blocks.count }
 {
     let width = T::BITS;
-    for k in 0..count {
-        own[first + k] = bits_at(other, start + k * width);
+    for k in 0..blocks.count {
+        own[first + k] = bits_at(other, blocks.start + k * width);
     }
 }
 
-/// Writes the `count` bits of `other` from `start` on over those from `at` on: up to the end of a
-/// block, then whole blocks, and then what is left. Two blocks are read at most for each written.
-pub fn copy_bits<T: Block>(
-    own: &mut [T],
-    at: usize,
-    other: &mut Blocks<'_, T>,
-    start: usize,
-    count: usize,
-)
-    requires inside { at + count ≤ length own.old * T.BITS }
-    requires own { at + count ≤ usize.MAX }
-    requires other { start + count ≤ usize.MAX }
-    ensures copied { AreCopied T.BITS at start count (map T.number own.old)
+/// Writes the bits of a stretch of `other` over those from `at` on: up to the end of a block, then
+/// whole blocks, and then what is left. Two blocks are read at most for each written.
+pub fn copy_bits<T: Block>(own: &mut [T], at: usize, other: &mut Blocks<'_, T>, bits: Stretch)
+    requires inside { at + bits.count ≤ length own.old * T.BITS }
+    requires own { at + bits.count ≤ usize.MAX }
+    requires other { bits.start + bits.count ≤ usize.MAX }
+    ensures copied { AreCopied T.BITS at bits.start bits.count (map T.number own.old)
         (map T.number other.old.items) (map T.number own.new) }
     ensures within { All (λ n. n < 2 ^ T.BITS) (map T.number own.new) }
     ensures items { other.new.items ≡ other.old.items }
-    ensures reads { other.new.reads ≤ other.old.reads + 2 * (count / T.BITS + 2) }
+    ensures reads { other.new.reads ≤ other.old.reads + 2 * (bits.count / T.BITS + 2) }
 {
     let width = T::BITS;
+    let Stretch { start, count } = bits;
     let head = count.min(width - at % width);
-    copy_part(own, at, other, start, head);
+    copy_part(own, at, other, Stretch { start, count: head });
     let whole = (count - head) / width;
-    copy_whole(own, (at + head) / width, other, start + head, whole);
+    let blocks = Stretch {
+        start: start + head,
+        count: whole,
+    };
+    copy_whole(own, (at + head) / width, other, blocks);
     let done = head + whole * width;
-    copy_part(own, at + done, other, start + done, count - done);
+    let rest = Stretch {
+        start: start + done,
+        count: count - done,
+    };
+    copy_part(own, at + done, other, rest);
     T::all_in_range(own);
 }

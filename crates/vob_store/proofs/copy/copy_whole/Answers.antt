@@ -18,9 +18,9 @@ loop-k-preserved g c =
             c.requires.inside,
             c.loop-k-test.true,
           ))
-          (map number c.args.own.now) c.args.first c.args.start h.k
-          (c.args.start + h.k * c.BITS-width.result) refl
-          (ap (λ v. c.args.start + h.k * v) c.BITS-width.ensures) h.invariant.copied
+          (map number c.args.own.now) c.args.first c.args.blocks.start h.k
+          (c.args.blocks.start + h.k * c.BITS-width.result) refl
+          (ap (λ v. c.args.blocks.start + h.k * v) c.BITS-width.ensures) h.invariant.copied
           (rw h.invariant.items at c.bits_at.ensures.places));
       items = c.bits_at.ensures.items ∙ h.invariant.items;
       reads = omega (arith, c.bits_at.ensures.reads, h.invariant.reads);
