@@ -46,23 +46,23 @@ fn bits_at<T: Block>(other: &mut Blocks<'_, T>, from: usize) -> T
 }
 
 /// Writes the bits of a stretch of `other` over those from `at` on, in one block.
-fn copy_part<T: Block>(own: &mut [T], at: usize, other: &mut Blocks<'_, T>, bits: Stretch)
-    requires one { at % T.BITS + bits.count ≤ T.BITS }
-    requires inside { at + bits.count ≤ length own.old * T.BITS }
-    ensures copied { AreCopied T.BITS at bits.start bits.count (map T.number own.old)
+fn copy_part<T: Block>(own: &mut [T], at: usize, other: &mut Blocks<'_, T>, cut: Stretch)
+    requires one { at % T.BITS + cut.count ≤ T.BITS }
+    requires inside { at + cut.count ≤ length own.old * T.BITS }
+    ensures copied { AreCopied T.BITS at cut.start cut.count (map T.number own.old)
         (map T.number other.old.items) (map T.number own.new) }
     ensures items { other.new.items ≡ other.old.items }
     ensures reads { other.new.reads ≤ other.old.reads + 2 }
 {
-    if bits.count == 0 {
+    if cut.count == 0 {
         return;
     }
     let width = T::BITS;
     let k = at / width;
     let used = at % width;
     let block = own[k];
-    let new = bits_at(other, bits.start).up(used);
-    own[k] = spliced(spliced(block, new, used), block, used + bits.count);
+    let bits = bits_at(other, cut.start).up(used);
+    own[k] = spliced(spliced(block, bits, used), block, used + cut.count);
 }
 
 /// Stores the blocks of a stretch of `other`, from block `first` on.
@@ -82,18 +82,18 @@ fn copy_whole<T: Block>(own: &mut [T], first: usize, other: &mut Blocks<'_, T>, 
 
 /// Writes the bits of a stretch of `other` over those from `at` on: up to the end of a block, then
 /// whole blocks, and then what is left. Two blocks are read at most for each written.
-pub fn copy_bits<T: Block>(own: &mut [T], at: usize, other: &mut Blocks<'_, T>, bits: Stretch)
-    requires inside { at + bits.count ≤ length own.old * T.BITS }
-    requires own { at + bits.count ≤ usize.MAX }
-    requires other { bits.start + bits.count ≤ usize.MAX }
-    ensures copied { AreCopied T.BITS at bits.start bits.count (map T.number own.old)
+pub fn copy_bits<T: Block>(own: &mut [T], at: usize, other: &mut Blocks<'_, T>, cut: Stretch)
+    requires inside { at + cut.count ≤ length own.old * T.BITS }
+    requires own { at + cut.count ≤ usize.MAX }
+    requires other { cut.start + cut.count ≤ usize.MAX }
+    ensures copied { AreCopied T.BITS at cut.start cut.count (map T.number own.old)
         (map T.number other.old.items) (map T.number own.new) }
     ensures within { All (λ n. n < 2 ^ T.BITS) (map T.number own.new) }
     ensures items { other.new.items ≡ other.old.items }
-    ensures reads { other.new.reads ≤ other.old.reads + 2 * (bits.count / T.BITS + 2) }
+    ensures reads { other.new.reads ≤ other.old.reads + 2 * (cut.count / T.BITS + 2) }
 {
     let width = T::BITS;
-    let Stretch { start, count } = bits;
+    let Stretch { start, count } = cut;
     let head = count.min(width - at % width);
     copy_part(own, at, other, Stretch { start, count: head });
     let whole = (count - head) / width;

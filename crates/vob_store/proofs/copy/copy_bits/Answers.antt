@@ -7,8 +7,8 @@ pub returns-clause-copied : goal.returns-clause-copied
 returns-clause-copied g c =
     let head = c.min-head.result in
     let u = c.BITS-width.result in
-    AreCopied-parts g.T.Block.BITS g.met.T.Block.wide_law c.args.at c.args.bits.count head
-    ((c.args.bits.count - head) / u) u c.BITS-width.ensures c.min-head.ensures refl
+    AreCopied-parts g.T.Block.BITS g.met.T.Block.wide_law c.args.at c.args.cut.count head
+    ((c.args.cut.count - head) / u) u c.BITS-width.ensures c.min-head.ensures refl
     c.copy_part.ensures.copied (rw c.copy_part.ensures.items at c.copy_whole.ensures.copied)
     (rw (c.copy_whole.ensures.items, c.copy_part.ensures.items) at c.copy_part-2.ensures.copied)
 
@@ -16,8 +16,8 @@ pub returns-clause-reads : goal.returns-clause-reads
 returns-clause-reads g c =
     let head = c.min-head.result in
     let u = c.BITS-width.result in
-    let few = whole-few g.T.Block.BITS g.met.T.Block.wide_law c.args.at c.args.bits.count head
-    ((c.args.bits.count - head) / u) u c.BITS-width.ensures c.min-head.ensures refl in
+    let few = whole-few g.T.Block.BITS g.met.T.Block.wide_law c.args.at c.args.cut.count head
+    ((c.args.cut.count - head) / u) u c.BITS-width.ensures c.min-head.ensures refl in
     omega (
       arith,
       few,

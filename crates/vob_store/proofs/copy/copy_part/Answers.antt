@@ -15,13 +15,13 @@ returns-clause-copied g c =
     let whole = block_and_place w at u c.BITS-width.ensures in
     let room = block_inside w (at / u) (at % u) at (length own)
     whole
-    (omega (arith, c.requires.inside, c.if-bits-eq0.false)) in
+    (omega (arith, c.requires.inside, c.if-cut-eq0.false)) in
     rw map-set (AreCopied-spliced w g.met.T.Block.wide_law (map number own)
     (map number c.args.other.now.items) (at / u) (number c.spliced-2.result)
-    (omega (arith, room, length-map own number)) at (at % u) c.args.bits.start c.args.bits.count
-    (number c.index-own-k.result) (number c.bits_at.result) (number c.up-new.result)
+    (omega (arith, room, length-map own number)) at (at % u) c.args.cut.start c.args.cut.count
+    (number c.index-own-k.result) (number c.bits_at.result) (number c.up-bits.result)
     (number c.spliced.result) whole
     (omega (arith, c.requires.one, ap (λ v. at % v) c.BITS-width.ensures))
     (number_indexed number own (at / u) c.index-own-k.result room c.index-own-k.is)
-    c.bits_at.ensures.places c.up-new.ensures.places c.spliced.ensures.places
+    c.bits_at.ensures.places c.up-bits.ensures.places c.spliced.ensures.places
     c.spliced-2.ensures.places)
