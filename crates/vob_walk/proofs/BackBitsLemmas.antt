@@ -82,77 +82,86 @@ held-alone zero word none = none
 held-alone (suc n) word none = held-run (suc n) word (λ e. absurd (omega (arith, e)))
 
 -- without a run it is the word
-pub IsBlockBits-word : {w at word run : ℕ} → IsBackBits w at word run → run ≡ 0
+held-none : (run word : ℕ) → run ≡ 0 → held run word ≡ word
+held-none zero word none = refl
+held-none (suc n) word none = absurd (omega (arith, none))
+
+pub held-word : (w at word past : ℕ) → past ≡ at
+    → block_indices w at (held (past - at) word) ≡ block_indices w at word
+held-word w at word past none =
+    ap (block_indices w at) (held-none (past - at) word (omega (arith, none)))
+
+pub IsBlockBits-word : {w at word past : ℕ} → IsBackBits w at word past → past ≡ at
     → IsBlockBits w at word
-IsBlockBits-word {run = zero} h none = h.bits
-IsBlockBits-word {run = suc n} h none = absurd (omega (arith, none))
+IsBlockBits-word {w} {at} {word} {past} h none =
+    subst (IsBlockBits w at) (held-none (past - at) word (omega (arith, none))) h.bits
 
-pub IsBackBits-word : (w at word run : ℕ) → run ≡ 0 → IsBlockBits w at word
-    → IsBackBits w at word run
-IsBackBits-word w at word zero none h = record {
-  bits = h;
-  inside = omega arith;
-  alone = λ some. absurd (omega (arith, some));
+pub IsBackBits-word : (w at word past : ℕ) → past ≡ at → IsBlockBits w at word
+    → IsBackBits w at word past
+IsBackBits-word w at word past none h = record {
+  bits = subst (IsBlockBits w at) (sym (held-none (past - at) word (omega (arith, none)))) h;
+  order = omega (arith, none);
+  inside = omega (arith, none);
+  alone = λ some. absurd (omega (arith, none, some));
 }
-IsBackBits-word w at word (suc n) none h = absurd (omega (arith, none))
-
-pub held-word : (w at word run : ℕ) → run ≡ 0
-    → block_indices w at (held run word) ≡ block_indices w at word
-held-word w at word zero none = refl
-held-word w at word (suc n) none = absurd (omega (arith, none))
 
 -- so its last true place is the last one
-pub word-last : {w at word run : ℕ} (u n : ℕ) (answer : Bool) → IsBackBits w at word run → run ≡ 0
-    → u ≡ w → HasZerosHigh w word n → (answer ≡ true) ↔ (word ≡ 0) → answer ≡ false
+pub word-last : {w at word past : ℕ} (u n : ℕ) (answer : Bool) → IsBackBits w at word past
+    → past ≡ at → u ≡ w → HasZerosHigh w word n → (answer ≡ true) ↔ (word ≡ 0) → answer ≡ false
     → (n ≤ u - 1) × (u - 1 - n < w) × (place (u - 1 - n) word ≡ true)
 word-last {w} {at} {word} u n answer h none e high test differs =
     let within = (IsBlockBits-word h none).within in
     last_there w u at word n e high (some_index w at word answer test within differs)
 
 -- a run
-module _ (w at word run : ℕ) (h : IsBackBits w at word run) (some : run ≢ 0) where
-  back : run - 1 + 1 ≡ run
-  back = omega (arith, some)
+module _ (w at word past : ℕ) (h : IsBackBits w at word past) (some : past ≢ at) where
+  back : past - at ≡ past - 1 - at + 1
+  back = omega (arith, some, h.order)
 
-  whole : held run word ≡ 2 ^ (run - 1 + 1) - 1
-  whole = held-run run word some ∙ ap (λ n. 2 ^ n - 1) (sym back)
+  more : past - at ≢ 0
+  more none = absurd (omega (arith, none, some, h.order))
 
-  shorter : held (run - 1) word ≡ 2 ^ (run - 1) - 1
-  shorter = held-alone (run - 1) word (h.alone (omega (arith, some)))
+  whole : held (past - at) word ≡ 2 ^ (past - 1 - at + 1) - 1
+  whole = held-run (past - at) word more ∙ ap (λ m. 2 ^ m - 1) back
 
-  bits : IsBlockBits w at (2 ^ (run - 1 + 1) - 1)
+  shorter : held (past - 1 - at) word ≡ 2 ^ (past - 1 - at) - 1
+  shorter = held-alone (past - 1 - at) word (h.alone (omega (arith, some, h.order)))
+
+  bits : IsBlockBits w at (2 ^ (past - 1 - at + 1) - 1)
   bits = subst (IsBlockBits w at) whole h.bits
 
-  pub run-some : block_indices w at (held run word) ≢ []
+  pub run-some : block_indices w at (held (past - at) word) ≢ []
   run-some none =
-      let two : 2 ^ run ≡ 2 ^ suc (run - 1) = ap (λ n. 2 ^ n) (omega (arith, some)) in
+      let two : 2 ^ (past - 1 - at + 1) ≡ 2 ^ suc (past - 1 - at) =
+      ap (λ m. 2 ^ m) (omega arith) in
       absurd (omega (
         arith,
         zero_block_indices w at _ h.bits.within none,
-        held-run run word some,
-        pow_pos (run - 1),
+        whole,
+        pow_pos (past - 1 - at),
         two,
       ))
 
-  pub run-fits : at + (run - 1) < 2 ^ 64
-  run-fits = bits.fits (run - 1) (omega (arith, h.inside, some))
-      (place-run (run - 1 + 1) (run - 1) ∙ lt-ltb (run - 1) (run - 1 + 1) (omega arith))
-
-  pub IsBackBits-shorter : IsBackBits w at word (run - 1)
+  pub IsBackBits-shorter : IsBackBits w at word (past - 1)
   IsBackBits-shorter = record {
     bits = subst (IsBlockBits w at) (sym shorter)
-        (IsBlockBits-shorter w at (run - 1) (omega (arith, h.inside, some)) bits);
+        (IsBlockBits-shorter w at (past - 1 - at) (omega (arith, h.inside, some, h.order)) bits);
+    order = omega (arith, some, h.order);
     inside = omega (arith, h.inside);
-    alone = λ more. h.alone (omega (arith, some));
+    alone = λ less. h.alone (omega (arith, less));
   }
 
-  pub run-taken : block_indices w at (held run word)
-      ≡ block_indices w at (held (run - 1) word) ++ (at + (run - 1)) ∷ []
-  run-taken = ap (block_indices w at) whole
-      ∙ run-last w at (run - 1) (omega (arith, h.inside, some))
-      ∙ ap (λ x. block_indices w at x ++ (at + (run - 1)) ∷ []) (sym shorter)
+  pub run-taken : block_indices w at (held (past - at) word)
+      ≡ block_indices w at (held (past - 1 - at) word) ++ (past - 1) ∷ []
+  run-taken =
+      let last : at + (past - 1 - at) ≡ past - 1 = omega (arith, some, h.order) in
+      ap (block_indices w at) whole
+      ∙ run-last w at (past - 1 - at) (omega (arith, h.inside, some, h.order))
+      ∙ ap (λ x. block_indices w at x ++ (at + (past - 1 - at)) ∷ []) (sym shorter)
+      ∙ ap (λ i. block_indices w at (held (past - 1 - at) word) ++ i ∷ []) last
 
   -- the mask of the run is what is held
-  pub mask-held : (m : ℕ) → m < 2 ^ w → HasPlaces w m (λ j. ltb j run) → held run word ≡ m
-  mask-held m within places =
-      held-run run word some ∙ sym (mask-run w run m h.inside within places)
+  pub mask-held : (m : ℕ) → m < 2 ^ w → HasPlaces w m (λ j. ltb j (past - at))
+      → held (past - at) word ≡ m
+  mask-held m within places = held-run (past - at) word more
+      ∙ sym (mask-run w (past - at) m (omega (arith, h.inside)) within places)

@@ -45,11 +45,13 @@ pub record IsReady (width at block left ready : ℕ) : Type 0 where
 abbrev pub held : ℕ → ℕ → ℕ
 held run word = if run == 0 then word else 2 ^ run - 1
 
--- a block in hand at the back: beside a run nothing is left of the word
-pub record IsBackBits (width at word run : ℕ) : Type 0 where
-  pub bits : IsBlockBits width at (held run word)
-  pub inside : run ≤ width
-  pub alone : 0 < run → word ≡ 0
+-- a block in hand at the back, with a run of places up to index past; beside one nothing is left of
+-- the word
+pub record IsBackBits (width at word past : ℕ) : Type 0 where
+  pub bits : IsBlockBits width at (held (past - at) word)
+  pub order : at ≤ past
+  pub inside : past ≤ at + width
+  pub alone : at < past → word ≡ 0
 
 -- the unread blocks of a walk: the indices that are left in them, how many blocks were read so far,
 -- and how many are unread

@@ -15,20 +15,20 @@ pub(crate) struct BackBits<T: Block> {
     // 0 where there is a run.
     word: T,
     at: usize,
-    // How many are left of a block whose places were all true, and else 0. The last one is known by
-    // it, so a loop waits for no place to be looked for.
-    run: usize,
+    // Behind the last index that is left of a block whose places were all true, and else `at`. So the
+    // last one is known before, and a loop waits for no place to be looked for.
+    past: usize,
 }
 
 impl<T: Block> Model for BackBits<T> {
-    ghost use Rattle.std.specs.Prelude.{ℕ, List};
+    ghost use Rattle.std.specs.Prelude.{ℕ, ◌-◌, List};
     ghost use Rattle.vob_walk.specs.Cursor.{block_indices, held, IsBackBits};
 
     ghost Value = { List ℕ };
 
-    ghost view = { λ bits. block_indices T.BITS bits.at (held bits.run (T.number bits.word)) };
+    ghost view = { λ bits. block_indices T.BITS bits.at (held (bits.past - bits.at) (T.number bits.word)) };
 
-    ghost invariant = { λ bits. IsBackBits T.BITS bits.at (T.number bits.word) bits.run };
+    ghost invariant = { λ bits. IsBackBits T.BITS bits.at (T.number bits.word) bits.past };
 }
 
 /// The block with its true place `j` made false.
@@ -51,7 +51,7 @@ impl<T: Block> BackBits<T> {
         BackBits {
             word: T::ZERO,
             at: 0,
-            run: 0,
+            past: 0,
         }
     }
 
@@ -61,14 +61,15 @@ impl<T: Block> BackBits<T> {
         requires { IsBlockBits T.BITS at (T.number word) }
         ensures { result ≡ block_indices T.BITS at (T.number word) }
     {
-        if word == T::ONES {
+        // The last block of 2^64 bits is none, since no index is behind it.
+        if word == T::ONES && at <= usize::MAX - T::BITS {
             BackBits {
                 word: T::ZERO,
                 at,
-                run: T::BITS,
+                past: at + T::BITS,
             }
         } else {
-            BackBits { word, at, run: 0 }
+            BackBits { word, at, past: at }
         }
     }
 
@@ -77,7 +78,7 @@ impl<T: Block> BackBits<T> {
     pub(crate) fn is_run(&self) -> bool
         ensures { IsTrue result → self.now ≢ [] }
     {
-        self.run != 0
+        self.past != self.at
     }
 
     /// Whether no index is left.
@@ -85,7 +86,7 @@ impl<T: Block> BackBits<T> {
     pub(crate) fn is_empty(&self) -> bool
         ensures { IsTrue result ↔ (self.now ≡ []) }
     {
-        self.run == 0 && is_zero(self.word)
+        self.past == self.at && is_zero(self.word)
     }
 
     /// The block whose true places are the indices that are left, and the index of its place 0.
@@ -94,10 +95,10 @@ impl<T: Block> BackBits<T> {
         ensures bits { IsBlockBits T.BITS result.1 (T.number result.0) }
         ensures same { block_indices T.BITS result.1 (T.number result.0) ≡ self.now }
     {
-        if self.run == 0 {
+        if self.past == self.at {
             (self.word, self.at)
         } else {
-            (T::low_mask(self.run), self.at)
+            (T::low_mask(self.past - self.at), self.at)
         }
     }
 
@@ -113,9 +114,9 @@ impl<T: Block> BackBits<T> {
     pub(crate) fn next_back(&mut self) -> Option<usize>
         ensures { YieldsLast (λ rest. rest) self.old result self.new }
     {
-        if self.run != 0 {
-            self.run -= 1;
-            return Some(self.at + self.run);
+        if self.past != self.at {
+            self.past -= 1;
+            return Some(self.past);
         }
         // Tested by the block: where it isn't 0, the count of its zeros is one instruction.
         let word = self.word;

@@ -4,15 +4,15 @@ use Rattle.vob_walk.proofs.BlockBitsLemmas.{empty_test}
 use Rattle.vob_walk.proofs.BackBitsLemmas.{IsBlockBits-word, held-word, run-some}
 use Rattle.vob_walk.proofs.back_bits.BackBits.is_empty.Goals as goal
 
-pub returns-then-self-eq0 : goal.returns-then-self-eq0
-returns-then-self-eq0 g c =
+pub returns-then-self : goal.returns-then-self
+returns-then-self g c =
     let s = c.self.inside in
-    rw (← c.self.view_is, held-word _ s.at (g.T.Block.number s.word) _ c.if-self-eq0.true)
+    rw (← c.self.view_is, held-word _ s.at (g.T.Block.number s.word) _ c.if-self.true)
     (empty_test g.T.Block.BITS s.at (g.T.Block.number s.word) c.is_zero.result c.is_zero.ensures
-    (IsBlockBits-word c.self.invariant c.if-self-eq0.true).within)
+    (IsBlockBits-word c.self.invariant c.if-self.true).within)
 
-pub returns-else-self-eq0 : goal.returns-else-self-eq0
-returns-else-self-eq0 g c = (
-  λ yes. grind (arith, c.if-self-eq0.false, yes),
-  λ none. absurd (run-some _ _ _ _ c.self.invariant c.if-self-eq0.false (c.self.view_is ∙ none)),
+pub returns-else-self : goal.returns-else-self
+returns-else-self g c = (
+  λ yes. grind (arith, c.if-self.false, yes),
+  λ none. absurd (run-some _ _ _ _ c.self.invariant c.if-self.false (c.self.view_is ∙ none)),
 )
