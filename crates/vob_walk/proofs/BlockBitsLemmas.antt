@@ -1,7 +1,7 @@
 -- A block in hand, and its first or last index taken.
 use Rattle.std.specs.List.{range_with_len}
-use Rattle.std.proofs.Common.{◌≡◌, ◌≢◌, ℕ, zero, suc, ◌+◌, ◌-◌, ◌^◌, ◌<◌, ◌≤◌, Bool, true, false, cond, List, [], ◌∷◌, ◌++◌, length, ◌↔◌, eqb, refl, sym, ap, ◌∙◌, subst, arith, inl, inr, append-nil, length-append}
-use Rattle.std.proofs.lemmas.Bool.{cases_eq, cases_order, cases_lt, false≢true, eq-eqb, eqb-true, ne_eqb, cond-true, cond-false}
+use Rattle.std.proofs.Common.{◌≡◌, ◌≢◌, ℕ, zero, suc, ◌+◌, ◌-◌, ◌^◌, ◌<◌, ◌≤◌, Bool, true, false, cond, List, [], ◌∷◌, ◌++◌, length, ◌↔◌, eqb, refl, sym, ap, ◌∙◌, subst, arith, inl, inr, append-nil}
+use Rattle.std.proofs.lemmas.Bool.{cases_eq, cases_lt, false≢true, eq-eqb, eqb-true, ne_eqb, cond-true, cond-false}
 use Rattle.std.proofs.lemmas.List.Sums.{length-filter}
 use Rattle.std.proofs.lemmas.Nat.{pow_pos}
 use Rattle.vob_block.specs.Places.{place, HasPlaces, HasZerosLow, HasZerosHigh, true_places}
@@ -159,22 +159,13 @@ unfolding block_indices true_places
 length-block_indices w at x = length-indices_at (λ j. place j x) at at 0 w (omega arith)
     ∙ length-filter (λ j. place j x) (range_with_len 0 w)
 
--- where some of a list are left there is one, and where the first or the last is taken one less is
+-- where some of a list are left there is one, and where the first is taken one less is
 pub some_left : {xs : List ℕ} {left : ℕ} → left ≡ length xs → 0 < left → xs ≢ []
 some_left count some none = absurd (omega (arith, count ∙ ap length none, some))
-
-pub left_some : (xs : List ℕ) (left : ℕ) → left ≡ length xs → xs ≢ [] → 0 < left
-left_some [] left count some = absurd (some refl)
-left_some (x ∷ xs) left count some = omega (arith, count)
 
 pub left-first : {xs ys : List ℕ} {left i : ℕ} → left ≡ length xs → xs ≡ i ∷ ys
     → left - 1 ≡ length ys
 left-first count first = omega (arith, count ∙ ap length first)
-
-pub left-last : {xs : List ℕ} {left : ℕ} (ys : List ℕ) (i : ℕ) → left ≡ length xs
-    → xs ≡ ys ++ i ∷ [] → left - 1 ≡ length ys
-left-last ys i count last =
-    omega (arith, count ∙ ap length last ∙ length-append ys (i ∷ []))
 
 -- ---- one place made false, by `^` with it alone
 
@@ -234,27 +225,3 @@ module _ (w at x y j : ℕ) (inside : j < w) (there : place j x ≡ true)
   unfolding block_indices
   block_indices-last n h e = indices_where-last _ _ (at + j) at w lacks
       (λ i low high. zeros_above w x n h (i - at) (omega arith) (omega arith))
-
-  -- where the last is taken and another is left, the first stays
-  pub first-stays : (n m : ℕ) → HasZerosHigh w x n → j ≡ w - 1 - n → HasZerosLow w x m
-      → block_indices w at y ≢ [] → HasZerosLow w y m
-  first-stays n m h e low some =
-      let below : (i : ℕ) → i < m → place i y ≡ false = λ i less. elim (cases_eq i j) [
-        | inl same ↦ ap (λ k. place k y) same ∙ cleared
-        | inr other ↦ kept i (omega (arith, low.bound)) other ∙ low.zeros i less
-      ] in
-      record {
-        bound = low.bound;
-        zeros = below;
-        first = λ here. elim (cases_eq m j) [
-          | inl same ↦ absurd (some (block_indices-none w at y (λ i h'. elim (cases_order i m) [
-            | inl it ↦ ap (λ k. place k y) (it ∙ same) ∙ cleared
-            | inr less ↦ elim less [
-              | inl under ↦ below i under
-              | inr over ↦ kept i h' (omega (arith, over, same))
-                  ∙ zeros_above w x n h i (omega (arith, over, same, e)) h'
-            ]
-          ])))
-          | inr other ↦ kept m here other ∙ low.first here
-        ];
-      }

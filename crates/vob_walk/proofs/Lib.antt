@@ -1,3 +1,4 @@
+pub mod BackBitsLemmas
 pub mod BlockBitsLemmas
 pub mod CountLemmas
 pub mod CursorLemmas

@@ -1,6 +1,6 @@
 -- Within the crate: what a walk over indices has left, in hand at its ends and in the blocks between.
 -- No public contract cites this page.
-use Rattle.std.specs.Prelude.{◌≡◌, ℕ, ◌+◌, ◌-◌, ◌*◌, ◌/◌, ◌^◌, ◌<◌, ◌≤◌, Bool, true, ◌&&◌, nat_le, nat_lt, List, ◌++◌, length, min, filter}
+use Rattle.std.specs.Prelude.{◌≡◌, ℕ, ◌+◌, ◌-◌, ◌*◌, ◌/◌, ◌^◌, ◌<◌, ◌≤◌, Bool, true, ◌&&◌, ◌==◌, if◌then◌else◌, nat_le, nat_lt, List, ◌++◌, length, min, filter}
 use Rattle.std.specs.List.{range_with_len}
 use Rattle.vob_block.specs.Places.{place, HasZerosLow}
 use Rattle.vob_block.specs.Packing.{need, bit_at}
@@ -40,6 +40,18 @@ pub record IsReady (width at block left ready : ℕ) : Type 0 where
   pub bits : IsBlockBits width at block
   pub count : left ≡ length (block_indices width at block)
   pub first : 0 < left → (n : ℕ) × HasZerosLow width block n × (ready ≡ at + n)
+
+-- the block in hand at the back: the lowest places of a run, or else the word
+abbrev pub held : ℕ → ℕ → ℕ
+held run word = if run == 0 then word else 2 ^ run - 1
+
+-- a block in hand at the back, with a run of places up to index past; beside one nothing is left of
+-- the word
+pub record IsBackBits (width at word past : ℕ) : Type 0 where
+  pub bits : IsBlockBits width at (held (past - at) word)
+  pub order : at ≤ past
+  pub inside : past ≤ at + width
+  pub alone : at < past → word ≡ 0
 
 -- the unread blocks of a walk: the indices that are left in them, how many blocks were read so far,
 -- and how many are unread

@@ -1,6 +1,6 @@
-//! The indices of one block, at an end of a walk.
+//! The indices of one block, at the front end of a walk.
 ghost use Rattle.std.specs.Prelude.{◌≡◌, ◌≢◌, ◌==◌, ◌↔◌, ℕ, if◌then◌else◌, true, false, ◌^◌, ◌<◌, [], length, IsTrue};
-ghost use Rattle.std.specs.Iterator.{YieldsFirst, YieldsLast};
+ghost use Rattle.std.specs.Iterator.{YieldsFirst};
 ghost use Rattle.vob_block.specs.Places.{place, HasPlaces, HasZerosLow};
 ghost use Rattle.vob_walk.specs.Cursor.{block_indices, IsBlockBits};
 
@@ -36,18 +36,6 @@ pub(crate) fn is_zero<T: Block>(block: T) -> bool
     ensures { IsTrue result ↔ (T.number block ≡ 0) }
 {
     block == T::ZERO
-}
-
-/// The block with its true place `j` made false.
-#[inline(always)]
-fn without_place<T: Block>(block: T, j: usize) -> T
-    requires inside { j < T.BITS }
-    requires there { place j (T.number block) ≡ true }
-    ensures places { HasPlaces T.BITS (T.number result)
-        (λ i. if i == j then false else place i (T.number block)) }
-    ensures within { T.number result < 2 ^ T.BITS }
-{
-    block.bxor(T::ONE.up(j))
 }
 
 /// The block with its first true place made false. The number of that place isn't waited for.
@@ -106,19 +94,20 @@ impl<T: Block> BlockBits<T> {
         self.left == 0
     }
 
-    /// The same, tested by the block, as `next_back` tests it.
-    #[inline(always)]
-    pub(crate) fn is_all_given(&self) -> bool
-        ensures { IsTrue result ↔ (self.now ≡ []) }
-    {
-        is_zero(self.word)
-    }
-
     /// How many indices are left.
     pub(crate) fn count(&self) -> usize
         ensures { result ≡ length self.now }
     {
         self.left
+    }
+
+    /// The block whose true places are the indices that are left, and the index of its place 0.
+    #[inline(always)]
+    pub(crate) fn block(&self) -> (T, usize)
+        ensures bits { IsBlockBits T.BITS result.1 (T.number result.0) }
+        ensures same { block_indices T.BITS result.1 (T.number result.0) ≡ self.now }
+    {
+        (self.word, self.at)
     }
 
     /// The first index that is left, taken.
@@ -132,22 +121,5 @@ impl<T: Block> BlockBits<T> {
         let index = self.ready;
         *self = BlockBits::counted(without_first(self.word), self.at, self.left - 1);
         Some(index)
-    }
-
-    /// The last index that is left, taken.
-    #[inline(always)]
-    pub(crate) fn next_back(&mut self) -> Option<usize>
-        ensures { YieldsLast (λ rest. rest) self.old result self.new }
-    {
-        // Tested by the block: where it isn't 0, the count of its zeros is one instruction.
-        let word = self.word;
-        if is_zero(word) {
-            return None;
-        }
-        // The first one stays, where this isn't it.
-        let place = T::BITS - 1 - word.zeros_high();
-        self.word = without_place(word, place);
-        self.left -= 1;
-        Some(self.at + place)
     }
 }

@@ -5,11 +5,11 @@ ghost use Rattle.std.specs.Iterator.{YieldsFirst, YieldsLast, MakesProgress, ite
 ghost use Rattle.vob_block.specs.Packing.{need, unpacking};
 ghost use Rattle.vob_walk.specs.Walk.{Walk, IsFresh, IsPulled, end_item, without_end};
 
+use crate::back_bits::BackBits;
 use crate::block_bits::BlockBits;
 use crate::scan::Unread;
 use crate::walk::End;
 use std::marker::Model;
-use std::mem;
 use std::ops::RangeBounds;
 use vob_block::{Block, Blocks};
 
@@ -19,7 +19,7 @@ use vob_block::{Block, Blocks};
 pub(crate) struct Cursor<'a, T: Block> {
     unread: Unread<'a, T>,
     front: BlockBits<T>,
-    back: BlockBits<T>,
+    back: BackBits<T>,
 }
 
 impl<'a, T: Block> Model for Cursor<'a, T> {
@@ -41,7 +41,7 @@ impl<'a, T: Block> Model for Cursor<'a, T> {
 fn fill_front<T: Block>(
     unread: &mut Unread<'_, T>,
     front: &mut BlockBits<T>,
-    back: &mut BlockBits<T>,
+    back: &mut BackBits<T>,
 )
     ensures rest { front.new ++ (unread.new.rest ++ back.new) ≡ front.old ++ (unread.old.rest ++ back.old) }
     ensures empty { front.new ≡ [] → unread.new.rest ++ back.new ≡ [] }
@@ -54,30 +54,30 @@ fn fill_front<T: Block>(
     }
     *front = unread.next_bits();
     if front.is_empty() {
-        mem::swap(front, back);
+        let (word, at) = back.block();
+        *front = BlockBits::of(word, at);
+        *back = BackBits::none();
     }
 }
 
 /// Where the back has no index in hand, it gets those of the last block that has some, or else what
 /// the front has. So it has none afterwards only where none is left at all.
 #[inline(always)]
-fn fill_back<T: Block>(
-    unread: &mut Unread<'_, T>,
-    front: &mut BlockBits<T>,
-    back: &mut BlockBits<T>,
-)
+fn fill_back<T: Block>(unread: &mut Unread<'_, T>, front: &mut BlockBits<T>, back: &mut BackBits<T>)
     ensures rest { front.new ++ (unread.new.rest ++ back.new) ≡ front.old ++ (unread.old.rest ++ back.old) }
     ensures empty { back.new ≡ [] → front.new ++ unread.new.rest ≡ [] }
     ensures fewer { length front.new ≤ length front.old }
     ensures falls { unread.new.left ≤ unread.old.left }
     ensures reads { unread.new.reads + unread.new.left ≡ unread.old.reads + unread.old.left }
 {
-    if !back.is_all_given() {
+    if !back.is_empty() {
         return;
     }
     *back = unread.next_back_bits();
     if back.is_empty() {
-        mem::swap(front, back);
+        let (word, at) = front.block();
+        *back = BackBits::of(word, at);
+        *front = BlockBits::none();
     }
 }
 
@@ -98,7 +98,7 @@ impl<'a, T: Block> Cursor<'a, T> {
         Cursor {
             unread: Unread::over(blocks, value, len, range),
             front: BlockBits::none(),
-            back: BlockBits::none(),
+            back: BackBits::none(),
         }
     }
 
@@ -122,6 +122,10 @@ impl<'a, T: Block> Cursor<'a, T> {
             self.old result self.new }
         ensures reads { IsPulled self.old (result ∷ []) self.new }
     {
+        // Asked first, so that the loop over a run is one of its own.
+        if self.back.is_run() {
+            return self.back.next_back();
+        }
         fill_back(&mut self.unread, &mut self.front, &mut self.back);
         self.back.next_back()
     }

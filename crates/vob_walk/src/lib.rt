@@ -2,6 +2,7 @@
 //! counts.
 #![tactic(auto)]
 
+mod back_bits;
 mod block_bits;
 mod count;
 mod cursor;

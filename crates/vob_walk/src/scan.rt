@@ -6,6 +6,7 @@ ghost use Rattle.vob_walk.specs.Matches.{matches, blocks_met};
 ghost use Rattle.vob_walk.specs.Cursor.{indices_in, unread};
 ghost use Rattle.vob_walk.specs.Skip.{ReadsUp, ReadsDown};
 
+use crate::back_bits::BackBits;
 use crate::block_bits::BlockBits;
 use crate::count::count_between;
 use crate::range::{blocks_of, first_index, past_last_index};
@@ -23,6 +24,16 @@ fn bits_in<T: Block>(block: T, k: usize, window: Window) -> BlockBits<T>
         window.stop }
 {
     BlockBits::of(masked(block, k, window), k * T::BITS)
+}
+
+/// The same, to be given from the last one on.
+#[inline(always)]
+fn back_bits_in<T: Block>(block: T, k: usize, window: Window) -> BackBits<T>
+    requires { k * T.BITS < window.stop }
+    ensures { result ≡ indices_in T.BITS (T.number block) (k * T.BITS) window.value window.start
+        window.stop }
+{
+    BackBits::of(masked(block, k, window), k * T::BITS)
 }
 
 /// Reads blocks from `next` on until one has an index to give, and answers that one's. Where none
@@ -63,7 +74,7 @@ fn find_back<T: Block>(
     window: Window,
     next: usize,
     end: &mut usize,
-) -> BlockBits<T>
+) -> BackBits<T>
     requires order { next ≤ end.old }
     requires count { end.old ≤ length blocks.old.items }
     requires below { (k : ℕ) → k < end.old → k * T.BITS < window.stop }
@@ -75,14 +86,14 @@ fn find_back<T: Block>(
     let mut till = *end;
     while let Some(found) = last_other(blocks, skip, next, till) {
         till = found.0;
-        let bits = bits_in(found.1, found.0, window);
+        let bits = back_bits_in(found.1, found.0, window);
         if !bits.is_empty() {
             *end = till;
             return bits;
         }
     }
     *end = next;
-    BlockBits::none()
+    BackBits::none()
 }
 
 /// The blocks that neither end of a walk has read, from `next` to below `end`, and what is looked
@@ -154,7 +165,7 @@ impl<'a, T: Block> Unread<'a, T> {
 
     /// The indices of the last block that has some, which is read.
     #[inline(always)]
-    pub(crate) fn next_back_bits(&mut self) -> BlockBits<T>
+    pub(crate) fn next_back_bits(&mut self) -> BackBits<T>
         ensures rest { self.new.rest ++ result ≡ self.old.rest }
         ensures none { result ≡ [] → self.new.rest ≡ [] }
         ensures falls { self.new.left ≤ self.old.left }

@@ -21,8 +21,8 @@ last_other-requires-clause-count g c =
       ap length c.loop-found.invariant.items,
     )
 
-pub bits_in-bits-requires : goal.bits_in-bits-requires
-bits_in-bits-requires g c =
+pub back_bits_in-bits-requires : goal.back_bits_in-bits-requires
+back_bits_in-bits-requires g c =
     let inside = ScansDown-inside c.in-Some.is c.last_other.ensures in
     c.requires.below c.in-Some.found.0 (omega (arith, inside.1, c.loop-found.invariant.falls))
 
@@ -31,7 +31,7 @@ loop-found-preserved g c =
     let window = c.args.window in
     ReadsDown-found g.T.Block.BITS window.value window.start window.stop
     c.block_without-skip.ensures c.loop-found.invariant c.in-Some.is c.last_other.ensures
-    (sym (c.is_empty.ensures.0 c.if-not-is_empty.false) ∙ c.bits_in-bits.ensures)
+    (sym (c.is_empty.ensures.0 c.if-not-is_empty.false) ∙ c.back_bits_in-bits.ensures)
 
 pub loop-found-smaller : goal.loop-found-smaller
 loop-found-smaller g c =
@@ -44,7 +44,7 @@ returns-then-not-is_empty-clause-reads g c =
     let window = c.args.window in
     ReadsDown-found g.T.Block.BITS window.value window.start window.stop
     c.block_without-skip.ensures c.loop-found.invariant c.in-Some.is c.last_other.ensures
-    c.bits_in-bits.ensures
+    c.back_bits_in-bits.ensures
 
 pub returns-then-not-is_empty-clause-none : goal.returns-then-not-is_empty-clause-none
 returns-then-not-is_empty-clause-none g c = λ none.

@@ -2,7 +2,7 @@
 use Rattle.std.proofs.Common.{ap, ◌∙◌}
 use Rattle.vob_block.proofs.PlaceLemmas.{mask-is}
 use Rattle.vob_walk.proofs.BlockBitsLemmas.{HasPlaces-cleared}
-use Rattle.vob_walk.proofs.block_bits.without_place.Goals as goal
+use Rattle.vob_walk.proofs.back_bits.without_place.Goals as goal
 
 pub returns-clause-places : goal.returns-clause-places
 returns-clause-places g c =

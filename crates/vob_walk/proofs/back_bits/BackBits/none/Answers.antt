@@ -1,0 +1,10 @@
+-- The block 0 has no index.
+use Rattle.std.proofs.Common.{ap, ◌∙◌}
+use Rattle.vob_walk.proofs.BlockBitsLemmas.{block_indices-zero}
+use Rattle.vob_walk.proofs.back_bits.BackBits.none.Goals as goal
+
+pub returns : goal.returns
+returns g c =
+    let number = g.T.Block.number in
+    block_indices-zero g.T.Block.BITS 0 (number c.ZERO.result)
+    (ap number c.ZERO.ensures ∙ g.met.T.Block.zero_number_law)
