@@ -94,7 +94,8 @@ module _ (w n x v mask h : ℕ) (value : Bool) (fits : n ≤ w)
         (omega arith))).1;
     between = λ i from below.
         let back : w - 1 - (w - 1 - i) ≡ i = omega arith in
-        low-without i below (ap (λ j. place j h) (sym back) ∙ zeros.zeros (w - 1 - i) (omega arith));
+        low-without i below (ap (λ j. place j h) (sym back)
+        ∙ zeros.zeros (w - 1 - i) (omega arith));
   }
 
 -- ---- a block that isn't the one without a bit of the value has one
@@ -218,7 +219,7 @@ module _ {X : Type 0} (w : ℕ) (wide : 0 < w) (number : X → ℕ) (value : Boo
           items = items;
         }
 
-    module _ (n j : ℕ) (block : X) (at : n ≡ from % w)
+    module _ {n j : ℕ} (block : X) (at : n ≡ from % w)
         (read : number block ≡ get_or xs (from / w) 0)
         (first : IsFirstPlace w (number block) value n j) where
       passed : HasNoBit w xs value from (from / w * w + j)
@@ -235,7 +236,7 @@ module _ {X : Type 0} (w : ℕ) (wide : 0 < w) (number : X → ℕ) (value : Boo
           (omega (arith, div-add-mod' from w, first.above)) passed (omega (arith, reads)) items is
 
       module _ (skip : X) (without : number skip ≡ cond value 0 (2 ^ w - 1)) (past : w ≤ j)
-          (a b : ℕ) (begin : a ≡ from / w + 1) (end : b ≡ need stop w) where
+          {a b : ℕ} (begin : a ≡ from / w + 1) (end : b ≡ need stop w) where
         passed_block : HasNoBit w xs value from (a * w)
         passed_block i low high = passed i low (omega (
           arith,
@@ -283,7 +284,11 @@ module _ {X : Type 0} (w : ℕ) (wide : 0 < w) (number : X → ℕ) (value : Boo
             (omega (arith, scan.reads, begin)) scan.items is
           where
             le_products : (k : ℕ) → from / w + 1 ≤ k → from / w * w + w ≤ k * w
-            le_products k h = omega (arith, product-more w (from / w), mul-le (from / w + 1) w k w h (omega arith))
+            le_products k h = omega (
+              arith,
+              product-more w (from / w),
+              mul-le (from / w + 1) w k w h (omega arith),
+            )
 
   module _ (upto : ℕ) where
     -- a search down ends in block k
@@ -334,7 +339,8 @@ module _ {X : Type 0} (w : ℕ) (wide : 0 < w) (number : X → ℕ) (value : Boo
             ap (λ l. get_or (map number l) i 0) (sym items) ∙ h i from below
 
         -- in none
-        pub FindsDown-none : ScansDown number skip z y 0 k None → FindsDown w number value x y upto 0
+        pub FindsDown-none : ScansDown number skip z y 0 k None
+            → FindsDown w number value x y upto 0
         FindsDown-none scan =
             let empty : 0 * w ≡ 0 = omega arith in
             let zero : (0 - 1) / w < 1 = div_below (0 - 1) w 1 wide (omega arith) in record {

@@ -1,5 +1,5 @@
-//! The next index, from one on, whose bit has a value, and the previous one: by the block of the
-//! index that is looked at first, and behind it by the scan for a block that isn't without such bits.
+//! The next index whose bit has a value, and the previous one: by the block of the index that is
+//! looked at first, and from there on by the scan for a block that isn't without such bits.
 ghost use Rattle.std.specs.Prelude.{◌≡◌, ◌==◌, if◌then◌else◌, ◌+◌, ◌-◌, ◌/◌, ◌<◌, ◌≤◌, length, map, min, slice_index_or, option_map, unwrap_or, MatchOption};
 ghost use Rattle.vob_block.specs.Packing.{need};
 ghost use Rattle.vob_walk.specs.Next.{HasNoBit, IsFirstBit, IsLastBit, IsFirstPlace, IsLastPlace, FindsUp, FindsDown};
@@ -103,8 +103,8 @@ fn past_last_index_of<T: Block>(blocks: &mut Blocks<'_, T>, value: bool, upto: u
     found.0 * T::BITS + past_last_place(found.1, value, T::BITS - 1)
 }
 
-/// The first index from `from` to below `len` whose bit has the value. Reads the blocks from that of
-/// `from` to that of the index once each, and no other. vob 4.0.1 has no public call like it.
+/// The first index from `from` to below `len` whose bit has the value. Reads the blocks from that
+/// of `from` to that of the index once each, and no other. vob 4.0.1 has no public call like it.
 #[inline(always)]
 pub fn next_index<T: Block>(
     blocks: &mut Blocks<'_, T>,

@@ -51,7 +51,8 @@ returns g c =
     c.past_last_place-end.ensures z c.block_without.result c.block_without.ensures
     c.if-end-gt0.false c.block.ensures.reads c.block.ensures.items found
     c.past_last_place.result _ _
-    (ScansDown-is number c.block_without.result z y _ _ _ (Some found) c.in-Some.is c.last_other.ensures)
+    (ScansDown-is number c.block_without.result z y _ _ _ (Some found) c.in-Some.is
+    c.last_other.ensures)
     c.in_range.ensures
     (omega (arith, c.BITS-4.ensures, g.met.T.Block.wide_law)) c.past_last_place.ensures
     (ap (λ u. found.0 * u + c.past_last_place.result) c.BITS-3.ensures)
