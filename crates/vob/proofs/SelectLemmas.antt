@@ -6,12 +6,11 @@ use Rattle.std.proofs.lemmas.Bool.{cases_lt, false≢true}
 use Rattle.std.proofs.lemmas.List.{get_or_past, take_all}
 use Rattle.std.proofs.lemmas.List.Sums.{sum_by-cons}
 use Rattle.vob_block.specs.Packing.{item, bit_at, packing}
-use Rattle.vob_block.proofs.PackingLemmas.{bit_at-packing}
 use Rattle.vob_walk.specs.Count.{ones_between}
 use Rattle.vob_walk.specs.Select.{HasRank}
 use Rattle.vob.specs.Bits.{count_of}
 use Rattle.vob.specs.Sets.{IsOfRank, IsIndexOfRank}
-use Rattle.vob.proofs.SetsLemmas.{counted, rank_is, equal_by, some_where, none_where}
+use Rattle.vob.proofs.SetsLemmas.{bit-in_blocks, counted, rank_is, equal_by, some_where, none_where}
 
 -- ---- set bits below an index
 
@@ -63,7 +62,7 @@ module _ (bits : List Bool) (k : ℕ) where
 module _ (w : ℕ) (wide : 0 < w) (bits : List Bool) (xs : List ℕ)
     (blocks : xs ≡ packing bits w) where
   bit-is : (i : ℕ) → bit_at xs w i ≡ item bits i
-  bit-is i = ap (λ ys. bit_at ys w i) blocks ∙ bit_at-packing w wide bits i
+  bit-is = bit-in_blocks w wide bits xs blocks
 
   pub true_inside : (i : ℕ) → bit_at xs w i ≡ true → i < length bits
   true_inside i there = inside bits i (sym (bit-is i) ∙ there)

@@ -1,20 +1,15 @@
--- The index that is next to another, by a walk over those that match, and how many bits are set
--- below one.
+-- The index that is next to another, by the blocks, and how many bits are set below one.
 use Rattle.std.specs.Prelude.{Option, Some, None, MatchOption, replicate}
-use Rattle.std.specs.List.{AllPairs, range_with_len}
+use Rattle.std.specs.List.{range_with_len}
 use Rattle.std.specs.Option.{is_some}
-use Rattle.std.specs.declared.ops.Bound.TheVariants.{Included, Unbounded}
-use Rattle.std.proofs.Common.{◌≡◌, ◌≢◌, ◌↔◌, ℕ, zero, suc, ◌+◌, ◌-◌, ◌<◌, ◌≤◌, min, nat_le, Bool, true, false, not, cond, List, [], ◌∷◌, ◌++◌, length, get_or, take, count_by, Contains, refl, sym, ap, ◌∙◌, subst, arith, inl, inr, length-append}
-use Rattle.std.proofs.Math.Seq.{get_or-append_seam}
-use Rattle.std.proofs.lemmas.Bool.{cases_eq, cases_lt, and_from, and_parts, le-leb, leb-true, false≢true}
-use Rattle.std.proofs.lemmas.List.{ext_get_or, get_or-replicate, get_or-take, length-replicate, length-take}
+use Rattle.std.proofs.Common.{◌≡◌, ◌≢◌, ◌↔◌, ℕ, zero, suc, ◌+◌, ◌-◌, ◌<◌, ◌≤◌, min, Bool, true, false, not, cond, List, [], ◌∷◌, length, map, take, count_by, refl, sym, ap, ◌∙◌, subst, arith, inl, inr}
+use Rattle.std.proofs.lemmas.Bool.{cases_lt, false≢true}
+use Rattle.std.proofs.lemmas.List.{ext_get_or, get_or-replicate, get_or-take, length-map, length-replicate, length-take}
 use Rattle.std.proofs.lemmas.List.Sums.{sum_by-cons}
-use Rattle.vob_block.specs.Packing.{item, bit_at, packing}
-use Rattle.vob_block.proofs.PackingLemmas.{bit_at-packing}
+use Rattle.vob_block.specs.Packing.{item, need, bit_at, packing}
+use Rattle.vob_block.proofs.PackingLemmas.{bit_at-packing, length-packing}
 use Rattle.vob_walk.specs.Count.{ones_between}
-use Rattle.vob_walk.specs.Matches.{matches, within}
-use Rattle.vob_walk.specs.Walk.{Walk, IsFresh, GivesFirst, GivesLast}
-use Rattle.vob_walk.proofs.IndexLemmas.{matches-exactly, matches-first, matches-none, matches-rise}
+use Rattle.vob_walk.specs.Next.{HasNoBit, IsFirstBit, IsLastBit}
 use Rattle.vob.specs.Bits.{count_of}
 use Rattle.vob.specs.Sets.{HasBit, HasOnly, IsFirstFrom, IsLastUpTo, IsNext, IsPrevious}
 
@@ -76,81 +71,55 @@ module _ (value : Bool) (bits : List Bool) (from : ℕ) where
         none = none_where P N once_last apart answer h;
       }
 
--- ---- the last of a list that rises
+-- ---- an index that is found among the blocks of a list
 
-last_greatest : (xs : List ℕ) → AllPairs (λ i j. i < j) xs → (rest : List ℕ) (i : ℕ)
-    → xs ≡ rest ++ i ∷ [] → (j : ℕ) → Contains xs j → j ≤ i
-last_greatest xs rise rest i e j h =
-    let n = length rest in
-    let long : length xs ≡ n + 1 = ap length e ∙ length-append rest (i ∷ []) in
-    let last : get_or xs n j ≡ i = ap (λ ys. get_or ys n j) e ∙ get_or-append_seam rest i [] j in
-    elim (cases_eq h.0 n) [
-      | inl here ↦ omega (arith, last, ap (λ k. get_or xs k j) here, h.2)
-      | inr other ↦
-          let less = rise h.0 n j (omega (arith, other, h.1, long)) (omega (arith, long)) in
-          omega (arith, less, last, h.2)
-    ]
+pub bit-in_blocks : (w : ℕ) → 0 < w → (bits : List Bool) (xs : List ℕ) → xs ≡ packing bits w
+    → (i : ℕ) → bit_at xs w i ≡ item bits i
+bit-in_blocks w wide bits xs blocks i =
+    ap (λ ys. bit_at ys w i) blocks ∙ bit_at-packing w wide bits i
 
--- ---- a walk's first index, and its last
+module _ {X : Type 0} (w : ℕ) (wide : 0 < w) (number : X → ℕ) (items : List X) (bits : List Bool)
+    (n : ℕ) (blocks : map number items ≡ packing bits w) (long : n ≡ length bits) where
+  abbrev xs : List ℕ
+  xs = map number items
 
-module _ (value : Bool) (bits : List Bool) (from width : ℕ) (walk after : Walk) where
-  upward : (i : ℕ) → from ≤ i → within (Included from) Unbounded i ≡ true
-  upward i above = and_from (nat_le from i) true (le-leb from i above) refl
+  pub enough_blocks : need n w ≤ length items
+  enough_blocks = omega (
+    arith,
+    ap (λ m. need m w) long,
+    length-map items number,
+    ap length blocks,
+    length-packing w wide bits,
+  )
 
-  first_given : (answer : Option ℕ) → IsFresh walk bits value (Included from) Unbounded width
-      → GivesFirst walk answer after → MatchOption answer
-      ((i : ℕ) → from ≤ i → i < length bits → item bits i ≢ value) (IsFirstFrom value bits from)
-  first_given None fresh step = λ i above inside.
-      matches-none bits value (Included from) Unbounded (sym fresh.rest ∙ step.gives.0) i inside
-      (upward i above)
-  first_given (Some i) fresh step =
-      let least = matches-first bits value (Included from) Unbounded i after.rest
-      (sym fresh.rest ∙ step.gives) in
-      let met = and_parts (nat_le from i) true least.1 in record {
-        above = leb-true from i met.0;
-        inside = least.0;
-        there = least.2;
-        between = λ j above less. least.3 j less (upward j above);
-      }
+  bit-is : (i : ℕ) → bit_at xs w i ≡ item bits i
+  bit-is = bit-in_blocks w wide bits xs blocks
 
-  pub IsNext-first : (answer : Option ℕ) → IsFresh walk bits value (Included from) Unbounded width
-      → GivesFirst walk answer after → IsNext value bits from answer
-  IsNext-first answer fresh step =
-      next_is value bits from answer (first_given answer fresh step)
+  module _ (value : Bool) (from : ℕ) where
+    pub IsNext-blocks : (answer : Option ℕ)
+        → MatchOption answer (HasNoBit w xs value from n) (IsFirstBit w xs value from n)
+        → IsNext value bits from answer
+    IsNext-blocks None h = next_is value bits from None
+        (λ i above inside same. h i above (omega arith) (bit-is i ∙ same))
+    IsNext-blocks (Some i) h = next_is value bits from (Some i) record {
+      above = h.above;
+      inside = omega (arith, h.below);
+      there = sym (bit-is i) ∙ h.there;
+      between = λ j above less same. h.between j above less (bit-is j ∙ same);
+    }
 
-  downward : (i : ℕ) → i ≤ from → within Unbounded (Included from) i ≡ true
-  downward i below = le-leb i from below
-
-  last_given : (answer : Option ℕ) → IsFresh walk bits value Unbounded (Included from) width
-      → GivesLast walk answer after → MatchOption answer
-      ((i : ℕ) → i ≤ from → i < length bits → item bits i ≢ value) (IsLastUpTo value bits from)
-  last_given None fresh step = λ i below inside.
-      matches-none bits value Unbounded (Included from) (sym fresh.rest ∙ step.gives.0) i inside
-      (downward i below)
-  last_given (Some i) fresh step =
-      let all = matches bits value Unbounded (Included from) in
-      let is : all ≡ after.rest ++ i ∷ [] = sym fresh.rest ∙ step.gives in
-      let n = length after.rest in
-      let there = (matches-exactly bits value Unbounded (Included from) i).0 (
-        n,
-        omega (arith, ap length is, length-append after.rest (i ∷ [])),
-        ap (λ xs. get_or xs n i) is ∙ get_or-append_seam after.rest i [] i,
-      ) in record {
-        below = leb-true i from there.1;
-        inside = there.0;
-        there = there.2;
-        between = λ j more below inside same.
-            let most = last_greatest all (matches-rise bits value Unbounded (Included from))
-            after.rest i is j ((matches-exactly bits value Unbounded (Included from) j).1
-            (inside, downward j below, same)) in
-            omega (arith, most, more);
-      }
-
-  pub IsPrevious-last : (answer : Option ℕ)
-      → IsFresh walk bits value Unbounded (Included from) width → GivesLast walk answer after
-      → IsPrevious value bits from answer
-  IsPrevious-last answer fresh step =
-      previous_is value bits from answer (last_given answer fresh step)
+    pub IsPrevious-blocks : (answer : Option ℕ)
+        → MatchOption answer (HasNoBit w xs value 0 (min (from + 1) n))
+        (IsLastBit w xs value (min (from + 1) n)) → IsPrevious value bits from answer
+    IsPrevious-blocks None h = previous_is value bits from None
+        (λ i below inside same. h i (omega arith) (omega arith) (bit-is i ∙ same))
+    IsPrevious-blocks (Some i) h = previous_is value bits from (Some i) record {
+      below = omega (arith, h.below);
+      inside = omega (arith, h.below);
+      there = sym (bit-is i) ∙ h.there;
+      between = λ j more below inside same.
+          h.between j (omega arith) (omega arith) (bit-is j ∙ same);
+    }
 
 -- ---- whether some bit has a value, and whether every bit has
 

@@ -1,7 +1,8 @@
 -- The runs of a list of bits: its longest stretches of set bits.
-use Rattle.std.specs.Prelude.{◌≡◌, ◌≢◌, ℕ, ◌+◌, ◌<◌, ◌≤◌, Bool, true, false, List, length, Option, MatchOption, All, Any, AllPairs}
+use Rattle.std.specs.Prelude.{◌≡◌, ◌≢◌, ◌==◌, if◌then◌else◌, ℕ, ◌+◌, ◌-◌, ◌/◌, ◌<◌, ◌≤◌, Bool, true, false, List, length, slice_index_or, Option, MatchOption, All, Any, AllPairs}
 use Rattle.std.specs.declared.ops.Range.{Range}
-use Rattle.vob_block.specs.Packing.{item}
+use Rattle.vob_block.specs.Packing.{item, need, bit_at}
+use Rattle.vob_walk.specs.Next.{HasNoBit}
 use Rattle.vob.specs.Sets.{IsFirstFrom}
 
 -- the bits from index a to below b are set, and the ones beside them are not or are not there
@@ -17,22 +18,41 @@ pub record IsFirstRun (bits : List Bool) (from a b : ℕ) : Type 0 where
   pub first : IsFirstFrom true bits from a
   pub run : IsMaximalRun bits a b
 
--- a walk over runs: the bits, and the index below which each run was given
+-- a walk over runs: the bits, the index below which each run was given, how many blocks were read,
+-- and how many are unread
 pub record RunWalk : Type 0 where
   pub bits : List Bool
   pub at : ℕ
+  pub reads : ℕ
+  pub left : ℕ
 
 -- what a call of `next` does: the first run from there on is given, and the walk goes on at its
--- end; where no set bit is left nothing is given
+-- end; where no set bit is left nothing is given. No block is read again
 pub record GivesRun (walk : RunWalk) (answer : Option (Range ℕ)) (after : RunWalk) : Type 0 where
   pub bits : after.bits ≡ walk.bits
   pub run : MatchOption answer
       (((i : ℕ) → walk.at ≤ i → i < length walk.bits → item walk.bits i ≢ true)
       × (after.at ≡ walk.at))
       (λ run. IsFirstRun walk.bits walk.at run.start run.end × (after.at ≡ run.end))
+  pub reads : after.reads + after.left ≤ walk.reads + walk.left
+  pub rises : walk.reads ≤ after.reads
 
 -- a list has each run of the bits, in their order, and so each set bit in one of them
 pub record AreRuns (bits : List Bool) (runs : List (Range ℕ)) : Type 0 where
   pub each : All (λ run. IsMaximalRun bits run.start run.end) runs
   pub order : AllPairs (λ run next. run.end < next.start) runs
   pub all : (i : ℕ) → item bits i ≡ true → Any (λ run. (run.start ≤ i) × (i < run.end)) runs
+
+-- how many blocks of the first n bits are unread where the block of index `from` was read last, and
+-- none where that is 0
+abbrev pub unread_from : ℕ → ℕ → ℕ → ℕ
+unread_from width n from = need n width - (if from == 0 then 0 else from / width + 1)
+
+-- a walk within: no set bit stands from index `at` to below index `from`, whose block is in hand
+pub record IsOnRuns (width : ℕ) (blocks : List ℕ) (n at from hand : ℕ) : Type 0 where
+  pub count : need n width ≤ length blocks
+  pub within : from ≤ n
+  pub order : at ≤ from
+  pub passed : HasNoBit width blocks true at from
+  pub ended : 0 < at → at < n → bit_at blocks width at ≡ false
+  pub held : 0 < from → from < n → hand ≡ slice_index_or blocks (from / width) 0

@@ -1,32 +1,46 @@
 //! The runs of a Vob, which are its longest stretches of set bits. vob 4.0.1 has no call like it.
 ghost use Rattle.std.specs.Prelude.{◌≡◌, ◌-◌, length};
 ghost use Rattle.std.specs.Iterator.{at_most};
+ghost use Rattle.vob_block.specs.Packing.{need};
 ghost use Rattle.vob.specs.Runs.{GivesRun};
 
 use crate::vob::Vob;
 use std::iter::FusedIterator;
 use std::marker::Model;
 use std::ops::Range;
-use vob_block::Block;
+use vob_block::{Block, Blocks};
+use vob_walk::{block_in_hand, next_in_hand};
 
-/// The runs of a Vob in order, seen as its bits and the index below which each run was given.
+/// The runs of a Vob in order, seen as its bits, the index below which each run was given, and how
+/// many blocks were read and how many are unread.
 #[derive(Drop)]
 pub struct Runs<'a, T: Block> {
-    vob: &'a Vob<T>,
+    blocks: Blocks<'a, T>,
+    len: usize,
     // 0, or the end of the run that was given last.
     at: usize,
+    // Where the next run is looked for: at `at`, and at the end where none was found from there on.
+    from: usize,
+    // The block of index `from`, unless that is 0 or the end.
+    hand: T,
 }
 
 impl<'a, T: Block> Model for Runs<'a, T> {
-    ghost use Rattle.std.specs.Prelude.{◌≡◌, ◌<◌, ◌≤◌, false, length};
-    ghost use Rattle.vob_block.specs.Packing.{item};
-    ghost use Rattle.vob.specs.Runs.{RunWalk};
+    ghost use Rattle.std.specs.Prelude.{map};
+    ghost use Rattle.vob_block.specs.Packing.{unpacking};
+    ghost use Rattle.vob.specs.Runs.{RunWalk, IsOnRuns, unread_from};
 
     ghost Value = { RunWalk };
 
-    ghost view = { λ runs. record { bits = runs.vob.now.bits; at = runs.at } };
+    ghost view = { λ runs. record {
+      bits = unpacking runs.len (map T.number runs.blocks.items) T.BITS;
+      at = runs.at;
+      reads = runs.blocks.reads;
+      left = unread_from T.BITS runs.len runs.from;
+    } };
 
-    ghost invariant = { λ runs. 0 < runs.at → item runs.vob.now.bits runs.at ≡ false };
+    ghost invariant = { λ runs. IsOnRuns T.BITS (map T.number runs.blocks.items) runs.len runs.at
+        runs.from (T.number runs.hand) };
 }
 
 impl<T: Block> Vob<T> {
@@ -43,8 +57,16 @@ impl<T: Block> Vob<T> {
     pub fn runs(&self) -> Runs<'_, T>
         ensures bits { result.bits ≡ self.now.bits }
         ensures start { result.at ≡ 0 }
+        ensures reads { result.reads ≡ 0 }
+        ensures left { result.left ≡ need (length self.now.bits) T.BITS }
     {
-        Runs { vob: self, at: 0 }
+        Runs {
+            blocks: self.blocks(),
+            len: self.len(),
+            at: 0,
+            from: 0,
+            hand: T::ZERO,
+        }
     }
 }
 
@@ -56,11 +78,22 @@ impl<'a, T: Block> Iterator for Runs<'a, T> {
     // Each run has an index of its own, so there are no more than indices are left.
     ghost remaining = { λ walk. at_most (length walk.bits - walk.at) };
 
+    #[inline(always)]
     fn next(&mut self) -> Option<Range<usize>> {
-        let start = self.vob.next_set(self.at)?;
-        let stop = self.vob.next_unset(start).unwrap_or(self.vob.len());
-        self.at = stop;
-        Some(start..stop)
+        if self.from == self.len {
+            return None;
+        }
+        let hand = block_in_hand(&mut self.blocks, self.hand, self.from);
+        let start = next_in_hand(&mut self.blocks, true, self.len, self.from, hand);
+        if start.0 == self.len {
+            self.from = self.len;
+            return None;
+        }
+        let stop = next_in_hand(&mut self.blocks, false, self.len, start.0, start.1);
+        self.at = stop.0;
+        self.from = stop.0;
+        self.hand = stop.1;
+        Some(start.0..stop.0)
     }
 }
 

@@ -14,7 +14,7 @@ use crate::vob::Vob;
 use std::alloc::Global;
 use vob_block::Block;
 use vob_store::combined::{And, Combine, Or, Without, Xor, combine_into, count_combined, has_none};
-use vob_walk::{count_ones_in, index_of_rank};
+use vob_walk::{count_ones_in, index_of_rank, next_index, previous_index};
 
 impl<T: Block> Vob<T> {
     /// The Vob of `len` bits of which those at the given indices are set. An index may stand among
@@ -108,33 +108,37 @@ impl<T: Block> Vob<T> {
     }
 
     /// The least index of a set bit that is at or above `from`, which may be past the end.
+    #[inline(always)]
     pub fn next_set(&self, from: usize) -> Option<usize>
         ensures { IsNext true self.now.bits from result }
     {
-        self.iter_set_bits(from..).next()
+        next_index(&mut self.blocks(), true, self.len(), from)
     }
 
     /// The least index of an unset bit that is at or above `from`. From the length on there is
     /// none.
+    #[inline(always)]
     pub fn next_unset(&self, from: usize) -> Option<usize>
         ensures { IsNext false self.now.bits from result }
     {
-        self.iter_unset_bits(from..).next()
+        next_index(&mut self.blocks(), false, self.len(), from)
     }
 
     /// The greatest index of a set bit that is at or below `from`, which may be past the end.
+    #[inline(always)]
     pub fn previous_set(&self, from: usize) -> Option<usize>
         ensures { IsPrevious true self.now.bits from result }
     {
-        self.iter_set_bits(..=from).next_back()
+        previous_index(&mut self.blocks(), true, self.len(), from)
     }
 
     /// The greatest index of an unset bit that is at or below `from`. From the length on there is
     /// none.
+    #[inline(always)]
     pub fn previous_unset(&self, from: usize) -> Option<usize>
         ensures { IsPrevious false self.now.bits from result }
     {
-        self.iter_unset_bits(..=from).next_back()
+        previous_index(&mut self.blocks(), false, self.len(), from)
     }
 
     /// How many set bits stand below `index`: all of them where it is past the end.

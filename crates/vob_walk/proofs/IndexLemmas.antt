@@ -18,12 +18,12 @@ use Rattle.vob_walk.specs.Matches.{within, has_value, matches}
 use Rattle.vob_walk.specs.Walk.{Walk, IsFresh, GivesFirst, GivesLast}
 use Rattle.vob_walk.proofs.MatchesLemmas.{matches-only, matches-has}
 
-value_is : (value bit : Bool) → IsTrue (has_value value bit) → bit ≡ value
+pub value_is : (value bit : Bool) → IsTrue (has_value value bit) → bit ≡ value
 value_is true bit h = h
 value_is false true h = absurd (false≢true h)
 value_is false false h = refl
 
-has_value-same : (value bit : Bool) → bit ≡ value → IsTrue (has_value value bit)
+pub has_value-same : (value bit : Bool) → bit ≡ value → IsTrue (has_value value bit)
 has_value-same true bit e = e
 has_value-same false bit e = ap not e
 

@@ -5,6 +5,7 @@ pub mod CursorLemmas
 pub mod IndexLemmas
 pub mod LowestLemmas
 pub mod MatchesLemmas
+pub mod NextLemmas
 pub mod PullLemmas
 pub mod ReadLemmas
 pub mod ScanLemmas

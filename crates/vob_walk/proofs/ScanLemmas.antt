@@ -46,7 +46,7 @@ HasPlaces-from_part w a start n x y ones mask far within all p q = record {
 }
 
 -- no place of a block without a bit of the value is looked for
-without_value : (w x j : ℕ) (value : Bool) → x ≡ cond value 0 (2 ^ w - 1) → j < w
+pub without_value : (w x j : ℕ) (value : Bool) → x ≡ cond value 0 (2 ^ w - 1) → j < w
     → has_value value (place j x) ≡ false
 without_value w x j true is inside = ap (place j) is ∙ place-zero j
 without_value w x j false is inside = ap not (ap (place j) is ∙ place-ones w j inside)

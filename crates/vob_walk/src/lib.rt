@@ -7,6 +7,7 @@ mod block_bits;
 mod count;
 mod cursor;
 mod index;
+mod next;
 pub mod range;
 mod scan;
 mod select;
@@ -16,5 +17,6 @@ mod window;
 
 pub use count::count_ones_in;
 pub use index::{IterSetBits, IterUnsetBits};
+pub use next::{block_in_hand, next_in_hand, next_index, previous_index};
 pub use select::index_of_rank;
 pub use walk::{End, IndexWalk, deal};

@@ -22,7 +22,8 @@ pub(crate) fn block_without<T: Block>(value: bool) -> T
 }
 
 /// The places whose bits have the value.
-fn bits_of_value<T: Block>(block: T, value: bool) -> T
+#[inline(always)]
+pub(crate) fn bits_of_value<T: Block>(block: T, value: bool) -> T
     ensures places { HasPlaces T.BITS (T.number result)
         (λ j. has_value value (place j (T.number block))) }
     ensures within { T.number result < 2 ^ T.BITS }

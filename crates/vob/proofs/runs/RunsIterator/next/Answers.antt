@@ -1,22 +1,48 @@
--- The next set bit begins the run, and the next unset one, or the length, ends it.
-use Rattle.vob.proofs.RunsLemmas.{GivesRun-next, fewer_left}
+-- By what the two searches find.
+use Rattle.std.proofs.Common.{arith}
+use Rattle.std.proofs.lemmas.List.{length-map}
+use Rattle.vob_block.proofs.NeedLemmas.{div-lt-need}
+use Rattle.vob.proofs.RunsLemmas.{GivesRun-end, GivesRun-none, GivesRun-next, fewer_left}
 use Rattle.vob.proofs.runs.RunsIterator.next.Goals as goal
 
+pub returns-then-self-clause-steps : goal.returns-then-self-clause-steps
+returns-then-self-clause-steps g c =
+    let s = c.self.inside in
+    rw (← c.self.view_is) (GivesRun-end g.T.Block.BITS g.met.T.Block.wide_law g.T.Block.number s.len
+    s.blocks c.self.invariant c.if-self.true)
+
+pub block_in_hand-hand-requires-clause-count : goal.block_in_hand-hand-requires-clause-count
+block_in_hand-hand-requires-clause-count g c =
+    let s = c.self.inside in
+    omega (
+      arith,
+      c.self.invariant.count,
+      length-map s.blocks.items g.T.Block.number,
+      div-lt-need g.T.Block.BITS g.met.T.Block.wide_law s.len s.from
+          (omega (arith, c.self.invariant.within, c.if-self.false)),
+    )
+
+pub returns-then-start-self-clause-steps : goal.returns-then-start-self-clause-steps
+returns-then-start-self-clause-steps g c =
+    let s = c.self.inside in
+    let hand = c.block_in_hand-hand.ensures in
+    rw (← c.self.view_is) (GivesRun-none g.T.Block.BITS g.met.T.Block.wide_law g.T.Block.number
+    s.len s.blocks c.self.invariant c.if-self.false hand.items hand.reads
+    c.next_in_hand-start.ensures c.if-start-self.true)
+
 pub returns-clause-steps : goal.returns-clause-steps
-returns-clause-steps g c = rw (← c.self.view_is)
-    (GivesRun-next _ c.in_ok-start.start c.unwrap_or-stop.result c.len.result
-    c.next_unset.result c.self.invariant c.in_ok-start.ensures c.next_unset.ensures
-    c.unwrap_or-stop.ensures c.len.ensures.len)
+returns-clause-steps g c =
+    let s = c.self.inside in
+    let hand = c.block_in_hand-hand.ensures in
+    rw (← c.self.view_is) (GivesRun-next g.T.Block.BITS g.met.T.Block.wide_law g.T.Block.number
+    s.len s.blocks c.self.invariant c.if-self.false hand.items hand.reads
+    c.next_in_hand-start.ensures c.if-start-self.false c.next_in_hand-stop.ensures)
 
 pub returns-clause-goes : goal.returns-clause-goes
-returns-clause-goes g c = rw (← c.self.view_is) record {
-  on = λ finite. (
-    tt,
-    tt,
-    fewer_left _ c.in_ok-start.start c.unwrap_or-stop.result c.len.result
-        c.next_unset.result c.self.invariant c.in_ok-start.ensures c.next_unset.ensures
-        c.unwrap_or-stop.ensures c.len.ensures.len,
-  );
-  keeps = tt;
-  rests = λ _. tt;
-}
+returns-clause-goes g c =
+    let s = c.self.inside in
+    let hand = c.block_in_hand-hand.ensures in
+    let fewer = fewer_left g.T.Block.BITS g.met.T.Block.wide_law g.T.Block.number s.len s.blocks
+    c.self.invariant c.if-self.false hand.items hand.reads c.next_in_hand-start.ensures
+    c.if-start-self.false c.next_in_hand-stop.ensures in
+    rw (← c.self.view_is) record { on = λ finite. (tt, tt, fewer); keeps = tt; rests = λ _. tt }

@@ -1,0 +1,154 @@
+//! The next index whose bit has a value, and the previous one: by the block of the index that is
+//! looked at first, and from there on by the scan for a block that isn't without such bits.
+ghost use Rattle.std.specs.Prelude.{◌≡◌, ◌==◌, if◌then◌else◌, ◌+◌, ◌-◌, ◌/◌, ◌<◌, ◌≤◌, length, map, min, slice_index_or, option_map, unwrap_or, MatchOption};
+ghost use Rattle.vob_block.specs.Packing.{need};
+ghost use Rattle.vob_walk.specs.Next.{HasNoBit, IsFirstBit, IsLastBit, IsFirstPlace, IsLastPlace, FindsUp, FindsDown};
+
+use crate::block_bits::is_zero;
+use crate::skip::{first_other, last_other};
+use crate::window::{bits_of_value, block_without};
+use vob_block::{Block, Blocks};
+
+/// The first place from `from` on whose bit has the value, or `BITS` where there is none.
+#[inline(always)]
+fn first_place<T: Block>(block: T, value: bool, from: usize) -> usize
+    requires { from < T.BITS }
+    ensures { IsFirstPlace T.BITS (T.number block) value from result }
+{
+    // Tested by the block: where it isn't 0, the count of its zeros is one instruction.
+    let head = bits_of_value(block, value).band(T::ONES.up(from));
+    if is_zero(head) {
+        T::BITS
+    } else {
+        head.zeros_low()
+    }
+}
+
+/// One more than the last place up to `upto` whose bit has the value, or 0 where there is none.
+#[inline(always)]
+fn past_last_place<T: Block>(block: T, value: bool, upto: usize) -> usize
+    requires { upto < T.BITS }
+    ensures { IsLastPlace (T.number block) value (upto + 1) result }
+{
+    let head = bits_of_value(block, value).band(T::low_mask(upto + 1));
+    if is_zero(head) {
+        0
+    } else {
+        T::BITS - head.zeros_high()
+    }
+}
+
+/// The block of index `from`: the one in hand, which none is before the first index.
+#[inline(always)]
+pub fn block_in_hand<T: Block>(blocks: &mut Blocks<'_, T>, hand: T, from: usize) -> T
+    requires count { from / T.BITS < length blocks.old.items }
+    requires hand { 0 < from → T.number hand
+        ≡ slice_index_or (map T.number blocks.old.items) (from / T.BITS) 0 }
+    ensures block { T.number result
+        ≡ slice_index_or (map T.number blocks.old.items) (from / T.BITS) 0 }
+    ensures reads { blocks.new.reads ≡ blocks.old.reads + (if from == 0 then 1 else 0) }
+    ensures items { blocks.new.items ≡ blocks.old.items }
+{
+    if from == 0 { blocks.block(0) } else { hand }
+}
+
+/// The first index from `from` on whose bit has the value, with its block, or `len` where there is
+/// none below it. The block of `from` is in hand, and those behind it are read until one has such a
+/// bit.
+#[inline(always)]
+pub fn next_in_hand<T: Block>(
+    blocks: &mut Blocks<'_, T>,
+    value: bool,
+    len: usize,
+    from: usize,
+    block: T,
+) -> (usize, T)
+    requires inside { from < len }
+    requires count { need len T.BITS ≤ length blocks.old.items }
+    requires hand { T.number block
+        ≡ slice_index_or (map T.number blocks.old.items) (from / T.BITS) 0 }
+    ensures { FindsUp T.BITS T.number value blocks.old blocks.new from len result }
+{
+    let k = from / T::BITS;
+    let place = first_place(block, value, from % T::BITS);
+    if place < T::BITS {
+        let at = k * T::BITS;
+        return (at + place.min(len - at), block);
+    }
+    let end = len.div_ceil(T::BITS);
+    let Some(found) = first_other(blocks, block_without(value), k + 1, end) else {
+        return (len, block);
+    };
+    found.1.in_range();
+    let at = found.0 * T::BITS;
+    (at + first_place(found.1, value, 0).min(len - at), found.1)
+}
+
+/// One more than the last index up to `upto` whose bit has the value, or 0 where there is none.
+#[inline(always)]
+fn past_last_index_of<T: Block>(blocks: &mut Blocks<'_, T>, value: bool, upto: usize) -> usize
+    requires count { upto / T.BITS < length blocks.old.items }
+    requires fits { upto < usize.MAX }
+    ensures { FindsDown T.BITS T.number value blocks.old blocks.new upto result }
+{
+    let k = upto / T::BITS;
+    let end = past_last_place(blocks.block(k), value, upto % T::BITS);
+    if end > 0 {
+        return k * T::BITS + end;
+    }
+    let Some(found) = last_other(blocks, block_without(value), 0, k) else {
+        return 0;
+    };
+    found.1.in_range();
+    found.0 * T::BITS + past_last_place(found.1, value, T::BITS - 1)
+}
+
+/// The first index from `from` to below `len` whose bit has the value. Reads the blocks from that
+/// of `from` to that of the index once each, and no other. vob 4.0.1 has no public call like it.
+#[inline(always)]
+pub fn next_index<T: Block>(
+    blocks: &mut Blocks<'_, T>,
+    value: bool,
+    len: usize,
+    from: usize,
+) -> Option<usize>
+    requires { need len T.BITS ≤ length blocks.old.items }
+    ensures found { MatchOption result
+        (HasNoBit T.BITS (map T.number blocks.old.items) value from len)
+        (IsFirstBit T.BITS (map T.number blocks.old.items) value from len) }
+    ensures reads { blocks.new.reads ≤ blocks.old.reads
+        + (unwrap_or (option_map (λ i. i / T.BITS + 1) result) (need len T.BITS) - from / T.BITS) }
+    ensures items { blocks.new.items ≡ blocks.old.items }
+{
+    if from >= len {
+        return None;
+    }
+    let block = blocks.block(from / T::BITS);
+    let (index, _) = next_in_hand(blocks, value, len, from, block);
+    if index < len { Some(index) } else { None }
+}
+
+/// The last index up to `upto` and below `len` whose bit has the value. Reads the blocks from that
+/// of the greatest index that is looked at down to that of the index once each, and no other. vob
+/// 4.0.1 has no public call like it.
+#[inline(always)]
+pub fn previous_index<T: Block>(
+    blocks: &mut Blocks<'_, T>,
+    value: bool,
+    len: usize,
+    upto: usize,
+) -> Option<usize>
+    requires { need len T.BITS ≤ length blocks.old.items }
+    ensures found { MatchOption result
+        (HasNoBit T.BITS (map T.number blocks.old.items) value 0 (min (upto + 1) len))
+        (IsLastBit T.BITS (map T.number blocks.old.items) value (min (upto + 1) len)) }
+    ensures reads { blocks.new.reads ≤ blocks.old.reads
+        + (need (min (upto + 1) len) T.BITS - unwrap_or (option_map (λ i. i / T.BITS) result) 0) }
+    ensures items { blocks.new.items ≡ blocks.old.items }
+{
+    if len == 0 {
+        return None;
+    }
+    let end = past_last_index_of(blocks, value, upto.min(len - 1));
+    if end > 0 { Some(end - 1) } else { None }
+}
