@@ -84,12 +84,12 @@ impl<'a, T: Block> Iterator for Runs<'a, T> {
             return None;
         }
         let hand = block_in_hand(&mut self.blocks, self.hand, self.from);
-        let start = next_in_hand(&mut self.blocks, true, self.len, self.from, hand);
+        let start = next_in_hand(&mut self.blocks, true, self.len, (self.from, hand));
         if start.0 == self.len {
             self.from = self.len;
             return None;
         }
-        let stop = next_in_hand(&mut self.blocks, false, self.len, start.0, start.1);
+        let stop = next_in_hand(&mut self.blocks, false, self.len, start);
         self.at = stop.0;
         self.from = stop.0;
         self.hand = stop.1;

@@ -52,25 +52,25 @@ pub fn block_in_hand<T: Block>(blocks: &mut Blocks<'_, T>, hand: T, from: usize)
     if from == 0 { blocks.block(0) } else { hand }
 }
 
-/// The first index from `from` on whose bit has the value, with its block, or `len` where there is
-/// none below it. The block of `from` is in hand, and those behind it are read until one has such a
-/// bit.
+/// The first index from another on whose bit has the value, with its block, or `len` where there is
+/// none below it. The block of the other is in hand beside it, and those behind it are read until
+/// one has such a bit.
 #[inline(always)]
 pub fn next_in_hand<T: Block>(
     blocks: &mut Blocks<'_, T>,
     value: bool,
     len: usize,
-    from: usize,
-    block: T,
+    from: (usize, T),
 ) -> (usize, T)
-    requires inside { from < len }
+    requires inside { from.0 < len }
     requires count { need len T.BITS ≤ length blocks.old.items }
-    requires hand { T.number block
-        ≡ slice_index_or (map T.number blocks.old.items) (from / T.BITS) 0 }
-    ensures { FindsUp T.BITS T.number value blocks.old blocks.new from len result }
+    requires hand { T.number from.1
+        ≡ slice_index_or (map T.number blocks.old.items) (from.0 / T.BITS) 0 }
+    ensures { FindsUp T.BITS T.number value blocks.old blocks.new from.0 len result }
 {
-    let k = from / T::BITS;
-    let place = first_place(block, value, from % T::BITS);
+    let (index, block) = from;
+    let k = index / T::BITS;
+    let place = first_place(block, value, index % T::BITS);
     if place < T::BITS {
         let at = k * T::BITS;
         return (at + place.min(len - at), block);
@@ -124,7 +124,7 @@ pub fn next_index<T: Block>(
         return None;
     }
     let block = blocks.block(from / T::BITS);
-    let (index, _) = next_in_hand(blocks, value, len, from, block);
+    let (index, _) = next_in_hand(blocks, value, len, (from, block));
     if index < len { Some(index) } else { None }
 }
 

@@ -8,10 +8,10 @@ use Rattle.vob_walk.proofs.next.next_in_hand.Goals as goal
 pub returns-then-place-BITS : goal.returns-then-place-BITS
 returns-then-place-BITS g c =
     let w = g.T.Block.BITS in
-    let at : c.args.from / c.BITS.result * c.BITS-then-place-BITS.result ≡ c.args.from / w * w =
+    let at : c.args.from.0 / c.BITS.result * c.BITS-then-place-BITS.result ≡ c.args.from.0 / w * w =
     cc in
-    FindsUp-here w g.met.T.Block.wide_law g.T.Block.number c.args.value _ _ c.args.from c.args.len
-    c.requires.inside c.args.block (ap (λ u. c.args.from % u) c.BITS-2.ensures) c.requires.hand
+    FindsUp-here w g.met.T.Block.wide_law g.T.Block.number c.args.value _ _ c.args.from.0 c.args.len
+    c.requires.inside c.args.from.1 (ap (λ u. c.args.from.0 % u) c.BITS-2.ensures) c.requires.hand
     c.first_place-place.ensures _ (omega (arith, c.if-place-BITS.true, c.BITS-3.ensures)) refl refl
     (omega (arith, c.min.ensures, at, c.requires.inside))
 
@@ -27,13 +27,13 @@ returns-in_default g c =
     let x = c.args.blocks.now in
     let y = c.first_other.new.blocks in
     let number = g.T.Block.number in
-    FindsUp-none w g.met.T.Block.wide_law number c.args.value x y c.args.from c.args.len
-    c.requires.inside c.args.block (ap (λ u. c.args.from % u) c.BITS-2.ensures) c.requires.hand
+    FindsUp-none w g.met.T.Block.wide_law number c.args.value x y c.args.from.0 c.args.len
+    c.requires.inside c.args.from.1 (ap (λ u. c.args.from.0 % u) c.BITS-2.ensures) c.requires.hand
     c.first_place-place.ensures c.block_without.result c.block_without.ensures
     (omega (arith, c.if-place-BITS.false, c.BITS-3.ensures))
-    (ap (λ u. c.args.from / u + 1) c.BITS.ensures)
+    (ap (λ u. c.args.from.0 / u + 1) c.BITS.ensures)
     (c.div_ceil-end.ensures ∙ need-is-div_ceil w g.met.T.Block.wide_law c.args.len _
-    c.BITS-4.ensures) c.args.block
+    c.BITS-4.ensures) c.args.from.1
     (ScansUp-nothing number c.block_without.result x y _ _ _ c.in_default.not-Some
     c.first_other.ensures)
 
@@ -47,13 +47,13 @@ returns g c =
     let at : found.0 * c.BITS-5.result ≡ found.0 * w = ap (λ u. found.0 * u) c.BITS-5.ensures in
     let end = c.div_ceil-end.ensures ∙ need-is-div_ceil w g.met.T.Block.wide_law c.args.len
     c.BITS-4.result c.BITS-4.ensures in
-    let scan = ScansUp-is number c.block_without.result x y (c.args.from / c.BITS.result + 1)
+    let scan = ScansUp-is number c.block_without.result x y (c.args.from.0 / c.BITS.result + 1)
     c.div_ceil-end.result _ (Some found) c.in-Some.is c.first_other.ensures in
     let begins = mul-lt_from_need w g.met.T.Block.wide_law c.args.len found.0
     (omega (arith, scan.found.0.below, end)) in
-    FindsUp-behind w g.met.T.Block.wide_law number c.args.value x y c.args.from c.args.len
-    c.requires.inside c.args.block (ap (λ u. c.args.from % u) c.BITS-2.ensures) c.requires.hand
+    FindsUp-behind w g.met.T.Block.wide_law number c.args.value x y c.args.from.0 c.args.len
+    c.requires.inside c.args.from.1 (ap (λ u. c.args.from.0 % u) c.BITS-2.ensures) c.requires.hand
     c.first_place-place.ensures c.block_without.result c.block_without.ensures
     (omega (arith, c.if-place-BITS.false, c.BITS-3.ensures))
-    (ap (λ u. c.args.from / u + 1) c.BITS.ensures) end found c.first_place.result _ scan
+    (ap (λ u. c.args.from.0 / u + 1) c.BITS.ensures) end found c.first_place.result _ scan
     c.in_range.ensures c.first_place.ensures (omega (arith, c.min-2.ensures, at, begins))
