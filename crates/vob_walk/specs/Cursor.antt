@@ -45,8 +45,7 @@ pub record IsReady (width at block left ready : ℕ) : Type 0 where
 abbrev pub held : ℕ → ℕ → ℕ
 held run word = if run == 0 then word else 2 ^ run - 1
 
--- a block in hand at the back, with a run of places up to index past; beside one nothing is left of
--- the word
+-- a block in hand at the back, with a run up to index past; beside a run the word is 0
 pub record IsBackBits (width at word past : ℕ) : Type 0 where
   pub bits : IsBlockBits width at (held (past - at) word)
   pub order : at ≤ past

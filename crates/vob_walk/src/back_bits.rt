@@ -8,11 +8,10 @@ use crate::block_bits::is_zero;
 use std::marker::Model;
 use vob_block::Block;
 
-/// A block whose true places are indices still to give, seen as the list of them. Place 0 is index
-/// `at`.
+/// The indices of one block that are still to give, seen as the list of them. Place 0 is index `at`.
 #[derive(Drop)]
 pub(crate) struct BackBits<T: Block> {
-    // 0 where there is a run.
+    // The true places are indices still to give. Beside a run there are none.
     word: T,
     at: usize,
     // Behind the last index that is left of a block whose places were all true, and else `at`. So the
