@@ -5,7 +5,8 @@ use Rattle.std.proofs.lemmas.Nat.{pow_pos}
 use Rattle.std.proofs.Math.Pow.{pow_mono}
 use Rattle.vob_block.specs.Places.{place, HasPlaces, HasZerosHigh}
 use Rattle.vob_block.proofs.PlaceLemmas.{place-ones, place_above, same_from_places}
-use Rattle.vob_walk.specs.Cursor.{block_indices, held, IsBlockBits, IsBackBits}
+use Rattle.vob_walk.specs.Cursor.{block_indices}
+use Rattle.vob_walk.specs.InHand.{held, IsBlockBits, IsBackBits}
 use Rattle.vob_walk.proofs.BlockBitsLemmas.{last_there, zero_block_indices, some_index, block_indices-last}
 
 -- ---- a run of places from the lowest on

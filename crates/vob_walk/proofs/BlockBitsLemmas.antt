@@ -7,7 +7,8 @@ use Rattle.std.proofs.lemmas.Nat.{pow_pos}
 use Rattle.vob_block.specs.Places.{place, HasPlaces, HasZerosLow, HasZerosHigh, true_places}
 use Rattle.vob_block.specs.Pointwise.{differ}
 use Rattle.vob_block.proofs.PlaceLemmas.{place-pow, place-zero, same_from_places}
-use Rattle.vob_walk.specs.Cursor.{indices_where, block_indices, IsBlockBits}
+use Rattle.vob_walk.specs.Cursor.{indices_where, block_indices}
+use Rattle.vob_walk.specs.InHand.{IsBlockBits}
 use Rattle.vob_walk.proofs.WhereLemmas.{indices_where-split, indices_where-same, indices_where-nothing, nothing_there}
 
 cond_cons-true : (b : Bool) (x : ℕ) (xs : List ℕ) → b ≡ true → cond b (x ∷ xs) xs ≡ x ∷ xs

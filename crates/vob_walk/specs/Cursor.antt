@@ -1,8 +1,8 @@
 -- Within the crate: what a walk over indices has left, in hand at its ends and in the blocks between.
 -- No public contract cites this page.
-use Rattle.std.specs.Prelude.{◌≡◌, ℕ, ◌+◌, ◌-◌, ◌*◌, ◌/◌, ◌^◌, ◌<◌, ◌≤◌, Bool, true, ◌&&◌, ◌==◌, if◌then◌else◌, nat_le, nat_lt, List, ◌++◌, length, min, filter}
+use Rattle.std.specs.Prelude.{◌≡◌, ℕ, ◌+◌, ◌-◌, ◌*◌, ◌/◌, ◌<◌, ◌≤◌, Bool, ◌&&◌, nat_le, nat_lt, List, ◌++◌, length, min, filter}
 use Rattle.std.specs.List.{range_with_len}
-use Rattle.vob_block.specs.Places.{place, HasZerosLow}
+use Rattle.vob_block.specs.Places.{place}
 use Rattle.vob_block.specs.Packing.{need, bit_at}
 use Rattle.vob_walk.specs.Matches.{has_value}
 use Rattle.vob_walk.specs.Walk.{Walk}
@@ -29,28 +29,6 @@ unread width blocks value start stop k end =
 abbrev pub indices_in : ℕ → ℕ → ℕ → Bool → ℕ → ℕ → List ℕ
 indices_in width block at value start stop = indices_where
     (λ i. nat_le start i && nat_lt i stop && has_value value (place (i - at) block)) at width
-
--- a block in hand: within the width, and its indices fit the type of lengths
-pub record IsBlockBits (width at block : ℕ) : Type 0 where
-  pub within : block < 2 ^ width
-  pub fits : (j : ℕ) → j < width → place j block ≡ true → at + j < 2 ^ 64
-
--- a block in hand with how many indices are left and the first of them, if there is one
-pub record IsReady (width at block left ready : ℕ) : Type 0 where
-  pub bits : IsBlockBits width at block
-  pub count : left ≡ length (block_indices width at block)
-  pub first : 0 < left → (n : ℕ) × HasZerosLow width block n × (ready ≡ at + n)
-
--- the block in hand at the back: the lowest places of a run, or else the word
-abbrev pub held : ℕ → ℕ → ℕ
-held run word = if run == 0 then word else 2 ^ run - 1
-
--- a block in hand at the back, with a run up to index past; beside a run the word is 0
-pub record IsBackBits (width at word past : ℕ) : Type 0 where
-  pub bits : IsBlockBits width at (held (past - at) word)
-  pub order : at ≤ past
-  pub inside : past ≤ at + width
-  pub alone : at < past → word ≡ 0
 
 -- the unread blocks of a walk: the indices that are left in them, how many blocks were read so far,
 -- and how many are unread

@@ -1,5 +1,6 @@
 pub mod Count
 pub mod Cursor
+pub mod InHand
 pub mod Laws
 pub mod Matches
 pub mod Next

@@ -2,7 +2,8 @@
 ghost use Rattle.std.specs.Prelude.{◌≡◌, ◌≢◌, ◌==◌, ℕ, ◌↔◌, if◌then◌else◌, true, false, ◌^◌, ◌<◌, [], length, IsTrue};
 ghost use Rattle.std.specs.Iterator.{YieldsLast};
 ghost use Rattle.vob_block.specs.Places.{place, HasPlaces};
-ghost use Rattle.vob_walk.specs.Cursor.{block_indices, IsBlockBits};
+ghost use Rattle.vob_walk.specs.Cursor.{block_indices};
+ghost use Rattle.vob_walk.specs.InHand.{IsBlockBits};
 
 use crate::block_bits::is_zero;
 use std::marker::Model;
@@ -21,7 +22,8 @@ pub(crate) struct BackBits<T: Block> {
 
 impl<T: Block> Model for BackBits<T> {
     ghost use Rattle.std.specs.Prelude.{ℕ, ◌-◌, List};
-    ghost use Rattle.vob_walk.specs.Cursor.{block_indices, held, IsBackBits};
+    ghost use Rattle.vob_walk.specs.Cursor.{block_indices};
+    ghost use Rattle.vob_walk.specs.InHand.{held, IsBackBits};
 
     ghost Value = { List ℕ };
 

@@ -2,7 +2,8 @@
 ghost use Rattle.std.specs.Prelude.{◌≡◌, ◌≢◌, ◌==◌, ◌↔◌, ℕ, if◌then◌else◌, true, false, ◌^◌, ◌<◌, [], length, IsTrue};
 ghost use Rattle.std.specs.Iterator.{YieldsFirst};
 ghost use Rattle.vob_block.specs.Places.{place, HasPlaces, HasZerosLow};
-ghost use Rattle.vob_walk.specs.Cursor.{block_indices, IsBlockBits};
+ghost use Rattle.vob_walk.specs.Cursor.{block_indices};
+ghost use Rattle.vob_walk.specs.InHand.{IsBlockBits};
 
 use std::marker::Model;
 use vob_block::Block;
@@ -21,7 +22,8 @@ pub(crate) struct BlockBits<T: Block> {
 
 impl<T: Block> Model for BlockBits<T> {
     ghost use Rattle.std.specs.Prelude.{ℕ, List};
-    ghost use Rattle.vob_walk.specs.Cursor.{block_indices, IsReady};
+    ghost use Rattle.vob_walk.specs.Cursor.{block_indices};
+    ghost use Rattle.vob_walk.specs.InHand.{IsReady};
 
     ghost Value = { List ℕ };
 

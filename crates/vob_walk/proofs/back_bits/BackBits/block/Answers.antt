@@ -1,6 +1,7 @@
 -- The mask of a run is what is held.
 use Rattle.std.proofs.Common.{ap, sym, subst}
-use Rattle.vob_walk.specs.Cursor.{block_indices, IsBlockBits}
+use Rattle.vob_walk.specs.Cursor.{block_indices}
+use Rattle.vob_walk.specs.InHand.{IsBlockBits}
 use Rattle.vob_walk.proofs.BackBitsLemmas.{mask-held}
 use Rattle.vob_walk.proofs.back_bits.BackBits.block.Goals as goal
 

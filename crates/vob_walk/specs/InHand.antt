@@ -1,0 +1,26 @@
+-- Within the crate: a block in hand at an end of a walk. No public contract cites this page.
+use Rattle.std.specs.Prelude.{◌≡◌, ℕ, ◌+◌, ◌-◌, ◌^◌, ◌<◌, ◌≤◌, true, ◌==◌, if◌then◌else◌, length}
+use Rattle.vob_block.specs.Places.{place, HasZerosLow}
+use Rattle.vob_walk.specs.Cursor.{block_indices}
+
+-- a block in hand: within the width, and its indices fit the type of lengths
+pub record IsBlockBits (width at block : ℕ) : Type 0 where
+  pub within : block < 2 ^ width
+  pub fits : (j : ℕ) → j < width → place j block ≡ true → at + j < 2 ^ 64
+
+-- a block in hand with how many indices are left and the first of them, if there is one
+pub record IsReady (width at block left ready : ℕ) : Type 0 where
+  pub bits : IsBlockBits width at block
+  pub count : left ≡ length (block_indices width at block)
+  pub first : 0 < left → (n : ℕ) × HasZerosLow width block n × (ready ≡ at + n)
+
+-- the block in hand at the back: the lowest places of a run, or else the word
+abbrev pub held : ℕ → ℕ → ℕ
+held run word = if run == 0 then word else 2 ^ run - 1
+
+-- a block in hand at the back, with a run up to index past; beside a run the word is 0
+pub record IsBackBits (width at word past : ℕ) : Type 0 where
+  pub bits : IsBlockBits width at (held (past - at) word)
+  pub order : at ≤ past
+  pub inside : past ≤ at + width
+  pub alone : at < past → word ≡ 0
