@@ -1,7 +1,7 @@
 //! A Vob as a set of indices, those of its set bits: whether there are some, the one that is next
 //! to another, how many stand below one, the one below which so many stand, and two sets of one
 //! length. vob 4.0.1 has none of these calls.
-ghost use Rattle.std.specs.Prelude.{◌≡◌, ◌≢◌, ◌↔◌, ℕ, ◌<◌, ◌&&◌, ◌||◌, true, false, take, length, replicate, All, Err, IfOk, IsTrue, MatchOption};
+ghost use Rattle.std.specs.Prelude.{◌≡◌, ◌≢◌, ◌↔◌, ℕ, ◌<◌, ◌&&◌, ◌||◌, true, false, take, length, replicate, All, Err, IfOk, IsTrue, MatchOption, None};
 ghost use Rattle.vob_block.specs.Pointwise.{differ, pointwise};
 ghost use Rattle.vob_store.specs.Combined.{without};
 ghost use Rattle.vob.specs.Bits.{AreCombined, LosesBits, count_of};
@@ -18,8 +18,8 @@ use vob_walk::{count_ones_in, index_of_rank, next_index, previous_index};
 
 impl<T: Block> Vob<T> {
     /// The Vob of `len` bits of which those at the given indices are set. An index may stand among
-    /// them more than once. The first one that is at or past `len` is refused, before memory is
-    /// asked for. Length 0 takes no memory.
+    /// them more than once. The first one that is at or past `len` is refused, whether or not there
+    /// is memory for the bits, which is asked for first. Length 0 takes no memory.
     ///
     /// ```
     /// let vob = vob::Vob::<u8>::from_indices(alloc, 3, &[2, 0, 2])?;
@@ -37,22 +37,35 @@ impl<T: Block> Vob<T> {
             ↔ IsFirstOutside len indices.now position }
         ensures nothing { len ≡ 0 → result ≢ Err IndicesError.Memory }
     {
-        if let Some(position) = first_outside(indices, len) {
-            return Err(IndicesError::OutOfRange { position });
+        let Ok(mut vob) = Vob::from_elem_with_storage_type(alloc, false, len) else {
+            return Err(match first_outside(indices, len) {
+                Some(position) => IndicesError::OutOfRange { position },
+                None => IndicesError::Memory,
+            });
+        };
+        match vob.set_each(indices) {
+            Some(position) => Err(IndicesError::OutOfRange { position }),
+            None => Ok(vob),
         }
-        let mut vob = Vob::from_elem_with_storage_type(alloc, false, len)?;
-        vob.set_each(indices);
-        Ok(vob)
     }
 
-    /// Sets the bits at the given indices.
-    fn set_each(&mut self, indices: &[usize])
-        requires { All (λ i. i < length self.old.bits) indices.now }
-        ensures { HasSet indices.now (length indices.now) self.old.bits self.new.bits }
+    /// Sets the bits at the given indices, up to the first one that is past the end, and answers its
+    /// position.
+    fn set_each(&mut self, indices: &[usize]) -> Option<usize>
+        ensures found { MatchOption result
+            (HasSet indices.now (length indices.now) self.old.bits self.new.bits)
+            (IsFirstOutside (length self.old.bits) indices.now) }
+        ensures inside { result ≡ None → All (λ i. i < length self.old.bits) indices.now }
     {
+        let len = self.len();
         for position in 0..indices.len() {
-            self.set(indices[position], true);
+            let index = indices[position];
+            if index >= len {
+                return Some(position);
+            }
+            self.set(index, true);
         }
+        None
     }
 
     /// Whether some bit is set. Where there are no bits, none is.

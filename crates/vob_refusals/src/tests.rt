@@ -7,6 +7,7 @@ mod lines;
 mod live;
 mod made;
 mod runs;
+mod sets;
 mod support;
 mod unhinted;
 mod walks;

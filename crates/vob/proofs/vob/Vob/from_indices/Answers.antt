@@ -2,5 +2,6 @@
 use Rattle.vob.proofs.IndicesLemmas.{IsMadeOf-set}
 use Rattle.vob.proofs.vob.Vob.from_indices.Goals as goal
 
-pub returns-clause-bits : goal.returns-clause-bits
-returns-clause-bits g c = IsMadeOf-set c.in_ok-vob.ensures.bits c.set_each.ensures
+pub returns-in-None-set_each-clause-bits : goal.returns-in-None-set_each-clause-bits
+returns-in-None-set_each-clause-bits g c = IsMadeOf-set c.in-Ok.ensures.bits
+    c.in-None-set_each.ensures.found
