@@ -1,22 +1,11 @@
 //! Runs of commands in bytes answer what a plain program on a list answers, on every list of up to
 //! ten bits.
+use super::support::vob_of;
 use std::process::Abort;
-use std::slice;
+use std::{mem, slice};
 use vob::Vob;
 use vob_run::run::run;
 use vob_run::{Command, Reply};
-
-/// Writes a bit of the list, where it has one there.
-fn plain_write(bits: &mut Vec<bool>, index: usize, value: bool) -> Reply<u8> {
-    match bits.get_mut(index) {
-        None => Reply::Skipped,
-        Some(bit) => {
-            let changed = *bit != value;
-            *bit = value;
-            Reply::Flag(changed)
-        }
-    }
-}
 
 /// The bytes of the list, each bit at its weight.
 fn plain_blocks(rt: &(impl Abort + AllocGlobal), bits: &[bool]) -> Vec<u8> {
@@ -55,7 +44,10 @@ fn plain_reply(
             }
         }
         Command::SetBit { index, value, .. } | Command::SetUnchecked { index, value, .. } => {
-            plain_write(bits, index, value)
+            match bits.get_mut(index) {
+                None => Reply::Skipped,
+                Some(bit) => Reply::Flag(mem::replace(bit, value) != value),
+            }
         }
         Command::Length { .. } => Reply::Number(bits.len()),
         Command::IsEmpty { .. } => Reply::Flag(bits.is_empty()),
@@ -86,23 +78,6 @@ fn check_command(rt: &(impl Abort + AllocGlobal), pair: &mut Pair, command: Comm
         replies.as_slice() == slice::from_ref(&wanted),
         "{command:?}: {replies:?} is {wanted:?}"
     );
-}
-
-/// A pair of the lowest `len` places of a number, the lowest first.
-fn pair_of(rt: &(impl Abort + AllocGlobal), len: usize, number: u32) -> Pair {
-    let vob = Vob::<u8>::new_with_storage_type(rt.alloc(), 0).expect(rt, "memory");
-    let mut pair = Pair {
-        vobs: Vec::new(rt.alloc()),
-        bits: Vec::new(rt.alloc()),
-    };
-    pair.vobs.push(vob).expect(rt, "memory");
-    let mut rest = number;
-    for _ in 0..len {
-        let value = rest % 2 == 1;
-        check_command(rt, &mut pair, Command::Push { which: 0, value });
-        rest /= 2;
-    }
-    pair
 }
 
 /// Compares all that can be read.
@@ -165,10 +140,22 @@ fn check_changes(rt: &(impl Abort + AllocGlobal), pair: &mut Pair, len: usize) {
 
 #[test]
 fn packed_and_plain_replies_agree(rt: HostRuntime) {
+    let which = 0;
     let mut numbers = 1u32;
     for len in 0..11 {
         for number in 0..numbers {
-            let mut pair = pair_of(&rt, len, number);
+            let mut pair = Pair {
+                vobs: Vec::new(rt.alloc()),
+                bits: Vec::new(rt.alloc()),
+            };
+            pair.vobs.push(vob_of(&rt, "")).expect(&rt, "memory");
+            // The lowest places of the number, the lowest first.
+            let mut rest = number;
+            for _ in 0..len {
+                let value = rest % 2 == 1;
+                check_command(&rt, &mut pair, Command::Push { which, value });
+                rest /= 2;
+            }
             check_reads(&rt, &mut pair);
             check_changes(&rt, &mut pair, len);
         }

@@ -1,5 +1,5 @@
 //! Runs of commands at block types that the program's lines don't reach.
-use super::support::same_text;
+use super::support::same;
 use std::ops::Bound::{Excluded, Included, Unbounded};
 use std::process::Abort;
 use vob::{End, Vob};
@@ -13,23 +13,7 @@ fn check_run<T: Block>(rt: &(impl Abort + AllocGlobal), commands: &[Command<T>],
     let mut answered: Vec<Reply<T>> = Vec::new(rt.alloc());
     run(rt.alloc(), commands, &mut vobs, &mut answered).expect(rt, "memory");
     let text = format!(in rt.alloc(); "{answered:?}").expect(rt, "memory");
-    same_text(rt, "replies", &text, replies);
-}
-
-/// Adds a command that makes a bit true.
-fn add_set<T: Block>(
-    rt: &(impl Abort + AllocGlobal),
-    commands: &mut Vec<Command<T>>,
-    which: usize,
-    index: usize,
-) {
-    let value = true;
-    let set = Command::SetBit {
-        which,
-        index,
-        value,
-    };
-    add(rt, commands, set);
+    same(rt, "replies", 0, text.as_str(), replies);
 }
 
 /// Adds a command.
@@ -70,10 +54,19 @@ fn add_walks<T: Block>(rt: &(impl Abort + AllocGlobal), commands: &mut Vec<Comma
 /// Commands that make Vob 0 of the ten bits `1011011101`.
 fn commands_of_ten<T: Block>(rt: &(impl Abort + AllocGlobal)) -> Vec<Command<T>> {
     let mut commands = Vec::new(rt.alloc());
-    let value = false;
-    add(rt, &mut commands, Command::FromElem { value, len: 10 });
+    let (which, value) = (0, true);
+    let none = Command::FromElem {
+        value: false,
+        len: 10,
+    };
+    add(rt, &mut commands, none);
     for index in [0, 2, 3, 5, 6, 7, 9] {
-        add_set(rt, &mut commands, 0, index);
+        let set = Command::SetBit {
+            which,
+            index,
+            value,
+        };
+        add(rt, &mut commands, set);
     }
     commands
 }
@@ -89,7 +82,13 @@ fn check_mixed<T: Block>(rt: &(impl Abort + AllocGlobal)) {
     add(rt, &mut commands, Command::ExtendVob { which, other: 1 });
     add(rt, &mut commands, Command::Bits { which });
     add(rt, &mut commands, Command::And { which, other: 0 });
-    add_set(rt, &mut commands, 1, 9);
+    let (index, value) = (9, true);
+    let set = Command::SetBit {
+        which: 1,
+        index,
+        value,
+    };
+    add(rt, &mut commands, set);
     add(rt, &mut commands, Command::GetBit { which: 7, index: 0 });
     add(rt, &mut commands, Command::And { which, other: 1 });
     check_run(
@@ -101,12 +100,6 @@ fn check_mixed<T: Block>(rt: &(impl Abort + AllocGlobal)) {
             BitList([true, true, true, false, true]), Done, BitList([true, false, true, true, \
             false, true, true, true, false, true]), Skipped, Skipped, Skipped, Skipped]",
     );
-}
-
-#[test]
-fn commands_answer_alike_at_two_block_types(rt: HostRuntime) {
-    check_mixed::<u8>(&rt);
-    check_mixed::<u128>(&rt);
 }
 
 /// Takes three of ten bits out, then none, and refuses a cut past the end of what is left.
@@ -133,7 +126,9 @@ fn check_drained<T: Block>(rt: &(impl Abort + AllocGlobal)) {
 }
 
 #[test]
-fn ranges_are_drained_alike_at_two_block_types(rt: HostRuntime) {
+fn commands_answer_alike_at_two_block_types(rt: HostRuntime) {
+    check_mixed::<u8>(&rt);
+    check_mixed::<u128>(&rt);
     check_drained::<u8>(&rt);
     check_drained::<u128>(&rt);
 }

@@ -1,5 +1,7 @@
 //! Vobs that constructors make, by length and blocks, and how much room they have.
-use super::support::{check_bits, check_blocks, check_equal, check_made, push, same, write};
+use super::support::{
+    check_bits, check_blocks, check_equal, check_made, filled, push, same, vob_of, write,
+};
 use vob::{Vob, VobError};
 
 #[test]
@@ -25,6 +27,11 @@ fn a_new_vob_takes_memory_with_its_first_bit(rt: HostRuntime) {
     assert_eq!(rt; vob.capacity(), 0);
     push(&rt, &mut vob, true);
     check_blocks(&rt, &vob, 1, &[1]);
+    // A length that can't be is refused.
+    push(&rt, &mut vob, false);
+    let refused = vob.reserve(usize::MAX);
+    same(&rt, "reserve", 0, refused, Err(VobError::TooLong));
+    check_blocks(&rt, &vob, 2, &[1]);
 }
 
 #[test]
@@ -121,29 +128,20 @@ fn room_is_made_counted_from_the_length(rt: HostRuntime) {
 }
 
 #[test]
-fn a_length_that_cannot_be_is_refused(rt: HostRuntime) {
-    let mut vob = Vob::new(rt.alloc());
-    push(&rt, &mut vob, true);
-    push(&rt, &mut vob, false);
-    let refused = vob.reserve(usize::MAX);
-    same(&rt, "reserve", 0, refused, Err(VobError::TooLong));
-    check_blocks(&rt, &vob, 2, &[1]);
-}
-
-#[test]
-fn pushes_fill_the_room(rt: HostRuntime) {
-    let mut vob = Vob::<u8>::new_with_storage_type(rt.alloc(), 0).expect(&rt, "memory");
+fn what_fills_the_room_or_is_taken_off_leaves_it(rt: HostRuntime) {
+    let mut vob = vob_of::<u8>(&rt, "");
     vob.reserve(9).expect(&rt, "memory");
     let room = vob.capacity();
     for _ in 0..9 {
         push(&rt, &mut vob, true);
     }
     check_blocks(&rt, &vob, 9, &[255, 1]);
-    same(
-        &rt,
-        "no push within the room takes memory",
-        0,
-        vob.capacity(),
-        room,
-    );
+    same(&rt, "capacity after pushes", 9, vob.capacity(), room);
+    let mut vob = filled::<usize>(&rt, true, 200);
+    let room = vob.capacity();
+    vob.truncate(65);
+    same(&rt, "capacity after a cut", 65, vob.capacity(), room);
+    vob.clear();
+    same(&rt, "capacity after a clear", 0, vob.capacity(), room);
+    check_blocks(&rt, &vob, 0, &[]);
 }

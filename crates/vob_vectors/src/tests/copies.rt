@@ -29,44 +29,24 @@ fn check_copied<T: Block>(rt: &(impl Abort + AllocGlobal), at: usize, start: usi
     }
 }
 
-/// Stretches of many lengths, from places on both sides of a block's end.
-fn check_copies<T: Block>(rt: &(impl Abort + AllocGlobal)) {
+#[test]
+fn stretches_are_copied(rt: HostRuntime) {
+    // From places on both sides of a block's end.
     for at in [0, 1, 5, 8, 63, 64, 65, 100] {
         for start in [0, 1, 3, 8, 62, 64, 67, 110] {
             for count in [0, 1, 7, 8, 9, 30] {
-                check_copied::<T>(rt, at, start, count);
+                check_copied::<u8>(&rt, at, start, count);
+                check_copied::<u64>(&rt, at, start, count);
+                check_copied::<u128>(&rt, at, start, count);
             }
         }
     }
-}
-
-#[test]
-fn stretches_are_copied_at_narrow_blocks(rt: HostRuntime) {
-    check_copies::<u8>(&rt);
-}
-
-#[test]
-fn stretches_are_copied_at_blocks_of_64(rt: HostRuntime) {
-    check_copies::<u64>(&rt);
-}
-
-#[test]
-fn stretches_are_copied_at_wide_blocks(rt: HostRuntime) {
-    check_copies::<u128>(&rt);
-}
-
-/// Whole blocks between two parts.
-fn check_long<T: Block>(rt: &(impl Abort + AllocGlobal)) {
+    // Whole blocks between two parts.
     for at in 0..10 {
         for start in 0..10 {
-            check_copied::<T>(rt, at, start, 120);
+            check_copied::<u8>(&rt, at, start, 120);
+            check_copied::<u64>(&rt, at, start, 120);
+            check_copied::<u128>(&rt, at, start, 120);
         }
     }
-}
-
-#[test]
-fn long_stretches_are_copied(rt: HostRuntime) {
-    check_long::<u8>(&rt);
-    check_long::<u64>(&rt);
-    check_long::<u128>(&rt);
 }

@@ -1,41 +1,49 @@
 //! Counts: of the items that a walk has left, and of the true places of blocks.
 ghost use Rattle.std.specs.Prelude.{◌≡◌, ◌+◌, ◌∷◌, []};
 
-use super::support::{listed, pattern, same, vob_of};
+use super::pointwise::{Call, combine};
+use super::support::{filled, listed, pattern, same, vob_of, write};
 use super::walks::indices_of;
 use std::mem::size_of;
 use std::ops::Bound::{Excluded, Included, Unbounded};
+use std::ops::RangeBounds;
 use std::process::Abort;
 use vob::{Vob, count_ones_in};
 use vob_block::{Block, Blocks};
 
+/// The count of a walk over the bits of one value within a range.
+fn count_of<T: Block, R: RangeBounds<usize>>(vob: &Vob<T>, value: bool, range: R) -> usize {
+    if value {
+        vob.iter_set_bits(range).count()
+    } else {
+        vob.iter_unset_bits(range).count()
+    }
+}
+
 #[test]
-fn nothing_is_left_behind_the_last_answer(rt: HostRuntime) {
+fn what_is_left_is_counted(rt: HostRuntime) {
+    // Nothing is left behind the last answer.
     let two = vob_of::<u8>(&rt, "10");
     let mut walk = two.iter_unset_bits(0..1);
-    assert_eq!(rt; walk.next(), None);
-    assert_eq!(rt; walk.count(), 0);
-}
-
-#[test]
-fn a_range_that_ends_before_its_start_holds_nothing(rt: HostRuntime) {
+    same(&rt, "of one bit", 0, walk.next(), None);
+    same(&rt, "left of one bit", 0, walk.count(), 0);
+    // A range that ends before its start holds nothing.
     let three = vob_of::<usize>(&rt, "101");
-    assert_eq!(rt; three.iter_unset_bits(3..1).count(), 0);
-    assert_eq!(rt; three.iter_set_bits(3..1).count(), 0);
     let none = (Excluded(1), Excluded(1));
-    assert_eq!(rt; three.iter_unset_bits(none).count(), 0);
-    assert_eq!(rt; three.iter_set_bits(none).count(), 0);
-}
-
-#[test]
-fn the_bits_that_both_have_are_counted(rt: HostRuntime) {
-    let mut one = Vob::from_elem(rt.alloc(), false, 256).expect(&rt, "memory");
-    let mut other = Vob::from_elem(rt.alloc(), false, 256).expect(&rt, "memory");
-    one.set(67, true);
-    other.set(67, true);
-    one.set(188, true);
-    assert!(rt; one.and(&other));
-    assert_eq!(rt; one.iter_set_bits(..).count(), 1);
+    for value in [false, true] {
+        same(&rt, "3..1", 0, count_of(&three, value, 3..1), 0);
+        same(&rt, "between 1 and 1", 0, count_of(&three, value, none), 0);
+    }
+    // The bits that both have.
+    let mut one = filled::<usize>(&rt, false, 256);
+    let mut other = filled::<usize>(&rt, false, 256);
+    for index in [67, 188] {
+        same(&rt, "set", index, write(&mut one, index, true), Some(true));
+    }
+    same(&rt, "set", 67, write(&mut other, 67, true), Some(true));
+    let changed = combine(&rt, Call::And, &mut one, &other);
+    same(&rt, "and", 256, changed, true);
+    same(&rt, "both", 256, count_of(&one, true, ..), 1);
 }
 
 /// From index 3 to below 10: five true places, in two reads.
@@ -75,21 +83,9 @@ fn each_block_of_a_window_is_read_once(rt: HostRuntime) {
     assert_eq!(rt; count_across_two_blocks(&mut blocks), 5);
     assert_eq!(rt; count_in_one_block(&mut blocks), 6);
     assert_eq!(rt; count_in_no_block(&mut blocks), 0);
-}
-
-#[test]
-fn counted_blocks_are_as_large_as_a_slice(rt: HostRuntime) {
+    // That reads are counted takes no memory.
     assert_eq!(rt; size_of::<Blocks<'_, u8>>(), size_of::<&[u8]>());
     assert_eq!(rt; size_of::<Blocks<'_, u128>>(), size_of::<&[u128]>());
-}
-
-/// The count of a walk over the bits of one value, between two bounds.
-fn count_of<T: Block>(vob: &Vob<T>, value: bool, from: usize, to: usize) -> usize {
-    if value {
-        vob.iter_set_bits(from..to).count()
-    } else {
-        vob.iter_unset_bits(from..to).count()
-    }
 }
 
 /// Counts from one bound to each further one, against how many indices below it `next` gives.
@@ -102,37 +98,22 @@ fn check_counts_from<T: Block>(
     let indices = indices_of(rt, vob, value, (Included(from), Unbounded));
     let mut given = 0usize;
     for to in from..=vob.len() {
-        same(
-            rt,
-            "bits from any index to",
-            to,
-            count_of(vob, value, from, to),
-            given,
-        );
+        let count = count_of(vob, value, from..to);
+        same(rt, "bits from any index to", to, count, given);
         if indices.get(given) == Some(&to) {
             given = given.saturating_add(1);
         }
     }
 }
 
-/// The walks over bits and over blocks.
-fn check_bit_counts<T: Block>(rt: &(impl Abort + AllocGlobal), vob: &Vob<T>) {
-    let bits = listed(rt, vob.iter()).len();
-    same(rt, "bits", vob.len(), vob.iter().count(), bits);
-    let blocks = listed(rt, vob.iter_storage()).len();
-    same(
-        rt,
-        "blocks of bits",
-        vob.len(),
-        vob.iter_storage().count(),
-        blocks,
-    );
-}
-
 /// All four walks of a pattern, the two over indices between each two bounds.
 fn check_counts<T: Block>(rt: &(impl Abort + AllocGlobal), vob: &Vob<T>) {
-    check_bit_counts(rt, vob);
-    for from in 0..=vob.len() {
+    let len = vob.len();
+    let bits = listed(rt, vob.iter()).len();
+    same(rt, "bits", len, vob.iter().count(), bits);
+    let blocks = listed(rt, vob.iter_storage()).len();
+    same(rt, "blocks", len, vob.iter_storage().count(), blocks);
+    for from in 0..=len {
         check_counts_from(rt, vob, true, from);
         check_counts_from(rt, vob, false, from);
     }
@@ -140,17 +121,11 @@ fn check_counts<T: Block>(rt: &(impl Abort + AllocGlobal), vob: &Vob<T>) {
 
 #[test]
 fn a_count_is_what_next_gives(rt: HostRuntime) {
-    for len in 0..128 {
-        for seed in 0..3 {
+    for seed in 0..3 {
+        for len in 0..128 {
             check_counts(&rt, &pattern::<u32>(&rt, seed, len));
         }
-    }
-}
-
-#[test]
-fn a_count_over_other_blocks_is_what_next_gives(rt: HostRuntime) {
-    for len in [0, 1, 8, 9, 64, 65, 127] {
-        for seed in 0..3 {
+        for len in [0, 1, 8, 9, 64, 65, 127] {
             check_counts(&rt, &pattern::<u8>(&rt, seed, len));
             check_counts(&rt, &pattern::<u16>(&rt, seed, len));
             check_counts(&rt, &pattern::<u64>(&rt, seed, len));

@@ -10,7 +10,7 @@ use vob::Vob;
 use vob_block::Block;
 
 #[test]
-fn bits_are_drained_from_among_others(rt: HostRuntime) {
+fn bits_are_drained_from_among_others_and_from_the_end(rt: HostRuntime) {
     let mut vob = vob_of::<u8>(&rt, "1011011101");
     let room = vob.capacity();
     let given = drained(&rt, &mut vob, 2..5);
@@ -19,10 +19,7 @@ fn bits_are_drained_from_among_others(rt: HostRuntime) {
     check_bits(&rt, &vob, "1011101");
     check_blocks(&rt, &vob, 7, &[93]);
     same(&rt, "the capacity", 7, vob.capacity(), room);
-}
 
-#[test]
-fn an_end_past_all_bits_drains_the_last_ones(rt: HostRuntime) {
     let mut vob = vob_of::<u8>(&rt, "1011011101");
     let last = drained(&rt, &mut vob, 9..=usize::MAX);
     check_bits(&rt, &last, "1");
@@ -77,33 +74,14 @@ fn check_drain<T: Block>(rt: &impl Abort, whole: &Vob<T>, from: usize, drained_b
 }
 
 /// Every range from one index on of the pattern that has its length as its seed.
-fn check_drains_from<T: Block>(rt: &(impl Abort + AllocGlobal), whole: &Vob<T>, from: usize) {
+fn check_drains_from<T: Block>(rt: &(impl Abort + AllocGlobal), len: usize, from: usize) {
+    let whole = pattern::<T>(rt, len, len);
     let mut drained_bits = vob_of::<T>(rt, "");
-    for index in from..whole.len() {
-        check_drain(rt, whole, from, &drained_bits);
-        push(rt, &mut drained_bits, pattern_bit(whole.len(), index));
+    for index in from..len {
+        check_drain(rt, &whole, from, &drained_bits);
+        push(rt, &mut drained_bits, pattern_bit(len, index));
     }
-    check_drain(rt, whole, from, &drained_bits);
-}
-
-/// Every range of a pattern of each length below 70.
-fn check_drains<T: Block>(rt: &(impl Abort + AllocGlobal)) {
-    for len in 0..70 {
-        let whole = pattern::<T>(rt, len, len);
-        for from in 0..len + 1 {
-            check_drains_from(rt, &whole, from);
-        }
-    }
-}
-
-#[test]
-fn drains_of_bytes_leave_what_pushes_leave(rt: HostRuntime) {
-    check_drains::<u8>(&rt);
-}
-
-#[test]
-fn drains_of_words_leave_what_pushes_leave(rt: HostRuntime) {
-    check_drains::<usize>(&rt);
+    check_drain(rt, &whole, from, &drained_bits);
 }
 
 /// The bits that a range gives and those that it leaves are those of the pattern there.
@@ -128,7 +106,13 @@ fn check_drained_bits<T: Block>(
 }
 
 #[test]
-fn drained_bits_are_those_of_the_list(rt: HostRuntime) {
+fn drains_give_what_the_list_has_and_leave_what_pushes_leave(rt: HostRuntime) {
+    for len in 0..70 {
+        for from in 0..len + 1 {
+            check_drains_from::<u8>(&rt, len, from);
+            check_drains_from::<usize>(&rt, len, from);
+        }
+    }
     for to in 0..20 {
         for from in 0..to + 1 {
             check_drained_bits::<u8>(&rt, 19, from, to);

@@ -1,50 +1,45 @@
-//! The examples in the doc comments of `vob`, each as it stands there.
+//! The examples in the doc comments of `vob`, each as it stands there, beside those of like calls.
 use std::test::Fail;
 use vob::Vob;
 
 #[test]
-fn a_new_vob_has_no_bits(rt: HostRuntime) -> Result<(), Fail> {
+fn vobs_are_made(rt: HostRuntime) -> Result<(), Fail> {
     let alloc = rt.alloc();
     let vob = Vob::new(alloc);
     assert!(rt; vob.is_empty());
-    Ok(())
-}
 
-#[test]
-fn one_bit_many_times_is_a_vob(rt: HostRuntime) -> Result<(), Fail> {
-    let alloc = rt.alloc();
     let vob = Vob::from_elem(alloc, true, 129)?;
     assert_eq!(rt; vob.iter_set_bits(..).count(), 129);
-    Ok(())
-}
 
-#[test]
-fn a_slice_is_a_vob(rt: HostRuntime) -> Result<(), Fail> {
-    let alloc = rt.alloc();
     let vob = Vob::from_slice(alloc, &[true, false, true])?;
     assert_eq!(rt; vob.get(1), Some(false));
     Ok(())
 }
 
 #[test]
-fn a_copy_is_equal(rt: HostRuntime) -> Result<(), Fail> {
+fn digits_indices_and_bytes_are_vobs(rt: HostRuntime) -> Result<(), Fail> {
+    let alloc = rt.alloc();
+    let vob: Vob = Vob::from_digits(alloc, "101")?;
+    assert_eq!(rt; vob.get(1), Some(false));
+
+    let vob = vob::Vob::<u8>::from_indices(alloc, 3, &[2, 0, 2])?;
+    assert_eq!(rt; vob.get(1), Some(false));
+    assert_eq!(rt; vob.get(2), Some(true));
+
+    let vob = vob::vob!(alloc; true, false, true)?;
+    assert_eq!(rt; vob.to_bytes(alloc)?.as_slice(), [0b1010_0000].as_slice());
+    Ok(())
+}
+
+#[test]
+fn a_vob_is_copied_and_its_length_and_bits_are_read(rt: HostRuntime) -> Result<(), Fail> {
     let alloc = rt.alloc();
     let vob = vob::vob!(alloc; true, false)?;
     assert!(rt; vob.clone()? == vob);
-    Ok(())
-}
 
-#[test]
-fn the_length_is_in_bits(rt: HostRuntime) -> Result<(), Fail> {
-    let alloc = rt.alloc();
     let vob = vob::vob!(alloc; true, false)?;
     assert_eq!(rt; vob.len(), 2);
-    Ok(())
-}
 
-#[test]
-fn a_bit_past_the_end_is_none(rt: HostRuntime) -> Result<(), Fail> {
-    let alloc = rt.alloc();
     let vob = vob::vob!(alloc; true, false)?;
     assert_eq!(rt; vob.get(1), Some(false));
     assert_eq!(rt; vob.get(2), None);
@@ -52,17 +47,12 @@ fn a_bit_past_the_end_is_none(rt: HostRuntime) -> Result<(), Fail> {
 }
 
 #[test]
-fn a_write_says_whether_it_changed_the_bit(rt: HostRuntime) -> Result<(), Fail> {
+fn a_bit_is_written_or_pushed(rt: HostRuntime) -> Result<(), Fail> {
     let alloc = rt.alloc();
     let mut vob = vob::vob!(alloc; true, false)?;
     assert!(rt; vob.set(1, true));
     assert!(rt; !vob.set(1, true));
-    Ok(())
-}
 
-#[test]
-fn a_bit_is_pushed(rt: HostRuntime) -> Result<(), Fail> {
-    let alloc = rt.alloc();
     let mut vob = Vob::new(alloc);
     vob.push(true)?;
     assert_eq!(rt; vob.get(0), Some(true));
@@ -70,16 +60,11 @@ fn a_bit_is_pushed(rt: HostRuntime) -> Result<(), Fail> {
 }
 
 #[test]
-fn the_last_bit_is_popped(rt: HostRuntime) -> Result<(), Fail> {
+fn the_last_bits_are_taken_off(rt: HostRuntime) -> Result<(), Fail> {
     let alloc = rt.alloc();
     let mut vob = vob::vob!(alloc; true, false)?;
     assert_eq!(rt; vob.pop(), Some(false));
-    Ok(())
-}
 
-#[test]
-fn the_first_bits_are_kept(rt: HostRuntime) -> Result<(), Fail> {
-    let alloc = rt.alloc();
     let mut vob = vob::vob!(alloc; true, false, true)?;
     vob.truncate(1);
     assert!(rt; vob == vob::vob!(alloc; true)?);
@@ -87,17 +72,12 @@ fn the_first_bits_are_kept(rt: HostRuntime) -> Result<(), Fail> {
 }
 
 #[test]
-fn bits_are_added(rt: HostRuntime) -> Result<(), Fail> {
+fn bits_and_a_vob_are_added(rt: HostRuntime) -> Result<(), Fail> {
     let alloc = rt.alloc();
     let mut vob = vob::vob!(alloc; false)?;
     vob.resize(3, true)?;
     assert!(rt; vob == vob::vob!(alloc; false, true, true)?);
-    Ok(())
-}
 
-#[test]
-fn a_vob_is_added(rt: HostRuntime) -> Result<(), Fail> {
-    let alloc = rt.alloc();
     let mut vob = vob::vob!(alloc; true, false)?;
     vob.extend_from_vob(&vob::vob!(alloc; true)?)?;
     assert!(rt; vob == vob::vob!(alloc; true, false, true)?);
@@ -105,17 +85,12 @@ fn a_vob_is_added(rt: HostRuntime) -> Result<(), Fail> {
 }
 
 #[test]
-fn the_rest_is_split_off(rt: HostRuntime) -> Result<(), Fail> {
+fn the_rest_is_split_off_and_a_range_drained(rt: HostRuntime) -> Result<(), Fail> {
     let alloc = rt.alloc();
     let mut vob = vob::vob!(alloc; true, false, true)?;
     let rest = vob.split_off(1)?;
     assert!(rt; rest == vob::vob!(alloc; false, true)?);
-    Ok(())
-}
 
-#[test]
-fn a_range_is_drained(rt: HostRuntime) -> Result<(), Fail> {
-    let alloc = rt.alloc();
     let mut vob = vob::vob!(alloc; true, false, true)?;
     assert!(rt; vob.drain(1..2)? == vob::vob!(alloc; false)?);
     assert!(rt; vob == vob::vob!(alloc; true, true)?);
@@ -123,17 +98,12 @@ fn a_range_is_drained(rt: HostRuntime) -> Result<(), Fail> {
 }
 
 #[test]
-fn all_bits_are_set(rt: HostRuntime) -> Result<(), Fail> {
+fn all_bits_are_set_or_negated(rt: HostRuntime) -> Result<(), Fail> {
     let alloc = rt.alloc();
     let mut vob = vob::vob!(alloc; true, false)?;
     vob.set_all(true);
     assert!(rt; vob == vob::vob!(alloc; true, true)?);
-    Ok(())
-}
 
-#[test]
-fn all_bits_are_negated(rt: HostRuntime) -> Result<(), Fail> {
-    let alloc = rt.alloc();
     let mut vob = vob::vob!(alloc; true, false)?;
     vob.negate();
     assert!(rt; vob == vob::vob!(alloc; false, true)?);
@@ -141,63 +111,13 @@ fn all_bits_are_negated(rt: HostRuntime) -> Result<(), Fail> {
 }
 
 #[test]
-fn bits_of_both_are_kept(rt: HostRuntime) -> Result<(), Fail> {
-    let alloc = rt.alloc();
-    let mut vob = vob::vob!(alloc; true, true)?;
-    assert!(rt; vob.and(&vob::vob!(alloc; true, false)?));
-    assert!(rt; vob == vob::vob!(alloc; true, false)?);
-    Ok(())
-}
-
-#[test]
-fn bits_of_either_are_there(rt: HostRuntime) -> Result<(), Fail> {
-    let alloc = rt.alloc();
-    let mut vob = vob::vob!(alloc; true, false)?;
-    assert!(rt; vob.or(&vob::vob!(alloc; true, true)?));
-    assert!(rt; vob == vob::vob!(alloc; true, true)?);
-    Ok(())
-}
-
-#[test]
-fn bits_are_walked_from_the_end(rt: HostRuntime) -> Result<(), Fail> {
-    let alloc = rt.alloc();
-    let vob = vob::vob!(alloc; true, false)?;
-    let mut bits = vob.iter();
-    assert_eq!(rt; bits.next_back(), Some(false));
-    Ok(())
-}
-
-#[test]
-fn set_bits_are_walked_from_an_index_on(rt: HostRuntime) -> Result<(), Fail> {
-    let alloc = rt.alloc();
-    let vob = vob::vob!(alloc; true, false, true)?;
-    let mut indices = vob.iter_set_bits(1..);
-    assert_eq!(rt; indices.next(), Some(2));
-    assert_eq!(rt; indices.next(), None);
-    Ok(())
-}
-
-#[test]
-fn digits_are_a_vob(rt: HostRuntime) -> Result<(), Fail> {
-    let alloc = rt.alloc();
-    let vob: Vob = Vob::from_digits(alloc, "101")?;
-    assert_eq!(rt; vob.get(1), Some(false));
-    Ok(())
-}
-
-#[test]
-fn a_range_is_set(rt: HostRuntime) -> Result<(), Fail> {
+fn a_range_is_set_or_negated(rt: HostRuntime) -> Result<(), Fail> {
     let alloc = rt.alloc();
     let mut vob = vob::vob!(alloc; false, false, false)?;
     assert!(rt; vob.set_range(1.., true));
     assert!(rt; !vob.set_range(1..3, true));
     assert!(rt; vob == vob::vob!(alloc; false, true, true)?);
-    Ok(())
-}
 
-#[test]
-fn a_range_is_negated(rt: HostRuntime) -> Result<(), Fail> {
-    let alloc = rt.alloc();
     let mut vob = vob::vob!(alloc; true, false, true)?;
     vob.negate_range(..2);
     assert!(rt; vob == vob::vob!(alloc; false, true, true)?);
@@ -205,29 +125,34 @@ fn a_range_is_negated(rt: HostRuntime) -> Result<(), Fail> {
 }
 
 #[test]
-fn runs_are_walked(rt: HostRuntime) -> Result<(), Fail> {
+fn bits_of_both_and_of_either_are_kept(rt: HostRuntime) -> Result<(), Fail> {
     let alloc = rt.alloc();
+    let mut vob = vob::vob!(alloc; true, true)?;
+    assert!(rt; vob.and(&vob::vob!(alloc; true, false)?));
+    assert!(rt; vob == vob::vob!(alloc; true, false)?);
+
+    let mut vob = vob::vob!(alloc; true, false)?;
+    assert!(rt; vob.or(&vob::vob!(alloc; true, true)?));
+    assert!(rt; vob == vob::vob!(alloc; true, true)?);
+    Ok(())
+}
+
+#[test]
+fn bits_indices_and_runs_are_walked(rt: HostRuntime) -> Result<(), Fail> {
+    let alloc = rt.alloc();
+    let vob = vob::vob!(alloc; true, false)?;
+    let mut bits = vob.iter();
+    assert_eq!(rt; bits.next_back(), Some(false));
+
+    let vob = vob::vob!(alloc; true, false, true)?;
+    let mut indices = vob.iter_set_bits(1..);
+    assert_eq!(rt; indices.next(), Some(2));
+    assert_eq!(rt; indices.next(), None);
+
     let vob = vob::vob!(alloc; true, false, true, true)?;
     let mut runs = vob.runs();
     assert_eq!(rt; runs.next(), Some(0..1));
     assert_eq!(rt; runs.next(), Some(2..4));
     assert_eq!(rt; runs.next(), None);
-    Ok(())
-}
-
-#[test]
-fn indices_are_a_vob(rt: HostRuntime) -> Result<(), Fail> {
-    let alloc = rt.alloc();
-    let vob = vob::Vob::<u8>::from_indices(alloc, 3, &[2, 0, 2])?;
-    assert_eq!(rt; vob.get(1), Some(false));
-    assert_eq!(rt; vob.get(2), Some(true));
-    Ok(())
-}
-
-#[test]
-fn bits_are_bytes(rt: HostRuntime) -> Result<(), Fail> {
-    let alloc = rt.alloc();
-    let vob = vob::vob!(alloc; true, false, true)?;
-    assert_eq!(rt; vob.to_bytes(alloc)?.as_slice(), [0b1010_0000].as_slice());
     Ok(())
 }

@@ -3,7 +3,6 @@
 use super::matrix::check_rows;
 use super::support::{check_bits, same};
 use std::process::Abort;
-use std::test::Fail;
 use vob_users::grammar::{Grammar, GrammarError, Rule, Symbol, first_sets, nullable};
 
 /// A grammar of so many symbols, without a rule.
@@ -33,19 +32,9 @@ fn place(names: &str, name: u8) -> usize {
         .unwrap_or(usize::MAX)
 }
 
-/// The symbol of a name: the first nonterminals are named by `nonterminals`, the first terminals by
-/// `terminals`.
-fn symbol(nonterminals: &str, terminals: &str, name: u8) -> Symbol {
-    let nonterminal = place(nonterminals, name);
-    if nonterminal == usize::MAX {
-        Symbol::Terminal(place(terminals, name))
-    } else {
-        Symbol::Nonterminal(nonterminal)
-    }
-}
-
 /// Puts the rule of a text behind the others: a name for the left side, and behind `=` one for each
-/// symbol of the right side.
+/// symbol of the right side. `nonterminals` has the names of the first nonterminals, `terminals`
+/// those of the first terminals.
 fn add_text(
     rt: &(impl Abort + AllocGlobal),
     grammar: &mut Grammar,
@@ -55,29 +44,19 @@ fn add_text(
 ) {
     let mut right = Vec::new(rt.alloc());
     for name in text.as_bytes().iter().skip(2) {
-        right
-            .push(symbol(nonterminals, terminals, *name))
-            .expect(rt, "memory");
+        let nonterminal = place(nonterminals, *name);
+        let symbol = if nonterminal == usize::MAX {
+            Symbol::Terminal(place(terminals, *name))
+        } else {
+            Symbol::Nonterminal(nonterminal)
+        };
+        right.push(symbol).expect(rt, "memory");
     }
     let left = text
         .as_bytes()
         .first()
         .map_or(usize::MAX, |name| place(nonterminals, *name));
     add(rt, grammar, left, &right);
-}
-
-/// The grammar of some texts.
-fn grammar_of(
-    rt: &(impl Abort + AllocGlobal),
-    nonterminals: &str,
-    terminals: &str,
-    rules: &[&str],
-) -> Grammar {
-    let mut grammar = empty(rt, nonterminals.len(), terminals.len());
-    for text in rules {
-        add_text(rt, &mut grammar, nonterminals, terminals, text);
-    }
-    grammar
 }
 
 /// Compares both sets with digits: one for each nonterminal, and for each of these a row with one
@@ -89,10 +68,19 @@ fn check_sets(rt: &(impl Abort + AllocGlobal), grammar: &Grammar, null: &str, ro
     check_rows(rt, &sets.first, grammar.terminals, rows);
 }
 
-fn check_bad(rt: &(impl Abort + AllocGlobal), grammar: &Grammar, rule: usize) {
-    let refusal = GrammarError::BadSymbol { rule };
-    assert_eq!(rt; nullable(rt.alloc(), grammar).err(), Some(refusal));
-    assert_eq!(rt; first_sets(rt.alloc(), grammar).err(), Some(refusal));
+/// Compares both sets of the grammar of some texts.
+fn check_texts(
+    rt: &(impl Abort + AllocGlobal),
+    (nonterminals, terminals): (&str, &str),
+    rules: &[&str],
+    null: &str,
+    rows: &[&str],
+) {
+    let mut grammar = empty(rt, nonterminals.len(), terminals.len());
+    for text in rules {
+        add_text(rt, &mut grammar, nonterminals, terminals, text);
+    }
+    check_sets(rt, &grammar, null, rows);
 }
 
 #[test]
@@ -100,58 +88,37 @@ fn expressions_have_the_sets_of_the_textbooks(rt: HostRuntime) {
     // e stands for E', t for T', and i for id. Only e and t have an empty right side, and each
     // other right side has a terminal or a nonterminal that isn't nullable. F begins with ( or id,
     // and so does T, and so E; e begins with +, t with *.
-    let grammar = grammar_of(
-        &rt,
-        "EeTtF",
-        "+*()i",
-        &["E=Te", "e=+Te", "e=", "T=Ft", "t=*Ft", "t=", "F=(E)", "F=i"],
-    );
-    check_sets(
-        &rt,
-        &grammar,
-        "01010",
-        &["00101", "10000", "00101", "01000", "00101"],
-    );
+    let rules = ["E=Te", "e=+Te", "e=", "T=Ft", "t=*Ft", "t=", "F=(E)", "F=i"];
+    let rows = ["00101", "10000", "00101", "01000", "00101"];
+    check_texts(&rt, ("EeTtF", "+*()i"), &rules, "01010", &rows);
 }
 
 #[test]
-fn what_stands_behind_nullables_begins_too(rt: HostRuntime) {
+fn what_can_be_empty_or_begin_is_found(rt: HostRuntime) {
     // B, C and D can each be empty, so A can, and begins with what any of them begins with. A's
     // rule comes first, so that one pass doesn't find it.
     let chain = ["A=BCD", "B=b", "B=", "C=c", "C=", "D=d", "D="];
-    let grammar = grammar_of(&rt, "ABCD", "bcd", &chain);
-    check_sets(&rt, &grammar, "1111", &["111", "100", "010", "001"]);
-
+    let rows = ["111", "100", "010", "001"];
+    check_texts(&rt, ("ABCD", "bcd"), &chain, "1111", &rows);
     // C can't be empty here, so that D comes too late, and A isn't nullable.
     let cut = ["A=BCD", "B=b", "B=", "C=c", "D=d", "D="];
-    let grammar = grammar_of(&rt, "ABCD", "bcd", &cut);
-    check_sets(&rt, &grammar, "0101", &["110", "100", "010", "001"]);
-
+    let rows = ["110", "100", "010", "001"];
+    check_texts(&rt, ("ABCD", "bcd"), &cut, "0101", &rows);
     // Behind a terminal nothing counts.
-    let grammar = grammar_of(&rt, "AB", "xyb", &["A=BxBy", "B=", "B=b"]);
-    check_sets(&rt, &grammar, "01", &["101", "001"]);
-}
-
-#[test]
-fn a_nonterminal_that_begins_itself_gets_no_more(rt: HostRuntime) {
+    let rules = ["A=BxBy", "B=", "B=b"];
+    check_texts(&rt, ("AB", "xyb"), &rules, "01", &["101", "001"]);
     // A b, A b b, .. : A can be empty, so that b begins it.
-    let grammar = grammar_of(&rt, "A", "ab", &["A=Ab", "A="]);
-    check_sets(&rt, &grammar, "1", &["01"]);
+    check_texts(&rt, ("A", "ab"), &["A=Ab", "A="], "1", &["01"]);
     // Here A begins with a alone.
-    let grammar = grammar_of(&rt, "A", "ab", &["A=Ab", "A=a"]);
-    check_sets(&rt, &grammar, "0", &["10"]);
+    check_texts(&rt, ("A", "ab"), &["A=Ab", "A=a"], "0", &["10"]);
     // Nothing comes to an end here, and the least sets have nothing.
-    let grammar = grammar_of(&rt, "AB", "a", &["A=B", "B=A", "A=AA"]);
-    check_sets(&rt, &grammar, "00", &["0", "0"]);
-}
-
-#[test]
-fn without_rules_all_sets_are_empty(rt: HostRuntime) {
-    check_sets(&rt, &empty(&rt, 0, 0), "", &[]);
-    check_sets(&rt, &empty(&rt, 2, 3), "00", &["000", "000"]);
+    let rules = ["A=B", "B=A", "A=AA"];
+    check_texts(&rt, ("AB", "a"), &rules, "00", &["0", "0"]);
+    // Without rules all sets are empty.
+    check_texts(&rt, ("", ""), &[], "", &[]);
+    check_texts(&rt, ("AB", "abc"), &[], "00", &["000", "000"]);
     // B has no rule, and so nothing behind it counts.
-    let grammar = grammar_of(&rt, "AB", "a", &["A=Ba"]);
-    check_sets(&rt, &grammar, "00", &["0", "0"]);
+    check_texts(&rt, ("AB", "a"), &["A=Ba"], "00", &["0", "0"]);
 }
 
 #[test]
@@ -173,6 +140,13 @@ fn a_chain_longer_than_a_block_is_gone_up(rt: HostRuntime) {
             same(&rt, "terminal", t, sets.first.get(n, t), Some(n <= t));
         }
     }
+}
+
+/// Compares that both calls name the first rule that isn't one.
+fn check_bad(rt: &(impl Abort + AllocGlobal), grammar: &Grammar, rule: usize) {
+    let refusal = GrammarError::BadSymbol { rule };
+    assert_eq!(rt; nullable(rt.alloc(), grammar).err(), Some(refusal));
+    assert_eq!(rt; first_sets(rt.alloc(), grammar).err(), Some(refusal));
 }
 
 #[test]
@@ -202,13 +176,4 @@ fn the_first_rule_with_a_bad_symbol_is_named(rt: HostRuntime) {
     let mut grammar = empty(&rt, 0, 1);
     add(&rt, &mut grammar, 0, &[Symbol::Terminal(0)]);
     check_bad(&rt, &grammar, 0);
-}
-
-#[test]
-fn a_refusal_of_a_grammar_says_which_rule(rt: HostRuntime) -> Result<(), Fail> {
-    let symbol = format!(in rt.alloc(); "{}", GrammarError::BadSymbol { rule: 12 })?;
-    assert_eq!(rt; symbol.as_str(), "rule 12 names a symbol that isn't there");
-    let memory = format!(in rt.alloc(); "{}", GrammarError::Memory)?;
-    assert_eq!(rt; memory.as_str(), "out of memory");
-    Ok(())
 }

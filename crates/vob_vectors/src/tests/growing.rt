@@ -1,16 +1,15 @@
 //! Growing, joining, cutting and filling: worked rows, and patterns against a push of each bit.
 use super::hints::Hinted;
 use super::support::{
-    check_blocks, check_made, check_same, copy_of, cut, filled, join, pattern, pattern_bit, push,
+    check_blocks, check_made, check_same, copy_of, filled, join, pattern, pattern_bit, push,
     resize, same, vob_of,
 };
 use std::process::Abort;
-use std::test::Fail;
 use vob::{Vob, VobError};
 use vob_block::Block;
 
 #[test]
-fn false_bits_become_true_ones_behind_them(rt: HostRuntime) {
+fn bits_behind_others_and_all_bits_become_true(rt: HostRuntime) {
     let mut bytes = filled::<u8>(&rt, false, 8);
     resize(&rt, &mut bytes, 9, true);
     check_blocks(&rt, &bytes, 9, &[0, 1]);
@@ -24,6 +23,11 @@ fn false_bits_become_true_ones_behind_them(rt: HostRuntime) {
     let mut one = Vob::new(rt.alloc());
     resize(&rt, &mut one, 1, true);
     check_blocks(&rt, &one, 1, &[1]);
+    let mut bytes = filled::<u8>(&rt, false, 10);
+    bytes.set_all(true);
+    check_blocks(&rt, &bytes, 10, &[255, 3]);
+    bytes.negate();
+    check_blocks(&rt, &bytes, 10, &[0, 0]);
 }
 
 #[test]
@@ -46,37 +50,18 @@ fn resized_bytes_are_negated(rt: HostRuntime) {
 }
 
 #[test]
-fn all_bits_are_set_and_negated(rt: HostRuntime) {
-    let mut bytes = filled::<u8>(&rt, false, 10);
-    bytes.set_all(true);
-    check_blocks(&rt, &bytes, 10, &[255, 3]);
-    bytes.negate();
-    check_blocks(&rt, &bytes, 10, &[0, 0]);
-}
+fn joined_bits_are_cut_apart_again_and_not_past_the_end(rt: HostRuntime) {
+    let mut vob = vob_of::<u8>(&rt, "11111111");
+    join(&rt, &mut vob, &vob_of(&rt, "000000000"));
+    check_blocks(&rt, &vob, 17, &[255, 0, 0]);
 
-#[test]
-fn what_is_taken_off_leaves_its_room(rt: HostRuntime) {
-    let mut vob = filled::<usize>(&rt, true, 200);
-    let room = vob.capacity();
-    vob.truncate(65);
-    same(&rt, "capacity after a cut", 65, vob.capacity(), room);
-    vob.clear();
-    same(&rt, "capacity after a clear", 0, vob.capacity(), room);
-    check_blocks(&rt, &vob, 0, &[]);
-}
-
-#[test]
-fn joined_bits_are_cut_apart_again(rt: HostRuntime) {
     let mut vob = vob_of::<u8>(&rt, "10110");
     join(&rt, &mut vob, &vob_of(&rt, "11101"));
     check_blocks(&rt, &vob, 10, &[237, 2]);
     check_same(&rt, &vob, &vob_of(&rt, "1011011101"));
     check_made(&rt, vob.split_off(5), 5, &[23]);
     check_blocks(&rt, &vob, 5, &[13]);
-}
 
-#[test]
-fn a_cut_past_the_end_is_refused(rt: HostRuntime) {
     let mut vob = vob_of::<u8>(&rt, "101");
     let refusal = vob.split_off(5).err();
     same(&rt, "past the end", 5, refusal, Some(VobError::PastEnd));
@@ -87,30 +72,12 @@ fn a_cut_past_the_end_is_refused(rt: HostRuntime) {
     check_blocks(&rt, &vob, 3, &[5]);
 }
 
-#[test]
-fn a_refusal_says_why(rt: HostRuntime) -> Result<(), Fail> {
-    let long = format!(in rt.alloc(); "{}", VobError::TooLong)?;
-    assert_eq!(rt; long.as_str(), "the length would pass usize::MAX");
-    let memory = format!(in rt.alloc(); "{}", VobError::Memory)?;
-    assert_eq!(rt; memory.as_str(), "out of memory");
-    let past = format!(in rt.alloc(); "{}", VobError::PastEnd)?;
-    assert_eq!(rt; past.as_str(), "the index is past the end");
-    Ok(())
-}
-
-#[test]
-fn false_bits_are_joined_behind_a_full_block(rt: HostRuntime) {
-    let mut vob = vob_of::<u8>(&rt, "11111111");
-    join(&rt, &mut vob, &vob_of(&rt, "000000000"));
-    check_blocks(&rt, &vob, 17, &[255, 0, 0]);
-}
-
 /// Two Vobs that are joined are what pushes leave; cut apart, they are both again.
 fn check_join<T: Block>(rt: &impl Abort, one: &Vob<T>, two: &Vob<T>, pushed: &Vob<T>) {
     let mut joined = copy_of(rt, one);
     join(rt, &mut joined, two);
     check_same(rt, &joined, pushed);
-    let rest = cut(rt, &mut joined, one.len());
+    let rest = joined.split_off(one.len()).expect(rt, "memory");
     check_same(rt, &joined, one);
     check_same(rt, &rest, two);
 }
@@ -134,12 +101,6 @@ fn joins_leave_what_pushes_leave(rt: HostRuntime) {
         for first in 0..128 {
             check_joins::<usize>(&rt, seed, first, 128);
         }
-    }
-}
-
-#[test]
-fn short_joins_leave_what_pushes_leave(rt: HostRuntime) {
-    for seed in 0..3 {
         for first in 0..41 {
             check_joins::<u8>(&rt, seed, first, 41);
             check_joins::<u128>(&rt, seed, first, 41);
@@ -168,24 +129,6 @@ fn check_growth<T: Block>(
     check_same(rt, &extended, &pushed);
 }
 
-#[test]
-fn growth_leaves_what_pushes_leave(rt: HostRuntime) {
-    let mut items = Vec::new(rt.alloc());
-    for count in 0..150 {
-        for first in 0..40 {
-            if count < 40 {
-                check_growth::<u8>(&rt, 0, first, &items);
-                check_growth::<u16>(&rt, 1, first, &items);
-                check_growth::<u128>(&rt, 2, first, &items);
-            }
-        }
-        for first in 60..68 {
-            check_growth::<usize>(&rt, 2, first, &items);
-        }
-        items.push(count % 5 < 2).expect(&rt, "memory");
-    }
-}
-
 /// As many equal bits behind a pattern are what pushes leave; cut off, what was there is left.
 fn check_resize<T: Block>(rt: &(impl Abort + AllocGlobal), value: bool, first: usize, more: usize) {
     let before = pattern::<T>(rt, 1, first);
@@ -201,17 +144,23 @@ fn check_resize<T: Block>(rt: &(impl Abort + AllocGlobal), value: bool, first: u
 }
 
 #[test]
-fn equal_bits_are_what_pushes_leave(rt: HostRuntime) {
-    for first in 0..40 {
-        for more in 0..40 {
-            check_resize::<u8>(&rt, true, first, more);
-            check_resize::<u16>(&rt, false, first, more);
+fn growth_leaves_what_pushes_leave(rt: HostRuntime) {
+    let mut items = Vec::new(rt.alloc());
+    for count in 0..150 {
+        for first in 0..40 {
+            if count < 40 {
+                check_growth::<u8>(&rt, 0, first, &items);
+                check_growth::<u16>(&rt, 1, first, &items);
+                check_growth::<u128>(&rt, 2, first, &items);
+                check_resize::<u8>(&rt, true, first, count);
+                check_resize::<u16>(&rt, false, first, count);
+            }
         }
-    }
-    for first in 60..68 {
-        for more in 0..150 {
-            check_resize::<usize>(&rt, true, first, more);
-            check_resize::<u64>(&rt, false, first, more);
+        for first in 60..68 {
+            check_growth::<usize>(&rt, 2, first, &items);
+            check_resize::<usize>(&rt, true, first, count);
+            check_resize::<u64>(&rt, false, first, count);
         }
+        items.push(count % 5 < 2).expect(&rt, "memory");
     }
 }

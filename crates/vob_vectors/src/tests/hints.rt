@@ -73,7 +73,7 @@ impl Iterator for Countdown {
 }
 
 #[test]
-fn items_come_behind_the_bits(rt: HostRuntime) {
+fn all_items_come_behind_the_bits(rt: HostRuntime) {
     let items = [true, true, false];
     let mut vob = vob_of::<usize>(&rt, "101");
     vob.extend(Hinted {
@@ -86,10 +86,7 @@ fn items_come_behind_the_bits(rt: HostRuntime) {
     check_blocks(&rt, &vob, 6, &[29]);
     vob.truncate(4);
     check_blocks(&rt, &vob, 4, &[13]);
-}
-
-#[test]
-fn more_items_come_than_the_hint_promised(rt: HostRuntime) {
+    // More come than the hint promised.
     let items = [true; 5];
     let mut vob = Vob::new(rt.alloc());
     vob.extend(Hinted {

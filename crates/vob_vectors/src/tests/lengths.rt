@@ -96,11 +96,7 @@ fn no_length_is_refused_where_memory_is_there(rt: HostRuntime) {
     for len in [1, 2, 63, 64, 65, 128, 192, 193, 256, 257, 512, 1000, 4097] {
         check_length::<u16>(&rt, len);
         check_length::<usize>(&rt, len);
-    }
-}
-
-#[test]
-fn room_in_words_is_made(rt: HostRuntime) {
+    } // Room in words is made too.
     let mut vobs = Vec::new(rt.alloc());
     let mut replies = Vec::new(rt.alloc());
     let room = UsizeCommand::WithCapacity { capacity: 65 };

@@ -35,21 +35,6 @@ fn walks_are_named_at_the_root_and_in_their_module(rt: HostRuntime) {
     );
 }
 
-/// One pull at each end.
-fn both_ends<W: IndexWalk>(walk: &mut W) -> [Option<usize>; 2] {
-    [walk.pull(End::Front), walk.pull(End::Back)]
-}
-
-#[test]
-fn pulls_are_named_in_the_module_of_walks(rt: HostRuntime) {
-    let three: Vob<u8> = vob_of(&rt, "101");
-    let mut answers = Vec::new(rt.alloc());
-    deal(&mut three.iter_set_bits(..), &[End::Back], &mut answers).expect(&rt, "memory");
-    same(&rt, "answer", 0, answers.pop(), Some(Some(2)));
-    let ends = both_ends(&mut three.iter_unset_bits(..));
-    same(&rt, "both ends", 0, ends, [Some(1), None]);
-}
-
 #[test]
 fn counts_and_blocks_are_named_by_their_modules(rt: HostRuntime) {
     let mut blocks: Blocks<'_, u8> = Blocks::new(&[5]);
@@ -60,7 +45,18 @@ fn counts_and_blocks_are_named_by_their_modules(rt: HostRuntime) {
 }
 
 #[test]
-fn commands_are_named_beside_the_calls_that_run_them(rt: HostRuntime) {
+fn pulls_and_commands_are_named_in_the_modules_of_their_calls(rt: HostRuntime) {
+    let three: Vob<u8> = vob_of(&rt, "101");
+    let mut answers = Vec::new(rt.alloc());
+    deal(&mut three.iter_set_bits(..), &[End::Back], &mut answers).expect(&rt, "memory");
+    same(&rt, "answer", 0, answers.pop(), Some(Some(2)));
+    let mut walk = three.iter_unset_bits(..);
+    let ends = [
+        IndexWalk::pull(&mut walk, End::Front),
+        IndexWalk::pull(&mut walk, End::Back),
+    ];
+    same(&rt, "both ends", 0, ends, [Some(1), None]);
+
     let mut vobs: Vec<Vob<u8>> = Vec::new(rt.alloc());
     let mut replies = Vec::new(rt.alloc());
     let new = Command::New { capacity: 0 };

@@ -16,15 +16,6 @@ pub(super) enum Call {
 
 pub(super) const CALLS: [Call; 3] = [Call::And, Call::Or, Call::Xor];
 
-/// What a call makes of two bits.
-fn combined_bit(call: Call, bit: bool, other: bool) -> bool {
-    match call {
-        Call::And => bit && other,
-        Call::Or => bit || other,
-        Call::Xor => bit != other,
-    }
-}
-
 /// `and`, `or` or `xor` of two Vobs of one length.
 pub(super) fn combine<T: Block>(
     rt: &impl Abort,
@@ -40,8 +31,41 @@ pub(super) fn combine<T: Block>(
     }
 }
 
+/// What the three forms of an operator make of two Vobs of one length: a new Vob, the left side in
+/// place, `assigned` being like it, and the left side itself.
+fn forms(rt: &impl Abort, call: Call, vob: Vob, mut assigned: Vob, other: &Vob) -> (Vob, Vob, Vob) {
+    assert!(rt; vob.len() == other.len() && assigned.len() == other.len());
+    let made = match call {
+        Call::And => &vob & other,
+        Call::Or => &vob | other,
+        Call::Xor => &vob ^ other,
+    };
+    check_same(rt, &vob, &assigned);
+    match call {
+        Call::And => assigned &= other,
+        Call::Or => assigned |= other,
+        Call::Xor => assigned ^= other,
+    }
+    let moved = match call {
+        Call::And => vob & other,
+        Call::Or => vob | other,
+        Call::Xor => vob ^ other,
+    };
+    (made.expect(rt, "memory"), assigned, moved)
+}
+
+/// The three forms of an operator.
+fn check_forms(rt: &(impl Abort + AllocGlobal), call: Call, left: &str, right: &str, after: &str) {
+    let wanted = vob_of::<usize>(rt, after);
+    let (vob, like) = (vob_of::<usize>(rt, left), vob_of::<usize>(rt, left));
+    let (made, assigned, moved) = forms(rt, call, vob, like, &vob_of(rt, right));
+    check_same(rt, &made, &wanted);
+    check_same(rt, &assigned, &wanted);
+    check_same(rt, &moved, &wanted);
+}
+
 #[test]
-fn a_call_says_whether_a_bit_changed(rt: HostRuntime) {
+fn a_call_says_whether_a_bit_changed_and_an_operator_has_three_forms(rt: HostRuntime) {
     for (call, left, right, changed, after) in [
         (Call::And, "100", "110", false, "100"),
         (Call::Or, "100", "010", true, "110"),
@@ -54,70 +78,9 @@ fn a_call_says_whether_a_bit_changed(rt: HostRuntime) {
         check_same(&rt, &vob, &vob_of(&rt, after));
         check_same(&rt, &other, &vob_of(&rt, right));
     }
-}
-
-/// What an operator makes of two Vobs.
-fn made(rt: &impl Abort, call: Call, vob: &Vob, other: &Vob) -> Vob {
-    assert!(rt; vob.len() == other.len());
-    let made = match call {
-        Call::And => vob & other,
-        Call::Or => vob | other,
-        Call::Xor => vob ^ other,
-    };
-    made.expect(rt, "memory")
-}
-
-/// What an operator makes of its left side.
-fn moved(rt: &impl Abort, call: Call, vob: Vob, other: &Vob) -> Vob {
-    assert!(rt; vob.len() == other.len());
-    match call {
-        Call::And => vob & other,
-        Call::Or => vob | other,
-        Call::Xor => vob ^ other,
-    }
-}
-
-/// Changes the left side by an operator.
-fn assign(rt: &impl Abort, call: Call, vob: &mut Vob, other: &Vob) {
-    assert!(rt; vob.len() == other.len());
-    match call {
-        Call::And => *vob &= other,
-        Call::Or => *vob |= other,
-        Call::Xor => *vob ^= other,
-    }
-}
-
-/// The three forms of an operator.
-fn check_forms(rt: &(impl Abort + AllocGlobal), call: Call, left: &str, right: &str, after: &str) {
-    let wanted = vob_of::<usize>(rt, after);
-    let vob = vob_of::<usize>(rt, left);
-    let other = vob_of::<usize>(rt, right);
-    check_same(rt, &made(rt, call, &vob, &other), &wanted);
-    check_same(rt, &vob, &vob_of(rt, left));
-    let mut assigned = vob_of::<usize>(rt, left);
-    assign(rt, call, &mut assigned, &other);
-    check_same(rt, &assigned, &wanted);
-    check_same(rt, &moved(rt, call, vob, &other), &wanted);
-}
-
-#[test]
-fn each_operator_has_three_forms(rt: HostRuntime) {
     check_forms(&rt, Call::Or, "1010", "1100", "1110");
     check_forms(&rt, Call::And, "1010", "1100", "1000");
     check_forms(&rt, Call::Xor, "1101", "1011", "0110");
-}
-
-#[test]
-fn vobs_are_equal_where_their_lists_are(rt: HostRuntime) {
-    let two = vob_of::<usize>(&rt, "10");
-    for (digits, equal) in [("10", true), ("11", false), ("101", false), ("", false)] {
-        check_equal(&rt, &two, &vob_of(&rt, digits), equal);
-    }
-    // A capacity that differs doesn't matter.
-    let mut roomy = Vob::with_capacity(rt.alloc(), 1000).expect(&rt, "memory");
-    push(&rt, &mut roomy, true);
-    push(&rt, &mut roomy, false);
-    check_equal(&rt, &two, &roomy, true);
 }
 
 /// Two Vobs of `len` bits are equal, and differ once bit `index` of one is another.
@@ -132,8 +95,18 @@ fn check_equality<T: Block>(rt: &(impl Abort + AllocGlobal), len: usize, index: 
 }
 
 #[test]
-fn one_bit_in_any_block_makes_unequal(rt: HostRuntime) {
-    // A chunk of 64 blocks is 512 bits in bytes, and 4096 in words: lengths around one and two chunks.
+fn vobs_are_equal_where_their_lists_are(rt: HostRuntime) {
+    let two = vob_of::<usize>(&rt, "10");
+    for (digits, equal) in [("10", true), ("11", false), ("101", false), ("", false)] {
+        check_equal(&rt, &two, &vob_of(&rt, digits), equal);
+    }
+    // A capacity that differs doesn't matter.
+    let mut roomy = Vob::with_capacity(rt.alloc(), 1000).expect(&rt, "memory");
+    push(&rt, &mut roomy, true);
+    push(&rt, &mut roomy, false);
+    check_equal(&rt, &two, &roomy, true);
+    // One bit in any block makes unequal. A chunk of 64 blocks is 512 bits in bytes, and 4096 in
+    // words: lengths around one and two chunks.
     for len in [
         0, 7, 8, 511, 512, 513, 1023, 1024, 1025, 4095, 4096, 4097, 8191, 8192, 8193,
     ] {
@@ -185,20 +158,19 @@ fn check_patterns<T: Block>(
     let mut wanted = vob_of::<T>(rt, "");
     let mut changed = false;
     for index in 0..len {
-        let bit = pattern_bit(left, index);
-        let after = combined_bit(call, bit, pattern_bit(right, index));
+        let (bit, other) = (pattern_bit(left, index), pattern_bit(right, index));
+        let after = match call {
+            Call::And => bit && other,
+            Call::Or => bit || other,
+            Call::Xor => bit != other,
+        };
         changed = changed || after != bit;
         push(rt, &mut wanted, after);
     }
     let mut vob = pattern::<T>(rt, left, len);
     let other = pattern::<T>(rt, right, len);
-    same(
-        rt,
-        "bits",
-        len,
-        combine(rt, call, &mut vob, &other),
-        changed,
-    );
+    let answer = combine(rt, call, &mut vob, &other);
+    same(rt, "bits", len, answer, changed);
     check_same(rt, &vob, &wanted);
 }
 
@@ -212,12 +184,6 @@ fn patterns_are_combined_as_lists(rt: HostRuntime) {
                 check_patterns::<u128>(&rt, call, seeds, len);
             }
         }
-    }
-}
-
-#[test]
-fn many_blocks_are_combined_as_lists(rt: HostRuntime) {
-    for call in CALLS {
         for blocks in 0..33 {
             for used in [1, 63, 64] {
                 check_patterns::<usize>(&rt, call, (0, 1), 64 * blocks + used);

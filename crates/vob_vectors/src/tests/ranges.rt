@@ -26,75 +26,48 @@ fn changed_pattern<T: Block>(
     (vob, changed)
 }
 
-/// A range made a value: once it may change bits, and never again.
-fn check_set<T: Block>(
+/// A range made a value, which may change bits once and never again; or negated.
+fn check_changed<T: Block>(
     rt: &(impl Abort + AllocGlobal),
     len: usize,
     (start, stop): (usize, usize),
-    value: bool,
+    value: Option<bool>,
 ) {
-    let (wanted, changed) = changed_pattern::<T>(rt, len, (start, stop), Some(value));
+    let (wanted, changed) = changed_pattern::<T>(rt, len, (start, stop), value);
     let mut vob = pattern::<T>(rt, len, len);
     let room = vob.capacity();
-    same(
-        rt,
-        "changed",
-        start,
-        vob.set_range(start..stop, value),
-        changed,
-    );
-    check_same(rt, &vob, &wanted);
-    same(rt, "again", start, vob.set_range(start..stop, value), false);
-    same(rt, "the capacity", len, vob.capacity(), room);
-}
-
-/// A range negated.
-fn check_negated<T: Block>(
-    rt: &(impl Abort + AllocGlobal),
-    len: usize,
-    (start, stop): (usize, usize),
-) {
-    let (wanted, _) = changed_pattern::<T>(rt, len, (start, stop), None);
-    let mut vob = pattern::<T>(rt, len, len);
-    vob.negate_range(start..stop);
-    check_same(rt, &vob, &wanted);
-}
-
-/// Ranges of a pattern of each length below 130, from each index on: some are empty, some end
-/// before they start, and some pass the end.
-fn check_ranges<T: Block>(rt: &(impl Abort + AllocGlobal)) {
-    for len in 0..130 {
-        for start in 0..len + 2 {
-            let range = (start, (start * 7 + len) % (len + 3));
-            check_set::<T>(rt, len, range, true);
-            check_set::<T>(rt, len, range, false);
-            check_negated::<T>(rt, len, range);
-        }
+    if let Some(value) = value {
+        let answer = vob.set_range(start..stop, value);
+        same(rt, "changed", start, answer, changed);
+        check_same(rt, &vob, &wanted);
+        same(rt, "again", start, vob.set_range(start..stop, value), false);
+        same(rt, "the capacity", len, vob.capacity(), room);
+    } else {
+        vob.negate_range(start..stop);
+        check_same(rt, &vob, &wanted);
     }
 }
 
 #[test]
-fn ranges_change_as_pushes_do_at_narrow_blocks(rt: HostRuntime) {
-    check_ranges::<u8>(&rt);
-}
-
-#[test]
-fn ranges_change_as_pushes_do_at_blocks_of_64(rt: HostRuntime) {
-    check_ranges::<u64>(&rt);
-}
-
-#[test]
-fn ranges_change_as_pushes_do_at_wide_blocks(rt: HostRuntime) {
-    check_ranges::<u128>(&rt);
+fn ranges_change_as_pushes_do(rt: HostRuntime) {
+    // Some ranges are empty, some end before they start, and some pass the end.
+    for len in 0..130 {
+        for start in 0..len + 2 {
+            let range = (start, (start * 7 + len) % (len + 3));
+            for value in [Some(true), Some(false), None] {
+                check_changed::<u8>(&rt, len, range, value);
+                check_changed::<u64>(&rt, len, range, value);
+                check_changed::<u128>(&rt, len, range, value);
+            }
+        }
+    }
 }
 
 /// What a range makes of `1011011101` where it is set, unset and negated.
 fn check_row<R: RangeBounds<usize> + Copy>(
     rt: &(impl Abort + AllocGlobal),
     range: R,
-    set: &str,
-    unset: &str,
-    negated: &str,
+    [set, unset, negated]: [&str; 3],
 ) {
     let mut vob = vob_of::<u8>(rt, "1011011101");
     let _ = vob.set_range(range, true);
@@ -110,44 +83,19 @@ fn check_row<R: RangeBounds<usize> + Copy>(
 #[test]
 fn every_pair_of_bounds_is_changed(rt: HostRuntime) {
     let most = usize::MAX;
-    let kept = "1011011101";
-    check_row(
-        &rt,
-        (Excluded(1), Included(4)),
-        "1011111101",
-        "1000011101",
-        "1000111101",
-    );
-    check_row(
-        &rt,
-        (Excluded(8), Excluded(most)),
-        kept,
-        "1011011100",
-        "1011011100",
-    );
-    check_row(
-        &rt,
-        (Included(1), Unbounded),
-        "1111111111",
-        "1000000000",
-        "1100100010",
-    );
-    check_row(
-        &rt,
-        (Unbounded, Excluded(2)),
-        "1111011101",
-        "0011011101",
-        "0111011101",
-    );
-    check_row(
-        &rt,
-        (Unbounded, Included(most)),
-        "1111111111",
-        "0000000000",
-        "0100100010",
-    );
-    check_row(&rt, (Excluded(most), Included(most)), kept, kept, kept);
-    check_row(&rt, (Included(7), Excluded(3)), kept, kept, kept);
+    let wanted = ["1011111101", "1000011101", "1000111101"];
+    check_row(&rt, (Excluded(1), Included(4)), wanted);
+    let wanted = ["1011011101", "1011011100", "1011011100"];
+    check_row(&rt, (Excluded(8), Excluded(most)), wanted);
+    let wanted = ["1111111111", "1000000000", "1100100010"];
+    check_row(&rt, (Included(1), Unbounded), wanted);
+    let wanted = ["1111011101", "0011011101", "0111011101"];
+    check_row(&rt, (Unbounded, Excluded(2)), wanted);
+    let wanted = ["1111111111", "0000000000", "0100100010"];
+    check_row(&rt, (Unbounded, Included(most)), wanted);
+    let kept = ["1011011101"; 3];
+    check_row(&rt, (Excluded(most), Included(most)), kept);
+    check_row(&rt, (Included(7), Excluded(3)), kept);
 }
 
 /// The Vob of these indices, or the position of the first one that was refused.
@@ -175,32 +123,22 @@ fn check_indices_of<T: Block>(rt: &(impl Abort + AllocGlobal), len: usize) {
 }
 
 #[test]
-fn the_indices_of_a_pattern_give_it_back(rt: HostRuntime) {
+fn indices_give_a_vob_or_the_first_one_past_the_end(rt: HostRuntime) {
+    let made = made_of::<u8>(&rt, 10, &[9, 0, 9, 3]).expect(&rt, "a Vob");
+    check_bits(&rt, &made, "1001000001");
+    let none = made_of::<u8>(&rt, 9, &[]).expect(&rt, "a Vob");
+    check_same(&rt, &none, &filled::<u8>(&rt, false, 9));
+    for (len, indices, position) in [
+        (10, [9, 10, 11].as_slice(), 1),
+        (0, &[0], 0),
+        (3, &[0, 1, 2, usize::MAX, 3], 3),
+    ] {
+        let refused = made_of::<u8>(&rt, len, indices).err();
+        same(&rt, "refused", len, refused, Some(position));
+    }
     for len in 0..130 {
         check_indices_of::<u8>(&rt, len);
         check_indices_of::<u64>(&rt, len);
         check_indices_of::<u128>(&rt, len);
     }
-}
-
-/// The position of the first index that is refused.
-fn refused(rt: &(impl Abort + AllocGlobal), len: usize, indices: &[usize]) -> Option<usize> {
-    made_of::<u8>(rt, len, indices).err()
-}
-
-#[test]
-fn the_first_index_past_the_end_is_named(rt: HostRuntime) {
-    let made = made_of::<u8>(&rt, 10, &[9, 0, 9, 3]).expect(&rt, "a Vob");
-    check_bits(&rt, &made, "1001000001");
-    let none = made_of::<u8>(&rt, 9, &[]).expect(&rt, "a Vob");
-    check_same(&rt, &none, &filled::<u8>(&rt, false, 9));
-    same(&rt, "refused", 10, refused(&rt, 10, &[9, 10, 11]), Some(1));
-    same(&rt, "refused", 0, refused(&rt, 0, &[0]), Some(0));
-    same(
-        &rt,
-        "refused",
-        3,
-        refused(&rt, 3, &[0, 1, 2, usize::MAX, 3]),
-        Some(3),
-    );
 }

@@ -1,7 +1,7 @@
 //! Raw storage: what is taken back as a Vob and what isn't, and records of it as text.
 ghost use Rattle.std.specs.Prelude.{◌≡◌, ◌++◌, ◌∷◌, [], OnOk};
 
-use super::support::{check_bits, check_blocks, same_text, vob_of};
+use super::support::{check_bits, check_blocks, same, vob_of};
 use std::alloc::AllocError;
 use std::process::Abort;
 use vob::{RawVob, Vob, VobRecord};
@@ -60,24 +60,7 @@ fn dirty_storage_is_taken_once_it_is_masked(rt: HostRuntime) {
     let dirty = masked(&rt, check_refused(&rt, 9, &[255u8, 2]));
     check_raw(&rt, &dirty, 9, &[255, 0]);
     check_taken(&rt, dirty, "111111110", &[255, 0]);
-}
-
-#[test]
-fn a_block_too_many_or_too_few_is_handed_back(rt: HostRuntime) {
-    assert!(rt; !check_refused(&rt, 3, &[5u8, 0]).fits());
-    assert!(rt; !check_refused(&rt, 9, &[1u8]).fits());
-    assert!(rt; !check_refused(&rt, 0, &[0u8]).fits());
-    assert!(rt; !check_refused::<u8>(&rt, usize::MAX, &[]).fits());
-}
-
-#[test]
-fn nothing_and_whole_blocks_have_no_unused_bit(rt: HostRuntime) {
-    check_taken(&rt, raw_of::<u8>(&rt, 0, &[]), "", &[]);
-    check_taken(&rt, raw_of(&rt, 8, &[255u8]), "11111111", &[255]);
-}
-
-#[test]
-fn words_are_masked_in_the_last_block_alone(rt: HostRuntime) {
+    // Words are masked in the last block alone.
     let word = 0xaaaa_aaaa_aaaa_aaaa;
     let one = masked(&rt, raw_of(&rt, 7, &[0xaaaa_aaaau64]));
     check_taken(&rt, one, "0101010", &[42]);
@@ -86,6 +69,22 @@ fn words_are_masked_in_the_last_block_alone(rt: HostRuntime) {
     let two = masked(&rt, raw_of(&rt, 68, &[word, word]));
     check_raw(&rt, &two, 68, &[word, 10u64]);
     assert!(rt; two.into_vob().is_ok());
+}
+
+#[test]
+fn a_block_too_many_or_too_few_is_handed_back(rt: HostRuntime) {
+    for (len, blocks) in [
+        (3, [5u8, 0].as_slice()),
+        (9, &[1]),
+        (0, &[0]),
+        (usize::MAX, &[]),
+    ] {
+        let fits = check_refused(&rt, len, blocks).fits();
+        same(&rt, "the block count", len, fits, false);
+    }
+    // Nothing and whole blocks have no unused bit.
+    check_taken(&rt, raw_of::<u8>(&rt, 0, &[]), "", &[]);
+    check_taken(&rt, raw_of(&rt, 8, &[255u8]), "11111111", &[255]);
 }
 
 #[test]
@@ -127,18 +126,15 @@ fn check_taken_text(rt: &(impl Abort + AllocGlobal), text: &str, digits: &str, b
     check_blocks(rt, &vob, digits.len(), blocks);
     check_bits(rt, &vob, digits);
     let written = serde_json::to_string(rt.alloc(), &vob.into_record()).ok();
-    same_text(rt, "written", &written.expect(rt, "memory"), text);
+    let written = written.expect(rt, "memory");
+    same(rt, "written", 0, written.as_str(), text);
 }
 
 #[test]
-fn a_record_with_dirty_storage_is_handed_back(rt: HostRuntime) {
+fn a_record_is_written_as_it_was_read_or_handed_back(rt: HostRuntime) {
+    check_taken_text(&rt, r#"{"len":3,"vec":[5]}"#, "101", &[5]);
+    check_taken_text(&rt, r#"{"len":0,"vec":[]}"#, "", &[]);
     check_refused_text(&rt, r#"{"len":3,"vec":[13]}"#, 3, &[13]);
     let longest = r#"{"len":18446744073709551615,"vec":[]}"#;
     check_refused_text(&rt, longest, usize::MAX, &[]);
-}
-
-#[test]
-fn a_record_that_is_taken_is_written_as_it_was_read(rt: HostRuntime) {
-    check_taken_text(&rt, r#"{"len":3,"vec":[5]}"#, "101", &[5]);
-    check_taken_text(&rt, r#"{"len":0,"vec":[]}"#, "", &[]);
 }

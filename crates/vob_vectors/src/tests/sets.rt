@@ -1,24 +1,16 @@
 //! A Vob as a set of indices, by patterns and by single bits, against one bit after another.
 use super::support::{copy_of, filled, pattern, pattern_bit, same, write};
 use std::process::Abort;
-use vob::Vob;
+use vob::{End, Vob};
 use vob_block::Block;
 
-/// The next index at or above `from` whose bit has the value.
-fn next_of<T: Block>(vob: &Vob<T>, value: bool, from: usize) -> Option<usize> {
-    if value {
-        vob.next_set(from)
-    } else {
-        vob.next_unset(from)
-    }
-}
-
-/// The previous one at or below `from`.
-fn previous_of<T: Block>(vob: &Vob<T>, value: bool, from: usize) -> Option<usize> {
-    if value {
-        vob.previous_set(from)
-    } else {
-        vob.previous_unset(from)
+/// The next index at or above `from` whose bit has the value, or the previous one at or below it.
+fn neighbour<T: Block>(vob: &Vob<T>, value: bool, side: End, from: usize) -> Option<usize> {
+    match (value, side) {
+        (true, End::Front) => vob.next_set(from),
+        (true, End::Back) => vob.previous_set(from),
+        (false, End::Front) => vob.next_unset(from),
+        (false, End::Back) => vob.previous_unset(from),
     }
 }
 
@@ -39,23 +31,29 @@ fn check_neighbours<T: Block>(rt: &impl Abort, vob: &Vob<T>, value: bool) {
         if vob.get(index) == Some(value) {
             last = Some(index);
         }
-        same(rt, "previous", index, previous_of(vob, value, index), last);
+        let previous = neighbour(vob, value, End::Back, index);
+        same(rt, "previous", index, previous, last);
     }
     let mut first = None;
     for index in (0..past).rev() {
         if vob.get(index) == Some(value) {
             first = Some(index);
         }
-        same(rt, "next", index, next_of(vob, value, index), first);
+        let next = neighbour(vob, value, End::Front, index);
+        same(rt, "next", index, next, first);
     }
     let most = usize::MAX;
-    same(rt, "next", most, next_of(vob, value, most), None);
-    same(rt, "previous", most, previous_of(vob, value, most), last);
+    let next = neighbour(vob, value, End::Front, most);
+    same(rt, "next", most, next, None);
+    let previous = neighbour(vob, value, End::Back, most);
+    same(rt, "previous", most, previous, last);
     same(rt, "ends", vob.len(), ends_of(vob, value), (first, last));
 }
 
-/// How many set bits stand below each index up to one past the end, and whether there are some.
-fn check_counts<T: Block>(rt: &impl Abort, vob: &Vob<T>) {
+/// How many set bits stand below each index up to one past the end, and whether there are some; and
+/// where those of one value are.
+fn check_found<T: Block>(rt: &impl Abort, vob: &Vob<T>, value: bool) {
+    check_neighbours(rt, vob, value);
     let len = vob.len();
     let mut below: usize = 0;
     for index in 0..len {
@@ -71,46 +69,27 @@ fn check_counts<T: Block>(rt: &impl Abort, vob: &Vob<T>) {
     same(rt, "all", len, vob.all(), below == len);
 }
 
-/// A pattern of each length below 130.
-fn check_patterns<T: Block>(rt: &(impl Abort + AllocGlobal), seed: usize) {
-    for len in 0..130 {
-        let vob = pattern::<T>(rt, seed, len);
-        check_neighbours(rt, &vob, pattern_bit(len, len));
-        check_counts(rt, &vob);
-    }
-}
-
-#[test]
-fn patterns_have_their_neighbours_at_narrow_blocks(rt: HostRuntime) {
-    check_patterns::<u8>(&rt, 1);
-}
-
-#[test]
-fn patterns_have_their_neighbours_at_blocks_of_64(rt: HostRuntime) {
-    check_patterns::<u64>(&rt, 2);
-}
-
-#[test]
-fn patterns_have_their_neighbours_at_wide_blocks(rt: HostRuntime) {
-    check_patterns::<u128>(&rt, 3);
-}
-
 /// Bits that are all one value but one: it alone is found, and whole blocks are passed over.
-fn check_single<T: Block>(rt: &(impl Abort + AllocGlobal), value: bool) {
-    for index in 0..13 {
+fn check_single<T: Block>(rt: &(impl Abort + AllocGlobal), index: usize) {
+    for value in [true, false] {
         let mut vob = filled::<T>(rt, !value, 130);
-        write(&mut vob, index * 10, value);
-        check_neighbours(rt, &vob, value);
-        check_counts(rt, &vob);
+        write(&mut vob, index, value);
+        check_found(rt, &vob, value);
     }
 }
 
 #[test]
-fn a_single_bit_is_found_across_whole_blocks(rt: HostRuntime) {
-    for value in [true, false] {
-        check_single::<u8>(&rt, value);
-        check_single::<u64>(&rt, value);
-        check_single::<u128>(&rt, value);
+fn bits_of_patterns_and_single_bits_are_found(rt: HostRuntime) {
+    for len in 0..130 {
+        let value = pattern_bit(len, len);
+        check_found(&rt, &pattern::<u8>(&rt, 1, len), value);
+        check_found(&rt, &pattern::<u64>(&rt, 2, len), value);
+        check_found(&rt, &pattern::<u128>(&rt, 3, len), value);
+    }
+    for index in 0..13 {
+        check_single::<u8>(&rt, index * 10);
+        check_single::<u64>(&rt, index * 10);
+        check_single::<u128>(&rt, index * 10);
     }
 }
 
@@ -173,39 +152,27 @@ fn check_difference<T: Block>(
     );
 }
 
-/// Two patterns of each length below 130, a pattern and a part of it, and one and its complement.
-fn check_pairs<T: Block>(rt: &(impl Abort + AllocGlobal), seed: usize) {
-    for len in 0..130 {
-        let vob = pattern::<T>(rt, seed, len);
-        let mut other = pattern::<T>(rt, len, len);
-        check_ordered(rt, &vob, &other);
-        if other.len() == vob.len() {
-            other.and(&vob);
-        }
-        check_ordered(rt, &other, &vob);
-        other.negate();
-        check_ordered(rt, &vob, &other);
+/// Two patterns of a length, a pattern and a part of it, and one and its complement.
+fn check_pairs<T: Block>(rt: &(impl Abort + AllocGlobal), seed: usize, len: usize) {
+    let vob = pattern::<T>(rt, seed, len);
+    let mut other = pattern::<T>(rt, len, len);
+    check_ordered(rt, &vob, &other);
+    if other.len() == vob.len() {
+        other.and(&vob);
     }
+    check_ordered(rt, &other, &vob);
+    other.negate();
+    check_ordered(rt, &vob, &other);
 }
 
 #[test]
-fn pairs_of_patterns_at_narrow_blocks(rt: HostRuntime) {
-    check_pairs::<u8>(&rt, 1);
-}
-
-#[test]
-fn pairs_of_patterns_at_blocks_of_64(rt: HostRuntime) {
-    check_pairs::<u64>(&rt, 2);
-}
-
-#[test]
-fn pairs_of_patterns_at_wide_blocks(rt: HostRuntime) {
-    check_pairs::<u128>(&rt, 3);
-}
-
-/// More blocks than a chunk, with one bit in common, or one that the other hasn't.
-#[test]
-fn a_single_bit_is_met_behind_a_chunk(rt: HostRuntime) {
+fn pairs_are_counted_and_compared(rt: HostRuntime) {
+    for len in 0..130 {
+        check_pairs::<u8>(&rt, 1, len);
+        check_pairs::<u64>(&rt, 2, len);
+        check_pairs::<u128>(&rt, 3, len);
+    }
+    // More blocks than a chunk, with one bit in common, or one that the other hasn't.
     for index in [0, 511, 512, 1023, 1024, 1099] {
         let mut vob = filled::<u8>(&rt, false, 1100);
         let mut other = filled::<u8>(&rt, true, 1100);

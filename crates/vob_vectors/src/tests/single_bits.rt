@@ -1,21 +1,11 @@
 //! Single bits: rows and patterns of pushes, reads, writes and cuts.
 use super::support::{
-    at_each_block_type, check_bits, check_blocks, filled, listed, pattern, push, same, same_text,
-    vob_of, write,
+    at_each_block_type, check_bits, check_blocks, filled, listed, pattern, push, same, vob_of,
+    write,
 };
 use std::process::Abort;
 use vob::Vob;
 use vob_block::Block;
-
-/// `get`, and within the length `get_unchecked` and an index too.
-fn read<T: Block>(rt: &impl Abort, vob: &Vob<T>, index: usize) -> Option<bool> {
-    let bit = vob.get(index);
-    if index < vob.len() {
-        same(rt, "bit", index, Some(vob.get_unchecked(index)), bit);
-        same(rt, "bit", index, Some(vob[index]), bit);
-    }
-    bit
-}
 
 /// `set_unchecked`, with the length tested first.
 fn write_unchecked<T: Block>(vob: &mut Vob<T>, index: usize, value: bool) -> Option<bool> {
@@ -38,16 +28,13 @@ fn check_row<T: Block>(rt: &(impl Abort + AllocGlobal), digits: &str, blocks: &s
         None,
     );
     let text = format!(in rt.alloc(); "{:?}", vob.get_storage()).expect(rt, "memory");
-    same_text(rt, digits, &text, blocks);
+    same(rt, digits, 0, text.as_str(), blocks);
 }
 
 #[test]
-fn three_bits_take_one_block(rt: HostRuntime) {
+fn each_block_type_takes_as_many_blocks_as_its_width_needs(rt: HostRuntime) {
     at_each_block_type!(check_row(&rt, "101", "[5]"));
-}
-
-#[test]
-fn ten_bits_take_one_block_or_two_bytes(rt: HostRuntime) {
+    // Ten bits take one block or two bytes.
     check_row::<u8>(&rt, "1011011101", "[237, 2]");
     check_row::<u16>(&rt, "1011011101", "[749]");
     check_row::<u32>(&rt, "1011011101", "[749]");
@@ -55,45 +42,29 @@ fn ten_bits_take_one_block_or_two_bytes(rt: HostRuntime) {
     check_row::<u128>(&rt, "1011011101", "[749]");
     check_row::<usize>(&rt, "1011011101", "[749]");
     check_row::<u8>(&rt, "111111111", "[255, 1]");
-}
-
-#[test]
-fn one_bit_more_than_two_words_takes_one_more_block(rt: HostRuntime) {
+    // One bit more than two words takes one more block.
     let ones = "111111111111111111111111111111111111111111111111111111111111111111111111111111\
         111111111111111111111111111111111111111111111111111";
-    check_row::<u8>(
-        &rt,
-        ones,
-        "[255, 255, 255, 255, 255, 255, 255, 255, 255, 255, 255, 255, 255, 255, 255, 255, 1]",
-    );
-    check_row::<u16>(
-        &rt,
-        ones,
-        "[65535, 65535, 65535, 65535, 65535, 65535, 65535, 65535, 1]",
-    );
-    check_row::<u32>(
-        &rt,
-        ones,
-        "[4294967295, 4294967295, 4294967295, 4294967295, 1]",
-    );
-    check_row::<u64>(&rt, ones, "[18446744073709551615, 18446744073709551615, 1]");
+    let bytes =
+        "[255, 255, 255, 255, 255, 255, 255, 255, 255, 255, 255, 255, 255, 255, 255, 255, 1]";
+    check_row::<u8>(&rt, ones, bytes);
+    let halves = "[65535, 65535, 65535, 65535, 65535, 65535, 65535, 65535, 1]";
+    check_row::<u16>(&rt, ones, halves);
+    let quarters = "[4294967295, 4294967295, 4294967295, 4294967295, 1]";
+    check_row::<u32>(&rt, ones, quarters);
+    let words = "[18446744073709551615, 18446744073709551615, 1]";
+    check_row::<u64>(&rt, ones, words);
     check_row::<u128>(&rt, ones, "[340282366920938463463374607431768211455, 1]");
-    check_row::<usize>(&rt, ones, "[18446744073709551615, 18446744073709551615, 1]");
+    check_row::<usize>(&rt, ones, words);
 }
 
-/// Compares how a bit reads.
+/// Compares what `get` reads, and within the length `get_unchecked` and an index too.
 fn reads<T: Block>(rt: &impl Abort, vob: &Vob<T>, index: usize, wanted: Option<bool>) {
-    same(rt, "bit", index, read(rt, vob, index), wanted);
-}
-
-/// Writes the bit at `next`, the first of its block, and no bit before it.
-fn check_first_bit<T: Block>(rt: &impl Abort, vob: &mut Vob<T>, next: usize) {
-    reads(rt, vob, next, Some(true));
-    reads(rt, vob, next.saturating_add(1), None);
-    same(rt, "clears", next, write(vob, next, false), Some(true));
-    reads(rt, vob, next, Some(false));
-    same(rt, "sets", next, write(vob, next, true), Some(true));
-    same(rt, "stays", next, write(vob, next, true), Some(false));
+    same(rt, "bit", index, vob.get(index), wanted);
+    if index < vob.len() {
+        same(rt, "bit", index, Some(vob.get_unchecked(index)), wanted);
+        same(rt, "bit", index, Some(vob[index]), wanted);
+    }
 }
 
 /// As many true bits as a block has places, `width`, and one more in a block of its own.
@@ -111,7 +82,13 @@ fn check_word<T: Block>(rt: &(impl Abort + AllocGlobal), width: u8) {
     same(rt, "blocks of bits", next, vob.get_storage().len(), 1);
     push(rt, &mut vob, true);
     same(rt, "blocks behind", next, vob.get_storage().len(), 2);
-    check_first_bit(rt, &mut vob, next);
+    // The first bit of its block is written, and no bit before it.
+    reads(rt, &vob, next, Some(true));
+    reads(rt, &vob, next.saturating_add(1), None);
+    same(rt, "clears", next, write(&mut vob, next, false), Some(true));
+    reads(rt, &vob, next, Some(false));
+    same(rt, "sets", next, write(&mut vob, next, true), Some(true));
+    same(rt, "stays", next, write(&mut vob, next, true), Some(false));
     reads(rt, &vob, last, Some(true));
     reads(rt, &vob, before, Some(true));
     let changed = write_unchecked(&mut vob, before, true);
@@ -137,31 +114,13 @@ fn a_popped_bit_leaves_no_trace(rt: HostRuntime) {
     same(&rt, "pop", 1, vob.pop(), Some(true));
     same(&rt, "pop", 2, vob.pop(), None);
     assert!(rt; vob.is_empty());
-}
-
-#[test]
-fn the_room_of_a_popped_bit_is_used_again(rt: HostRuntime) {
+    // Its room is used again.
     let mut vob = vob_of::<u8>(&rt, "11111111");
     let room = vob.capacity();
     same(&rt, "pop", 0, vob.pop(), Some(true));
     push(&rt, &mut vob, true);
     check_blocks(&rt, &vob, 8, &[255]);
     same(&rt, "no memory was taken", 0, vob.capacity(), room);
-}
-
-#[test]
-fn truncated_bits_are_gone_from_the_blocks(rt: HostRuntime) {
-    let mut vob = vob_of::<u8>(&rt, "11111111111111111");
-    vob.truncate(17);
-    check_blocks(&rt, &vob, 17, &[255, 255, 1]);
-    vob.truncate(16);
-    check_blocks(&rt, &vob, 16, &[255, 255]);
-    vob.truncate(11);
-    check_blocks(&rt, &vob, 11, &[255, 7]);
-    vob.truncate(200);
-    check_blocks(&rt, &vob, 11, &[255, 7]);
-    vob.truncate(0);
-    check_blocks(&rt, &vob, 0, &[]);
 }
 
 /// 129 true bits, cut at their length, past it and at 0.
@@ -177,25 +136,20 @@ fn check_cuts<T: Block>(rt: &(impl Abort + AllocGlobal), blocks: &[T]) {
 }
 
 #[test]
-fn a_cut_past_the_end_changes_nothing(rt: HostRuntime) {
+fn truncated_bits_are_gone_from_the_blocks(rt: HostRuntime) {
+    let mut vob = vob_of::<u8>(&rt, "11111111111111111");
+    for (index, len, blocks) in [
+        (17, 17, [255, 255, 1].as_slice()),
+        (16, 16, &[255, 255]),
+        (11, 11, &[255, 7]),
+        (200, 11, &[255, 7]),
+        (0, 0, &[]),
+    ] {
+        vob.truncate(index);
+        check_blocks(&rt, &vob, len, blocks);
+    }
     check_cuts::<usize>(&rt, &[usize::MAX, usize::MAX, 1]);
     check_cuts::<u64>(&rt, &[u64::MAX, u64::MAX, 1]);
-}
-
-/// Writes a bit of two equal Vobs, each by one of both calls.
-fn check_writes<T: Block>(
-    rt: &impl Abort,
-    one: &mut Vob<T>,
-    other: &mut Vob<T>,
-    index: usize,
-    value: bool,
-) {
-    let changed = Some(read(rt, one, index) != Some(value));
-    same(rt, "set", index, write(one, index, value), changed);
-    let unchecked = write_unchecked(other, index, value);
-    same(rt, "set_unchecked", index, unchecked, changed);
-    reads(rt, one, index, Some(value));
-    reads(rt, other, index, Some(value));
 }
 
 /// Two equal Vobs by the pattern: each index read, and written by both calls.
@@ -203,8 +157,16 @@ fn check_pattern<T: Block>(rt: &(impl Abort + AllocGlobal), seed: usize, len: us
     let mut one = pattern::<T>(rt, seed, len);
     let mut other = pattern::<T>(rt, seed, len);
     for index in 0..len {
-        check_writes(rt, &mut one, &mut other, index, false);
-        check_writes(rt, &mut one, &mut other, index, true);
+        for value in [false, true] {
+            let bit = one.get(index);
+            reads(rt, &one, index, bit);
+            let changed = Some(bit != Some(value));
+            same(rt, "set", index, write(&mut one, index, value), changed);
+            let unchecked = write_unchecked(&mut other, index, value);
+            same(rt, "set_unchecked", index, unchecked, changed);
+            reads(rt, &one, index, Some(value));
+            reads(rt, &other, index, Some(value));
+        }
     }
 }
 

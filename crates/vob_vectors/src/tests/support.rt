@@ -33,16 +33,6 @@ pub fn same<V: PartialEq + Debug + Drop>(
     assert_eq!(rt; found, wanted, "{what}, {at}");
 }
 
-/// Compares a list of indices with what is wanted.
-pub fn same_indices(rt: &impl Abort, what: &str, found: &[usize], wanted: &[usize]) {
-    assert_eq!(rt; found, wanted, "{what}");
-}
-
-/// Compares a text with what is wanted.
-pub fn same_text(rt: &impl Abort, what: &str, found: &str, wanted: &str) {
-    assert_eq!(rt; found, wanted, "{what}");
-}
-
 /// All that a walk gives, in its order.
 pub fn listed<V: Drop, W: Iterator<Item = V>>(rt: &(impl Abort + AllocGlobal), walk: W) -> Vec<V>
     requires ends { W.can_next walk × IsFinite (W.remaining walk) }
@@ -63,11 +53,6 @@ pub fn resize<T: Block>(rt: &impl Abort, vob: &mut Vob<T>, len: usize, value: bo
 /// Adds the bits of another Vob behind the last one.
 pub fn join<T: Block>(rt: &impl Abort, vob: &mut Vob<T>, other: &Vob<T>) {
     vob.extend_from_vob(other).expect(rt, "memory");
-}
-
-/// The bits from `index` on, which leave the Vob.
-pub fn cut<T: Block>(rt: &impl Abort, vob: &mut Vob<T>, index: usize) -> Vob<T> {
-    vob.split_off(index).expect(rt, "memory")
 }
 
 /// The bits of a range, which leave the Vob.

@@ -1,10 +1,13 @@
-//! A Vob as digits and as bytes, and as serde writes and reads it where it stands.
-use super::support::{check_bits, check_same, pattern, same, same_text, vob_of};
+//! A Vob as digits and as bytes, and as serde writes and reads it where it stands; errors as text.
+use super::support::{check_bits, check_same, pattern, same, vob_of};
 use serde::{Deserialize, Serialize};
 use std::alloc::Global;
+use std::fmt::Display;
 use std::process::Abort;
-use vob::{DigitsError, Vob};
+use vob::{DigitsError, Vob, VobError};
 use vob_block::Block;
+use vob_users::grammar::GrammarError;
+use vob_users::live::LiveError;
 
 /// Each pattern below 130 bits is written as its digits, and they are read back.
 fn check_digits<T: Block>(rt: &(impl Abort + AllocGlobal)) {
@@ -15,13 +18,6 @@ fn check_digits<T: Block>(rt: &(impl Abort + AllocGlobal)) {
         let read = Vob::<T>::from_digits(rt.alloc(), text.as_str()).expect(rt, "digits");
         check_same(rt, &read, &vob);
     }
-}
-
-#[test]
-fn a_vob_is_written_as_its_digits(rt: HostRuntime) {
-    check_digits::<u8>(&rt);
-    check_digits::<u64>(&rt);
-    check_digits::<u128>(&rt);
 }
 
 /// The bytes of a Vob, which are as many as its bits need, are read as its bits and false ones.
@@ -35,32 +31,20 @@ fn check_bytes(rt: &(impl Abort + AllocGlobal), vob: &Vob) {
 }
 
 #[test]
-fn bytes_are_read_back(rt: HostRuntime) {
+fn digits_and_bytes_are_read_back(rt: HostRuntime) {
+    check_digits::<u8>(&rt);
+    check_digits::<u64>(&rt);
+    check_digits::<u128>(&rt);
     for len in 0..200 {
         check_bytes(&rt, &pattern(&rt, 2, len));
     }
-}
-
-/// Why a text isn't read.
-fn refused(rt: &impl AllocGlobal, text: &str) -> Option<DigitsError> {
-    Vob::<u8>::from_digits(rt.alloc(), text).err()
-}
-
-#[test]
-fn the_first_byte_that_is_no_digit_is_named(rt: HostRuntime) {
+    // The first byte that is no digit is named.
     let texts = ["2", "1\n", "01x1y", "0101010101é", "10 1", ""];
     let wanted = [Some(0), Some(1), Some(2), Some(10), Some(2), None];
     for (text, at) in texts.iter().zip(wanted) {
-        same(
-            &rt,
-            text,
-            0,
-            refused(&rt, text),
-            at.map(DigitsError::BadDigit),
-        );
+        let refused = Vob::<u8>::from_digits(rt.alloc(), text).err();
+        same(&rt, text, 0, refused, at.map(DigitsError::BadDigit));
     }
-    let text = format!(in rt.alloc(); "{}", DigitsError::BadDigit(7)).expect(&rt, "memory");
-    same_text(&rt, "an error", text.as_str(), "neither 0 nor 1 at index 7");
 }
 
 /// The rows and the columns of a table that are shown.
@@ -76,7 +60,7 @@ fn shown_of(alloc: Global, text: &str) -> Result<Shown, serde_json::Error> {
 }
 
 #[test]
-fn a_struct_with_vobs_is_written_and_read(rt: HostRuntime) {
+fn a_struct_with_vobs_is_written_and_read_and_dirty_storage_is_not(rt: HostRuntime) {
     let shown = Shown {
         rows: vob_of(&rt, "100000001"),
         columns: vob_of(&rt, "101"),
@@ -84,9 +68,20 @@ fn a_struct_with_vobs_is_written_and_read(rt: HostRuntime) {
     let wanted = "{\"rows\":{\"len\":9,\"vec\":[1,1]},\"columns\":{\"len\":3,\"vec\":[5]}}";
     let text = serde_json::to_string(rt.alloc(), &shown).ok();
     let text = text.expect(&rt, "written");
-    same_text(&rt, "a struct", text.as_str(), wanted);
+    same(&rt, "a struct", 0, text.as_str(), wanted);
     let read = shown_of(rt.alloc(), wanted).ok().expect(&rt, "read");
     same(&rt, "a struct", 0, read, shown);
+    for text in [
+        "{\"len\":9,\"vec\":[1,2]}",
+        "{\"len\":9,\"vec\":[1]}",
+        "{\"len\":0,\"vec\":[0]}",
+        "{\"len\":8,\"vec\":[256]}",
+        "{\"len\":18446744073709551615,\"vec\":[]}",
+        "{\"vec\":[1]}",
+    ] {
+        let read: Option<Vob<u8>> = serde_json::from_str(rt.alloc(), text).ok();
+        same(&rt, text, 0, read.is_none(), true);
+    }
 }
 
 /// The bits of a text and one more, or any error.
@@ -96,30 +91,32 @@ fn bits_of(alloc: Global, text: &str) -> Result<Vob, anyhow::Error> {
     Ok(vob)
 }
 
+/// Compares an error as text.
+fn check_error<E: Display + Drop>(rt: &(impl Abort + AllocGlobal), error: E, wanted: &str) {
+    let text = format!(in rt.alloc(); "{error}").expect(rt, "memory");
+    same(rt, "an error", 0, text.as_str(), wanted);
+}
+
 #[test]
-fn errors_go_into_any_error(rt: HostRuntime) {
+fn errors_say_why_and_go_into_any_error(rt: HostRuntime) {
+    check_error(&rt, VobError::TooLong, "the length would pass usize::MAX");
+    check_error(&rt, VobError::Memory, "out of memory");
+    check_error(&rt, VobError::PastEnd, "the index is past the end");
+    let digit = DigitsError::BadDigit(7);
+    check_error(&rt, digit, "neither 0 nor 1 at index 7");
+    let symbol = GrammarError::BadSymbol { rule: 12 };
+    check_error(&rt, symbol, "rule 12 names a symbol that isn't there");
+    check_error(&rt, GrammarError::Memory, "out of memory");
+    let variable = LiveError::BadVariable { node: 7 };
+    check_error(&rt, variable, "node 7 names no variable");
+    let next = LiveError::BadNext { node: 10 };
+    check_error(&rt, next, "node 10 leads to no node");
+    check_error(&rt, LiveError::Memory, "out of memory");
     check_bits(
         &rt,
         &bits_of(rt.alloc(), "10").ok().expect(&rt, "bits"),
         "101",
     );
     let error = bits_of(rt.alloc(), "1 0").err().expect(&rt, "an error");
-    let text = format!(in rt.alloc(); "{error}").expect(&rt, "memory");
-    same_text(&rt, "an error", text.as_str(), "neither 0 nor 1 at index 1");
-}
-
-#[test]
-fn dirty_storage_is_not_read(rt: HostRuntime) {
-    let rows = [
-        "{\"len\":9,\"vec\":[1,2]}",
-        "{\"len\":9,\"vec\":[1]}",
-        "{\"len\":0,\"vec\":[0]}",
-        "{\"len\":8,\"vec\":[256]}",
-        "{\"len\":18446744073709551615,\"vec\":[]}",
-        "{\"vec\":[1]}",
-    ];
-    for text in rows {
-        let read: Option<Vob<u8>> = serde_json::from_str(rt.alloc(), text).ok();
-        same(&rt, text, 0, read.is_none(), true);
-    }
+    check_error(&rt, error, "neither 0 nor 1 at index 1");
 }

@@ -1,6 +1,6 @@
 //! The worked users: which nodes of small graphs lead to which, against lists of bits; slots that
 //! are taken one after another; and the rows of a filter.
-use super::support::{check_bits, same, same_indices, vob_of, write};
+use super::support::{check_bits, same, vob_of, write};
 use std::process::Abort;
 use vob::Vob;
 use vob_users::reachable::{is_square, reach};
@@ -111,25 +111,22 @@ fn rows_of_another_length_are_seen(rt: HostRuntime) {
 }
 
 #[test]
-fn free_slots_are_taken_from_the_first_on(rt: HostRuntime) {
-    let mut slots = vob_of::<usize>(&rt, "1010");
-    same(&rt, "slot", 0, take_slot(&mut slots), Some(1));
-    same(&rt, "slot", 1, take_slot(&mut slots), Some(3));
-    same(&rt, "slot", 2, take_slot(&mut slots), None);
-    assert!(rt; slots == vob_of(&rt, "1111"));
-}
-
-#[test]
 fn a_filter_keeps_the_rows_of_its_set_bits(rt: HostRuntime) {
     let filter = vob_of::<usize>(&rt, "01011");
     let rows = kept_rows(rt.alloc(), &filter).expect(&rt, "memory");
-    same_indices(&rt, "rows", &rows, &[1, 3, 4]);
+    same(&rt, "rows", 0, rows.as_slice(), &[1, 3, 4]);
     let none = kept_rows(rt.alloc(), &Vob::new(rt.alloc())).expect(&rt, "memory");
-    same_indices(&rt, "rows of no filter", &none, &[]);
+    same(&rt, "rows of no filter", 0, none.as_slice(), &[]);
 }
 
 #[test]
-fn a_slot_that_is_given_back_comes_again(rt: HostRuntime) {
+fn free_slots_are_taken_from_the_first_on(rt: HostRuntime) {
+    let mut taken = vob_of::<usize>(&rt, "1010");
+    for (at, slot) in [Some(1), Some(3), None].into_iter().enumerate() {
+        same(&rt, "slot", at, take_slot(&mut taken), slot);
+    }
+    assert!(rt; taken == vob_of(&rt, "1111"));
+    // A slot that is given back comes again.
     let mut slots = Slots::new(rt.alloc(), 3).expect(&rt, "memory");
     same(&rt, "slot", 0, slots.alloc(), Some(0));
     same(&rt, "slot", 1, slots.alloc(), Some(1));
@@ -165,9 +162,9 @@ fn rows_are_selected_by_columns(rt: HostRuntime) {
         1,
     );
     let next = page(rt.alloc(), &rows, 1, 1).expect(&rt, "memory");
-    same_indices(&rt, "a page", &next, &[3]);
+    same(&rt, "a page", 0, next.as_slice(), &[3]);
     let last = page_back(rt.alloc(), &rows, 0, 2).expect(&rt, "memory");
-    same_indices(&rt, "the last page", &last, &[5, 3]);
+    same(&rt, "the last page", 0, last.as_slice(), &[5, 3]);
     let past = page(rt.alloc(), &rows, 3, 2).expect(&rt, "memory");
-    same_indices(&rt, "a page past the last row", &past, &[]);
+    same(&rt, "a page past the last row", 0, past.as_slice(), &[]);
 }

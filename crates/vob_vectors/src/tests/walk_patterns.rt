@@ -1,7 +1,7 @@
 //! Walks over indices by patterns, from both ends, against one `get` after another.
 ghost use Rattle.std.specs.Prelude.{◌<◌};
 
-use super::support::{pattern, same, same_indices};
+use super::support::{pattern, same};
 use super::walks::indices_of;
 use std::ops::Bound;
 use std::process::Abort;
@@ -110,46 +110,6 @@ fn check_ranges<T: Block>(rt: &(impl Abort + AllocGlobal), len: usize, step: usi
     }
 }
 
-#[test]
-fn walks_over_bytes_give_what_reads_give(rt: HostRuntime) {
-    for len in 0..70 {
-        check_ranges::<u8>(&rt, len, 9);
-    }
-}
-
-#[test]
-fn walks_over_words_give_what_reads_give(rt: HostRuntime) {
-    for len in 0..70 {
-        check_ranges::<usize>(&rt, len, 13);
-    }
-    for len in [127, 128, 129, 193] {
-        check_ranges::<usize>(&rt, len, 31);
-    }
-}
-
-#[test]
-fn walks_over_other_blocks_give_what_reads_give(rt: HostRuntime) {
-    for len in [0, 1, 15, 16, 17, 31, 33, 63, 64, 65, 127, 129, 257] {
-        check_ranges::<u16>(&rt, len, 29);
-        check_ranges::<u32>(&rt, len, 29);
-        check_ranges::<u64>(&rt, len, 29);
-        check_ranges::<u128>(&rt, len, 29);
-    }
-}
-
-/// A walk between two indices gives what reads between them give.
-fn check_between<T: Block>(
-    rt: &(impl Abort + AllocGlobal),
-    vob: &Vob<T>,
-    first: usize,
-    last: usize,
-) {
-    let between = (Bound::Excluded(first), Bound::Excluded(last));
-    let rest = indices_of(rt, vob, true, between);
-    let wanted = plain_indices(rt, vob, true, first.saturating_add(1), last);
-    same_indices(rt, "between both ends", &rest, &wanted);
-}
-
 /// A new walk between the indices that an old one gave last, front and back, gives what is left.
 fn check_resumed<T: Block>(rt: &(impl Abort + AllocGlobal), len: usize) {
     let vob = pattern::<T>(rt, 0, len);
@@ -158,12 +118,29 @@ fn check_resumed<T: Block>(rt: &(impl Abort + AllocGlobal), len: usize) {
         let (Some(first), Some(last)) = (walk.next(), walk.next_back()) else {
             return;
         };
-        check_between(rt, &vob, first, last);
+        let between = (Bound::Excluded(first), Bound::Excluded(last));
+        let rest = indices_of(rt, &vob, true, between);
+        let wanted = plain_indices(rt, &vob, true, first.saturating_add(1), last);
+        same(rt, "between both ends", 0, rest.as_slice(), &wanted);
     }
 }
 
 #[test]
-fn a_new_walk_goes_on_between_both_ends(rt: HostRuntime) {
+fn walks_give_what_reads_give(rt: HostRuntime) {
+    for len in 0..70 {
+        check_ranges::<u8>(&rt, len, 9);
+        check_ranges::<usize>(&rt, len, 13);
+    }
+    for len in [127, 128, 129, 193] {
+        check_ranges::<usize>(&rt, len, 31);
+    }
+    for len in [0, 1, 15, 16, 17, 31, 33, 63, 64, 65, 127, 129, 257] {
+        check_ranges::<u16>(&rt, len, 29);
+        check_ranges::<u32>(&rt, len, 29);
+        check_ranges::<u64>(&rt, len, 29);
+        check_ranges::<u128>(&rt, len, 29);
+    }
+    // A new walk goes on between both ends of an old one.
     for len in [0, 1, 2, 8, 40, 70, 130] {
         check_resumed::<u8>(&rt, len);
         check_resumed::<usize>(&rt, len);

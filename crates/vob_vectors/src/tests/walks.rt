@@ -1,10 +1,7 @@
 //! Walks over the indices of set bits and of unset bits: worked rows.
 ghost use Rattle.std.specs.Iterator.{IsFinite};
 
-use super::support::{
-    at_each_block_type, filled, join, listed, push, resize, same, same_indices, same_text, vob_of,
-    write,
-};
+use super::support::{at_each_block_type, filled, join, listed, push, resize, same, vob_of, write};
 use std::ops::Bound::{Excluded, Included, Unbounded};
 use std::ops::{Bound, RangeBounds};
 use std::process::Abort;
@@ -64,18 +61,10 @@ fn check_indices<T: Block>(
     indices: &[usize],
 ) {
     let forth = indices_of(rt, vob, value, range);
-    same_indices(rt, "from the front", &forth, indices);
+    same(rt, "from the front", 0, forth.as_slice(), indices);
     let mut back = indices_back(rt, vob, value, range);
     back.reverse();
-    same_indices(rt, "the last one first", &back, indices);
-}
-
-#[test]
-fn listed_bits_are_found(rt: HostRuntime) {
-    let mut three = vob_of::<usize>(&rt, "010");
-    same(&rt, "bit", 2, write(&mut three, 2, true), Some(true));
-    check_indices(&rt, &three, true, ALL, &[1, 2]);
-    check_indices(&rt, &three, false, ALL, &[0]);
+    same(rt, "the last one first", 0, back.as_slice(), indices);
 }
 
 /// Compares what pulls at a walk answer, as text: F is a pull at the front, and any other letter
@@ -97,7 +86,7 @@ pub fn check_pulls<W: IndexWalk>(
     }
     let mut answers = Vec::new(rt.alloc());
     deal(walk, &pulls, &mut answers).expect(rt, "memory");
-    same_text(rt, letters, &text_of(rt, &answers), wanted);
+    same(rt, letters, 0, text_of(rt, &answers).as_str(), wanted);
 }
 
 /// Answers of a walk as text, as in `0 9 none`.
@@ -114,43 +103,33 @@ fn text_of(rt: &(impl Abort + AllocGlobal), answers: &[Option<usize>]) -> String
     text
 }
 
-/// Compares what pulls at a walk over the set bits within a range answer.
-fn check_set<T: Block, R: RangeBounds<usize>>(
+/// Compares what pulls at a walk over the bits of one value within a range answer.
+fn check_walk<T: Block, R: RangeBounds<usize>>(
     rt: &(impl Abort + AllocGlobal),
     vob: &Vob<T>,
-    range: R,
+    (value, range): (bool, R),
     letters: &str,
     wanted: &str,
 ) {
-    check_pulls(rt, &mut vob.iter_set_bits(range), letters, wanted);
-}
-
-/// Compares what pulls at a walk over the unset bits within a range answer.
-fn check_unset<T: Block, R: RangeBounds<usize>>(
-    rt: &(impl Abort + AllocGlobal),
-    vob: &Vob<T>,
-    range: R,
-    letters: &str,
-    wanted: &str,
-) {
-    check_pulls(rt, &mut vob.iter_unset_bits(range), letters, wanted);
+    if value {
+        check_pulls(rt, &mut vob.iter_set_bits(range), letters, wanted);
+    } else {
+        check_pulls(rt, &mut vob.iter_unset_bits(range), letters, wanted);
+    }
 }
 
 /// Ten bits, joined of two parts, whose walks are pulled at from both ends in turn.
 fn check_turns<T: Block>(rt: &(impl Abort + AllocGlobal)) {
     let mut ten = vob_of::<T>(rt, "10110");
     join(rt, &mut ten, &vob_of(rt, "11101"));
-    check_set(rt, &ten, .., "FBFBFBFB", "0 9 2 7 3 6 5 none");
-    check_unset(rt, &ten, .., "BFBF", "8 1 4 none");
+    check_walk(rt, &ten, (true, ..), "FBFBFBFB", "0 9 2 7 3 6 5 none");
+    check_walk(rt, &ten, (false, ..), "BFBF", "8 1 4 none");
 }
 
 #[test]
 fn both_ends_meet_in_the_middle(rt: HostRuntime) {
     at_each_block_type!(check_turns(&rt));
-}
-
-#[test]
-fn answers_come_behind_those_of_earlier_deals(rt: HostRuntime) {
+    // Answers come behind those of earlier deals.
     let three = vob_of::<usize>(&rt, "111");
     let mut walk = three.iter_set_bits(..);
     let mut answers = Vec::new(rt.alloc());
@@ -158,12 +137,8 @@ fn answers_come_behind_those_of_earlier_deals(rt: HostRuntime) {
     deal(&mut walk, &[End::Back], &mut answers).expect(&rt, "memory");
     deal(&mut walk, &[], &mut answers).expect(&rt, "memory");
     deal(&mut walk, &[End::Front; 3], &mut answers).expect(&rt, "memory");
-    same_text(
-        &rt,
-        "of 9 and three bits",
-        &text_of(&rt, &answers),
-        "9 2 0 1 none",
-    );
+    let text = text_of(&rt, &answers);
+    same(&rt, "of 9 and three bits", 0, text.as_str(), "9 2 0 1 none");
 }
 
 /// What a walk gives at the front, at the front and at the back.
@@ -177,34 +152,24 @@ fn check_nothing<T: Block>(rt: &(impl Abort + AllocGlobal), len: usize) {
     let mut walk = vob.iter_set_bits(..);
     same(rt, "hint at false bits", len, walk.size_hint(), (0, None));
     same(rt, "false bits", len, three_items(&mut walk), [None; 3]);
-    check_set(rt, &vob, .., "BF", "none none");
-    let found = indices_of(rt, &vob, true, ALL);
-    same(
-        rt,
-        "no memory for none of the bits",
-        len,
-        found.capacity(),
-        0,
-    );
-}
-
-#[test]
-fn a_walk_without_a_match_is_at_its_end(rt: HostRuntime) {
-    for len in [0, 1, 24, 100, 256] {
-        at_each_block_type!(check_nothing(&rt, len));
-    }
-    let empty = Vob::new(rt.alloc());
-    check_unset(&rt, &empty, .., "FB", "none none");
+    check_walk(rt, &vob, (true, ..), "BF", "none none");
+    let room = indices_of(rt, &vob, true, ALL).capacity();
+    same(rt, "no memory for none of the bits", len, room, 0);
 }
 
 #[test]
 fn a_walk_at_its_end_stays_there(rt: HostRuntime) {
+    for len in [0, 1, 24, 100, 256] {
+        at_each_block_type!(check_nothing(&rt, len));
+    }
+    let empty = Vob::new(rt.alloc());
+    check_walk(&rt, &empty, (false, ..), "FB", "none none");
     let zeros = vob_of::<usize>(&rt, "000");
-    check_unset(&rt, &zeros, .., "FFFFB", "0 1 2 none none");
+    check_walk(&rt, &zeros, (false, ..), "FFFFB", "0 1 2 none none");
     let one = vob_of::<usize>(&rt, "1");
-    check_set(&rt, &one, .., "FFF", "0 none none");
+    check_walk(&rt, &one, (true, ..), "FFF", "0 none none");
     let zero = vob_of::<usize>(&rt, "0");
-    check_unset(&rt, &zero, .., "FFF", "0 none none");
+    check_walk(&rt, &zero, (false, ..), "FFF", "0 none none");
 }
 
 #[test]
@@ -233,26 +198,10 @@ fn bits_of_one_value_are_all_found(rt: HostRuntime) {
         at_each_block_type!(check_all(&rt, value, 24));
         at_each_block_type!(check_all(&rt, value, 131));
     }
-}
-
-#[test]
-fn ranges_are_written_in_every_form(rt: HostRuntime) {
-    let two = vob_of::<usize>(&rt, "10");
-    check_unset(&rt, &two, 0..1, "F", "none");
-    let three = vob_of::<usize>(&rt, "101");
-    check_set(&rt, &three, ..=usize::MAX, "FFF", "0 2 none");
-    check_set(&rt, &three, 1.., "F", "2");
-    check_set(&rt, &three, 0..=0, "B", "0");
-    let four = vob_of::<usize>(&rt, "0100");
-    let past = listed(&rt, four.iter_unset_bits(..10));
-    same_indices(&rt, "past the length", &past, &[0, 2, 3]);
-}
-
-#[test]
-fn a_range_that_ends_before_its_start_gives_nothing(rt: HostRuntime) {
-    let three = vob_of::<usize>(&rt, "101");
-    check_unset(&rt, &three, 3..1, "F", "none");
-    check_set(&rt, &three, 3..1, "B", "none");
+    let mut three = vob_of::<usize>(&rt, "010");
+    same(&rt, "bit", 2, write(&mut three, 2, true), Some(true));
+    check_indices(&rt, &three, true, ALL, &[1, 2]);
+    check_indices(&rt, &three, false, ALL, &[0]);
 }
 
 /// A range, and the indices of the set bits and of the unset bits within it.
@@ -271,30 +220,6 @@ const EXTREMES: [Row; 10] = [
     ((Included(0), Excluded(0)), &[], &[]),
     ((Included(2), Included(2)), &[2], &[]),
 ];
-
-/// Compares the set bits of one Vob and the unset bits of another with these rows.
-fn check_rows<T: Block>(
-    rt: &(impl Abort + AllocGlobal),
-    sets: &Vob<T>,
-    unsets: &Vob<T>,
-    rows: &[Row],
-) {
-    for (range, set, unset) in rows {
-        check_indices(rt, sets, true, *range, set);
-        check_indices(rt, unsets, false, *range, unset);
-    }
-}
-
-/// Extreme bounds, and what is set and unset within them of `101`.
-fn check_bounds<T: Block>(rt: &(impl Abort + AllocGlobal)) {
-    let vob = vob_of::<T>(rt, "101");
-    check_rows(rt, &vob, &vob, &EXTREMES);
-}
-
-#[test]
-fn every_pair_of_bounds_is_accepted(rt: HostRuntime) {
-    at_each_block_type!(check_bounds(&rt));
-}
 
 /// 257 bits of which few have the value `wanted`, in blocks far from one another.
 fn far_apart<T: Block>(rt: &(impl Abort + AllocGlobal), wanted: bool) -> Vob<T> {
@@ -345,17 +270,34 @@ const FAR: [Row; 7] = [
     ),
 ];
 
-/// Ranges over bits that are far apart: the indices of set ones, and those of unset ones.
-fn check_far<T: Block>(rt: &(impl Abort + AllocGlobal)) {
-    check_rows(
-        rt,
-        &far_apart::<T>(rt, true),
-        &far_apart::<T>(rt, false),
-        &FAR,
-    );
+/// Extreme bounds, and ranges over bits that are far apart: blocks without a match are passed.
+fn check_bounds<T: Block>(rt: &(impl Abort + AllocGlobal)) {
+    let vob = vob_of::<T>(rt, "101");
+    let (sets, unsets) = (far_apart::<T>(rt, true), far_apart::<T>(rt, false));
+    for (range, set, unset) in &EXTREMES {
+        check_indices(rt, &vob, true, *range, set);
+        check_indices(rt, &vob, false, *range, unset);
+    }
+    for (range, set, unset) in &FAR {
+        check_indices(rt, &sets, true, *range, set);
+        check_indices(rt, &unsets, false, *range, unset);
+    }
 }
 
 #[test]
-fn blocks_without_a_match_are_passed(rt: HostRuntime) {
-    at_each_block_type!(check_far(&rt));
+fn every_form_of_range_is_accepted(rt: HostRuntime) {
+    let two = vob_of::<usize>(&rt, "10");
+    check_walk(&rt, &two, (false, 0..1), "F", "none");
+    let three = vob_of::<usize>(&rt, "101");
+    check_walk(&rt, &three, (true, ..=usize::MAX), "FFF", "0 2 none");
+    check_walk(&rt, &three, (true, 1..), "F", "2");
+    check_walk(&rt, &three, (true, 0..=0), "B", "0");
+    let four = vob_of::<usize>(&rt, "0100");
+    let past = listed(&rt, four.iter_unset_bits(..10));
+    same(&rt, "past the length", 0, past.as_slice(), &[0, 2, 3]);
+    // A range that ends before its start gives nothing.
+    check_walk(&rt, &three, (false, 3..1), "F", "none");
+    check_walk(&rt, &three, (true, 3..1), "B", "none");
+    // Every pair of bounds is accepted.
+    at_each_block_type!(check_bounds(&rt));
 }
