@@ -117,6 +117,14 @@ module _ {X : Type 0} (number : X → ℕ) (w : ℕ) (wide : 0 < w) (first skip 
       (number y) above h (omega (arith, inside, same, length-map now number))
       (places-shifted w source skip places k (number y) (number x) high below low next has))
 
+-- the block of bit `from` is there, and its first bit is no further from the end
+pub first-inside : (w u from by n : ℕ) → 0 < w → u ≡ w → 0 < by → from + by ≤ n * w → from / u < n
+first-inside w u from by n wide same some inside =
+    rw same ((div-lt_iff_lt-mul wide).1 (omega (arith, some, inside)))
+
+pub first-room : (w u from by m : ℕ) → u ≡ w → from + by ≤ m → from / u * w + by ≤ m
+first-room w u from by m same inside = rw same (omega (arith, div-add-mod' from w, inside))
+
 -- the same of items with a number each; u is the width as the code read it
 module _ {X : Type 0} (number : X → ℕ) (w : ℕ) (wide : 0 < w) (by : ℕ) (items after : List X)
     (long : length after ≡ length items) (u : ℕ) (same : u ≡ w) where
