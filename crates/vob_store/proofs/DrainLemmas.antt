@@ -1,5 +1,5 @@
 -- Bits taken out, and those behind them closed up, at a plain width.
-use Rattle.std.proofs.Common.{◌≡◌, ℕ, ◌+◌, ◌-◌, ◌*◌, ◌/◌, ◌%◌, ◌<◌, ◌≤◌, false, cond, List, ◌++◌, length, get_or, set, drop, take, map, ltb, sym, ap, ◌∙◌, arith, inl, inr, mod-lt, div-add-mod', add-mul}
+use Rattle.std.proofs.Common.{◌≡◌, ℕ, ◌+◌, ◌-◌, ◌*◌, ◌/◌, ◌%◌, ◌<◌, ◌≤◌, false, cond, List, ◌++◌, length, get_or, set, drop, take, map, ltb, sym, ap, subst, ◌∙◌, arith, inl, inr, mod-lt, div-add-mod', add-mul}
 use Rattle.std.proofs.Math.Nat.{div-lt_iff_lt-mul}
 use Rattle.std.proofs.lemmas.Bool.{cases_lt, cases_eq, lt-ltb, le-ltb, cond-true, cond-false}
 use Rattle.std.proofs.lemmas.List.{length-append, length-drop, length-map, map-set, get_or-drop, get_or-map}
@@ -124,6 +124,14 @@ first-inside w u from by n wide same some inside =
 
 pub first-room : (w u from by m : ℕ) → u ≡ w → from + by ≤ m → from / u * w + by ≤ m
 first-room w u from by m same inside = rw same (omega (arith, div-add-mod' from w, inside))
+
+-- closed up by whole blocks and some places
+pub AreBuilt-by : (w u by m first : ℕ) (xs source : List ℕ) → u ≡ w
+    → AreBuilt w (m - by / u) xs (closed_bit w (first * w) (by / u * w + by % u) source)
+    → AreBuilt w (m - by / w) xs (closed_bit w (first * w) by source)
+AreBuilt-by w u by m first xs source same h =
+    subst (λ (n : ℕ). AreBuilt w (m - by / w) xs (closed_bit w (first * w) n source))
+    (div-add-mod' by w) (rw same at h)
 
 -- the same of items with a number each; u is the width as the code read it
 module _ {X : Type 0} (number : X → ℕ) (w : ℕ) (wide : 0 < w) (by : ℕ) (items after : List X)
