@@ -1,5 +1,5 @@
 -- Bits taken out, and those behind them closed up, at a plain width.
-use Rattle.std.proofs.Common.{◌≡◌, ℕ, ◌+◌, ◌-◌, ◌*◌, ◌/◌, ◌%◌, ◌<◌, ◌≤◌, false, cond, List, ◌++◌, length, get_or, set, drop, take, map, ltb, sym, ap, ◌∙◌, arith, inl, inr, mod-lt, div-add-mod', add-mul}
+use Rattle.std.proofs.Common.{◌≡◌, ℕ, ◌+◌, ◌-◌, ◌*◌, ◌/◌, ◌%◌, ◌<◌, ◌≤◌, false, cond, List, ◌++◌, length, get_or, set, drop, take, map, ltb, sym, ap, subst, ◌∙◌, arith, inl, inr, mod-lt, div-add-mod', add-mul}
 use Rattle.std.proofs.Math.Nat.{div-lt_iff_lt-mul}
 use Rattle.std.proofs.lemmas.Bool.{cases_lt, cases_eq, lt-ltb, le-ltb, cond-true, cond-false}
 use Rattle.std.proofs.lemmas.List.{length-append, length-drop, length-map, map-set, get_or-drop, get_or-map}
@@ -116,6 +116,22 @@ module _ {X : Type 0} (number : X → ℕ) (w : ℕ) (wide : 0 < w) (first skip 
       rw map-set (AreBuilt-closed w wide (skip * w + places) source (map number now) first k
       (number y) above h (omega (arith, inside, same, length-map now number))
       (places-shifted w source skip places k (number y) (number x) high below low next has))
+
+-- the block of bit `from` is there, and its first bit is no further from the end
+pub first-inside : (w u from by n : ℕ) → 0 < w → u ≡ w → 0 < by → from + by ≤ n * w → from / u < n
+first-inside w u from by n wide same some inside =
+    rw same ((div-lt_iff_lt-mul wide).1 (omega (arith, some, inside)))
+
+pub first-room : (w u from by m : ℕ) → u ≡ w → from + by ≤ m → from / u * w + by ≤ m
+first-room w u from by m same inside = rw same (omega (arith, div-add-mod' from w, inside))
+
+-- closed up by whole blocks and some places
+pub AreBuilt-by : (w u by m first : ℕ) (xs source : List ℕ) → u ≡ w
+    → AreBuilt w (m - by / u) xs (closed_bit w (first * w) (by / u * w + by % u) source)
+    → AreBuilt w (m - by / w) xs (closed_bit w (first * w) by source)
+AreBuilt-by w u by m first xs source same h =
+    subst (λ (n : ℕ). AreBuilt w (m - by / w) xs (closed_bit w (first * w) n source))
+    (div-add-mod' by w) (rw same at h)
 
 -- the same of items with a number each; u is the width as the code read it
 module _ {X : Type 0} (number : X → ℕ) (w : ℕ) (wide : 0 < w) (by : ℕ) (items after : List X)

@@ -20,17 +20,10 @@ nil_left xs ys none = nil_from_length xs (omega (arith, length-append xs ys, ap 
 nil_right : (xs ys : List ℕ) → xs ++ ys ≡ [] → ys ≡ []
 nil_right xs ys none = nil_from_length ys (omega (arith, length-append xs ys, ap length none))
 
--- the first of a list whose first part is in hand
-pub first-steps : (answer : Option ℕ) (full bits others old : List ℕ) → full ++ others ≡ old
-    → (full ≡ [] → old ≡ []) → MatchOption answer ((full ≡ []) × (bits ≡ [])) (λ i. full ≡ i ∷ bits)
-    → MatchOption answer ((old ≡ []) × (bits ++ others ≡ [])) (λ i. old ≡ i ∷ (bits ++ others))
-first-steps None full bits others old same empty taken =
-    let none = empty taken.0 in
-    (none, ap (λ xs. xs ++ others) taken.1 ∙ nil_right full others (same ∙ none))
-first-steps (Some i) full bits others old same empty taken =
-    sym same ∙ ap (λ xs. xs ++ others) taken
+pub nil_both : (xs ys zs : List ℕ) → zs ≡ [] → xs ++ ys ≡ [] → xs ++ (ys ++ zs) ≡ []
+nil_both xs ys zs last none = sym (append_assoc xs ys zs) ∙ ap (λ l. l ++ zs) none ∙ last
 
--- and the last of one whose last part is
+-- the last of a list whose last part is in hand
 pub last-steps : (answer : Option ℕ) (full bits front between old : List ℕ)
     → front ++ (between ++ full) ≡ old → (full ≡ [] → old ≡ [])
     → MatchOption answer ((full ≡ []) × (bits ≡ [])) (λ i. full ≡ bits ++ i ∷ [])
@@ -161,14 +154,7 @@ pub rest-fresh : (front back indices : List ℕ) → front ≡ [] → back ≡ [
 rest-fresh front back indices none no_other =
     ap (λ xs. xs ++ (indices ++ back)) none ∙ ap (λ xs. indices ++ xs) no_other ∙ append-nil indices
 
--- what gives the first or the last of a list has less left
-pub goes-first : (answer : Option ℕ) (walk after : Walk)
-    → MatchOption answer ((walk.rest ≡ []) × (after.rest ≡ [])) (λ i. walk.rest ≡ i ∷ after.rest)
-    → MakesProgress (λ (w : Walk). ⊤) (item_count (λ (w : Walk). w.rest)) walk answer after
-goes-first None walk after taken = record { on = λ finite. tt; keeps = tt; rests = λ _. tt }
-goes-first (Some i) walk after taken = record
-    { on = λ finite. (tt, finite, omega (arith, ap length taken)); keeps = tt; rests = λ _. tt }
-
+-- what gives the last of a list has less left
 pub goes-last : (answer : Option ℕ) (walk after : Walk)
     → MatchOption answer ((walk.rest ≡ []) × (after.rest ≡ []))
     (λ i. walk.rest ≡ after.rest ++ i ∷ [])

@@ -178,6 +178,24 @@ module _ {X : Type 0} (number : X → ℕ) (skip : X) where
     items = k.items ∙ h.items;
   }
 
+  -- ---- block k alone, which is the last below b
+
+  pub ScansDown-alone : (x y : Reading X) (k b : ℕ) (found : Option (ℕ × X)) → k + 1 ≡ b
+      → down x y k (k + 1) found → down x y k b found
+  ScansDown-alone x y k b found same h = subst (λ (n : ℕ). down x y k n found) same h
+
+  pub ScansDown-found : (x y : Reading X) (a k b : ℕ) (found : Option (ℕ × X)) → a ≤ k → k + 1 ≡ b
+      → is_some found ≡ true → down x y k (k + 1) found → down x y a b found
+  ScansDown-found x y a k b found low same there h =
+      ScansDown-stop x y a k b found low there (ScansDown-alone x y k b found same h)
+
+  pub ScansDown-before : (x y z : Reading X) (a k b : ℕ) (first found : Option (ℕ × X)) → a ≤ k
+      → k + 1 ≡ b → is_some first ≡ false → down x y k (k + 1) first → down y z a k found
+      → down x z a b found
+  ScansDown-before x y z a k b first found low same nothing h on =
+      ScansDown-on x y z a k b first found low (omega (arith, same)) nothing
+      (ScansDown-alone x y k b first same h) on
+
   -- ---- and where none was found behind them either, that is a scan of them all
 
   pub ScansUp-past : (x y z : Reading X) (a m b end : ℕ) (found : Option (ℕ × X)) → a ≤ m → m ≤ b

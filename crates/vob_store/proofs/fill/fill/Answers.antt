@@ -1,10 +1,14 @@
 -- All blocks are of the one bit, and then the unused places are cleared.
-use Rattle.std.proofs.Common.{◌∙◌, ◌*◌, ◌≤◌, map, length, ap}
+use Rattle.std.proofs.Common.{◌∙◌, ◌*◌, ◌≤◌, map, length, ap, sym}
 use Rattle.std.proofs.lemmas.List.{length-map}
 use Rattle.vob_block.specs.Packing.{unpacking}
 use Rattle.vob_block.proofs.NeedLemmas.{need_enough}
 use Rattle.vob_store.proofs.SplatLemmas.{unpacking-splat}
 use Rattle.vob_store.proofs.fill.fill.Goals as goal
+
+pub mask_last-requires : goal.mask_last-requires
+mask_last-requires g c = c.fill_blocks.auto.blocks
+    ∙ sym (length-map c.args.blocks.now g.T.Block.number) ∙ c.requires.count
 
 pub returns : goal.returns
 returns g c =

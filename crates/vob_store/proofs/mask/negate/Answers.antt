@@ -1,5 +1,5 @@
 -- Block after block is negated, and then the unused places are cleared.
-use Rattle.std.proofs.Common.{◌<◌, ◌∙◌, refl, map, length, arith}
+use Rattle.std.proofs.Common.{◌<◌, ◌∙◌, refl, sym, map, length, arith}
 use Rattle.std.proofs.lemmas.List.{length-map, map-set, get_or-set_other}
 use Rattle.vob_store.proofs.BuildLemmas.{AreBuilt-none, number_indexed}
 use Rattle.vob_store.proofs.WholeLemmas.{AreBuilt-negated, unpacking-negated}
@@ -24,6 +24,10 @@ loop-k-preserved g c =
       rest = rw map-set (λ i above. get_or-set_other xs c.loop-k.k i y 0
           (λ e. absurd (omega arith)) ∙ h.rest i (omega arith));
     }
+
+pub mask_last-requires : goal.mask_last-requires
+mask_last-requires g c = c.loop-k.auto.blocks
+    ∙ sym (length-map c.args.blocks.now g.T.Block.number) ∙ c.requires.count
 
 pub returns : goal.returns
 returns g c =
