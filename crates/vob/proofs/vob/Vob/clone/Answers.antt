@@ -1,5 +1,5 @@
 -- An empty list has no blocks, and no blocks take no memory.
-use Rattle.std.proofs.Common.{◌≡◌, ◌++◌, ◌∙◌, sym, ap, length, arith}
+use Rattle.std.proofs.Common.{◌++◌, ◌∙◌, sym, ap, length, arith}
 use Rattle.std.proofs.lemmas.List.{length-map}
 use Rattle.std.proofs.lemmas.Bool.{false≢true}
 use Rattle.vob_block.proofs.NeedLemmas.{need-zero}
