@@ -1,11 +1,9 @@
 -- The room for bits is the room for the blocks that they need.
-use Rattle.std.proofs.Common.{◌+◌, ◌++◌, ◌∙◌, sym, ap, arith, length, map}
+use Rattle.std.proofs.Common.{◌+◌, ◌∙◌, sym, arith, length}
 use Rattle.std.proofs.lemmas.List.{length-map}
 use Rattle.std.proofs.lemmas.Result.{err_from_is_err_and}
-use Rattle.vob_block.specs.Packing.{unpacking}
 use Rattle.vob_block.proofs.PackingLemmas.{length-unpacking}
 use Rattle.vob_store.proofs.RoomLemmas.{no_room}
-use Rattle.vob.proofs.CapacityLemmas.{capacity-grows}
 use Rattle.vob.proofs.ExtendingLemmas.{RefusesMore-long, RefusesMore-memory, RefusesMore-nothing}
 use Rattle.vob.proofs.vob.Vob.extend_from_slice.Goals as goal
 
@@ -31,29 +29,3 @@ pub returns-clause-refused : goal.returns-clause-refused
 returns-clause-refused g c =
     RefusesMore-nothing _ _ _ (rw (← c.self.view_is, length-unpacking) (λ far.
     absurd (omega (arith, far, c.if-self-other.false, c.self.ranges))))
-
-pub returns-in_err-reserve_bits-clause-err : goal.returns-in_err-reserve_bits-clause-err
-returns-in_err-reserve_bits-clause-err g c =
-    rw (err_from_is_err_and c.from_residual.result c.from_residual.ensures.1).1
-    (rw c.reserve_bits.ensures.items (ap (λ v. v.bits) c.self.view_is))
-
-pub returns-in_err-reserve_bits-clause-capacity : goal.returns-in_err-reserve_bits-clause-capacity
-returns-in_err-reserve_bits-clause-capacity g c = capacity-grows g.T.Block.BITS
-    c.self.inside.vec.cap _ _ _ (ap (λ v. v.capacity) c.self.view_is) c.reserve_bits.ensures.capacity
-
-pub append_slice-requires-clause-canonical : goal.append_slice-requires-clause-canonical
-append_slice-requires-clause-canonical g c = rw c.reserve_bits.ensures.items c.self.invariant
-
-pub invariant_of-self-2 : goal.invariant_of-self-2
-invariant_of-self-2 g c = c.append_slice.ensures.stores.canonical
-
-pub returns-clause-ok : goal.returns-clause-ok
-returns-clause-ok g c = c.append_slice.ensures.stores.bits
-    ∙ ap (λ xs. unpacking c.self.inside.len (map g.T.Block.number xs) g.T.Block.BITS
-    ++ c.args.other.now) c.reserve_bits.ensures.items
-    ∙ ap (λ v. v.bits ++ c.args.other.now) c.self.view_is
-
-pub returns-clause-capacity : goal.returns-clause-capacity
-returns-clause-capacity g c = capacity-grows g.T.Block.BITS c.self.inside.vec.cap
-    c.append_slice.new.blocks.cap _ _ (ap (λ v. v.capacity) c.self.view_is)
-    (omega (arith, c.reserve_bits.ensures.capacity, c.append_slice.ensures.capacity))

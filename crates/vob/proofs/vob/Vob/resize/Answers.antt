@@ -5,7 +5,6 @@ use Rattle.std.proofs.lemmas.Result.{err_from_is_err_and}
 use Rattle.vob_block.specs.Packing.{unpacking}
 use Rattle.vob_block.proofs.PackingLemmas.{length-unpacking}
 use Rattle.vob_store.proofs.RoomLemmas.{no_room}
-use Rattle.vob.proofs.CapacityLemmas.{capacity-grows}
 use Rattle.vob.proofs.vob.Vob.resize.Goals as goal
 
 pub returns-then-new_len-self-clause-ok : goal.returns-then-new_len-self-clause-ok
@@ -38,17 +37,3 @@ returns-clause-ok g c =
     (omega (arith, long, c.if-new_len-self.false)) in
     rw (all, long) (c.append_fill.ensures.stores.bits
     ∙ ap (λ bs. bs ++ replicate (c.args.new_len - c.self.inside.len) c.args.value) own)
-
-pub returns-in_err-reserve_bits-clause-err : goal.returns-in_err-reserve_bits-clause-err
-returns-in_err-reserve_bits-clause-err g c =
-    rw (err_from_is_err_and c.from_residual.result c.from_residual.ensures.1).1
-    (rw c.reserve_bits.ensures.items (ap (λ v. v.bits) c.self.view_is))
-
-pub returns-in_err-reserve_bits-clause-capacity : goal.returns-in_err-reserve_bits-clause-capacity
-returns-in_err-reserve_bits-clause-capacity g c = capacity-grows g.T.Block.BITS
-    c.self.inside.vec.cap _ _ _ (ap (λ v. v.capacity) c.self.view_is) c.reserve_bits.ensures.capacity
-
-pub returns-clause-capacity : goal.returns-clause-capacity
-returns-clause-capacity g c = capacity-grows g.T.Block.BITS c.self.inside.vec.cap
-    c.append_fill.new.blocks.cap _ _ (ap (λ v. v.capacity) c.self.view_is)
-    (omega (arith, c.reserve_bits.ensures.capacity, c.append_fill.ensures.capacity))
