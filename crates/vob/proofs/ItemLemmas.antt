@@ -1,11 +1,11 @@
 -- Bits that are packed in a block at hand, behind the blocks that are full, at a plain width.
-use Rattle.std.specs.Prelude.{Some}
+use Rattle.std.specs.Prelude.{None, Some}
 use Rattle.std.proofs.Common.{◌≡◌, ◌≢◌, ℕ, ◌+◌, ◌*◌, ◌/◌, ◌%◌, ◌^◌, ◌<◌, Bool, false, ◌&&◌, ◌||◌, List, [], ◌∷◌, ◌++◌, length, eqb, Option, refl, sym, ap, ◌∙◌, subst, arith, inl, inr, mod-lt, div-add-mod', add-one, suc-mul}
 use Rattle.std.proofs.lemmas.Bool.{cases_eq}
 use Rattle.std.proofs.lemmas.List.{get_or_past, length_push}
 use Rattle.std.proofs.lemmas.List.Elements.{All-push}
 use Rattle.std.proofs.lemmas.Nat.{div-mul-add, div_below, pow_pos}
-use Rattle.std.specs.Iterator.{Yields}
+use Rattle.std.specs.Iterator.{Drains, Yields}
 use Rattle.std.proofs.iter.Next.{Yields-more}
 use Rattle.vob_block.specs.Places.{place}
 use Rattle.vob_block.specs.Packing.{item, bit_at, Stores}
@@ -31,6 +31,10 @@ bit_at-push_empty xs w x i none = elim (cases_eq (i / w) (length xs)) [
 pub yields_from : {S A : Type 0} (steps : S → Option A → S → Type 0) (s t : S) (xs : List A)
     (u : S) → s ≡ t → Yields steps s xs u → Yields steps t xs u
 yields_from {S} steps s t xs u e h = subst (λ (r : S). Yields steps r xs u) e h
+
+pub drains_from : {S A : Type 0} (steps : S → Option A → S → Type 0) (s t : S) (xs : List A)
+    (u v : S) → s ≡ t → Yields steps s xs u → steps u None v → Drains steps t xs
+drains_from steps s t xs u v e h last = (v, (u, yields_from steps s t xs u e h, last))
 
 -- and one more
 pub yields_more : {S A : Type 0} (steps : S → Option A → S → Type 0) (s t : S) (xs : List A)

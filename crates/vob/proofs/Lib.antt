@@ -1,4 +1,5 @@
 pub mod BitsLemmas
+pub mod CapacityLemmas
 pub mod ChangeLemmas
 pub mod CombineLemmas
 pub mod CopyLemmas

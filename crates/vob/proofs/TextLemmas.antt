@@ -1,5 +1,5 @@
 -- The first byte that isn't a digit: there is one at most, and none where all are.
-use Rattle.std.proofs.Common.{◌≡◌, ℕ, ◌<◌, List, [], length, All, take, get_or, inl, inr, slice_get, Some, ◌∙◌, sym, ap, subst, arith}
+use Rattle.std.proofs.Common.{◌≡◌, ℕ, ◌<◌, List, [], length, All, take, inl, inr, slice_get, Some, ◌∙◌, ap, subst, arith}
 use Rattle.std.proofs.lemmas.Bool.{cases_order}
 use Rattle.std.proofs.lemmas.List.{get_or-take, length-take-le}
 use Rattle.std.proofs.lemmas.Option.{get_or_from_slice_get, slice_get_within}

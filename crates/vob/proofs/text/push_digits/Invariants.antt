@@ -1,5 +1,5 @@
 -- The bits are those of the digits so far.
-use Rattle.std.proofs.Common.{◌≡◌, ◌≤◌, length, map, take}
+use Rattle.std.proofs.Common.{◌≡◌, ◌≤◌, map, take}
 use Rattle.vob.specs.Text.{digit}
 use Rattle.vob.proofs.text.push_digits.Given as goal
 

@@ -1,5 +1,5 @@
 -- An empty list has no blocks, and no blocks take no memory.
-use Rattle.std.proofs.Common.{◌∙◌, sym, ap, length, arith}
+use Rattle.std.proofs.Common.{◌++◌, ◌∙◌, sym, ap, length, arith}
 use Rattle.std.proofs.lemmas.List.{length-map}
 use Rattle.std.proofs.lemmas.Bool.{false≢true}
 use Rattle.vob_block.proofs.NeedLemmas.{need-zero}
@@ -17,3 +17,15 @@ returns-in_err-vec-clause-nothing g c =
     ∙ ap (λ n. need n w) zero_len ∙ need-zero w g.met.T.Block.wide_law in
     absurd (false≢true (c.in_err-vec.ensures.succeeds
     (omega (arith, blocks, vec.ok, c.len.ensures)))))
+
+pub invariant_of-result : goal.invariant_of-result
+invariant_of-result g c =
+    let same = c.in_ok-extend_from_slice.ensures.items
+    ∙ ap (λ xs. xs ++ c.as_slice.result.now) c.in_ok-vec.ensures.items ∙ c.as_slice.ensures.value in
+    rw same c.self.invariant
+
+pub returns-clause-bits : goal.returns-clause-bits
+returns-clause-bits g c =
+    let same = c.in_ok-extend_from_slice.ensures.items
+    ∙ ap (λ xs. xs ++ c.as_slice.result.now) c.in_ok-vec.ensures.items ∙ c.as_slice.ensures.value in
+    rw same (ap (λ v. v.bits) c.self.view_is)

@@ -4,6 +4,7 @@ use Rattle.std.proofs.lemmas.List.{length-map}
 use Rattle.vob_block.specs.Packing.{unpacking}
 use Rattle.vob_block.proofs.NeedLemmas.{need-le-need}
 use Rattle.vob_store.proofs.StorageLemmas.{canonical_nothing, unpacking-zero}
+use Rattle.vob.proofs.CapacityLemmas.{capacity-grows}
 use Rattle.vob.proofs.DrainLemmas.{is_cut, IsDrained-nothing, drained_none}
 use Rattle.vob.proofs.vob.Vob.drain.Goals as goal
 
@@ -49,3 +50,8 @@ returns-clause-ok g c = λ in_range.
           g.T.Block.BITS)) c.as_slice.ensures.value ∙ range.0;
       left = c.remove_bits.ensures.stores.bits ∙ range.1;
     }
+
+pub returns-clause-capacity : goal.returns-clause-capacity
+returns-clause-capacity g c = capacity-grows g.T.Block.BITS c.self.inside.vec.cap
+    c.remove_bits.new.blocks.cap _ _ (ap (λ v. v.capacity) c.self.view_is)
+    (omega (arith, c.remove_bits.ensures.capacity))

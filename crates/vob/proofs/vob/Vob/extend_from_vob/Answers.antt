@@ -1,9 +1,10 @@
 -- The fields' clauses, read as the values'; the other's blocks are the packing of its bits.
-use Rattle.std.proofs.Common.{◌+◌, arith, sym, ◌∙◌}
+use Rattle.std.proofs.Common.{◌+◌, ◌∙◌, sym, ap, arith}
 use Rattle.std.proofs.lemmas.List.{length-map}
 use Rattle.std.proofs.lemmas.Result.{err_from_is_err_and}
 use Rattle.vob_block.proofs.PackingLemmas.{length-unpacking}
 use Rattle.vob_store.proofs.RoomLemmas.{room_from_need, no_room}
+use Rattle.vob.proofs.CapacityLemmas.{capacity-grows}
 use Rattle.vob.proofs.ExtendingLemmas.{RefusesMore-long, RefusesMore-memory, RefusesMore-nothing}
 use Rattle.vob.proofs.vob.Vob.extend_from_vob.Goals as goal
 
@@ -36,3 +37,19 @@ pub returns-clause-refused : goal.returns-clause-refused
 returns-clause-refused g c =
     RefusesMore-nothing _ _ _ (rw (← c.self.view_is, ← c.other.view_is, length-unpacking, length-unpacking) (λ far.
     absurd (omega (arith, far, c.if-self-other.false))))
+
+pub returns-in_err-reserve_bits-clause-capacity : goal.returns-in_err-reserve_bits-clause-capacity
+returns-in_err-reserve_bits-clause-capacity g c = capacity-grows g.T.Block.BITS
+    c.self.inside.vec.cap _ _ _ (ap (λ v. v.capacity) c.self.view_is) c.reserve_bits.ensures.capacity
+
+pub returns-clause-ok : goal.returns-clause-ok
+returns-clause-ok g c = rw (← c.self.view_is, ← c.other.view_is)
+    (rw (c.reserve_bits.ensures.items, c.as_slice.ensures.value) at c.join_slice.ensures.joined.bits)
+
+pub returns-clause-err : goal.returns-clause-err
+returns-clause-err g c = tt
+
+pub returns-clause-capacity : goal.returns-clause-capacity
+returns-clause-capacity g c = capacity-grows g.T.Block.BITS c.self.inside.vec.cap
+    c.join_slice.new.blocks.cap _ _ (ap (λ v. v.capacity) c.self.view_is)
+    (omega (arith, c.reserve_bits.ensures.capacity, c.join_slice.ensures.capacity))

@@ -1,5 +1,5 @@
 -- The index is below the length of the list, which is the length that the fields have.
-use Rattle.std.proofs.Common.{◌∙◌, drop, length, rules, sym, subst}
+use Rattle.std.proofs.Common.{◌∙◌, drop, length, sym, subst}
 use Rattle.std.proofs.lemmas.List.{take_at}
 use Rattle.vob_block.proofs.PackingLemmas.{length-unpacking}
 use Rattle.vob.specs.Bits.{IsWritten}
@@ -19,7 +19,11 @@ returns-clause-bits g c =
     (rw c.deref_mut.ensures.value at c.write_bit.ensures.stores.bits)
 
 pub returns-clause-changed : goal.returns-clause-changed
-returns-clause-changed g c = search rules
+returns-clause-changed g c = rw (← c.self.view_is)
+    (rw c.deref_mut.ensures.value at c.write_bit.ensures.changed)
+
+pub write_bit-requires-clause-canonical : goal.write_bit-requires-clause-canonical
+write_bit-requires-clause-canonical g c = rw c.deref_mut.ensures.value c.self.invariant
 
 pub returns-clause-written : goal.returns-clause-written
 returns-clause-written g c =
