@@ -4,3 +4,4 @@ pub mod Packing
 pub mod Places
 pub mod Pointwise
 pub mod Reading
+pub mod Widths

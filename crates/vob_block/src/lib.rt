@@ -5,6 +5,8 @@ pub mod block;
 mod blocks;
 mod impls;
 mod lanes;
+mod places;
 
 pub use block::Block;
 pub use blocks::Blocks;
+pub use places::Places;

@@ -1,0 +1,308 @@
+//! What of a block the layers above stand on: its places, and not the arithmetic of its number.
+ghost use Rattle.std.specs.Prelude.{◌≡◌, ◌≢◌, ◌==◌, ℕ, ◌+◌, ◌-◌, ◌%◌, ◌^◌, ◌<◌, if◌then◌else◌, ◌≤◌, ◌&&◌, ◌||◌, ◌↔◌, not, nat_le, nat_lt, IsTrue, length, All, map, true, false};
+ghost use Rattle.vob_block.specs.Places.{place, HasPlaces, HasZerosLow, HasZerosHigh, true_places};
+ghost use Rattle.vob_block.specs.Pointwise.{IsCombined, differ};
+ghost use Rattle.vob_block.specs.Reading.{AreReadOnce};
+ghost use Rattle.std.proofs.Common.{subst, sym};
+ghost use Rattle.vob_block.specs.Widths.{bit_len-le};
+
+use crate::block::Block;
+use crate::blocks::Blocks;
+use std::fmt::Debug;
+use std::hash::Hash;
+
+/// The calls of a `Block` by its places, without what `PrimInt` adds, which no caller of theirs
+/// needs: a proof for every `T: Places` carries a sixth of what one for every `T: Block` does. Each
+/// `Block` has them.
+pub trait Places: Copy + Eq + Hash + Debug {
+    ghost BITS: { ℕ };
+
+    /// How many places a block has.
+    const BITS: usize;
+
+    ghost ZERO: { Self };
+
+    /// No place is true.
+    const ZERO: Self;
+
+    ghost ONE: { Self };
+
+    /// Place 0 alone is true.
+    const ONE: Self;
+
+    ghost ONES: { Self };
+
+    /// Every place is true.
+    const ONES: Self;
+
+    // The number that a block is.
+    ghost number: { Self → ℕ };
+
+    // The block of a number.
+    ghost of_bits: { ℕ → Self };
+
+    /// Does nothing: a block at hand is in the range of its type, which generic code can't see.
+    fn in_range(self)
+        ensures { number self < 2 ^ BITS };
+
+    /// Does nothing: blocks at hand are in the range of their type, which generic code can't see.
+    fn all_in_range(blocks: &[Self])
+        ensures { All (λ n. n < 2 ^ BITS) (map number blocks.now) };
+
+    /// The places that both blocks have.
+    fn band(self, other: Self) -> Self
+        ensures places { HasPlaces BITS (number result) (λ j. place j (number self) && place j (number other)) }
+        ensures within { number result < 2 ^ BITS };
+
+    /// The places that either block has.
+    fn bor(self, other: Self) -> Self
+        ensures places { HasPlaces BITS (number result) (λ j. place j (number self) || place j (number other)) }
+        ensures within { number result < 2 ^ BITS };
+
+    /// The places that one of the blocks has and the other hasn't.
+    fn bxor(self, other: Self) -> Self
+        ensures places { HasPlaces BITS (number result)
+            (λ j. differ (place j (number self)) (place j (number other))) }
+        ensures within { number result < 2 ^ BITS };
+
+    /// The places that the block doesn't have.
+    fn bnot(self) -> Self
+        ensures places { HasPlaces BITS (number result) (λ j. not (place j (number self))) }
+        ensures within { number result < 2 ^ BITS };
+
+    /// Moves each place up by `n`. What passes the width is dropped, and the low `n` places are false.
+    fn up(self, n: usize) -> Self
+        requires { n < BITS }
+        ensures places { HasPlaces BITS (number result) (λ j. nat_le n j && place (j - n) (number self)) }
+        ensures within { number result < 2 ^ BITS };
+
+    /// Moves each place down by `n`. The low `n` places are dropped, and the high `n` are false.
+    fn down(self, n: usize) -> Self
+        requires { n < BITS }
+        ensures places { HasPlaces BITS (number result)
+            (λ j. nat_lt (j + n) BITS && place (j + n) (number self)) }
+        ensures within { number result < 2 ^ BITS };
+
+    /// Moves each place up by `n`, and the `n` places that pass the width to the lowest ones.
+    fn rotate_up(self, n: usize) -> Self
+        requires positive { 0 < n }
+        requires below { n < BITS }
+        ensures places { HasPlaces BITS (number result) (λ j. place ((j + (BITS - n)) % BITS) (number self)) }
+        ensures within { number result < 2 ^ BITS };
+
+    /// A funnel shift: the places from `from` on, and behind them the low places of `high`. So two
+    /// neighbours, of which `self` is the lower one, give the block that begins at place `from`.
+    fn funnel_down(self, high: Self, from: usize) -> Self
+        requires positive { 0 < from }
+        requires below { from < BITS }
+        ensures places { HasPlaces BITS (number result) (λ j. if nat_lt (j + from) BITS
+            then place (j + from) (number self) else place (j + from - BITS) (number high)) }
+        ensures within { number result < 2 ^ BITS };
+
+    /// How many places are true.
+    fn ones_in(self) -> usize
+        ensures { result ≡ true_places BITS (number self) };
+
+    /// The first true place, or `BITS` where no place is true.
+    fn zeros_low(self) -> usize
+        ensures { HasZerosLow BITS (number self) result };
+
+    /// `BITS - 1` minus the last true place, or `BITS` where no place is true.
+    fn zeros_high(self) -> usize
+        ensures { HasZerosHigh BITS (number self) result };
+
+    /// The block with its first true place made false. The number of that place isn't waited for.
+    fn without_first(self) -> Self
+        requires { number self ≢ 0 }
+        ensures places { (j : ℕ) → HasZerosLow BITS (number self) j → HasPlaces BITS (number result)
+            (λ i. if i == j then false else place i (number self)) }
+        ensures within { number result < 2 ^ BITS };
+
+    /// The places below `n`, and no others.
+    fn low_mask(n: usize) -> Self
+        requires { n ≤ BITS }
+        ensures places { HasPlaces BITS (number result) (λ j. nat_lt j n) }
+        ensures within { number result < 2 ^ BITS };
+
+    /// Place `j`.
+    fn bit(self, j: usize) -> bool
+        requires { j < BITS }
+        ensures { result ≡ place j (number self) };
+
+    /// Keeps in `own` the places that both have, and answers whether a block changed. Each block of
+    /// `other` is read once.
+    fn and_into(own: &mut [Self], other: &mut Blocks<'_, Self>) -> bool
+        requires { length own.old ≡ length other.old.items }
+        ensures combined { IsCombined BITS ◌&&◌ (map number own.old) (map number other.old.items)
+            (map number own.new) result }
+        ensures read { AreReadOnce other.old other.new };
+
+    /// Gives `own` the places that either has, and answers whether a block changed. Each block of
+    /// `other` is read once.
+    fn or_into(own: &mut [Self], other: &mut Blocks<'_, Self>) -> bool
+        requires { length own.old ≡ length other.old.items }
+        ensures combined { IsCombined BITS ◌||◌ (map number own.old) (map number other.old.items)
+            (map number own.new) result }
+        ensures read { AreReadOnce other.old other.new };
+
+    /// Gives `own` the places that one has and the other hasn't, and answers whether a block changed.
+    /// Each block of `other` is read once.
+    fn xor_into(own: &mut [Self], other: &mut Blocks<'_, Self>) -> bool
+        requires { length own.old ≡ length other.old.items }
+        ensures combined { IsCombined BITS differ (map number own.old) (map number other.old.items)
+            (map number own.new) result }
+        ensures read { AreReadOnce other.old other.new };
+
+    // `==` on blocks is `==` on their numbers.
+    ghost equal_law: { (x y : Self) → IsTrue (Self.eq x y) ↔ (number x ≡ number y) };
+
+    // Equal numbers feed a hasher the same.
+    ghost hash_law: { (x y : Self) → number x ≡ number y → Self.hash_input x ≡ Self.hash_input y };
+
+    // A block has a place.
+    ghost wide_law: { 0 < BITS };
+
+    // It has 128 at most, so that their number can be added to.
+    ghost narrow_law: { BITS ≤ 128 };
+
+    ghost of_bits_number_law: { (n : ℕ) → n < 2 ^ BITS → number (of_bits n) ≡ n };
+
+    ghost zero_number_law: { number ZERO ≡ 0 };
+
+    ghost one_number_law: { number ONE ≡ 1 };
+
+    ghost ones_number_law: { number ONES ≡ 2 ^ BITS - 1 };
+}
+
+impl<T: Block> Places for T {
+    ghost BITS = { T.BITS };
+
+    const BITS: usize = <T as Block>::BITS;
+
+    ghost ZERO = { T.ZERO };
+
+    const ZERO: T = <T as Block>::ZERO;
+
+    ghost ONE = { T.ONE };
+
+    const ONE: T = <T as Block>::ONE;
+
+    ghost ONES = { T.ONES };
+
+    const ONES: T = <T as Block>::ONES;
+
+    ghost number = { T.number };
+
+    ghost of_bits = { T.of_bits };
+
+    ghost equal_law = { T.equal_law };
+
+    ghost hash_law = { T.hash_law };
+
+    ghost wide_law = { T.wide_law };
+
+    ghost narrow_law = { subst (λ (n : ℕ). n ≤ 128) (sym T.width_law) (bit_len-le T.width) };
+
+    ghost of_bits_number_law = { T.of_bits_number_law };
+
+    ghost zero_number_law = { T.zero_number_law };
+
+    ghost one_number_law = { T.one_number_law };
+
+    ghost ones_number_law = { T.ones_number_law };
+
+    #[inline(always)]
+    fn in_range(self) {
+        <T as Block>::in_range(self)
+    }
+
+    #[inline(always)]
+    fn all_in_range(blocks: &[Self]) {
+        <T as Block>::all_in_range(blocks)
+    }
+
+    #[inline(always)]
+    fn band(self, other: Self) -> Self {
+        <T as Block>::band(self, other)
+    }
+
+    #[inline(always)]
+    fn bor(self, other: Self) -> Self {
+        <T as Block>::bor(self, other)
+    }
+
+    #[inline(always)]
+    fn bxor(self, other: Self) -> Self {
+        <T as Block>::bxor(self, other)
+    }
+
+    #[inline(always)]
+    fn bnot(self) -> Self {
+        <T as Block>::bnot(self)
+    }
+
+    #[inline(always)]
+    fn up(self, n: usize) -> Self {
+        <T as Block>::up(self, n)
+    }
+
+    #[inline(always)]
+    fn down(self, n: usize) -> Self {
+        <T as Block>::down(self, n)
+    }
+
+    #[inline(always)]
+    fn rotate_up(self, n: usize) -> Self {
+        <T as Block>::rotate_up(self, n)
+    }
+
+    #[inline(always)]
+    fn funnel_down(self, high: Self, from: usize) -> Self {
+        <T as Block>::funnel_down(self, high, from)
+    }
+
+    #[inline(always)]
+    fn ones_in(self) -> usize {
+        <T as Block>::ones_in(self)
+    }
+
+    #[inline(always)]
+    fn zeros_low(self) -> usize {
+        <T as Block>::zeros_low(self)
+    }
+
+    #[inline(always)]
+    fn zeros_high(self) -> usize {
+        <T as Block>::zeros_high(self)
+    }
+
+    #[inline(always)]
+    fn without_first(self) -> Self {
+        <T as Block>::without_first(self)
+    }
+
+    #[inline(always)]
+    fn low_mask(n: usize) -> Self {
+        <T as Block>::low_mask(n)
+    }
+
+    #[inline(always)]
+    fn bit(self, j: usize) -> bool {
+        <T as Block>::bit(self, j)
+    }
+
+    #[inline(always)]
+    fn and_into(own: &mut [Self], other: &mut Blocks<'_, Self>) -> bool {
+        <T as Block>::and_into(own, other)
+    }
+
+    #[inline(always)]
+    fn or_into(own: &mut [Self], other: &mut Blocks<'_, Self>) -> bool {
+        <T as Block>::or_into(own, other)
+    }
+
+    #[inline(always)]
+    fn xor_into(own: &mut [Self], other: &mut Blocks<'_, Self>) -> bool {
+        <T as Block>::xor_into(own, other)
+    }
+}
