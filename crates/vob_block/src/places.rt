@@ -1,4 +1,4 @@
-//! What of a block the layers above stand on: its places, and not the arithmetic of its number.
+//! What the layers above need of a block: its places, and not the arithmetic of `PrimInt`.
 ghost use Rattle.std.specs.Prelude.{◌≡◌, ◌≢◌, ◌==◌, ℕ, ◌+◌, ◌-◌, ◌%◌, ◌^◌, ◌<◌, if◌then◌else◌, ◌≤◌, ◌&&◌, ◌||◌, ◌↔◌, not, nat_le, nat_lt, IsTrue, length, All, map, true, false};
 ghost use Rattle.vob_block.specs.Places.{place, HasPlaces, HasZerosLow, HasZerosHigh, true_places};
 ghost use Rattle.vob_block.specs.Pointwise.{IsCombined, differ};
@@ -11,9 +11,9 @@ use crate::blocks::Blocks;
 use std::fmt::Debug;
 use std::hash::Hash;
 
-/// The calls of a `Block` by its places, without what `PrimInt` adds, which no caller of theirs
-/// needs: a proof for every `T: Places` carries a sixth of what one for every `T: Block` does. Each
-/// `Block` has them.
+/// The calls of a `Block`, and the number that it is. Each `Block` has them, and the calls of a Vob ask
+/// for no more: the parents of `PrimInt`, which none of them uses, would be carried through each step
+/// of a proof for every type. vob 4.0.1 has no such trait.
 pub trait Places: Copy + Eq + Hash + Debug {
     ghost BITS: { ℕ };
 

@@ -209,8 +209,17 @@ module _ (w : ℕ) (wide : 0 < w) (at count head whole u : ℕ) (same : u ≡ w)
     | inl less ↦
         let q = (at + head) / w in
         let row = mul-le (n + 1) w (q + whole) w (omega (arith, less)) (omega arith) in
-        absurd (omega (arith, row, wide, inside, whole-le, add-mul q whole w, add-mul n 1 w,
-        one-mul w, div-add-mod' (at + head) w))
+        absurd (omega (
+          arith,
+          row,
+          wide,
+          inside,
+          whole-le,
+          add-mul q whole w,
+          add-mul n 1 w,
+          one-mul w,
+          div-add-mod' (at + head) w,
+        ))
   ])
 
   pub rest_one : (at + (head + whole * u)) % w + (count - (head + whole * u)) ≤ w

@@ -132,8 +132,16 @@ skip-inside w u first by n wide same inside = rw same (elim (cases_lt n (first +
   | inr there ↦ there
   | inl less ↦
       let row = mul-le (n + 1) w (first + by / w) w (omega (arith, less)) (omega arith) in
-      absurd (omega (arith, row, wide, inside, add-mul first (by / w) w, add-mul n 1 w, one-mul w,
-      div-add-mod' by w))
+      absurd (omega (
+        arith,
+        row,
+        wide,
+        inside,
+        add-mul first (by / w) w,
+        add-mul n 1 w,
+        one-mul w,
+        div-add-mod' by w,
+      ))
 ])
 
 pub skip-below : (w u first by n : ℕ) → u ≡ w → by % u ≢ 0 → first * w + by ≤ n * w

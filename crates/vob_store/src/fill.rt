@@ -88,7 +88,11 @@ pub fn append_fill<T: Places>(blocks: &mut Vec<T>, len: usize, new_len: usize, v
 }
 
 /// The blocks of `len` times `value`.
-pub fn filled_blocks<T: Places>(alloc: Global, value: bool, len: usize) -> Result<Vec<T>, AllocError>
+pub fn filled_blocks<T: Places>(
+    alloc: Global,
+    value: bool,
+    len: usize,
+) -> Result<Vec<T>, AllocError>
     ensures stores { IfOk result (λ blocks.
         Stores T.BITS len (map T.number blocks.items) (replicate len value)) }
     ensures nothing { len ≡ 0 → IsOk result }

@@ -34,7 +34,12 @@ pub fn count_ones_in<T: Places>(blocks: &mut Blocks<'_, T>, start: usize, stop: 
 }
 
 /// How many places of block `k` are true from index `start` to below `stop`, some of which it holds.
-fn ones_in_block<T: Places>(blocks: &mut Blocks<'_, T>, k: usize, start: usize, stop: usize) -> usize
+fn ones_in_block<T: Places>(
+    blocks: &mut Blocks<'_, T>,
+    k: usize,
+    start: usize,
+    stop: usize,
+) -> usize
     requires count { k < length blocks.old.items }
     requires order { start ≤ stop }
     requires begins { start ≤ k * T.BITS + T.BITS }

@@ -63,7 +63,11 @@ fn fill_front<T: Places>(
 /// Where the back has no index in hand, it gets those of the last block that has some, or else what
 /// the front has. So it has none afterwards only where none is left at all.
 #[inline(always)]
-fn fill_back<T: Places>(unread: &mut Unread<'_, T>, front: &mut BlockBits<T>, back: &mut BackBits<T>)
+fn fill_back<T: Places>(
+    unread: &mut Unread<'_, T>,
+    front: &mut BlockBits<T>,
+    back: &mut BackBits<T>,
+)
     ensures rest { front.new ++ (unread.new.rest ++ back.new) ≡ front.old ++ (unread.old.rest ++ back.old) }
     ensures empty { back.new ≡ [] → front.new ++ unread.new.rest ≡ [] }
     ensures fewer { length front.new ≤ length front.old }

@@ -10,7 +10,11 @@ use crate::command::Reply;
 use vob::{Vob, VobError};
 use vob_block::Places;
 
-pub(crate) fn reserve<T: Places>(vobs: &mut Vec<Vob<T>>, which: usize, additional: usize) -> Reply<T>
+pub(crate) fn reserve<T: Places>(
+    vobs: &mut Vec<Vob<T>>,
+    which: usize,
+    additional: usize,
+) -> Reply<T>
     ensures { IsStep T.BITS (lists vobs.old.items) (Reserve which additional)
         (answer_of T.number result) (lists vobs.new.items) }
 {

@@ -130,7 +130,12 @@ fn check_growth<T: Places>(
 }
 
 /// As many equal bits behind a pattern are what pushes leave; cut off, what was there is left.
-fn check_resize<T: Places>(rt: &(impl Abort + AllocGlobal), value: bool, first: usize, more: usize) {
+fn check_resize<T: Places>(
+    rt: &(impl Abort + AllocGlobal),
+    value: bool,
+    first: usize,
+    more: usize,
+) {
     let before = pattern::<T>(rt, 1, first);
     let mut pushed = copy_of(rt, &before);
     for _ in 0..more {

@@ -28,7 +28,11 @@ fn check_taken<T: Places>(rt: &impl Abort, raw: RawVob<T>, digits: &str, blocks:
 }
 
 /// Raw storage that isn't taken, and is handed back.
-fn check_refused<T: Places>(rt: &(impl Abort + AllocGlobal), len: usize, blocks: &[T]) -> RawVob<T> {
+fn check_refused<T: Places>(
+    rt: &(impl Abort + AllocGlobal),
+    len: usize,
+    blocks: &[T],
+) -> RawVob<T> {
     let refused = raw_of(rt, len, blocks).into_vob().err();
     let raw = refused.expect(rt, "this storage isn't canonical");
     check_raw(rt, &raw, len, blocks);
