@@ -15,7 +15,7 @@ use crate::vob::Vob;
 use std::alloc::AllocError;
 use std::mem;
 use std::ops::RangeBounds;
-use vob_block::{Blocks, Places};
+use vob_block::{Block, Blocks};
 use vob_store::drain::remove_bits;
 use vob_store::fill::append_fill;
 use vob_store::join::{join, join_slice};
@@ -25,7 +25,7 @@ use vob_store::room::reserve_bits;
 use vob_store::split::split_blocks;
 use vob_walk::range::{first_index, past_last_index};
 
-impl<T: Places> Vob<T> {
+impl<T: Block> Vob<T> {
     /// Cuts the bits to `new_len`, or adds bits of `value` up to `new_len`. vob 4.0.1 ends the process
     /// where memory is refused, and panics where it adds true bits behind whole blocks.
     ///

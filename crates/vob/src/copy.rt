@@ -6,10 +6,10 @@ ghost use Rattle.vob.specs.Drain.{bits_within};
 use crate::bulk::cut_range;
 use crate::vob::Vob;
 use std::ops::RangeBounds;
-use vob_block::Places;
+use vob_block::Block;
 use vob_store::copy::{Stretch, copy_bits};
 
-impl<T: Places> Vob<T> {
+impl<T: Block> Vob<T> {
     /// Writes the other's bits of the range over those from `at` on. Every pair of bounds is
     /// accepted: the range is cut at the other's length, and holds no bit where its end is before
     /// its start. What it holds has to fit behind `at`. The other bits stay, and no memory is asked

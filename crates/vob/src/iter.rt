@@ -10,20 +10,20 @@ use crate::vob::Vob;
 use std::iter::FusedIterator;
 use std::marker::Model;
 use std::ops::RangeBounds;
-use vob_block::Places;
+use vob_block::Block;
 use vob_store::single::block_bit;
 pub use vob_walk::{End, IndexWalk, IterSetBits, IterUnsetBits, count_ones_in, deal};
 
 /// The bits of a Vob in order, seen as the list of those that are left.
 #[derive(Drop)]
-pub struct Iter<'a, T: Places> {
+pub struct Iter<'a, T: Block> {
     pub(crate) blocks: &'a [T],
     // The bits from `next` to below `end` are left.
     pub(crate) next: usize,
     pub(crate) end: usize,
 }
 
-impl<'a, T: Places> Model for Iter<'a, T> {
+impl<'a, T: Block> Model for Iter<'a, T> {
     ghost use Rattle.std.specs.Prelude.{◌*◌, ◌≤◌, Bool, List, length, map};
     ghost use Rattle.vob.specs.Rest.{bits_between};
 
@@ -35,7 +35,7 @@ impl<'a, T: Places> Model for Iter<'a, T> {
         × (walk.end ≤ length walk.blocks.now * T.BITS) };
 }
 
-impl<T: Places> Vob<T> {
+impl<T: Block> Vob<T> {
     /// A walk over the bits, index 0 first.
     ///
     /// ```
@@ -101,7 +101,7 @@ impl<T: Places> Vob<T> {
     }
 }
 
-impl<'a, T: Places> IntoIterator for &'a Vob<T> {
+impl<'a, T: Block> IntoIterator for &'a Vob<T> {
     type Item = bool;
 
     type IntoIter = Iter<'a, T>;
@@ -116,7 +116,7 @@ impl<'a, T: Places> IntoIterator for &'a Vob<T> {
     }
 }
 
-impl<'a, T: Places> Iter<'a, T> {
+impl<'a, T: Block> Iter<'a, T> {
     /// A second walk over the bits that are left. It takes no memory, so it is no method of the trait
     /// `Clone`, whose answer is a `Result`.
     pub fn clone(&self) -> Iter<'a, T>
@@ -137,7 +137,7 @@ impl<'a, T: Places> Iter<'a, T> {
     }
 }
 
-impl<'a, T: Places> Iterator for Iter<'a, T> {
+impl<'a, T: Block> Iterator for Iter<'a, T> {
     type Item = bool;
 
     ghost next_gives = { YieldsFirst (λ rest. rest) };
@@ -164,7 +164,7 @@ impl<'a, T: Places> Iterator for Iter<'a, T> {
     }
 }
 
-impl<'a, T: Places> DoubleEndedIterator for Iter<'a, T> {
+impl<'a, T: Block> DoubleEndedIterator for Iter<'a, T> {
     ghost next_back_gives = { YieldsLast (λ rest. rest) };
 
     fn next_back(&mut self) -> Option<bool> {
@@ -177,21 +177,21 @@ impl<'a, T: Places> DoubleEndedIterator for Iter<'a, T> {
     }
 }
 
-impl<'a, T: Places> ExactSizeIterator for Iter<'a, T> {
+impl<'a, T: Block> ExactSizeIterator for Iter<'a, T> {
     fn len(&self) -> usize {
         self.end - self.next
     }
 }
 
-impl<'a, T: Places> FusedIterator for Iter<'a, T> {}
+impl<'a, T: Block> FusedIterator for Iter<'a, T> {}
 
 /// The blocks of a Vob in order, seen as the list of those that are left.
 #[derive(Drop)]
-pub struct StorageIter<'a, T: Places> {
+pub struct StorageIter<'a, T: Block> {
     pub(crate) rest: &'a [T],
 }
 
-impl<'a, T: Places> Model for StorageIter<'a, T> {
+impl<'a, T: Block> Model for StorageIter<'a, T> {
     ghost use Rattle.std.specs.Prelude.{List};
 
     ghost Value = { List T };
@@ -199,7 +199,7 @@ impl<'a, T: Places> Model for StorageIter<'a, T> {
     ghost view = { λ walk. walk.rest.now };
 }
 
-impl<'a, T: Places> StorageIter<'a, T> {
+impl<'a, T: Block> StorageIter<'a, T> {
     /// A second walk over the blocks that are left. It takes no memory, so it is no method of the
     /// trait `Clone`, whose answer is a `Result`.
     pub fn clone(&self) -> StorageIter<'a, T>
@@ -216,7 +216,7 @@ impl<'a, T: Places> StorageIter<'a, T> {
     }
 }
 
-impl<'a, T: Places> Iterator for StorageIter<'a, T> {
+impl<'a, T: Block> Iterator for StorageIter<'a, T> {
     type Item = T;
 
     ghost next_gives = { YieldsFirst (λ rest. rest) };

@@ -14,12 +14,12 @@ use crate::vob::Vob;
 use std::alloc::AllocError;
 use std::hash::{Hash, Hasher};
 use std::ops::{BitAnd, BitAndAssign, BitOr, BitOrAssign, BitXor, BitXorAssign};
-use vob_block::Places;
+use vob_block::Block;
 use vob_store::fill::fill;
 use vob_store::mask::negate;
 use vob_store::same::same_blocks;
 
-impl<T: Places> Vob<T> {
+impl<T: Block> Vob<T> {
     /// Makes every bit `value`.
     ///
     /// ```
@@ -102,7 +102,7 @@ impl<T: Places> Vob<T> {
     }
 }
 
-impl<'a, 'b, T: Places> BitAnd<&'b Vob<T>> for &'a Vob<T> {
+impl<'a, 'b, T: Block> BitAnd<&'b Vob<T>> for &'a Vob<T> {
     type Output = Result<Vob<T>, AllocError>;
 
     ghost can_bitand = { λ vob other. HaveSameLength vob.now other.now };
@@ -119,7 +119,7 @@ impl<'a, 'b, T: Places> BitAnd<&'b Vob<T>> for &'a Vob<T> {
     }
 }
 
-impl<'a, 'b, T: Places> BitOr<&'b Vob<T>> for &'a Vob<T> {
+impl<'a, 'b, T: Block> BitOr<&'b Vob<T>> for &'a Vob<T> {
     type Output = Result<Vob<T>, AllocError>;
 
     ghost can_bitor = { λ vob other. HaveSameLength vob.now other.now };
@@ -136,7 +136,7 @@ impl<'a, 'b, T: Places> BitOr<&'b Vob<T>> for &'a Vob<T> {
     }
 }
 
-impl<'a, 'b, T: Places> BitXor<&'b Vob<T>> for &'a Vob<T> {
+impl<'a, 'b, T: Block> BitXor<&'b Vob<T>> for &'a Vob<T> {
     type Output = Result<Vob<T>, AllocError>;
 
     ghost can_bitxor = { λ vob other. HaveSameLength vob.now other.now };
@@ -153,7 +153,7 @@ impl<'a, 'b, T: Places> BitXor<&'b Vob<T>> for &'a Vob<T> {
     }
 }
 
-impl<'a, T: Places> BitAnd<&'a Vob<T>> for Vob<T> {
+impl<'a, T: Block> BitAnd<&'a Vob<T>> for Vob<T> {
     type Output = Vob<T>;
 
     ghost can_bitand = { λ vob other. HaveSameLength vob other.now };
@@ -167,7 +167,7 @@ impl<'a, T: Places> BitAnd<&'a Vob<T>> for Vob<T> {
     }
 }
 
-impl<'a, T: Places> BitAndAssign<&'a Vob<T>> for Vob<T> {
+impl<'a, T: Block> BitAndAssign<&'a Vob<T>> for Vob<T> {
     ghost can_bitand_assign = { λ vob other. HaveSameLength vob other.now };
 
     ghost bitand_assign_gives = { λ vob other after. BecomesPointwise ◌&&◌ vob other.now after };
@@ -178,7 +178,7 @@ impl<'a, T: Places> BitAndAssign<&'a Vob<T>> for Vob<T> {
     }
 }
 
-impl<'a, T: Places> BitOr<&'a Vob<T>> for Vob<T> {
+impl<'a, T: Block> BitOr<&'a Vob<T>> for Vob<T> {
     type Output = Vob<T>;
 
     ghost can_bitor = { λ vob other. HaveSameLength vob other.now };
@@ -193,7 +193,7 @@ impl<'a, T: Places> BitOr<&'a Vob<T>> for Vob<T> {
     }
 }
 
-impl<'a, T: Places> BitOrAssign<&'a Vob<T>> for Vob<T> {
+impl<'a, T: Block> BitOrAssign<&'a Vob<T>> for Vob<T> {
     ghost can_bitor_assign = { λ vob other. HaveSameLength vob other.now };
 
     ghost bitor_assign_gives = { λ vob other after. BecomesPointwise ◌||◌ vob other.now after };
@@ -204,7 +204,7 @@ impl<'a, T: Places> BitOrAssign<&'a Vob<T>> for Vob<T> {
     }
 }
 
-impl<'a, T: Places> BitXor<&'a Vob<T>> for Vob<T> {
+impl<'a, T: Block> BitXor<&'a Vob<T>> for Vob<T> {
     type Output = Vob<T>;
 
     ghost can_bitxor = { λ vob other. HaveSameLength vob other.now };
@@ -219,7 +219,7 @@ impl<'a, T: Places> BitXor<&'a Vob<T>> for Vob<T> {
     }
 }
 
-impl<'a, T: Places> BitXorAssign<&'a Vob<T>> for Vob<T> {
+impl<'a, T: Block> BitXorAssign<&'a Vob<T>> for Vob<T> {
     ghost can_bitxor_assign = { λ vob other. HaveSameLength vob other.now };
 
     ghost bitxor_assign_gives = { λ vob other after. BecomesPointwise differ vob other.now after };
@@ -230,7 +230,7 @@ impl<'a, T: Places> BitXorAssign<&'a Vob<T>> for Vob<T> {
     }
 }
 
-impl<T: Places> PartialEq for Vob<T> {
+impl<T: Block> PartialEq for Vob<T> {
     ghost eq = { λ vob other. same_bits vob.bits other.bits };
 
     ghost laws = { Prim.search (comparing, rules) };
@@ -245,11 +245,11 @@ impl<T: Places> PartialEq for Vob<T> {
     }
 }
 
-impl<T: Places> Eq for Vob<T> {
+impl<T: Block> Eq for Vob<T> {
     ghost laws = { Prim.search (comparing, rules) };
 }
 
-impl<T: Places> Hash for Vob<T> {
+impl<T: Block> Hash for Vob<T> {
     ghost hash_input = { λ vob. hash_words T.hash_input T.of_bits T.BITS vob.bits };
 
     ghost respects_eq = { λ vob other same. ap (hash_words T.hash_input T.of_bits T.BITS)

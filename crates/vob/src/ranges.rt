@@ -5,10 +5,10 @@ ghost use Rattle.vob.specs.Ranges.{replaced, IsChangedWithin, IsRangeOf};
 use crate::bulk::cut_range;
 use crate::vob::Vob;
 use std::ops::RangeBounds;
-use vob_block::Places;
+use vob_block::Block;
 use vob_store::range::{Negate, Set, Unset, change_range};
 
-impl<T: Places> Vob<T> {
+impl<T: Block> Vob<T> {
     /// Makes each bit of the range `value`, and answers whether a bit changed. The range is cut at
     /// the length, and one whose end is before its start is empty. Only its first and its last
     /// block are masked.

@@ -6,11 +6,11 @@ use crate::vob::Vob;
 use serde::{Described, Deserialize, Deserializer, Format, Serialize, Serializer};
 use std::alloc::Global;
 use std::marker::Model;
-use vob_block::Places;
+use vob_block::Block;
 use vob_store::canonical::{is_canonical, mask};
 
 /// The Vob of `len` bits in these blocks, where they are canonical; otherwise the blocks again.
-fn vob_of_parts<T: Places>(len: usize, vec: Vec<T>) -> Result<Vob<T>, Vec<T>>
+fn vob_of_parts<T: Block>(len: usize, vec: Vec<T>) -> Result<Vob<T>, Vec<T>>
     ensures taken { IsOk result ↔ IsCanonical len (map T.number vec.items) T.BITS }
     ensures bits { IfOk result (λ vob. vob.bits ≡ unpacking len (map T.number vec.items) T.BITS) }
     ensures back { IfErr result (λ returned. returned ≡ vec) }
@@ -37,7 +37,7 @@ impl<T> Model for RawVob<T> {
     ghost view = { λ raw. record { len = raw.len; blocks = raw.vec.items } };
 }
 
-impl<T: Places> RawVob<T> {
+impl<T: Block> RawVob<T> {
     ghost use Rattle.std.specs.Borrow.{Lends, sem};
     ghost use Rattle.vob.specs.contracts.raw.RawVob.{the_row};
     ghost use Rattle.vob.specs.RawLends.{blocks_row};
@@ -114,7 +114,7 @@ impl<T: Places> RawVob<T> {
     }
 }
 
-impl<T: Places> Vob<T> {
+impl<T: Block> Vob<T> {
     /// The length and the blocks, without a promise from here on. Takes no memory.
     pub fn into_raw(self) -> RawVob<T>
         ensures len { result.len ≡ length self.bits }
@@ -177,9 +177,9 @@ struct Untested<T> {
     vec: Vec<T>,
 }
 
-impl<T: Places> Described for Vob<T> {}
+impl<T: Block> Described for Vob<T> {}
 
-impl<T: Places + Serialize> Serialize for Vob<T> {
+impl<T: Block + Serialize> Serialize for Vob<T> {
     /// Writes the length in bits and the blocks, as a `VobRecord` is written.
     fn serialize<S: Serializer>(&self, out: &mut S) -> Result<(), S::Error> {
         Lent {
@@ -190,7 +190,7 @@ impl<T: Places + Serialize> Serialize for Vob<T> {
     }
 }
 
-impl<'de, T: Places + Deserialize<'de>> Deserialize<'de> for Vob<T> {
+impl<'de, T: Block + Deserialize<'de>> Deserialize<'de> for Vob<T> {
     /// Reads what `serialize` writes. Where the blocks don't fit the length, or an unused bit is 1,
     /// it is an error of the format.
     fn deserialize<F: Format>(

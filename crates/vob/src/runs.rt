@@ -8,13 +8,13 @@ use crate::vob::Vob;
 use std::iter::FusedIterator;
 use std::marker::Model;
 use std::ops::Range;
-use vob_block::{Blocks, Places};
+use vob_block::{Block, Blocks};
 use vob_walk::{block_in_hand, next_in_hand};
 
 /// The runs of a Vob in order, seen as its bits, the index below which each run was given, and how
 /// many blocks were read and how many are unread.
 #[derive(Drop)]
-pub struct Runs<'a, T: Places> {
+pub struct Runs<'a, T: Block> {
     blocks: Blocks<'a, T>,
     len: usize,
     // 0, or the end of the run that was given last.
@@ -25,7 +25,7 @@ pub struct Runs<'a, T: Places> {
     hand: T,
 }
 
-impl<'a, T: Places> Model for Runs<'a, T> {
+impl<'a, T: Block> Model for Runs<'a, T> {
     ghost use Rattle.std.specs.Prelude.{map};
     ghost use Rattle.vob_block.specs.Packing.{unpacking};
     ghost use Rattle.vob.specs.Runs.{RunWalk, IsOnRuns, unread_from};
@@ -43,7 +43,7 @@ impl<'a, T: Places> Model for Runs<'a, T> {
         runs.from (T.number runs.hand) };
 }
 
-impl<T: Places> Vob<T> {
+impl<T: Block> Vob<T> {
     /// The runs of set bits, the first one first: each as the range of its indices, and as long as
     /// it can be. Where no bit is set there is none.
     ///
@@ -70,7 +70,7 @@ impl<T: Places> Vob<T> {
     }
 }
 
-impl<'a, T: Places> Iterator for Runs<'a, T> {
+impl<'a, T: Block> Iterator for Runs<'a, T> {
     type Item = Range<usize>;
 
     ghost next_gives = { GivesRun };
@@ -97,4 +97,4 @@ impl<'a, T: Places> Iterator for Runs<'a, T> {
     }
 }
 
-impl<'a, T: Places> FusedIterator for Runs<'a, T> {}
+impl<'a, T: Block> FusedIterator for Runs<'a, T> {}

@@ -12,11 +12,11 @@ ghost use Rattle.vob.specs.Vob.{HaveSameLength};
 use crate::error::IndicesError;
 use crate::vob::Vob;
 use std::alloc::Global;
-use vob_block::Places;
+use vob_block::Block;
 use vob_store::combined::{And, Combine, Or, Without, Xor, combine_into, count_combined, has_none};
 use vob_walk::{count_ones_in, index_of_rank, next_index, previous_index};
 
-impl<T: Places> Vob<T> {
+impl<T: Block> Vob<T> {
     /// The Vob of `len` bits of which those at the given indices are set. An index may stand among
     /// them more than once. The first one that is at or past `len` is refused, whether or not there
     /// is memory for the bits, which is asked for first. Length 0 takes no memory.

@@ -10,7 +10,7 @@ use crate::vob::Vob;
 use std::alloc::{AllocError, Global};
 use std::fmt;
 use thiserror::Error;
-use vob_block::Places;
+use vob_block::Block;
 use vob_store::bytes::block_bytes;
 
 /// Why a text wasn't read as bits.
@@ -32,7 +32,7 @@ impl From<AllocError> for DigitsError {
     }
 }
 
-impl<T: Places> fmt::Display for Vob<T> {
+impl<T: Block> fmt::Display for Vob<T> {
     /// A digit for each bit, and nothing else: `from_digits` reads it back.
     fn fmt<W: fmt::Write>(&self, f: &mut fmt::Formatter<W>) -> fmt::Result {
         for bit in self {
@@ -63,7 +63,7 @@ fn first_bad(text: &[u8]) -> Option<usize>
 }
 
 /// Adds the bits of some digits to an empty Vob, in the room that is there.
-fn push_digits<T: Places>(vob: &mut Vob<T>, digits: &[u8])
+fn push_digits<T: Block>(vob: &mut Vob<T>, digits: &[u8])
     requires empty { vob.old.bits ≡ [] }
     requires digits { All IsDigit digits.now }
     requires room { length digits.now ≤ vob.old.capacity }
@@ -75,7 +75,7 @@ fn push_digits<T: Places>(vob: &mut Vob<T>, digits: &[u8])
     }
 }
 
-impl<T: Places> Vob<T> {
+impl<T: Block> Vob<T> {
     /// The bits of some digits, that of index 0 first. Any other byte is refused by its index. No
     /// digits take no memory.
     ///

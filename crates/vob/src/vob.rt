@@ -18,7 +18,7 @@ use std::alloc::{AllocError, Global};
 use std::fmt;
 use std::marker::Model;
 use std::ops::Index;
-use vob_block::{Blocks, Places};
+use vob_block::{Block, Blocks};
 use vob_store::bytes::byte_blocks;
 use vob_store::fill::filled_blocks;
 use vob_store::mask::truncate_to;
@@ -29,13 +29,13 @@ use vob_store::single::{append_bit, first_place, stored_bit, write_bit};
 /// A vector of bits in blocks of the type `T`. Bit `i` stands in block `i / T::BITS`, at the place
 /// `i % T::BITS`, and the unused bits of the last block are 0.
 #[derive(Drop)]
-pub struct Vob<T: Places = usize> {
+pub struct Vob<T: Block = usize> {
     // In bits.
     pub(crate) len: usize,
     pub(crate) vec: Vec<T>,
 }
 
-impl<T: Places> Model for Vob<T> {
+impl<T: Block> Model for Vob<T> {
     ghost use Rattle.std.specs.Prelude.{◌*◌, ◌-◌, ◌^◌, map, min, vec_capacity};
     ghost use Rattle.vob_block.specs.Packing.{unpacking, IsCanonical};
     ghost use Rattle.vob.specs.Vob.{BitVector};
@@ -50,7 +50,7 @@ impl<T: Places> Model for Vob<T> {
     ghost invariant = { λ v. IsCanonical v.len (map T.number v.vec.items) T.BITS };
 }
 
-impl<T: Places> Vob<T> {
+impl<T: Block> Vob<T> {
     /// An empty Vob with room for `capacity` bits. Capacity 0 takes no memory.
     pub fn new_with_storage_type(alloc: Global, capacity: usize) -> Result<Vob<T>, AllocError>
         ensures empty { IfOk result (λ vob. vob.bits ≡ []) }
@@ -392,7 +392,7 @@ impl Vob<usize> {
     }
 }
 
-impl<T: Places> Index<usize> for Vob<T> {
+impl<T: Block> Index<usize> for Vob<T> {
     type Output = bool;
 
     ghost can_index = { λ vob index. index < length vob.bits };
@@ -409,7 +409,7 @@ impl<T: Places> Index<usize> for Vob<T> {
     }
 }
 
-impl<T: Places> fmt::Debug for Vob<T> {
+impl<T: Block> fmt::Debug for Vob<T> {
     fn fmt<W: fmt::Write>(&self, f: &mut fmt::Formatter<W>) -> fmt::Result {
         write!(f, "Vob[")?;
         for bit in self {
@@ -420,7 +420,7 @@ impl<T: Places> fmt::Debug for Vob<T> {
 }
 
 /// Puts a block behind the others.
-fn push_block<T: Places>(blocks: &mut Vec<T>, block: T) -> Result<(), AllocError>
+fn push_block<T: Block>(blocks: &mut Vec<T>, block: T) -> Result<(), AllocError>
     ensures { OnOk result (blocks.new.items ≡ blocks.old.items ++ block ∷ []) }
 {
     blocks.push(block)?;
@@ -429,7 +429,7 @@ fn push_block<T: Places>(blocks: &mut Vec<T>, block: T) -> Result<(), AllocError
 
 /// Puts one bit more behind `len` packed ones, into the block at hand, which goes behind the others
 /// where it is full.
-fn pack_bit<T: Places>(
+fn pack_bit<T: Block>(
     blocks: &mut Vec<T>,
     block: &mut T,
     len: usize,
@@ -451,7 +451,7 @@ fn pack_bit<T: Places>(
 }
 
 /// Puts the block at hand behind the others where it holds one of the `len` packed bits.
-fn push_partial<T: Places>(blocks: &mut Vec<T>, block: T, len: usize) -> Result<(), AllocError>
+fn push_partial<T: Block>(blocks: &mut Vec<T>, block: T, len: usize) -> Result<(), AllocError>
     ensures err { OnErr result (0 < len) }
     ensures ok { (xs : List Bool) → len ≡ length xs
         → Packs T.BITS xs (map T.number blocks.old.items) (T.number block)
@@ -465,7 +465,7 @@ fn push_partial<T: Places>(blocks: &mut Vec<T>, block: T, len: usize) -> Result<
 
 /// Puts the items into blocks, of which there are none yet, and answers how many items came. Each
 /// block is packed first and then pushed.
-fn pack_items<T: Places, I: Iterator<Item = bool>>(
+fn pack_items<T: Block, I: Iterator<Item = bool>>(
     blocks: &mut Vec<T>,
     items: I,
 ) -> Result<usize, VobError>

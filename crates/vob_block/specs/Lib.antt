@@ -4,4 +4,3 @@ pub mod Packing
 pub mod Places
 pub mod Pointwise
 pub mod Reading
-pub mod Widths

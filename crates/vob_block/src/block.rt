@@ -1,21 +1,20 @@
 //! The trait of the types that store bits, by their places.
-ghost use Rattle.std.specs.Prelude.{◌≡◌, ◌≢◌, ◌==◌, ℕ, ◌+◌, ◌-◌, ◌%◌, ◌^◌, ◌<◌, if◌then◌else◌, ◌≤◌, ◌&&◌, ◌||◌, ◌↔◌, not, nat_le, nat_lt, pos, IsTrue, length, All, map, false};
+ghost use Rattle.std.specs.Prelude.{◌≡◌, ◌≢◌, ◌==◌, ℕ, ◌+◌, ◌-◌, ◌%◌, ◌^◌, ◌<◌, if◌then◌else◌, ◌≤◌, ◌&&◌, ◌||◌, ◌↔◌, not, nat_le, nat_lt, pos, IsTrue, length, All, map};
 ghost use Rattle.num_traits.specs.Laws.{bit_len};
 ghost use Rattle.vob_block.specs.Places.{place, HasPlaces, HasZerosLow, HasZerosHigh, true_places};
 ghost use Rattle.vob_block.specs.Pointwise.{IsCombined, differ};
 ghost use Rattle.vob_block.specs.Reading.{AreReadOnce};
 
 use crate::blocks::Blocks;
-use num_traits::{Num, PrimInt};
+use num_traits::PrimInt;
 use std::fmt::Debug;
 use std::hash::Hash;
-use std::num::ParseIntError;
 
 /// An unsigned integer type whose values store `BITS` truth values each: place `j` is the bit of
 /// weight `2^j`.
 ///
 /// vob 4.0.1 takes any `T: Debug + PrimInt`, signed types too.
-pub trait Block: PrimInt + Num<FromStrRadixErr = ParseIntError> + Hash + Debug {
+pub trait Block: PrimInt + Hash + Debug {
     ghost BITS: { ℕ };
 
     /// How many places a block has.
@@ -153,18 +152,6 @@ pub trait Block: PrimInt + Num<FromStrRadixErr = ParseIntError> + Hash + Debug {
     {
         self.in_range();
         self.leading_zeros() as usize
-    }
-
-    /// The block with its first true place made false. The number of that place isn't waited for.
-    final fn without_first(self) -> Self
-        requires { number self ≢ 0 }
-        ensures places { (j : ℕ) → HasZerosLow BITS (number self) j → HasPlaces BITS (number result)
-            (λ i. if i == j then false else place i (number self)) }
-        ensures within { number result < 2 ^ BITS }
-    {
-        self.in_range();
-        let less = self - Self::ONE;
-        self.band(less)
     }
 
     /// The places below `n`, and no others.

@@ -5,8 +5,6 @@ pub mod block;
 mod blocks;
 mod impls;
 mod lanes;
-mod places;
 
 pub use block::Block;
 pub use blocks::Blocks;
-pub use places::Places;

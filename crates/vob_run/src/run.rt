@@ -11,10 +11,10 @@ use crate::calls::{grow, make, make_usize, pair, raw, read, walk, write};
 pub use crate::command::{Command, Reply, UsizeCommand};
 use std::alloc::{AllocError, Global};
 use vob::Vob;
-use vob_block::Places;
+use vob_block::Block;
 
 // Runs one command.
-fn run_one<T: Places>(alloc: Global, vobs: &mut Vec<Vob<T>>, command: &Command<T>) -> Reply<T>
+fn run_one<T: Block>(alloc: Global, vobs: &mut Vec<Vob<T>>, command: &Command<T>) -> Reply<T>
     ensures { IsStep T.BITS (lists vobs.old.items) (call_of T.number command.now)
         (answer_of T.number result) (lists vobs.new.items) }
 {
@@ -42,7 +42,7 @@ fn run_one<T: Places>(alloc: Global, vobs: &mut Vec<Vob<T>>, command: &Command<T
 }
 
 // Runs one command that changes a Vob, or reads one.
-fn run_on_one<T: Places>(alloc: Global, vobs: &mut Vec<Vob<T>>, command: &Command<T>) -> Reply<T>
+fn run_on_one<T: Block>(alloc: Global, vobs: &mut Vec<Vob<T>>, command: &Command<T>) -> Reply<T>
     requires { IsOnOne command.now }
     ensures { IsStep T.BITS (lists vobs.old.items) (call_of T.number command.now)
         (answer_of T.number result) (lists vobs.new.items) }
@@ -74,7 +74,7 @@ fn run_on_one<T: Places>(alloc: Global, vobs: &mut Vec<Vob<T>>, command: &Comman
 }
 
 // Runs one command that reads a Vob.
-fn run_read<T: Places>(alloc: Global, vobs: &[Vob<T>], command: &Command<T>) -> Reply<T>
+fn run_read<T: Block>(alloc: Global, vobs: &[Vob<T>], command: &Command<T>) -> Reply<T>
     requires { IsRead command.now }
     ensures { IsStep T.BITS (lists vobs.now) (call_of T.number command.now)
         (answer_of T.number result) (lists vobs.now) }
@@ -105,7 +105,7 @@ fn run_read<T: Places>(alloc: Global, vobs: &[Vob<T>], command: &Command<T>) -> 
 /// Runs the commands in order on the numbered Vobs, and appends one reply for each. Room for the
 /// replies is made first: where it is refused, no command was run. A command that is refused, or
 /// that names no Vob, changes nothing and has its own reply.
-pub fn run<T: Places>(
+pub fn run<T: Block>(
     alloc: Global,
     commands: &[Command<T>],
     vobs: &mut Vec<Vob<T>>,

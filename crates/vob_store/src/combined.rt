@@ -5,7 +5,7 @@ ghost use Rattle.vob_block.specs.Pointwise.{differ, IsCombined};
 ghost use Rattle.vob_block.specs.Reading.{AreReadOnce};
 ghost use Rattle.vob_store.specs.Combined.{without, ones_combined, HaveNone};
 
-use vob_block::{Blocks, Places};
+use vob_block::{Block, Blocks};
 
 // How many blocks are read for one test. A test after each block takes more than twice as long.
 const CHUNK: usize = 64;
@@ -16,7 +16,7 @@ pub trait Combine {
     ghost of_bits: { Bool → Bool → Bool };
 
     /// What it makes of the places of both blocks.
-    fn block<T: Places>(own: T, other: T) -> T
+    fn block<T: Block>(own: T, other: T) -> T
         ensures places { HasPlaces T.BITS (T.number result)
             (λ j. of_bits (place j (T.number own)) (place j (T.number other))) }
         ensures within { T.number result < 2 ^ T.BITS };
@@ -29,7 +29,7 @@ impl Combine for And {
     ghost of_bits = { ◌&&◌ };
 
     #[inline(always)]
-    fn block<T: Places>(own: T, other: T) -> T {
+    fn block<T: Block>(own: T, other: T) -> T {
         own.band(other)
     }
 }
@@ -41,7 +41,7 @@ impl Combine for Or {
     ghost of_bits = { ◌||◌ };
 
     #[inline(always)]
-    fn block<T: Places>(own: T, other: T) -> T {
+    fn block<T: Block>(own: T, other: T) -> T {
         own.bor(other)
     }
 }
@@ -53,7 +53,7 @@ impl Combine for Xor {
     ghost of_bits = { differ };
 
     #[inline(always)]
-    fn block<T: Places>(own: T, other: T) -> T {
+    fn block<T: Block>(own: T, other: T) -> T {
         own.bxor(other)
     }
 }
@@ -65,14 +65,14 @@ impl Combine for Without {
     ghost of_bits = { without };
 
     #[inline(always)]
-    fn block<T: Places>(own: T, other: T) -> T {
+    fn block<T: Block>(own: T, other: T) -> T {
         own.band(other.bnot())
     }
 }
 
 /// Stores in `own` both combined, and answers whether a block changed. Each block of `other` is
 /// read once.
-pub fn combine_into<C: Combine, T: Places>(own: &mut [T], other: &mut Blocks<'_, T>) -> bool
+pub fn combine_into<C: Combine, T: Block>(own: &mut [T], other: &mut Blocks<'_, T>) -> bool
     requires { length own.old ≡ length other.old.items }
     ensures combined { IsCombined T.BITS C.of_bits (map T.number own.old)
         (map T.number other.old.items) (map T.number own.new) result }
@@ -90,7 +90,7 @@ pub fn combine_into<C: Combine, T: Places>(own: &mut [T], other: &mut Blocks<'_,
 }
 
 /// How many places are true in both combined. Each block of `other` is read once.
-pub fn count_combined<C: Combine, T: Places>(own: &[T], other: &mut Blocks<'_, T>) -> usize
+pub fn count_combined<C: Combine, T: Block>(own: &[T], other: &mut Blocks<'_, T>) -> usize
     requires count { length own.now ≡ length other.old.items }
     requires fits { ones_combined C.of_bits T.BITS (map T.number own.now)
         (map T.number other.old.items) (length own.now) ≤ usize.MAX }
@@ -107,7 +107,7 @@ pub fn count_combined<C: Combine, T: Places>(own: &[T], other: &mut Blocks<'_, T
 
 /// Whether no place is true in the blocks from `from` to below `to` of both combined. Each of them
 /// is read once.
-fn none_between<C: Combine, T: Places>(
+fn none_between<C: Combine, T: Block>(
     own: &[T],
     other: &mut Blocks<'_, T>,
     from: usize,
@@ -130,7 +130,7 @@ fn none_between<C: Combine, T: Places>(
 
 /// Whether no place is true in both combined. Each block of `other` is read once at most, and none
 /// behind a chunk with such a place.
-pub fn has_none<C: Combine, T: Places>(own: &[T], other: &mut Blocks<'_, T>) -> bool
+pub fn has_none<C: Combine, T: Block>(own: &[T], other: &mut Blocks<'_, T>) -> bool
     requires { length own.now ≡ length other.old.items }
     ensures none { IsTrue result ↔ HaveNone C.of_bits T.BITS 0 (length own.now)
         (map T.number own.now) (map T.number other.old.items) }

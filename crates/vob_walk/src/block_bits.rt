@@ -6,12 +6,12 @@ ghost use Rattle.vob_walk.specs.Cursor.{block_indices};
 ghost use Rattle.vob_walk.specs.InHand.{IsBlockBits};
 
 use std::marker::Model;
-use vob_block::Places;
+use vob_block::Block;
 
 /// A block whose true places are indices still to give, seen as the list of them. Place 0 is index
 /// `at`.
 #[derive(Drop)]
-pub(crate) struct BlockBits<T: Places> {
+pub(crate) struct BlockBits<T: Block> {
     word: T,
     at: usize,
     // How many are left. A loop ends by this count, which is known long before the last word is.
@@ -20,7 +20,7 @@ pub(crate) struct BlockBits<T: Places> {
     ready: usize,
 }
 
-impl<T: Places> Model for BlockBits<T> {
+impl<T: Block> Model for BlockBits<T> {
     ghost use Rattle.std.specs.Prelude.{ℕ, List};
     ghost use Rattle.vob_walk.specs.Cursor.{block_indices};
     ghost use Rattle.vob_walk.specs.InHand.{IsReady};
@@ -34,13 +34,27 @@ impl<T: Places> Model for BlockBits<T> {
 
 /// Whether no place is true.
 #[inline(always)]
-pub(crate) fn is_zero<T: Places>(block: T) -> bool
+pub(crate) fn is_zero<T: Block>(block: T) -> bool
     ensures { IsTrue result ↔ (T.number block ≡ 0) }
 {
     block == T::ZERO
 }
 
-impl<T: Places> BlockBits<T> {
+/// The block with its first true place made false. The number of that place isn't waited for.
+#[inline(always)]
+fn without_first<T: Block>(block: T) -> T
+    requires { T.number block ≢ 0 }
+    ensures places { (j : ℕ) → HasZerosLow T.BITS (T.number block) j
+        → HasPlaces T.BITS (T.number result)
+        (λ i. if i == j then false else place i (T.number block)) }
+    ensures within { T.number result < 2 ^ T.BITS }
+{
+    block.in_range();
+    let less = block - T::ONE;
+    block.band(less)
+}
+
+impl<T: Block> BlockBits<T> {
     /// No indices.
     pub(crate) fn none() -> BlockBits<T>
         ensures { result ≡ [] }
@@ -107,7 +121,7 @@ impl<T: Places> BlockBits<T> {
             return None;
         }
         let index = self.ready;
-        *self = BlockBits::counted(self.word.without_first(), self.at, self.left - 1);
+        *self = BlockBits::counted(without_first(self.word), self.at, self.left - 1);
         Some(index)
     }
 }

@@ -8,11 +8,11 @@ ghost use Rattle.vob_walk.specs.Cursor.{unread};
 
 use crate::range::blocks_of;
 use crate::window::{Window, masked};
-use vob_block::{Blocks, Places};
+use vob_block::{Block, Blocks};
 
 /// How many places are true from index `start` to below `stop`. Reads each block that holds one of
 /// these indices once, and no other. vob 4.0.1 has no public call like it.
-pub fn count_ones_in<T: Places>(blocks: &mut Blocks<'_, T>, start: usize, stop: usize) -> usize
+pub fn count_ones_in<T: Block>(blocks: &mut Blocks<'_, T>, start: usize, stop: usize) -> usize
     requires order { start ≤ stop }
     requires enough { need stop T.BITS ≤ length blocks.old.items }
     ensures ones { result ≡ ones_between T.BITS (map T.number blocks.old.items) start stop }
@@ -34,12 +34,7 @@ pub fn count_ones_in<T: Places>(blocks: &mut Blocks<'_, T>, start: usize, stop: 
 }
 
 /// How many places of block `k` are true from index `start` to below `stop`, some of which it holds.
-fn ones_in_block<T: Places>(
-    blocks: &mut Blocks<'_, T>,
-    k: usize,
-    start: usize,
-    stop: usize,
-) -> usize
+fn ones_in_block<T: Block>(blocks: &mut Blocks<'_, T>, k: usize, start: usize, stop: usize) -> usize
     requires count { k < length blocks.old.items }
     requires order { start ≤ stop }
     requires begins { start ≤ k * T.BITS + T.BITS }
@@ -58,7 +53,7 @@ fn ones_in_block<T: Places>(
 }
 
 /// How many places are true in the blocks from `from` to below `to`. Reads each of them once.
-fn ones_in_blocks<T: Places>(blocks: &mut Blocks<'_, T>, from: usize, to: usize) -> usize
+fn ones_in_blocks<T: Block>(blocks: &mut Blocks<'_, T>, from: usize, to: usize) -> usize
     requires order { from ≤ to }
     requires count { to ≤ length blocks.old.items }
     requires fits { to * T.BITS ≤ usize.MAX }
@@ -74,7 +69,7 @@ fn ones_in_blocks<T: Places>(blocks: &mut Blocks<'_, T>, from: usize, to: usize)
 }
 
 /// How many indices of the window stand in the blocks from `next` to below `end`.
-pub(crate) fn count_between<T: Places>(
+pub(crate) fn count_between<T: Block>(
     blocks: &mut Blocks<'_, T>,
     window: Window,
     next: usize,

@@ -11,18 +11,18 @@ use crate::scan::Unread;
 use crate::walk::End;
 use std::marker::Model;
 use std::ops::RangeBounds;
-use vob_block::{Blocks, Places};
+use vob_block::{Block, Blocks};
 
 /// A walk over the indices of the bits of one value: those in hand at either end, and the blocks
 /// between them.
 #[derive(Drop)]
-pub(crate) struct Cursor<'a, T: Places> {
+pub(crate) struct Cursor<'a, T: Block> {
     unread: Unread<'a, T>,
     front: BlockBits<T>,
     back: BackBits<T>,
 }
 
-impl<'a, T: Places> Model for Cursor<'a, T> {
+impl<'a, T: Block> Model for Cursor<'a, T> {
     ghost use Rattle.std.specs.Prelude.{◌^◌, ◌<◌, ◌++◌, length};
     ghost use Rattle.vob_walk.specs.Walk.{Walk};
     ghost use Rattle.vob_walk.specs.Cursor.{walk_of};
@@ -38,7 +38,7 @@ impl<'a, T: Places> Model for Cursor<'a, T> {
 /// Where the front has no index in hand, it gets those of the first block that has some, or else
 /// what the back has. So it has none afterwards only where none is left at all.
 #[inline(always)]
-fn fill_front<T: Places>(
+fn fill_front<T: Block>(
     unread: &mut Unread<'_, T>,
     front: &mut BlockBits<T>,
     back: &mut BackBits<T>,
@@ -63,11 +63,7 @@ fn fill_front<T: Places>(
 /// Where the back has no index in hand, it gets those of the last block that has some, or else what
 /// the front has. So it has none afterwards only where none is left at all.
 #[inline(always)]
-fn fill_back<T: Places>(
-    unread: &mut Unread<'_, T>,
-    front: &mut BlockBits<T>,
-    back: &mut BackBits<T>,
-)
+fn fill_back<T: Block>(unread: &mut Unread<'_, T>, front: &mut BlockBits<T>, back: &mut BackBits<T>)
     ensures rest { front.new ++ (unread.new.rest ++ back.new) ≡ front.old ++ (unread.old.rest ++ back.old) }
     ensures empty { back.new ≡ [] → front.new ++ unread.new.rest ≡ [] }
     ensures fewer { length front.new ≤ length front.old }
@@ -85,7 +81,7 @@ fn fill_back<T: Places>(
     }
 }
 
-impl<'a, T: Places> Cursor<'a, T> {
+impl<'a, T: Block> Cursor<'a, T> {
     /// A walk over the first `len` bits of some blocks.
     pub(crate) fn over<R: RangeBounds<usize>>(
         blocks: Blocks<'a, T>,

@@ -10,16 +10,16 @@ use crate::walk::{End, IndexWalk};
 use std::iter::FusedIterator;
 use std::marker::Model;
 use std::ops::RangeBounds;
-use vob_block::{Blocks, Places};
+use vob_block::{Block, Blocks};
 
 /// The rising indices of the set bits within a range. Each block that holds an index of the range is
 /// read once at most.
 #[derive(Drop)]
-pub struct IterSetBits<'a, T: Places> {
+pub struct IterSetBits<'a, T: Block> {
     cursor: Cursor<'a, T>,
 }
 
-impl<'a, T: Places> Model for IterSetBits<'a, T> {
+impl<'a, T: Block> Model for IterSetBits<'a, T> {
     ghost use Rattle.vob_walk.specs.Walk.{Walk};
 
     ghost Value = { Walk };
@@ -27,7 +27,7 @@ impl<'a, T: Places> Model for IterSetBits<'a, T> {
     ghost view = { λ walk. walk.cursor };
 }
 
-impl<'a, T: Places> IterSetBits<'a, T> {
+impl<'a, T: Block> IterSetBits<'a, T> {
     /// A walk over the first `len` bits of some blocks. Every pair of bounds is accepted; an index
     /// belongs to the range where it is below `len` and meets both as whole numbers.
     pub fn over<R: RangeBounds<usize>>(
@@ -56,7 +56,7 @@ impl<'a, T: Places> IterSetBits<'a, T> {
     }
 }
 
-impl<'a, T: Places> Iterator for IterSetBits<'a, T> {
+impl<'a, T: Block> Iterator for IterSetBits<'a, T> {
     type Item = usize;
 
     ghost next_gives = { GivesFirst };
@@ -69,7 +69,7 @@ impl<'a, T: Places> Iterator for IterSetBits<'a, T> {
     }
 }
 
-impl<'a, T: Places> DoubleEndedIterator for IterSetBits<'a, T> {
+impl<'a, T: Block> DoubleEndedIterator for IterSetBits<'a, T> {
     ghost next_back_gives = { GivesLast };
 
     #[inline(always)]
@@ -78,9 +78,9 @@ impl<'a, T: Places> DoubleEndedIterator for IterSetBits<'a, T> {
     }
 }
 
-impl<'a, T: Places> FusedIterator for IterSetBits<'a, T> {}
+impl<'a, T: Block> FusedIterator for IterSetBits<'a, T> {}
 
-impl<'a, T: Places> IndexWalk for IterSetBits<'a, T> {
+impl<'a, T: Block> IndexWalk for IterSetBits<'a, T> {
     ghost walk = { λ walk. walk };
 
     fn pull(&mut self, side: End) -> Option<usize> {
@@ -91,11 +91,11 @@ impl<'a, T: Places> IndexWalk for IterSetBits<'a, T> {
 /// The rising indices of the unset bits within a range. Each block that holds an index of the range
 /// is read once at most.
 #[derive(Drop)]
-pub struct IterUnsetBits<'a, T: Places> {
+pub struct IterUnsetBits<'a, T: Block> {
     cursor: Cursor<'a, T>,
 }
 
-impl<'a, T: Places> Model for IterUnsetBits<'a, T> {
+impl<'a, T: Block> Model for IterUnsetBits<'a, T> {
     ghost use Rattle.vob_walk.specs.Walk.{Walk};
 
     ghost Value = { Walk };
@@ -103,7 +103,7 @@ impl<'a, T: Places> Model for IterUnsetBits<'a, T> {
     ghost view = { λ walk. walk.cursor };
 }
 
-impl<'a, T: Places> IterUnsetBits<'a, T> {
+impl<'a, T: Block> IterUnsetBits<'a, T> {
     /// A walk over the first `len` bits of some blocks. Every pair of bounds is accepted; an index
     /// belongs to the range where it is below `len` and meets both as whole numbers.
     pub fn over<R: RangeBounds<usize>>(
@@ -134,7 +134,7 @@ impl<'a, T: Places> IterUnsetBits<'a, T> {
     }
 }
 
-impl<'a, T: Places> Iterator for IterUnsetBits<'a, T> {
+impl<'a, T: Block> Iterator for IterUnsetBits<'a, T> {
     type Item = usize;
 
     ghost next_gives = { GivesFirst };
@@ -147,7 +147,7 @@ impl<'a, T: Places> Iterator for IterUnsetBits<'a, T> {
     }
 }
 
-impl<'a, T: Places> DoubleEndedIterator for IterUnsetBits<'a, T> {
+impl<'a, T: Block> DoubleEndedIterator for IterUnsetBits<'a, T> {
     ghost next_back_gives = { GivesLast };
 
     #[inline(always)]
@@ -156,9 +156,9 @@ impl<'a, T: Places> DoubleEndedIterator for IterUnsetBits<'a, T> {
     }
 }
 
-impl<'a, T: Places> FusedIterator for IterUnsetBits<'a, T> {}
+impl<'a, T: Block> FusedIterator for IterUnsetBits<'a, T> {}
 
-impl<'a, T: Places> IndexWalk for IterUnsetBits<'a, T> {
+impl<'a, T: Block> IndexWalk for IterUnsetBits<'a, T> {
     ghost walk = { λ walk. walk };
 
     fn pull(&mut self, side: End) -> Option<usize> {

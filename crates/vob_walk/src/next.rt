@@ -7,11 +7,11 @@ ghost use Rattle.vob_walk.specs.Next.{HasNoBit, IsFirstBit, IsLastBit, IsFirstPl
 use crate::block_bits::is_zero;
 use crate::skip::{first_other, last_other};
 use crate::window::{bits_of_value, block_without};
-use vob_block::{Blocks, Places};
+use vob_block::{Block, Blocks};
 
 /// The first place from `from` on whose bit has the value, or `BITS` where there is none.
 #[inline(always)]
-fn first_place<T: Places>(block: T, value: bool, from: usize) -> usize
+fn first_place<T: Block>(block: T, value: bool, from: usize) -> usize
     requires { from < T.BITS }
     ensures { IsFirstPlace T.BITS (T.number block) value from result }
 {
@@ -26,7 +26,7 @@ fn first_place<T: Places>(block: T, value: bool, from: usize) -> usize
 
 /// One more than the last place up to `upto` whose bit has the value, or 0 where there is none.
 #[inline(always)]
-fn past_last_place<T: Places>(block: T, value: bool, upto: usize) -> usize
+fn past_last_place<T: Block>(block: T, value: bool, upto: usize) -> usize
     requires { upto < T.BITS }
     ensures { IsLastPlace (T.number block) value (upto + 1) result }
 {
@@ -40,7 +40,7 @@ fn past_last_place<T: Places>(block: T, value: bool, upto: usize) -> usize
 
 /// The block of index `from`: the one in hand, which none is before the first index.
 #[inline(always)]
-pub fn block_in_hand<T: Places>(blocks: &mut Blocks<'_, T>, hand: T, from: usize) -> T
+pub fn block_in_hand<T: Block>(blocks: &mut Blocks<'_, T>, hand: T, from: usize) -> T
     requires count { from / T.BITS < length blocks.old.items }
     requires hand { 0 < from → T.number hand
         ≡ slice_index_or (map T.number blocks.old.items) (from / T.BITS) 0 }
@@ -56,7 +56,7 @@ pub fn block_in_hand<T: Places>(blocks: &mut Blocks<'_, T>, hand: T, from: usize
 /// none below it. The block of the other is in hand beside it, and those behind it are read until
 /// one has such a bit.
 #[inline(always)]
-pub fn next_in_hand<T: Places>(
+pub fn next_in_hand<T: Block>(
     blocks: &mut Blocks<'_, T>,
     value: bool,
     len: usize,
@@ -86,7 +86,7 @@ pub fn next_in_hand<T: Places>(
 
 /// One more than the last index up to `upto` whose bit has the value, or 0 where there is none.
 #[inline(always)]
-fn past_last_index_of<T: Places>(blocks: &mut Blocks<'_, T>, value: bool, upto: usize) -> usize
+fn past_last_index_of<T: Block>(blocks: &mut Blocks<'_, T>, value: bool, upto: usize) -> usize
     requires count { upto / T.BITS < length blocks.old.items }
     requires fits { upto < usize.MAX }
     ensures { FindsDown T.BITS T.number value blocks.old blocks.new upto result }
@@ -106,7 +106,7 @@ fn past_last_index_of<T: Places>(blocks: &mut Blocks<'_, T>, value: bool, upto: 
 /// The first index from `from` to below `len` whose bit has the value. Reads the blocks from that
 /// of `from` to that of the index once each, and no other. vob 4.0.1 has no public call like it.
 #[inline(always)]
-pub fn next_index<T: Places>(
+pub fn next_index<T: Block>(
     blocks: &mut Blocks<'_, T>,
     value: bool,
     len: usize,
@@ -132,7 +132,7 @@ pub fn next_index<T: Places>(
 /// of the greatest index that is looked at down to that of the index once each, and no other. vob
 /// 4.0.1 has no public call like it.
 #[inline(always)]
-pub fn previous_index<T: Places>(
+pub fn previous_index<T: Block>(
     blocks: &mut Blocks<'_, T>,
     value: bool,
     len: usize,

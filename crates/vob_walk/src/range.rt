@@ -5,7 +5,7 @@ ghost use Rattle.vob_walk.specs.Matches.{from_start, up_to_end};
 ghost use Rattle.vob_walk.specs.Cursor.{AreBlocksOf};
 
 use std::ops::{Bound, RangeBounds};
-use vob_block::Places;
+use vob_block::Block;
 
 /// Where the indices below `len` end that meet the end of the range.
 pub fn past_last_index<R: RangeBounds<usize>>(range: &R, len: usize) -> usize
@@ -36,7 +36,7 @@ pub fn first_index<R: RangeBounds<usize>>(range: &R, stop: usize) -> usize
 }
 
 /// The blocks that hold an index from `start` to below `stop`: the first one, and where they end.
-pub(crate) fn blocks_of<T: Places>(start: usize, stop: usize) -> (usize, usize)
+pub(crate) fn blocks_of<T: Block>(start: usize, stop: usize) -> (usize, usize)
     requires { start ≤ stop }
     ensures { AreBlocksOf T.BITS start stop result.0 result.1 }
 {

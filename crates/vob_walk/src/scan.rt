@@ -14,11 +14,11 @@ use crate::skip::{first_other, last_other};
 use crate::window::{Window, block_without, masked};
 use std::marker::Model;
 use std::ops::RangeBounds;
-use vob_block::{Blocks, Places};
+use vob_block::{Block, Blocks};
 
 /// The indices that the window looks for in block `k`.
 #[inline(always)]
-fn bits_in<T: Places>(block: T, k: usize, window: Window) -> BlockBits<T>
+fn bits_in<T: Block>(block: T, k: usize, window: Window) -> BlockBits<T>
     requires { k * T.BITS < window.stop }
     ensures { result ≡ indices_in T.BITS (T.number block) (k * T.BITS) window.value window.start
         window.stop }
@@ -28,7 +28,7 @@ fn bits_in<T: Places>(block: T, k: usize, window: Window) -> BlockBits<T>
 
 /// The same, to be given from the last one on.
 #[inline(always)]
-fn back_bits_in<T: Places>(block: T, k: usize, window: Window) -> BackBits<T>
+fn back_bits_in<T: Block>(block: T, k: usize, window: Window) -> BackBits<T>
     requires { k * T.BITS < window.stop }
     ensures { result ≡ indices_in T.BITS (T.number block) (k * T.BITS) window.value window.start
         window.stop }
@@ -39,7 +39,7 @@ fn back_bits_in<T: Places>(block: T, k: usize, window: Window) -> BackBits<T>
 /// Reads blocks from `next` on until one has an index to give, and answers that one's. Where none
 /// has, all up to `end` are read.
 #[inline(always)]
-fn find_front<T: Places>(
+fn find_front<T: Block>(
     blocks: &mut Blocks<'_, T>,
     window: Window,
     next: &mut usize,
@@ -69,7 +69,7 @@ fn find_front<T: Places>(
 /// Reads blocks from below `end` down until one has an index to give, and answers that one's. Where
 /// none has, all down to `next` are read.
 #[inline(always)]
-fn find_back<T: Places>(
+fn find_back<T: Block>(
     blocks: &mut Blocks<'_, T>,
     window: Window,
     next: usize,
@@ -99,14 +99,14 @@ fn find_back<T: Places>(
 /// The blocks that neither end of a walk has read, from `next` to below `end`, and what is looked
 /// for in them.
 #[derive(Drop)]
-pub(crate) struct Unread<'a, T: Places> {
+pub(crate) struct Unread<'a, T: Block> {
     blocks: Blocks<'a, T>,
     window: Window,
     next: usize,
     end: usize,
 }
 
-impl<'a, T: Places> Model for Unread<'a, T> {
+impl<'a, T: Block> Model for Unread<'a, T> {
     ghost use Rattle.std.specs.Prelude.{map, ◌-◌};
     ghost use Rattle.vob_walk.specs.Cursor.{UnreadBlocks, IsUnread, unread};
 
@@ -121,7 +121,7 @@ impl<'a, T: Places> Model for Unread<'a, T> {
     ghost invariant = { λ u. IsUnread T.BITS (map T.number u.blocks.items) u.window.stop u.next u.end };
 }
 
-impl<'a, T: Places> Unread<'a, T> {
+impl<'a, T: Block> Unread<'a, T> {
     /// The blocks of a walk over the first `len` bits of some blocks, all unread.
     pub(crate) fn over<R: RangeBounds<usize>>(
         blocks: Blocks<'a, T>,

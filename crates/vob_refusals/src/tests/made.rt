@@ -3,10 +3,10 @@ use super::support::{FIRST, check_blocks, request, same, tell, vob_of};
 use super::unhinted::Unhinted;
 use std::process::Abort;
 use vob::{Vob, VobError};
-use vob_block::Places;
+use vob_block::Block;
 
 /// Whether a Vob was made, which then has this length and these blocks. If not, there was no memory.
-fn is_made<T: Places, E: Into<VobError> + Drop>(
+fn is_made<T: Block, E: Into<VobError> + Drop>(
     rt: &impl Abort,
     answer: Result<Vob<T>, E>,
     len: usize,

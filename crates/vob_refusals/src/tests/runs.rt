@@ -5,14 +5,14 @@ use std::alloc::{AllocError, Global};
 use std::ops::Bound::{Excluded, Included, Unbounded};
 use std::process::Abort;
 use vob::{End, Vob};
-use vob_block::Places;
+use vob_block::Block;
 use vob_run::run::{run, run_usize};
 use vob_run::{Command, Reply, UsizeCommand};
 
 /// The commands of one kind of run.
 trait Runs: Drop {
     /// What the Vobs store their bits in.
-    type Stored: Places;
+    type Stored: Block;
 
     /// A command that names no Vob.
     fn skipped() -> Self;
@@ -61,7 +61,7 @@ impl Runs for UsizeCommand {
 }
 
 /// Which command wanted memory that wasn't there, if one did; no other did.
-fn refused_at<T: Places>(rt: &impl Abort, replies: &[Reply<T>]) -> Option<usize> {
+fn refused_at<T: Block>(rt: &impl Abort, replies: &[Reply<T>]) -> Option<usize> {
     let mut found = None;
     for (at, reply) in replies.iter().enumerate() {
         if let Reply::Refused(2) = reply {

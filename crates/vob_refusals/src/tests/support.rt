@@ -5,7 +5,7 @@ use std::alloc::Global;
 use std::fmt::Debug;
 use std::process::Abort;
 use vob::{Vob, VobError};
-use vob_block::Places;
+use vob_block::Block;
 
 /// How many requests are made before those of a test, where the first of these are refused:
 /// `tools/refuse` refuses the next four in turn. A test whose calls make more requests stands here
@@ -47,7 +47,7 @@ pub fn vob_of(alloc: Global, digits: &str) -> Result<Vob<u8>, VobError> {
 }
 
 /// Compares the length and the blocks.
-pub fn check_blocks<T: Places>(rt: &impl Abort, vob: &Vob<T>, len: usize, blocks: &[T]) {
+pub fn check_blocks<T: Block>(rt: &impl Abort, vob: &Vob<T>, len: usize, blocks: &[T]) {
     same(rt, "the length", vob.len(), len);
     same_list(rt, "the blocks", vob.get_storage(), blocks);
 }

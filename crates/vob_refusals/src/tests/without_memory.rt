@@ -5,12 +5,12 @@ use std::fmt::Debug;
 use std::hash::{DefaultHasher, Hash, Hasher};
 use std::process::Abort;
 use vob::{End, IndexWalk, IterSetBits, IterUnsetBits, RawVob, Vob, VobError, count_ones_in, deal};
-use vob_block::{Blocks, Places};
+use vob_block::{Block, Blocks};
 use vob_run::Reply;
 use vob_run::run::{run, run_usize};
 
 /// A Vob that is made without bits, and without room.
-fn check_empty<T: Places, E: Debug + Drop>(rt: &impl Abort, made: Result<Vob<T>, E>) {
+fn check_empty<T: Block, E: Debug + Drop>(rt: &impl Abort, made: Result<Vob<T>, E>) {
     let vob = made.expect(rt, "no memory is asked for");
     check_blocks(rt, &vob, 0, &[]);
     same(rt, "the capacity", vob.capacity(), 0);

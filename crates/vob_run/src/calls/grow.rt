@@ -8,13 +8,9 @@ ghost use Rattle.vob_run.specs.Run.{lists, IsStep};
 use crate::calls::reply_to;
 use crate::command::Reply;
 use vob::{Vob, VobError};
-use vob_block::Places;
+use vob_block::Block;
 
-pub(crate) fn reserve<T: Places>(
-    vobs: &mut Vec<Vob<T>>,
-    which: usize,
-    additional: usize,
-) -> Reply<T>
+pub(crate) fn reserve<T: Block>(vobs: &mut Vec<Vob<T>>, which: usize, additional: usize) -> Reply<T>
     ensures { IsStep T.BITS (lists vobs.old.items) (Reserve which additional)
         (answer_of T.number result) (lists vobs.new.items) }
 {
@@ -24,7 +20,7 @@ pub(crate) fn reserve<T: Places>(
     reply_to(vob.reserve(additional))
 }
 
-pub(crate) fn shrink<T: Places>(vobs: &mut Vec<Vob<T>>, which: usize) -> Reply<T>
+pub(crate) fn shrink<T: Block>(vobs: &mut Vec<Vob<T>>, which: usize) -> Reply<T>
     ensures { IsStep T.BITS (lists vobs.old.items) (Shrink which)
         (answer_of T.number result) (lists vobs.new.items) }
 {
@@ -35,7 +31,7 @@ pub(crate) fn shrink<T: Places>(vobs: &mut Vec<Vob<T>>, which: usize) -> Reply<T
     Reply::Done
 }
 
-pub(crate) fn resize<T: Places>(
+pub(crate) fn resize<T: Block>(
     vobs: &mut Vec<Vob<T>>,
     which: usize,
     len: usize,
@@ -50,7 +46,7 @@ pub(crate) fn resize<T: Places>(
     reply_to(vob.resize(len, value))
 }
 
-pub(crate) fn extend_slice<T: Places>(
+pub(crate) fn extend_slice<T: Block>(
     vobs: &mut Vec<Vob<T>>,
     which: usize,
     bits: &Vec<bool>,
@@ -65,7 +61,7 @@ pub(crate) fn extend_slice<T: Places>(
 }
 
 // Adds the bits one by one, once there is room for all of them.
-fn add_items<T: Places>(vob: &mut Vob<T>, bits: &[bool]) -> Result<(), VobError>
+fn add_items<T: Block>(vob: &mut Vob<T>, bits: &[bool]) -> Result<(), VobError>
     ensures ok { OnOk result (vob.new.bits ≡ vob.old.bits ++ bits.now) }
     ensures err { OnErr result (vob.new.bits ≡ vob.old.bits) }
     ensures too_long { (result ≡ Err VobError.TooLong)
@@ -78,7 +74,7 @@ fn add_items<T: Places>(vob: &mut Vob<T>, bits: &[bool]) -> Result<(), VobError>
     vob.extend(bits.iter().copied())
 }
 
-pub(crate) fn extend_items<T: Places>(
+pub(crate) fn extend_items<T: Block>(
     vobs: &mut Vec<Vob<T>>,
     which: usize,
     bits: &Vec<bool>,

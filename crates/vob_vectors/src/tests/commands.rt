@@ -3,12 +3,12 @@ use super::support::same;
 use std::ops::Bound::{Excluded, Included, Unbounded};
 use std::process::Abort;
 use vob::{End, Vob};
-use vob_block::Places;
+use vob_block::Block;
 use vob_run::run::run;
 use vob_run::{Command, Reply};
 
 /// Runs the commands on no Vobs, and compares the replies as they print.
-fn check_run<T: Places>(rt: &(impl Abort + AllocGlobal), commands: &[Command<T>], replies: &str) {
+fn check_run<T: Block>(rt: &(impl Abort + AllocGlobal), commands: &[Command<T>], replies: &str) {
     let mut vobs: Vec<Vob<T>> = Vec::new(rt.alloc());
     let mut answered: Vec<Reply<T>> = Vec::new(rt.alloc());
     run(rt.alloc(), commands, &mut vobs, &mut answered).expect(rt, "memory");
@@ -17,7 +17,7 @@ fn check_run<T: Places>(rt: &(impl Abort + AllocGlobal), commands: &[Command<T>]
 }
 
 /// Adds a command.
-fn add<T: Places>(
+fn add<T: Block>(
     rt: &(impl Abort + AllocGlobal),
     commands: &mut Vec<Command<T>>,
     command: Command<T>,
@@ -26,7 +26,7 @@ fn add<T: Places>(
 }
 
 /// Adds commands that walk over Vob 0 and count in it.
-fn add_walks<T: Places>(rt: &(impl Abort + AllocGlobal), commands: &mut Vec<Command<T>>) {
+fn add_walks<T: Block>(rt: &(impl Abort + AllocGlobal), commands: &mut Vec<Command<T>>) {
     let which = 0;
     let bounds = (Unbounded, Unbounded);
     let mut pulls = Vec::new(rt.alloc());
@@ -52,7 +52,7 @@ fn add_walks<T: Places>(rt: &(impl Abort + AllocGlobal), commands: &mut Vec<Comm
 }
 
 /// Commands that make Vob 0 of the ten bits `1011011101`.
-fn commands_of_ten<T: Places>(rt: &(impl Abort + AllocGlobal)) -> Vec<Command<T>> {
+fn commands_of_ten<T: Block>(rt: &(impl Abort + AllocGlobal)) -> Vec<Command<T>> {
     let mut commands = Vec::new(rt.alloc());
     let (which, value) = (0, true);
     let none = Command::FromElem {
@@ -72,7 +72,7 @@ fn commands_of_ten<T: Places>(rt: &(impl Abort + AllocGlobal)) -> Vec<Command<T>
 }
 
 /// Makes a Vob of ten bits, walks over it, and cuts and joins it.
-fn check_mixed<T: Places>(rt: &(impl Abort + AllocGlobal)) {
+fn check_mixed<T: Block>(rt: &(impl Abort + AllocGlobal)) {
     let which = 0;
     let mut commands: Vec<Command<T>> = commands_of_ten(rt);
     add_walks(rt, &mut commands);
@@ -103,7 +103,7 @@ fn check_mixed<T: Places>(rt: &(impl Abort + AllocGlobal)) {
 }
 
 /// Takes three of ten bits out, then none, and refuses a cut past the end of what is left.
-fn check_drained<T: Places>(rt: &(impl Abort + AllocGlobal)) {
+fn check_drained<T: Block>(rt: &(impl Abort + AllocGlobal)) {
     let which = 0;
     let mut commands: Vec<Command<T>> = commands_of_ten(rt);
     let bounds = (Included(2), Excluded(5));

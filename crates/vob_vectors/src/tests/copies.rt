@@ -2,17 +2,17 @@
 use super::support::{pattern, same};
 use std::process::Abort;
 use vob::Vob;
-use vob_block::Places;
+use vob_block::Block;
 
 /// `copy_range` of the bits from `start` to below `end`, where they are there and fit.
-fn copy<T: Places>(vob: &mut Vob<T>, at: usize, other: &Vob<T>, start: usize, end: usize) {
+fn copy<T: Block>(vob: &mut Vob<T>, at: usize, other: &Vob<T>, start: usize, end: usize) {
     if start <= end && end <= other.len() && at <= vob.len() && end - start <= vob.len() - at {
         vob.copy_range(at, other, start..end);
     }
 }
 
 /// Each bit from `at` on is the other's from `start` on, `count` of them, and the others are old.
-fn check_copied<T: Places>(rt: &(impl Abort + AllocGlobal), at: usize, start: usize, count: usize) {
+fn check_copied<T: Block>(rt: &(impl Abort + AllocGlobal), at: usize, start: usize, count: usize) {
     let old = pattern::<T>(rt, 1, 130);
     let other = pattern::<T>(rt, 3, 140);
     let mut vob = pattern::<T>(rt, 1, 130);

@@ -9,10 +9,10 @@ use std::ops::Bound::{Excluded, Included, Unbounded};
 use std::ops::RangeBounds;
 use std::process::Abort;
 use vob::{Vob, count_ones_in};
-use vob_block::{Blocks, Places};
+use vob_block::{Block, Blocks};
 
 /// The count of a walk over the bits of one value within a range.
-fn count_of<T: Places, R: RangeBounds<usize>>(vob: &Vob<T>, value: bool, range: R) -> usize {
+fn count_of<T: Block, R: RangeBounds<usize>>(vob: &Vob<T>, value: bool, range: R) -> usize {
     if value {
         vob.iter_set_bits(range).count()
     } else {
@@ -89,7 +89,7 @@ fn each_block_of_a_window_is_read_once(rt: HostRuntime) {
 }
 
 /// Counts from one bound to each further one, against how many indices below it `next` gives.
-fn check_counts_from<T: Places>(
+fn check_counts_from<T: Block>(
     rt: &(impl Abort + AllocGlobal),
     vob: &Vob<T>,
     value: bool,
@@ -107,7 +107,7 @@ fn check_counts_from<T: Places>(
 }
 
 /// All four walks of a pattern, the two over indices between each two bounds.
-fn check_counts<T: Places>(rt: &(impl Abort + AllocGlobal), vob: &Vob<T>) {
+fn check_counts<T: Block>(rt: &(impl Abort + AllocGlobal), vob: &Vob<T>) {
     let len = vob.len();
     let bits = listed(rt, vob.iter()).len();
     same(rt, "bits", len, vob.iter().count(), bits);
@@ -136,7 +136,7 @@ fn a_count_is_what_next_gives(rt: HostRuntime) {
 }
 
 /// How many set bits are left after so many pulls at the front and then at the back.
-fn set_left<T: Places>(vob: &Vob<T>, front: usize, back: usize) -> usize {
+fn set_left<T: Block>(vob: &Vob<T>, front: usize, back: usize) -> usize {
     let mut walk = vob.iter_set_bits(..);
     for _ in 0..front {
         walk.next();
@@ -148,7 +148,7 @@ fn set_left<T: Places>(vob: &Vob<T>, front: usize, back: usize) -> usize {
 }
 
 /// How many unset bits are left after so many pulls at the front and then at the back.
-fn unset_left<T: Places>(vob: &Vob<T>, front: usize, back: usize) -> usize {
+fn unset_left<T: Block>(vob: &Vob<T>, front: usize, back: usize) -> usize {
     let mut walk = vob.iter_unset_bits(..);
     for _ in 0..front {
         walk.next();
@@ -160,7 +160,7 @@ fn unset_left<T: Places>(vob: &Vob<T>, front: usize, back: usize) -> usize {
 }
 
 /// Both walks over the indices of a pattern, after so many pulls at the front and then at the back.
-fn check_counts_after<T: Places>(
+fn check_counts_after<T: Block>(
     rt: &(impl Abort + AllocGlobal),
     len: usize,
     front: usize,

@@ -7,7 +7,7 @@ use std::ops::Bound::{Excluded, Included, Unbounded};
 use std::ops::RangeBounds;
 use std::process::Abort;
 use vob::Vob;
-use vob_block::Places;
+use vob_block::Block;
 
 #[test]
 fn bits_are_drained_from_among_others_and_from_the_end(rt: HostRuntime) {
@@ -61,7 +61,7 @@ fn every_pair_of_bounds_is_drained(rt: HostRuntime) {
 }
 
 /// A Vob without a range, whose bits are what was drained; the rest is what pushes leave.
-fn check_drain<T: Places>(rt: &impl Abort, whole: &Vob<T>, from: usize, drained_bits: &Vob<T>) {
+fn check_drain<T: Block>(rt: &impl Abort, whole: &Vob<T>, from: usize, drained_bits: &Vob<T>) {
     let to = from.saturating_add(drained_bits.len());
     let mut vob = copy_of(rt, whole);
     check_same(rt, &drained(rt, &mut vob, from..to), drained_bits);
@@ -74,7 +74,7 @@ fn check_drain<T: Places>(rt: &impl Abort, whole: &Vob<T>, from: usize, drained_
 }
 
 /// Every range from one index on of the pattern that has its length as its seed.
-fn check_drains_from<T: Places>(rt: &(impl Abort + AllocGlobal), len: usize, from: usize) {
+fn check_drains_from<T: Block>(rt: &(impl Abort + AllocGlobal), len: usize, from: usize) {
     let whole = pattern::<T>(rt, len, len);
     let mut drained_bits = vob_of::<T>(rt, "");
     for index in from..len {
@@ -85,7 +85,7 @@ fn check_drains_from<T: Places>(rt: &(impl Abort + AllocGlobal), len: usize, fro
 }
 
 /// The bits that a range gives and those that it leaves are those of the pattern there.
-fn check_drained_bits<T: Places>(
+fn check_drained_bits<T: Block>(
     rt: &(impl Abort + AllocGlobal),
     len: usize,
     from: usize,

@@ -6,7 +6,7 @@ use super::support::{
 };
 use std::process::Abort;
 use vob::{Vob, VobError};
-use vob_block::Places;
+use vob_block::Block;
 
 #[test]
 fn bits_behind_others_and_all_bits_become_true(rt: HostRuntime) {
@@ -73,7 +73,7 @@ fn joined_bits_are_cut_apart_again_and_not_past_the_end(rt: HostRuntime) {
 }
 
 /// Two Vobs that are joined are what pushes leave; cut apart, they are both again.
-fn check_join<T: Places>(rt: &impl Abort, one: &Vob<T>, two: &Vob<T>, pushed: &Vob<T>) {
+fn check_join<T: Block>(rt: &impl Abort, one: &Vob<T>, two: &Vob<T>, pushed: &Vob<T>) {
     let mut joined = copy_of(rt, one);
     join(rt, &mut joined, two);
     check_same(rt, &joined, pushed);
@@ -83,7 +83,7 @@ fn check_join<T: Places>(rt: &impl Abort, one: &Vob<T>, two: &Vob<T>, pushed: &V
 }
 
 /// A pattern joined with each of the patterns of the lengths below `end`.
-fn check_joins<T: Places>(rt: &(impl Abort + AllocGlobal), seed: usize, first: usize, end: usize) {
+fn check_joins<T: Block>(rt: &(impl Abort + AllocGlobal), seed: usize, first: usize, end: usize) {
     let one = pattern::<T>(rt, seed, first);
     let mut two = vob_of::<T>(rt, "");
     let mut pushed = copy_of(rt, &one);
@@ -109,7 +109,7 @@ fn joins_leave_what_pushes_leave(rt: HostRuntime) {
 }
 
 /// A pattern with items behind it, by a slice and by an iterator, is what pushes leave.
-fn check_growth<T: Places>(
+fn check_growth<T: Block>(
     rt: &(impl Abort + AllocGlobal),
     seed: usize,
     first: usize,
@@ -130,12 +130,7 @@ fn check_growth<T: Places>(
 }
 
 /// As many equal bits behind a pattern are what pushes leave; cut off, what was there is left.
-fn check_resize<T: Places>(
-    rt: &(impl Abort + AllocGlobal),
-    value: bool,
-    first: usize,
-    more: usize,
-) {
+fn check_resize<T: Block>(rt: &(impl Abort + AllocGlobal), value: bool, first: usize, more: usize) {
     let before = pattern::<T>(rt, 1, first);
     let mut pushed = copy_of(rt, &before);
     for _ in 0..more {

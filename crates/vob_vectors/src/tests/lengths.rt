@@ -4,12 +4,12 @@ use std::alloc::{AllocError, Global};
 use std::ops::Bound::{Excluded, Included, Unbounded};
 use std::process::Abort;
 use vob::{End, Vob};
-use vob_block::Places;
+use vob_block::Block;
 use vob_run::run::{run, run_usize};
 use vob_run::{Command, Reply, UsizeCommand};
 
 /// Commands that make Vobs of about `len` bits, each in another way.
-fn makers<T: Places>(alloc: Global, len: usize) -> Result<Vec<Command<T>>, AllocError> {
+fn makers<T: Block>(alloc: Global, len: usize) -> Result<Vec<Command<T>>, AllocError> {
     let value = true;
     let mut commands = Vec::new(alloc);
     commands.push(Command::New { capacity: len })?;
@@ -26,7 +26,7 @@ fn makers<T: Places>(alloc: Global, len: usize) -> Result<Vec<Command<T>>, Alloc
 }
 
 /// Commands that add to Vob 1, and answer what is in Vob 2.
-fn growers<T: Places>(alloc: Global, len: usize) -> Result<Vec<Command<T>>, AllocError> {
+fn growers<T: Block>(alloc: Global, len: usize) -> Result<Vec<Command<T>>, AllocError> {
     let (which, other, value) = (1, 2, true);
     let slice = Vec::from_elem(alloc, value, len)?;
     let items = Vec::from_elem(alloc, value, len)?;
@@ -59,7 +59,7 @@ fn growers<T: Places>(alloc: Global, len: usize) -> Result<Vec<Command<T>>, Allo
 }
 
 /// Compares that no reply is a refusal.
-fn check_replies<T: Places>(rt: &impl Abort, len: usize, replies: &[Reply<T>], count: usize) {
+fn check_replies<T: Block>(rt: &impl Abort, len: usize, replies: &[Reply<T>], count: usize) {
     same(rt, "replies of length", len, replies.len(), count);
     for reply in replies {
         if let Reply::Refused(reason) = reply {
@@ -69,13 +69,13 @@ fn check_replies<T: Places>(rt: &impl Abort, len: usize, replies: &[Reply<T>], c
 }
 
 /// Compares that a Vob has room for so many bits at least.
-fn check_room<T: Places>(rt: &impl Abort, vobs: &[Vob<T>], which: usize, room: usize) {
+fn check_room<T: Block>(rt: &impl Abort, vobs: &[Vob<T>], which: usize, room: usize) {
     let found = vobs.get(which).expect(rt, "a Vob");
     same(rt, "room for", room, found.capacity() >= room, true);
 }
 
 /// Runs all of them at this length.
-fn check_length<T: Places>(rt: &(impl Abort + AllocGlobal), len: usize) {
+fn check_length<T: Block>(rt: &(impl Abort + AllocGlobal), len: usize) {
     let mut vobs: Vec<Vob<T>> = Vec::new(rt.alloc());
     let mut replies = Vec::new(rt.alloc());
     let makers = makers(rt.alloc(), len).expect(rt, "memory");

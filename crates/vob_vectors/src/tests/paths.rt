@@ -35,17 +35,11 @@ fn walks_are_named_at_the_root_and_in_their_module(rt: HostRuntime) {
     );
 }
 
-/// The number of bits, over any `Block`, which each call of a Vob takes as it is.
-fn length_of<T: Block>(vob: &Vob<T>) -> usize {
-    vob.len()
-}
-
 #[test]
 fn counts_and_blocks_are_named_by_their_modules(rt: HostRuntime) {
     let mut blocks: Blocks<'_, u8> = Blocks::new(&[5]);
     assert_eq!(rt; count_ones_in(&mut blocks, 0, 0), 0);
     assert_eq!(rt; <u8 as Block>::BITS, 8);
-    assert_eq!(rt; length_of::<u8>(&vob_of(&rt, "101")), 3);
     let refused: Result<(), VobError> = Err(VobError::TooLong);
     assert_eq!(rt; refused.map_err(|error| error.number()), Err(1));
 }

@@ -5,7 +5,7 @@ use super::support::{
 use std::hash::{DefaultHasher, Hash, Hasher};
 use std::process::Abort;
 use vob::Vob;
-use vob_block::Places;
+use vob_block::Block;
 
 #[derive(Clone, Copy, Debug)]
 pub(super) enum Call {
@@ -17,7 +17,7 @@ pub(super) enum Call {
 pub(super) const CALLS: [Call; 3] = [Call::And, Call::Or, Call::Xor];
 
 /// `and`, `or` or `xor` of two Vobs of one length.
-pub(super) fn combine<T: Places>(
+pub(super) fn combine<T: Block>(
     rt: &impl Abort,
     call: Call,
     vob: &mut Vob<T>,
@@ -84,7 +84,7 @@ fn a_call_says_whether_a_bit_changed_and_an_operator_has_three_forms(rt: HostRun
 }
 
 /// Two Vobs of `len` bits are equal, and differ once bit `index` of one is another.
-fn check_equality<T: Places>(rt: &(impl Abort + AllocGlobal), len: usize, index: usize) {
+fn check_equality<T: Block>(rt: &(impl Abort + AllocGlobal), len: usize, index: usize) {
     let one = pattern::<T>(rt, 0, len);
     let mut other = pattern::<T>(rt, 0, len);
     check_equal(rt, &one, &other, true);
@@ -118,7 +118,7 @@ fn vobs_are_equal_where_their_lists_are(rt: HostRuntime) {
 }
 
 /// What a hasher answers that was fed the Vob.
-fn hash_of<T: Places>(vob: &Vob<T>) -> u64 {
+fn hash_of<T: Block>(vob: &Vob<T>) -> u64 {
     let mut state = DefaultHasher::new();
     vob.hash(&mut state);
     state.finish()
@@ -148,7 +148,7 @@ fn a_hasher_is_fed_the_blocks_and_not_the_length(rt: HostRuntime) {
 }
 
 /// A call on patterns of `len` bits, against the bits one by one.
-fn check_patterns<T: Places>(
+fn check_patterns<T: Block>(
     rt: &(impl Abort + AllocGlobal),
     call: Call,
     seeds: (usize, usize),

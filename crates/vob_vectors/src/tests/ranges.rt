@@ -4,11 +4,11 @@ use std::ops::Bound::{Excluded, Included, Unbounded};
 use std::ops::RangeBounds;
 use std::process::Abort;
 use vob::{IndicesError, Vob};
-use vob_block::Places;
+use vob_block::Block;
 
 /// The pattern of a length, in which the bits from one index to below another are made a value or,
 /// with none, negated; and whether one changed.
-fn changed_pattern<T: Places>(
+fn changed_pattern<T: Block>(
     rt: &(impl Abort + AllocGlobal),
     len: usize,
     (start, stop): (usize, usize),
@@ -27,7 +27,7 @@ fn changed_pattern<T: Places>(
 }
 
 /// A range made a value, which may change bits once and never again; or negated.
-fn check_changed<T: Places>(
+fn check_changed<T: Block>(
     rt: &(impl Abort + AllocGlobal),
     len: usize,
     (start, stop): (usize, usize),
@@ -99,7 +99,7 @@ fn every_pair_of_bounds_is_changed(rt: HostRuntime) {
 }
 
 /// The Vob of these indices, or the position of the first one that was refused.
-fn made_of<T: Places>(
+fn made_of<T: Block>(
     rt: &(impl Abort + AllocGlobal),
     len: usize,
     indices: &[usize],
@@ -112,7 +112,7 @@ fn made_of<T: Places>(
 }
 
 /// The indices of a pattern give the pattern back.
-fn check_indices_of<T: Places>(rt: &(impl Abort + AllocGlobal), len: usize) {
+fn check_indices_of<T: Block>(rt: &(impl Abort + AllocGlobal), len: usize) {
     let vob = pattern::<T>(rt, len, len);
     let mut indices = Vec::new(rt.alloc());
     for index in vob.iter_set_bits(..).rev() {

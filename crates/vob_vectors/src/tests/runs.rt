@@ -3,10 +3,10 @@
 use super::support::{filled, pattern, same, write};
 use std::process::Abort;
 use vob::Vob;
-use vob_block::Places;
+use vob_block::Block;
 
 /// Each set bit is selected by how many stand below it, and no number past them selects one.
-fn check_select<T: Places>(rt: &impl Abort, vob: &Vob<T>) {
+fn check_select<T: Block>(rt: &impl Abort, vob: &Vob<T>) {
     let mut below: usize = 0;
     for index in 0..vob.len() {
         if vob.get(index) == Some(true) {
@@ -20,7 +20,7 @@ fn check_select<T: Places>(rt: &impl Abort, vob: &Vob<T>) {
 }
 
 /// The runs are the stretches that one bit after another shows, in order.
-fn check_runs<T: Places>(rt: &impl Abort, vob: &Vob<T>) {
+fn check_runs<T: Block>(rt: &impl Abort, vob: &Vob<T>) {
     check_select(rt, vob);
     let mut runs = vob.runs();
     let mut start = None;
@@ -36,7 +36,7 @@ fn check_runs<T: Places>(rt: &impl Abort, vob: &Vob<T>) {
 }
 
 /// A pattern of each length below 130, and all bits set and none.
-fn check_patterns<T: Places>(rt: &(impl Abort + AllocGlobal), seed: usize) {
+fn check_patterns<T: Block>(rt: &(impl Abort + AllocGlobal), seed: usize) {
     for len in 0..130 {
         check_runs(rt, &pattern::<T>(rt, seed, len));
         check_runs(rt, &filled::<T>(rt, true, len));
@@ -45,7 +45,7 @@ fn check_patterns<T: Places>(rt: &(impl Abort + AllocGlobal), seed: usize) {
 }
 
 /// One stretch of set bits from `start` to below `stop`, among 300.
-fn check_stretch<T: Places>(rt: &(impl Abort + AllocGlobal), start: usize, stop: usize) {
+fn check_stretch<T: Block>(rt: &(impl Abort + AllocGlobal), start: usize, stop: usize) {
     let mut vob = filled::<T>(rt, false, 300);
     for index in start..stop {
         write(&mut vob, index, true);

@@ -2,10 +2,10 @@
 use super::support::{copy_of, filled, pattern, pattern_bit, same, write};
 use std::process::Abort;
 use vob::{End, Vob};
-use vob_block::Places;
+use vob_block::Block;
 
 /// The next index at or above `from` whose bit has the value, or the previous one at or below it.
-fn neighbour<T: Places>(vob: &Vob<T>, value: bool, side: End, from: usize) -> Option<usize> {
+fn neighbour<T: Block>(vob: &Vob<T>, value: bool, side: End, from: usize) -> Option<usize> {
     match (value, side) {
         (true, End::Front) => vob.next_set(from),
         (true, End::Back) => vob.previous_set(from),
@@ -15,7 +15,7 @@ fn neighbour<T: Places>(vob: &Vob<T>, value: bool, side: End, from: usize) -> Op
 }
 
 /// The first and the last one.
-fn ends_of<T: Places>(vob: &Vob<T>, value: bool) -> (Option<usize>, Option<usize>) {
+fn ends_of<T: Block>(vob: &Vob<T>, value: bool) -> (Option<usize>, Option<usize>) {
     if value {
         (vob.first_set(), vob.last_set())
     } else {
@@ -24,7 +24,7 @@ fn ends_of<T: Places>(vob: &Vob<T>, value: bool) -> (Option<usize>, Option<usize
 }
 
 /// The indices of the bits of one value, from each index up to two past the end.
-fn check_neighbours<T: Places>(rt: &impl Abort, vob: &Vob<T>, value: bool) {
+fn check_neighbours<T: Block>(rt: &impl Abort, vob: &Vob<T>, value: bool) {
     let past = vob.len().saturating_add(2);
     let mut last = None;
     for index in 0..past {
@@ -52,7 +52,7 @@ fn check_neighbours<T: Places>(rt: &impl Abort, vob: &Vob<T>, value: bool) {
 
 /// How many set bits stand below each index up to one past the end, and whether there are some; and
 /// where those of one value are.
-fn check_found<T: Places>(rt: &impl Abort, vob: &Vob<T>, value: bool) {
+fn check_found<T: Block>(rt: &impl Abort, vob: &Vob<T>, value: bool) {
     check_neighbours(rt, vob, value);
     let len = vob.len();
     let mut below: usize = 0;
@@ -70,7 +70,7 @@ fn check_found<T: Places>(rt: &impl Abort, vob: &Vob<T>, value: bool) {
 }
 
 /// Bits that are all one value but one: it alone is found, and whole blocks are passed over.
-fn check_single<T: Places>(rt: &(impl Abort + AllocGlobal), index: usize) {
+fn check_single<T: Block>(rt: &(impl Abort + AllocGlobal), index: usize) {
     for value in [true, false] {
         let mut vob = filled::<T>(rt, !value, 130);
         write(&mut vob, index, value);
@@ -95,7 +95,7 @@ fn bits_of_patterns_and_single_bits_are_found(rt: HostRuntime) {
 
 /// How many indices are set in both of two Vobs of one length, in the first alone, and in the other
 /// alone.
-fn plain_counts<T: Places>(vob: &Vob<T>, other: &Vob<T>) -> (usize, usize, usize) {
+fn plain_counts<T: Block>(vob: &Vob<T>, other: &Vob<T>) -> (usize, usize, usize) {
     let (mut both, mut first, mut second) = (0usize, 0usize, 0usize);
     for index in 0..vob.len() {
         match (vob.get(index), other.get(index)) {
@@ -109,7 +109,7 @@ fn plain_counts<T: Places>(vob: &Vob<T>, other: &Vob<T>) -> (usize, usize, usize
 }
 
 /// Two Vobs of one length, in their order, against one bit after another.
-fn check_ordered<T: Places>(rt: &(impl Abort + AllocGlobal), vob: &Vob<T>, other: &Vob<T>) {
+fn check_ordered<T: Block>(rt: &(impl Abort + AllocGlobal), vob: &Vob<T>, other: &Vob<T>) {
     let len = vob.len();
     if other.len() != len {
         return;
@@ -128,7 +128,7 @@ fn check_ordered<T: Places>(rt: &(impl Abort + AllocGlobal), vob: &Vob<T>, other
 }
 
 /// What is left without the bits of another, bit by bit, and whether that is a change.
-fn check_difference<T: Places>(
+fn check_difference<T: Block>(
     rt: &(impl Abort + AllocGlobal),
     vob: &Vob<T>,
     other: &Vob<T>,
@@ -153,7 +153,7 @@ fn check_difference<T: Places>(
 }
 
 /// Two patterns of a length, a pattern and a part of it, and one and its complement.
-fn check_pairs<T: Places>(rt: &(impl Abort + AllocGlobal), seed: usize, len: usize) {
+fn check_pairs<T: Block>(rt: &(impl Abort + AllocGlobal), seed: usize, len: usize) {
     let vob = pattern::<T>(rt, seed, len);
     let mut other = pattern::<T>(rt, len, len);
     check_ordered(rt, &vob, &other);

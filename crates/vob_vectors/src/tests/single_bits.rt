@@ -5,10 +5,10 @@ use super::support::{
 };
 use std::process::Abort;
 use vob::Vob;
-use vob_block::Places;
+use vob_block::Block;
 
 /// `set_unchecked`, with the length tested first.
-fn write_unchecked<T: Places>(vob: &mut Vob<T>, index: usize, value: bool) -> Option<bool> {
+fn write_unchecked<T: Block>(vob: &mut Vob<T>, index: usize, value: bool) -> Option<bool> {
     if index < vob.len() {
         Some(vob.set_unchecked(index, value))
     } else {
@@ -17,7 +17,7 @@ fn write_unchecked<T: Places>(vob: &mut Vob<T>, index: usize, value: bool) -> Op
 }
 
 /// Compares the bits, and the blocks as they print.
-fn check_row<T: Places>(rt: &(impl Abort + AllocGlobal), digits: &str, blocks: &str) {
+fn check_row<T: Block>(rt: &(impl Abort + AllocGlobal), digits: &str, blocks: &str) {
     let vob = vob_of::<T>(rt, digits);
     check_bits(rt, &vob, digits);
     same(
@@ -59,7 +59,7 @@ fn each_block_type_takes_as_many_blocks_as_its_width_needs(rt: HostRuntime) {
 }
 
 /// Compares what `get` reads, and within the length `get_unchecked` and an index too.
-fn reads<T: Places>(rt: &impl Abort, vob: &Vob<T>, index: usize, wanted: Option<bool>) {
+fn reads<T: Block>(rt: &impl Abort, vob: &Vob<T>, index: usize, wanted: Option<bool>) {
     same(rt, "bit", index, vob.get(index), wanted);
     if index < vob.len() {
         same(rt, "bit", index, Some(vob.get_unchecked(index)), wanted);
@@ -68,7 +68,7 @@ fn reads<T: Places>(rt: &impl Abort, vob: &Vob<T>, index: usize, wanted: Option<
 }
 
 /// As many true bits as a block has places, `width`, and one more in a block of its own.
-fn check_word<T: Places>(rt: &(impl Abort + AllocGlobal), width: u8) {
+fn check_word<T: Block>(rt: &(impl Abort + AllocGlobal), width: u8) {
     let next = width as usize;
     let last = next.saturating_sub(1);
     let before = next.saturating_sub(2);
@@ -124,7 +124,7 @@ fn a_popped_bit_leaves_no_trace(rt: HostRuntime) {
 }
 
 /// 129 true bits, cut at their length, past it and at 0.
-fn check_cuts<T: Places>(rt: &(impl Abort + AllocGlobal), blocks: &[T]) {
+fn check_cuts<T: Block>(rt: &(impl Abort + AllocGlobal), blocks: &[T]) {
     let mut many = filled::<T>(rt, true, 129);
     many.truncate(129);
     check_blocks(rt, &many, 129, blocks);
@@ -153,7 +153,7 @@ fn truncated_bits_are_gone_from_the_blocks(rt: HostRuntime) {
 }
 
 /// Two equal Vobs by the pattern: each index read, and written by both calls.
-fn check_pattern<T: Places>(rt: &(impl Abort + AllocGlobal), seed: usize, len: usize) {
+fn check_pattern<T: Block>(rt: &(impl Abort + AllocGlobal), seed: usize, len: usize) {
     let mut one = pattern::<T>(rt, seed, len);
     let mut other = pattern::<T>(rt, seed, len);
     for index in 0..len {

@@ -5,12 +5,12 @@ use std::alloc::Global;
 use std::fmt::Display;
 use std::process::Abort;
 use vob::{DigitsError, Vob, VobError};
-use vob_block::Places;
+use vob_block::Block;
 use vob_users::grammar::GrammarError;
 use vob_users::live::LiveError;
 
 /// Each pattern below 130 bits is written as its digits, and they are read back.
-fn check_digits<T: Places>(rt: &(impl Abort + AllocGlobal)) {
+fn check_digits<T: Block>(rt: &(impl Abort + AllocGlobal)) {
     for len in 0..130 {
         let vob = pattern::<T>(rt, 3, len);
         let text = format!(in rt.alloc(); "{vob}").expect(rt, "memory");

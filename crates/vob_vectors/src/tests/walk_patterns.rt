@@ -6,7 +6,7 @@ use super::walks::indices_of;
 use std::ops::Bound;
 use std::process::Abort;
 use vob::{End, IndexWalk, Vob, deal};
-use vob_block::Places;
+use vob_block::Block;
 
 /// The ends that a walk is pulled at in turn.
 const ORDERS: [&[End]; 4] = [
@@ -17,7 +17,7 @@ const ORDERS: [&[End]; 4] = [
 ];
 
 /// The indices from `from` to below `to` whose bits have the value.
-fn plain_indices<T: Places>(
+fn plain_indices<T: Block>(
     rt: &(impl Abort + AllocGlobal),
     vob: &Vob<T>,
     value: bool,
@@ -76,7 +76,7 @@ fn check_order<W: IndexWalk>(
 }
 
 /// Both walks of a Vob from `from` to below `to`, by each order of pulls.
-fn check_range<T: Places>(rt: &(impl Abort + AllocGlobal), vob: &Vob<T>, from: usize, to: usize) {
+fn check_range<T: Block>(rt: &(impl Abort + AllocGlobal), vob: &Vob<T>, from: usize, to: usize) {
     let range = (Bound::Included(from), Bound::Excluded(to));
     let set = plain_indices(rt, vob, true, from, to);
     let unset = plain_indices(rt, vob, false, from, to);
@@ -95,7 +95,7 @@ fn check_range<T: Places>(rt: &(impl Abort + AllocGlobal), vob: &Vob<T>, from: u
 }
 
 /// All pairs of bounds, `step` apart, within patterns of `len` bits, and up to their end.
-fn check_ranges<T: Places>(rt: &(impl Abort + AllocGlobal), len: usize, step: usize)
+fn check_ranges<T: Block>(rt: &(impl Abort + AllocGlobal), len: usize, step: usize)
     requires { 0 < step }
 {
     for seed in 0..3 {
@@ -111,7 +111,7 @@ fn check_ranges<T: Places>(rt: &(impl Abort + AllocGlobal), len: usize, step: us
 }
 
 /// A new walk between the indices that an old one gave last, front and back, gives what is left.
-fn check_resumed<T: Places>(rt: &(impl Abort + AllocGlobal), len: usize) {
+fn check_resumed<T: Block>(rt: &(impl Abort + AllocGlobal), len: usize) {
     let vob = pattern::<T>(rt, 0, len);
     let mut walk = vob.iter_set_bits(..);
     for _ in 0..len {

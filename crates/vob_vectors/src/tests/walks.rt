@@ -6,7 +6,7 @@ use std::ops::Bound::{Excluded, Included, Unbounded};
 use std::ops::{Bound, RangeBounds};
 use std::process::Abort;
 use vob::{End, IndexWalk, IterSetBits, IterUnsetBits, Vob, deal};
-use vob_block::{Blocks, Places};
+use vob_block::{Block, Blocks};
 
 /// The bounds of a range.
 pub type Bounds = (Bound<usize>, Bound<usize>);
@@ -15,7 +15,7 @@ pub type Bounds = (Bound<usize>, Bound<usize>);
 pub const ALL: Bounds = (Unbounded, Unbounded);
 
 /// The indices of the bits of one value within a range.
-pub fn indices_of<T: Places>(
+pub fn indices_of<T: Block>(
     rt: &(impl Abort + AllocGlobal),
     vob: &Vob<T>,
     value: bool,
@@ -39,7 +39,7 @@ fn listed_back<W: DoubleEndedIterator<Item = usize>>(
 }
 
 /// The same indices, the last one first.
-fn indices_back<T: Places>(
+fn indices_back<T: Block>(
     rt: &(impl Abort + AllocGlobal),
     vob: &Vob<T>,
     value: bool,
@@ -53,7 +53,7 @@ fn indices_back<T: Places>(
 }
 
 /// Compares the indices of the bits of one value within a range, from the front and from the back.
-fn check_indices<T: Places>(
+fn check_indices<T: Block>(
     rt: &(impl Abort + AllocGlobal),
     vob: &Vob<T>,
     value: bool,
@@ -104,7 +104,7 @@ fn text_of(rt: &(impl Abort + AllocGlobal), answers: &[Option<usize>]) -> String
 }
 
 /// Compares what pulls at a walk over the bits of one value within a range answer.
-fn check_walk<T: Places, R: RangeBounds<usize>>(
+fn check_walk<T: Block, R: RangeBounds<usize>>(
     rt: &(impl Abort + AllocGlobal),
     vob: &Vob<T>,
     (value, range): (bool, R),
@@ -119,7 +119,7 @@ fn check_walk<T: Places, R: RangeBounds<usize>>(
 }
 
 /// Ten bits, joined of two parts, whose walks are pulled at from both ends in turn.
-fn check_turns<T: Places>(rt: &(impl Abort + AllocGlobal)) {
+fn check_turns<T: Block>(rt: &(impl Abort + AllocGlobal)) {
     let mut ten = vob_of::<T>(rt, "10110");
     join(rt, &mut ten, &vob_of(rt, "11101"));
     check_walk(rt, &ten, (true, ..), "FBFBFBFB", "0 9 2 7 3 6 5 none");
@@ -142,12 +142,12 @@ fn both_ends_meet_in_the_middle(rt: HostRuntime) {
 }
 
 /// What a walk gives at the front, at the front and at the back.
-fn three_items<T: Places>(walk: &mut IterSetBits<'_, T>) -> [Option<usize>; 3] {
+fn three_items<T: Block>(walk: &mut IterSetBits<'_, T>) -> [Option<usize>; 3] {
     [walk.next(), walk.next(), walk.next_back()]
 }
 
 /// A walk of a Vob without a match answers None, again and from both ends.
-fn check_nothing<T: Places>(rt: &(impl Abort + AllocGlobal), len: usize) {
+fn check_nothing<T: Block>(rt: &(impl Abort + AllocGlobal), len: usize) {
     let vob = filled::<T>(rt, false, len);
     let mut walk = vob.iter_set_bits(..);
     same(rt, "hint at false bits", len, walk.size_hint(), (0, None));
@@ -185,7 +185,7 @@ fn blocks_are_walked_up_to_a_length(rt: HostRuntime) {
 }
 
 /// As many bits of one value as `len`, whose walk gives all indices.
-fn check_all<T: Places>(rt: &(impl Abort + AllocGlobal), value: bool, len: usize) {
+fn check_all<T: Block>(rt: &(impl Abort + AllocGlobal), value: bool, len: usize) {
     let vob = filled::<T>(rt, value, len);
     let indices = listed(rt, 0..len);
     check_indices(rt, &vob, value, ALL, &indices);
@@ -222,7 +222,7 @@ const EXTREMES: [Row; 10] = [
 ];
 
 /// 257 bits of which few have the value `wanted`, in blocks far from one another.
-fn far_apart<T: Places>(rt: &(impl Abort + AllocGlobal), wanted: bool) -> Vob<T> {
+fn far_apart<T: Block>(rt: &(impl Abort + AllocGlobal), wanted: bool) -> Vob<T> {
     let mut vob = vob_of::<T>(rt, if wanted { "0101" } else { "0100" });
     resize(rt, &mut vob, 127, !wanted);
     push(rt, &mut vob, wanted);
@@ -271,7 +271,7 @@ const FAR: [Row; 7] = [
 ];
 
 /// Extreme bounds, and ranges over bits that are far apart: blocks without a match are passed.
-fn check_bounds<T: Places>(rt: &(impl Abort + AllocGlobal)) {
+fn check_bounds<T: Block>(rt: &(impl Abort + AllocGlobal)) {
     let vob = vob_of::<T>(rt, "101");
     let (sets, unsets) = (far_apart::<T>(rt, true), far_apart::<T>(rt, false));
     for (range, set, unset) in &EXTREMES {

@@ -7,9 +7,9 @@ use Rattle.vob.proofs.vob.pack_items.Goals as goal
 
 pub loop-bit-init : goal.loop-bit-init
 loop-bit-init g c =
-    let none = ap g.T.Places.number c.ZERO-block.ensures ∙ g.met.T.Places.zero_number_law in
+    let none = ap g.T.Block.number c.ZERO-block.ensures ∙ g.met.T.Block.zero_number_law in
     record {
-      gathers = rw c.requires.empty (packs_none g.T.Places.BITS g.met.T.Places.wide_law _ none);
+      gathers = rw c.requires.empty (packs_none g.T.Block.BITS g.met.T.Block.wide_law _ none);
       length = refl;
     }
 

@@ -7,23 +7,23 @@ use Rattle.vob_store.proofs.combined.combine_into.Goals as goal
 
 pub loop-k-init : goal.loop-k-init
 loop-k-init g c =
-    let zero = ap g.T.Places.number c.ZERO-changed.ensures ∙ g.met.T.Places.zero_number_law in
+    let zero = ap g.T.Block.number c.ZERO-changed.ensures ∙ g.met.T.Block.zero_number_law in
     record {
-      taken = AreTaken-none g.T.Places.BITS g.C.Combine.of_bits
-          (map g.T.Places.number c.args.own.now) (map g.T.Places.number c.args.other.now.items)
-          (g.T.Places.number c.ZERO-changed.result) zero;
-      small = subst (λ (x : ℕ). x < 2 ^ g.T.Places.BITS) (sym zero) (pow_pos g.T.Places.BITS);
+      taken = AreTaken-none g.T.Block.BITS g.C.Combine.of_bits
+          (map g.T.Block.number c.args.own.now) (map g.T.Block.number c.args.other.now.items)
+          (g.T.Block.number c.ZERO-changed.result) zero;
+      small = subst (λ (x : ℕ). x < 2 ^ g.T.Block.BITS) (sym zero) (pow_pos g.T.Block.BITS);
       items = search rules;
       reads = omega arith;
     }
 
 pub loop-k-preserved : goal.loop-k-preserved
 loop-k-preserved g c =
-    let number = g.T.Places.number in
+    let number = g.T.Block.number in
     let so_far = c.loop-k.invariant in
     let their = c.block.ensures.block in
     record {
-      taken = item-more number g.T.Places.BITS g.C.Combine.of_bits c.args.own.now
+      taken = item-more number g.T.Block.BITS g.C.Combine.of_bits c.args.own.now
           c.args.other.now.items c.loop-k.own c.loop-k.k (number c.loop-k.changed) so_far.taken
           so_far.small (omega arith) c.index-own-k.result c.block.result c.block-new.result
           c.bxor.result c.bor-changed.result c.index-own-k.is (rw so_far.items at their)
@@ -36,8 +36,8 @@ loop-k-preserved g c =
 
 pub returns : goal.returns
 returns g c =
-    let number = g.T.Places.number in
-    let w = g.T.Places.BITS in
+    let number = g.T.Block.number in
+    let w = g.T.Block.BITS in
     let olds = map number c.args.own.now in
     let others = map number c.args.other.now.items in
     let news = map number c.loop-k.own in
@@ -45,8 +45,8 @@ returns g c =
     let taken = h.invariant.taken in
     let whole : h.k ≡ length olds =
     omega (arith, taken.count, length-map h.own number, h.auto.own, h.auto.k-end) in
-    let zero = ap number c.ZERO.ensures ∙ g.met.T.Places.zero_number_law in
-    let test = g.met.T.Places.equal_law c.loop-k.changed c.ZERO.result in
+    let zero = ap number c.ZERO.ensures ∙ g.met.T.Block.zero_number_law in
+    let test = g.met.T.Block.equal_law c.loop-k.changed c.ZERO.result in
     record {
       combined = rw c.ne.ensures (IsCombined-taken w g.C.Combine.of_bits olds others news c.loop-k.k
           (number c.loop-k.changed) taken whole

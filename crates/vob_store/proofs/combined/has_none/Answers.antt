@@ -7,7 +7,7 @@ pub returns-clause-none : goal.returns-clause-none
 returns-clause-none g c =
     let h = c.loop-chunk.invariant in
     let rest = rw h.items at c.none_between-2.ensures.none in (
-      λ yes i low below. elim (cases_lt (i / g.T.Places.BITS) (c.loop-chunk.chunk * 64)) [
+      λ yes i low below. elim (cases_lt (i / g.T.Block.BITS) (c.loop-chunk.chunk * 64)) [
         | inl less ↦ h.none i low less
         | inr past ↦ rest.0 yes i (omega (arith, past, c.loop-chunk-test.false)) below
       ],

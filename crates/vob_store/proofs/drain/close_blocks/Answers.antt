@@ -1,30 +1,12 @@
 -- Whole blocks are moved as they are, and otherwise each is made of two.
-use Rattle.std.proofs.Common.{arith}
-use Rattle.vob_store.proofs.DrainLemmas.{AreBuilt-moved, AreBuilt-by, skip-inside, skip-below}
+use Rattle.vob_store.proofs.DrainLemmas.{AreBuilt-moved, AreBuilt-by}
 use Rattle.vob_store.proofs.drain.close_blocks.Goals as goal
-
-pub overflow_add-first : goal.overflow_add-first
-overflow_add-first g c = record {
-  fits = omega (
-    arith,
-    skip-inside _ _ _ _ _ g.met.T.Places.wide_law c.BITS-width.ensures c.requires.inside,
-    c.well_formed.0.0,
-  );
-}
-
-pub copy_within-requires-clause-start_le_end : goal.copy_within-requires-clause-start_le_end
-copy_within-requires-clause-start_le_end g c = skip-inside _ _ _ _ _ g.met.T.Places.wide_law
-    c.BITS-width.ensures c.requires.inside
-
-pub shift_down-requires-clause-inside : goal.shift_down-requires-clause-inside
-shift_down-requires-clause-inside g c = skip-below _ _ _ _ _ c.BITS-width.ensures
-    c.if-places-eq0.false c.requires.inside
 
 pub returns-then-places-eq0 : goal.returns-then-places-eq0
 returns-then-places-eq0 g c =
-    AreBuilt-moved g.T.Places.number g.T.Places.BITS g.met.T.Places.wide_law c.args.by
+    AreBuilt-moved g.T.Block.number g.T.Block.BITS g.met.T.Block.wide_law c.args.by
     c.args.blocks.now c.copy_within.new.self c.copy_within.ensures.len c.BITS-width.result
-    c.BITS-width.ensures c.args.first g.T.Places.ZERO c.if-places-eq0.true
+    c.BITS-width.ensures c.args.first g.T.Block.ZERO c.if-places-eq0.true
     c.copy_within.ensures.by_index.0 c.copy_within.ensures.by_index.1
 
 pub returns-else-places-eq0 : goal.returns-else-places-eq0

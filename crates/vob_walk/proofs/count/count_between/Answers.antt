@@ -6,13 +6,13 @@ use Rattle.vob_walk.proofs.count.count_between.Goals as goal
 
 pub count_ones_in-ones-requires-clause-enough : goal.count_ones_in-ones-requires-clause-enough
 count_ones_in-ones-requires-clause-enough g c =
-    let w = g.T.Places.BITS in
+    let w = g.T.Block.BITS in
     let last = cut-last c.args.window.stop c.args.end w c.BITS.result c.saturating_mul.result
     c.min-below.result (omega arith) c.BITS.ensures c.saturating_mul.ensures
     c.min-below.ensures in
     omega (
       arith,
-      need_least w g.met.T.Places.wide_law c.min-below.result c.args.end
+      need_least w g.met.T.Block.wide_law c.min-below.result c.args.end
           (omega (arith, last)),
       c.requires.count,
     )
@@ -22,13 +22,13 @@ overflow_sub-result-else-window g c =
     omega (
       arith,
       c.count_ones_in-ones.ensures.ones,
-      ones-le g.T.Places.BITS (map g.T.Places.number c.args.blocks.now.items) c.min-from.result
+      ones-le g.T.Block.BITS (map g.T.Block.number c.args.blocks.now.items) c.min-from.result
           c.min-below.result,
     )
 
 pub returns-then-window : goal.returns-then-window
 returns-then-window g c =
-    let w = g.T.Places.BITS in
+    let w = g.T.Block.BITS in
     let last = cut-last c.args.window.stop c.args.end w c.BITS.result c.saturating_mul.result
     c.min-below.result (omega arith) c.BITS.ensures c.saturating_mul.ensures
     c.min-below.ensures in
@@ -36,13 +36,13 @@ returns-then-window g c =
     c.saturating_mul-2.result c.max.result c.min-from.result c.min-below.result (omega arith)
     c.BITS-2.ensures c.saturating_mul-2.ensures c.max.ensures c.min-from.ensures in
     c.count_ones_in-ones.ensures.ones
-    ∙ sym (length-unread-set w (map g.T.Places.number c.args.blocks.now.items) c.args.window.value
+    ∙ sym (length-unread-set w (map g.T.Block.number c.args.blocks.now.items) c.args.window.value
     c.args.window.start c.args.window.stop c.args.next c.args.end c.min-from.result
     c.min-below.result c.requires.order last first c.if-window.true)
 
 pub returns-else-window : goal.returns-else-window
 returns-else-window g c =
-    let w = g.T.Places.BITS in
+    let w = g.T.Block.BITS in
     let last = cut-last c.args.window.stop c.args.end w c.BITS.result c.saturating_mul.result
     c.min-below.result (omega arith) c.BITS.ensures c.saturating_mul.ensures
     c.min-below.ensures in
@@ -52,7 +52,7 @@ returns-else-window g c =
     omega (
       arith,
       c.count_ones_in-ones.ensures.ones,
-      length-unread-unset w (map g.T.Places.number c.args.blocks.now.items) c.args.window.value
+      length-unread-unset w (map g.T.Block.number c.args.blocks.now.items) c.args.window.value
           c.args.window.start c.args.window.stop c.args.next c.args.end c.min-from.result
           c.min-below.result c.requires.order last first c.if-window.false,
     )

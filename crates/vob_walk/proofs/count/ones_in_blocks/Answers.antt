@@ -8,16 +8,16 @@ use Rattle.vob_walk.proofs.count.ones_in_blocks.Goals as goal
 
 pub loop-k-init : goal.loop-k-init
 loop-k-init g c = record {
-  ones = sym (ones-none g.T.Places.BITS (map g.T.Places.number c.args.blocks.now.items)
-      (c.args.from * g.T.Places.BITS) (c.args.from * g.T.Places.BITS) (omega arith));
+  ones = sym (ones-none g.T.Block.BITS (map g.T.Block.number c.args.blocks.now.items)
+      (c.args.from * g.T.Block.BITS) (c.args.from * g.T.Block.BITS) (omega arith));
   items = refl;
   reads = refl;
 }
 
 pub overflow_add-ones : goal.overflow_add-ones
 overflow_add-ones g c =
-    let w = g.T.Places.BITS in
-    let number = g.T.Places.number in
+    let w = g.T.Block.BITS in
+    let number = g.T.Block.number in
     let xs = map number c.args.blocks.now.items in
     let read = number_read number c.args.blocks.now.items c.loop-k.k c.block.result
     (rw c.loop-k.invariant.items at c.block.ensures.block) in
@@ -38,8 +38,8 @@ overflow_add-ones g c =
 
 pub loop-k-preserved : goal.loop-k-preserved
 loop-k-preserved g c =
-    let w = g.T.Places.BITS in
-    let number = g.T.Places.number in
+    let w = g.T.Block.BITS in
+    let number = g.T.Block.number in
     let xs = map number c.args.blocks.now.items in
     let read = number_read number c.args.blocks.now.items c.loop-k.k c.block.result
     (rw c.loop-k.invariant.items at c.block.ensures.block) in
@@ -53,8 +53,8 @@ loop-k-preserved g c =
 
 pub returns-clause-ones : goal.returns-clause-ones
 returns-clause-ones g c =
-    let w = g.T.Places.BITS in
+    let w = g.T.Block.BITS in
     let last : c.loop-k.k ≡ c.args.to = omega
     (arith, c.loop-k.auto.k-end, c.requires.order, c.loop-k-test.false) in
     c.loop-k.invariant.ones ∙ ap (λ k. ones_between w
-    (map g.T.Places.number c.args.blocks.now.items) (c.args.from * w) (k * w)) last
+    (map g.T.Block.number c.args.blocks.now.items) (c.args.from * w) (k * w)) last

@@ -5,8 +5,8 @@ use Rattle.vob_walk.proofs.count.ones_in_blocks.Given as goal
 
 abbrev pub invariant-loop-k : goal.invariant-loop-k
 invariant-loop-k g l = record {
-  ones : l.ones ≡ ones_between g.T.Places.BITS (map g.T.Places.number l.fn.blocks.items)
-      (l.fn.from * g.T.Places.BITS) (l.k * g.T.Places.BITS);
+  ones : l.ones ≡ ones_between g.T.Block.BITS (map g.T.Block.number l.fn.blocks.items)
+      (l.fn.from * g.T.Block.BITS) (l.k * g.T.Block.BITS);
   items : l.blocks.items ≡ l.fn.blocks.items;
   reads : l.blocks.reads + l.fn.from ≡ l.fn.blocks.reads + l.k;
 }

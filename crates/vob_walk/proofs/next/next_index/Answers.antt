@@ -9,11 +9,11 @@ block-block-requires g c = omega (
   arith,
   c.requires,
   ap (λ u. c.args.from / u) c.BITS.ensures,
-  div-lt-need g.T.Places.BITS g.met.T.Places.wide_law c.args.len c.args.from (omega arith),
+  div-lt-need g.T.Block.BITS g.met.T.Block.wide_law c.args.len c.args.from (omega arith),
 )
 
 pub next_in_hand-index-requires-clause-hand : goal.next_in_hand-index-requires-clause-hand
 next_in_hand-index-requires-clause-hand g c =
     let read = rw c.BITS.ensures at c.block-block.ensures.block in
-    rw c.block-block.ensures.items (number_read g.T.Places.number c.args.blocks.now.items
-    (c.args.from / g.T.Places.BITS) c.block-block.result read)
+    rw c.block-block.ensures.items (number_read g.T.Block.number c.args.blocks.now.items
+    (c.args.from / g.T.Block.BITS) c.block-block.result read)

@@ -10,8 +10,8 @@ use Rattle.vob.proofs.vob.Vob.and_not.Goals as goal
 
 pub combine_into-requires : goal.combine_into-requires
 combine_into-requires g c =
-    ap length c.as_mut_slice.ensures.value ∙ as_many g.T.Places.number g.T.Places.BITS
-    g.met.T.Places.wide_law c.self.inside.len c.self.inside.vec.items c.blocks-2.result.items
+    ap length c.as_mut_slice.ensures.value ∙ as_many g.T.Block.number g.T.Block.BITS
+    g.met.T.Block.wide_law c.self.inside.len c.self.inside.vec.items c.blocks-2.result.items
     c.args.self.now.bits c.args.other.now.bits c.self.invariant (ap (λ v. v.bits) c.self.view_is)
     c.requires c.blocks-2.ensures.blocks
 
@@ -19,7 +19,7 @@ pub invariant_of-self : goal.invariant_of-self
 invariant_of-self g c =
     let left = take_at c.combine_into.new.own
     (drop (length c.combine_into.new.own) c.self.inside.vec.items) c.self.inside.vec.len (c.combine_into.auto.own ∙ c.as_mut_slice.ensures.len) in
-    (combined_here g.T.Places.number g.T.Places.BITS g.met.T.Places.wide_law c.self.inside.len
+    (combined_here g.T.Block.number g.T.Block.BITS g.met.T.Block.wide_law c.self.inside.len
     c.self.inside.vec.items c.blocks-2.result.items c.args.self.now.bits c.args.other.now.bits
     c.self.invariant (ap (λ v. v.bits) c.self.view_is) c.requires c.blocks-2.ensures.blocks
     without refl c.combine_into.result c.as_mut_slice.ensures.value left c.combine_into.ensures.combined).canonical
@@ -28,7 +28,7 @@ pub returns-clause-bits : goal.returns-clause-bits
 returns-clause-bits g c =
     let left = take_at c.combine_into.new.own
     (drop (length c.combine_into.new.own) c.self.inside.vec.items) c.self.inside.vec.len (c.combine_into.auto.own ∙ c.as_mut_slice.ensures.len) in
-    (combined_here g.T.Places.number g.T.Places.BITS g.met.T.Places.wide_law c.self.inside.len
+    (combined_here g.T.Block.number g.T.Block.BITS g.met.T.Block.wide_law c.self.inside.len
     c.self.inside.vec.items c.blocks-2.result.items c.args.self.now.bits c.args.other.now.bits
     c.self.invariant (ap (λ v. v.bits) c.self.view_is) c.requires c.blocks-2.ensures.blocks
     without refl c.combine_into.result c.as_mut_slice.ensures.value left c.combine_into.ensures.combined).stored
@@ -37,7 +37,7 @@ pub returns-clause-each : goal.returns-clause-each
 returns-clause-each g c =
     let left = take_at c.combine_into.new.own
     (drop (length c.combine_into.new.own) c.self.inside.vec.items) c.self.inside.vec.len (c.combine_into.auto.own ∙ c.as_mut_slice.ensures.len) in
-    (combined_here g.T.Places.number g.T.Places.BITS g.met.T.Places.wide_law c.self.inside.len
+    (combined_here g.T.Block.number g.T.Block.BITS g.met.T.Block.wide_law c.self.inside.len
     c.self.inside.vec.items c.blocks-2.result.items c.args.self.now.bits c.args.other.now.bits
     c.self.invariant (ap (λ v. v.bits) c.self.view_is) c.requires c.blocks-2.ensures.blocks
     without refl c.combine_into.result c.as_mut_slice.ensures.value left c.combine_into.ensures.combined).each
@@ -46,7 +46,7 @@ pub returns-clause-changed : goal.returns-clause-changed
 returns-clause-changed g c =
     let left = take_at c.combine_into.new.own
     (drop (length c.combine_into.new.own) c.self.inside.vec.items) c.self.inside.vec.len (c.combine_into.auto.own ∙ c.as_mut_slice.ensures.len) in
-    (combined_here g.T.Places.number g.T.Places.BITS g.met.T.Places.wide_law c.self.inside.len
+    (combined_here g.T.Block.number g.T.Block.BITS g.met.T.Block.wide_law c.self.inside.len
     c.self.inside.vec.items c.blocks-2.result.items c.args.self.now.bits c.args.other.now.bits
     c.self.invariant (ap (λ v. v.bits) c.self.view_is) c.requires c.blocks-2.ensures.blocks
     without refl c.combine_into.result c.as_mut_slice.ensures.value left c.combine_into.ensures.combined).flag

@@ -5,14 +5,14 @@ use Rattle.vob.proofs.vob.Vob.is_disjoint.Goals as goal
 
 pub has_none-requires : goal.has_none-requires
 has_none-requires g c =
-    lent_as_many g.T.Places.number g.T.Places.BITS g.met.T.Places.wide_law c.self.inside.len
+    lent_as_many g.T.Block.number g.T.Block.BITS g.met.T.Block.wide_law c.self.inside.len
     c.self.inside.vec.items c.blocks-2.result.items c.args.self.now.bits c.args.other.now.bits
     c.self.invariant (ap (λ v. v.bits) c.self.view_is) c.requires c.blocks-2.ensures.blocks
     ◌&&◌ refl c.as_slice.ensures.value
 
 pub returns-clause-answer : goal.returns-clause-answer
 returns-clause-answer g c =
-    flag_of g.T.Places.number g.T.Places.BITS g.met.T.Places.wide_law c.self.inside.len
+    flag_of g.T.Block.number g.T.Block.BITS g.met.T.Block.wide_law c.self.inside.len
     c.self.inside.vec.items c.blocks-2.result.items c.args.self.now.bits c.args.other.now.bits
     c.self.invariant (ap (λ v. v.bits) c.self.view_is) c.requires c.blocks-2.ensures.blocks
     ◌&&◌ refl c.as_slice.ensures.value c.has_none.result c.has_none.ensures.none _
@@ -20,7 +20,7 @@ returns-clause-answer g c =
 
 pub returns-clause-list : goal.returns-clause-list
 returns-clause-list g c =
-    flag_of_list g.T.Places.number g.T.Places.BITS g.met.T.Places.wide_law c.self.inside.len
+    flag_of_list g.T.Block.number g.T.Block.BITS g.met.T.Block.wide_law c.self.inside.len
     c.self.inside.vec.items c.blocks-2.result.items c.args.self.now.bits c.args.other.now.bits
     c.self.invariant (ap (λ v. v.bits) c.self.view_is) c.requires c.blocks-2.ensures.blocks
     ◌&&◌ refl c.as_slice.ensures.value c.has_none.result c.has_none.ensures.none

@@ -9,20 +9,20 @@ use Rattle.vob.proofs.vob.Vob.iter_unset_bits.Goals as goal
 
 pub over-requires : goal.over-requires
 over-requires g c =
-    let w = g.T.Places.BITS in
-    let number = g.T.Places.number in
+    let w = g.T.Block.BITS in
+    let number = g.T.Block.number in
     sym (length-map c.blocks-2.result.items number)
-    ∙ (packing_is w g.met.T.Places.wide_law c.args.self.now.bits c.len.result
+    ∙ (packing_is w g.met.T.Block.wide_law c.args.self.now.bits c.len.result
     (map number c.blocks-2.result.items) c.blocks-2.ensures.blocks
     (sym c.len.ensures.len)).canonical.count
 
 pub returns-clause-fresh : goal.returns-clause-fresh
 returns-clause-fresh g c = λ in_range.
-    let w = g.T.Places.BITS in
-    let number = g.T.Places.number in
+    let w = g.T.Block.BITS in
+    let number = g.T.Block.number in
     let low = g.R.RangeBounds.start_bound c.args.range in
     let high = g.R.RangeBounds.end_bound c.args.range in
-    let bits = (packing_is w g.met.T.Places.wide_law c.args.self.now.bits c.len.result
+    let bits = (packing_is w g.met.T.Block.wide_law c.args.self.now.bits c.len.result
     (map number c.blocks-2.result.items) c.blocks-2.ensures.blocks (sym c.len.ensures.len)).bits in
     subst (λ bs. IsFresh c.over.result bs false low high w) bits (c.over.ensures.fresh in_range)
 

@@ -7,7 +7,7 @@ use Rattle.vob.proofs.vob.Vob.negate_range.Goals as goal
 pub returns-clause-each : goal.returns-clause-each
 returns-clause-each g c = λ in_range.
     let cut = c.cut_range-start in
-    changed_here g.T.Places.number g.T.Places.BITS g.met.T.Places.wide_law c.self.invariant
+    changed_here g.T.Block.number g.T.Block.BITS g.met.T.Block.wide_law c.self.invariant
     (ap (λ v. v.bits) c.self.view_is) cut.result.0 cut.result.1 cut.ensures.ordered
     cut.ensures.inside (cut.ensures.window in_range) c.deref_mut.ensures.value
     (take_at c.change_range.new.blocks (drop (length c.change_range.new.blocks)

@@ -5,11 +5,11 @@ use Rattle.vob.proofs.vob.Vob.next_unset.Goals as goal
 
 pub next_index-requires : goal.next_index-requires
 next_index-requires g c =
-    enough_blocks g.T.Places.BITS g.met.T.Places.wide_law g.T.Places.number c.blocks-2.result.items
+    enough_blocks g.T.Block.BITS g.met.T.Block.wide_law g.T.Block.number c.blocks-2.result.items
     c.args.self.now.bits c.len.result c.blocks-2.ensures.blocks c.len.ensures.len
 
 pub returns : goal.returns
 returns g c =
-    IsNext-blocks g.T.Places.BITS g.met.T.Places.wide_law g.T.Places.number
+    IsNext-blocks g.T.Block.BITS g.met.T.Block.wide_law g.T.Block.number
     c.blocks-2.result.items c.args.self.now.bits c.len.result c.blocks-2.ensures.blocks
     c.len.ensures.len false c.args.from c.next_index.result c.next_index.ensures.found

@@ -8,8 +8,8 @@ use Rattle.vob.proofs.vob.Vob.or.Goals as goal
 
 pub or_into-requires : goal.or_into-requires
 or_into-requires g c =
-    ap length c.as_mut_slice.ensures.value ∙ as_many g.T.Places.number g.T.Places.BITS
-    g.met.T.Places.wide_law c.self.inside.len c.self.inside.vec.items c.blocks-2.result.items
+    ap length c.as_mut_slice.ensures.value ∙ as_many g.T.Block.number g.T.Block.BITS
+    g.met.T.Block.wide_law c.self.inside.len c.self.inside.vec.items c.blocks-2.result.items
     c.args.self.now.bits c.args.other.now.bits c.self.invariant (ap (λ v. v.bits) c.self.view_is)
     c.requires c.blocks-2.ensures.blocks
 
@@ -17,7 +17,7 @@ pub invariant_of-self : goal.invariant_of-self
 invariant_of-self g c =
     let left = take_at c.or_into.new.own (drop (length c.or_into.new.own) c.self.inside.vec.items)
     c.self.inside.vec.len (c.or_into.auto.own ∙ c.as_mut_slice.ensures.len) in
-    (combined_here g.T.Places.number g.T.Places.BITS g.met.T.Places.wide_law c.self.inside.len
+    (combined_here g.T.Block.number g.T.Block.BITS g.met.T.Block.wide_law c.self.inside.len
     c.self.inside.vec.items c.blocks-2.result.items c.args.self.now.bits c.args.other.now.bits
     c.self.invariant (ap (λ v. v.bits) c.self.view_is) c.requires c.blocks-2.ensures.blocks ◌||◌ refl
     c.or_into.result c.as_mut_slice.ensures.value left c.or_into.ensures.combined).canonical
@@ -26,7 +26,7 @@ pub returns-clause-bits : goal.returns-clause-bits
 returns-clause-bits g c =
     let left = take_at c.or_into.new.own (drop (length c.or_into.new.own) c.self.inside.vec.items)
     c.self.inside.vec.len (c.or_into.auto.own ∙ c.as_mut_slice.ensures.len) in
-    (combined_here g.T.Places.number g.T.Places.BITS g.met.T.Places.wide_law c.self.inside.len
+    (combined_here g.T.Block.number g.T.Block.BITS g.met.T.Block.wide_law c.self.inside.len
     c.self.inside.vec.items c.blocks-2.result.items c.args.self.now.bits c.args.other.now.bits
     c.self.invariant (ap (λ v. v.bits) c.self.view_is) c.requires c.blocks-2.ensures.blocks ◌||◌ refl
     c.or_into.result c.as_mut_slice.ensures.value left c.or_into.ensures.combined).stored
@@ -35,7 +35,7 @@ pub returns-clause-each : goal.returns-clause-each
 returns-clause-each g c =
     let left = take_at c.or_into.new.own (drop (length c.or_into.new.own) c.self.inside.vec.items)
     c.self.inside.vec.len (c.or_into.auto.own ∙ c.as_mut_slice.ensures.len) in
-    (combined_here g.T.Places.number g.T.Places.BITS g.met.T.Places.wide_law c.self.inside.len
+    (combined_here g.T.Block.number g.T.Block.BITS g.met.T.Block.wide_law c.self.inside.len
     c.self.inside.vec.items c.blocks-2.result.items c.args.self.now.bits c.args.other.now.bits
     c.self.invariant (ap (λ v. v.bits) c.self.view_is) c.requires c.blocks-2.ensures.blocks ◌||◌ refl
     c.or_into.result c.as_mut_slice.ensures.value left c.or_into.ensures.combined).each
@@ -44,7 +44,7 @@ pub returns-clause-changed : goal.returns-clause-changed
 returns-clause-changed g c =
     let left = take_at c.or_into.new.own (drop (length c.or_into.new.own) c.self.inside.vec.items)
     c.self.inside.vec.len (c.or_into.auto.own ∙ c.as_mut_slice.ensures.len) in
-    (combined_here g.T.Places.number g.T.Places.BITS g.met.T.Places.wide_law c.self.inside.len
+    (combined_here g.T.Block.number g.T.Block.BITS g.met.T.Block.wide_law c.self.inside.len
     c.self.inside.vec.items c.blocks-2.result.items c.args.self.now.bits c.args.other.now.bits
     c.self.invariant (ap (λ v. v.bits) c.self.view_is) c.requires c.blocks-2.ensures.blocks ◌||◌ refl
     c.or_into.result c.as_mut_slice.ensures.value left c.or_into.ensures.combined).flag

@@ -38,7 +38,7 @@ returns-in_err-push-clause-err g c =
         c.in-Some.ensures.steps,
       ),
       omega arith,
-      push_refused g.T.Places.BITS _ _ (length loop.yielded) _ _ refl
+      push_refused g.T.Block.BITS _ _ (length loop.yielded) _ _ refl
           (ap length now.bits ∙ length-append c.args.self.now.bits loop.yielded) now.capacity
           e.refused,
       e.err ∙ now.bits,

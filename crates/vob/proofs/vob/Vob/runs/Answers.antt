@@ -12,9 +12,9 @@ invariant_of-result g c =
     record {
       count = omega (
         arith,
-        enough_blocks g.T.Places.BITS g.met.T.Places.wide_law g.T.Places.number items
+        enough_blocks g.T.Block.BITS g.met.T.Block.wide_law g.T.Block.number items
             c.args.self.now.bits c.len.result c.blocks-2.ensures.blocks c.len.ensures.len,
-        length-map items g.T.Places.number,
+        length-map items g.T.Block.number,
       );
       within = omega arith;
       order = omega arith;
@@ -25,7 +25,7 @@ invariant_of-result g c =
 
 pub returns-clause-bits : goal.returns-clause-bits
 returns-clause-bits g c = rw (c.blocks-2.ensures.blocks, c.len.ensures.len)
-    (unpacking-packing g.T.Places.BITS g.met.T.Places.wide_law c.args.self.now.bits)
+    (unpacking-packing g.T.Block.BITS g.met.T.Block.wide_law c.args.self.now.bits)
 
 pub returns-clause-left : goal.returns-clause-left
-returns-clause-left g c = omega (arith, ap (λ n. need n g.T.Places.BITS) c.len.ensures.len)
+returns-clause-left g c = omega (arith, ap (λ n. need n g.T.Block.BITS) c.len.ensures.len)

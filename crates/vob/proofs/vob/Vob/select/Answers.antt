@@ -8,24 +8,24 @@ use Rattle.vob.proofs.vob.Vob.select.Goals as goal
 
 pub index_of_rank-requires : goal.index_of_rank-requires
 index_of_rank-requires g c =
-    let w = g.T.Places.BITS in
-    let own = map g.T.Places.number c.self.inside.vec.items in
+    let w = g.T.Block.BITS in
+    let own = map g.T.Block.number c.self.inside.vec.items in
     let long = ap (λ v. length v.bits) c.self.view_is in
     let held = length-unpacking c.self.inside.len own w in
     let bits = c.args.self.now.bits in
     let blocks = c.blocks-2.ensures.blocks in record {
       fits = λ i there.
-          let inside = true_inside w g.met.T.Places.wide_law bits _ blocks i there in
+          let inside = true_inside w g.met.T.Block.wide_law bits _ blocks i there in
           omega (arith, inside, long, held);
     }
 
 pub returns : goal.returns
 returns g c =
-    let w = g.T.Places.BITS in
-    let wide = g.met.T.Places.wide_law in
+    let w = g.T.Block.BITS in
+    let wide = g.met.T.Block.wide_law in
     let bits = c.args.self.now.bits in
     let items = c.blocks-2.result.items in
-    let many = ap (λ n. n * w) (sym (length-map items g.T.Places.number)) in
+    let many = ap (λ n. n * w) (sym (length-map items g.T.Block.number)) in
     let whole = ap (λ xs. length xs * w) c.blocks-2.ensures.blocks in
     let need = ap (λ n. n * w) (length-packing w wide bits) in
     IsIndexOfRank-blocks w wide bits _ c.blocks-2.ensures.blocks c.args.k (length items * w)

@@ -4,6 +4,6 @@ use Rattle.vob_store.proofs.combined.WithoutCombine.block.Goals as goal
 
 pub returns-clause-places : goal.returns-clause-places
 returns-clause-places g c =
-    HasPlaces-without g.T.Places.BITS (g.T.Places.number c.args.own) (g.T.Places.number c.args.other)
-    (g.T.Places.number c.bnot.result) (g.T.Places.number c.band.result) c.bnot.ensures.places
+    HasPlaces-without g.T.Block.BITS (g.T.Block.number c.args.own) (g.T.Block.number c.args.other)
+    (g.T.Block.number c.bnot.result) (g.T.Block.number c.band.result) c.bnot.ensures.places
     c.band.ensures.places

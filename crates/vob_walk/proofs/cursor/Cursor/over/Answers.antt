@@ -19,9 +19,9 @@ pub returns-clause-fresh : goal.returns-clause-fresh
 returns-clause-fresh g c = λ in_range.
     let low = g.R.RangeBounds.start_bound c.args.range in
     let high = g.R.RangeBounds.end_bound c.args.range in
-    let w = g.T.Places.BITS in
+    let w = g.T.Block.BITS in
     let long = ap (λ n. blocks_met low high n w)
-    (length-unpacking c.args.len (map g.T.Places.number c.args.blocks.items) w) in
+    (length-unpacking c.args.len (map g.T.Block.number c.args.blocks.items) w) in
     let left = c.over.ensures.left in_range in
     let none = ap has_index c.none.ensures in
     let no_other = ap has_index c.none-2.ensures in
