@@ -1,6 +1,7 @@
 pub mod ByteLemmas
 pub mod KernelLemmas
 pub mod LaneLemmas
+pub mod LowestLemmas
 pub mod NeedLemmas
 pub mod NumberLemmas
 pub mod OnesLemmas

@@ -1,20 +1,18 @@
 //! The trait of the types that store bits, by their places.
-ghost use Rattle.std.specs.Prelude.{◌≡◌, ◌≢◌, ◌==◌, ℕ, ◌+◌, ◌-◌, ◌%◌, ◌^◌, ◌<◌, if◌then◌else◌, ◌≤◌, ◌&&◌, ◌||◌, ◌↔◌, not, nat_le, nat_lt, pos, IsTrue, length, All, map};
-ghost use Rattle.num_traits.specs.Laws.{bit_len};
+ghost use Rattle.std.specs.Prelude.{◌≡◌, ◌≢◌, ◌==◌, ℕ, ◌+◌, ◌-◌, ◌%◌, ◌^◌, ◌<◌, if◌then◌else◌, ◌≤◌, ◌&&◌, ◌||◌, ◌↔◌, not, nat_le, nat_lt, IsTrue, length, All, map, true, false};
 ghost use Rattle.vob_block.specs.Places.{place, HasPlaces, HasZerosLow, HasZerosHigh, true_places};
 ghost use Rattle.vob_block.specs.Pointwise.{IsCombined, differ};
 ghost use Rattle.vob_block.specs.Reading.{AreReadOnce};
 
 use crate::blocks::Blocks;
-use num_traits::PrimInt;
 use std::fmt::Debug;
 use std::hash::Hash;
 
 /// An unsigned integer type whose values store `BITS` truth values each: place `j` is the bit of
-/// weight `2^j`.
+/// weight `2^j`. It has no arithmetic; `PrimBlock` has that too.
 ///
 /// vob 4.0.1 takes any `T: Debug + PrimInt`, signed types too.
-pub trait Block: PrimInt + Hash + Debug {
+pub trait Block: Copy + Eq + Hash + Debug {
     ghost BITS: { ℕ };
 
     /// How many places a block has.
@@ -38,6 +36,9 @@ pub trait Block: PrimInt + Hash + Debug {
     // The number that a block is.
     ghost number: { Self → ℕ };
 
+    // The block of a number.
+    ghost of_bits: { ℕ → Self };
+
     /// Does nothing: a block at hand is in the range of its type, which generic code can't see.
     fn in_range(self)
         ensures { number self < 2 ^ BITS };
@@ -49,74 +50,43 @@ pub trait Block: PrimInt + Hash + Debug {
     /// The places that both blocks have.
     fn band(self, other: Self) -> Self
         ensures places { HasPlaces BITS (number result) (λ j. place j (number self) && place j (number other)) }
-        ensures within { number result < 2 ^ BITS }
-    {
-        self.in_range();
-        other.in_range();
-        self & other
-    }
+        ensures within { number result < 2 ^ BITS };
 
     /// The places that either block has.
     fn bor(self, other: Self) -> Self
         ensures places { HasPlaces BITS (number result) (λ j. place j (number self) || place j (number other)) }
-        ensures within { number result < 2 ^ BITS }
-    {
-        self.in_range();
-        other.in_range();
-        self | other
-    }
+        ensures within { number result < 2 ^ BITS };
 
     /// The places that one of the blocks has and the other hasn't.
     fn bxor(self, other: Self) -> Self
         ensures places { HasPlaces BITS (number result)
             (λ j. differ (place j (number self)) (place j (number other))) }
-        ensures within { number result < 2 ^ BITS }
-    {
-        self.in_range();
-        other.in_range();
-        self ^ other
-    }
+        ensures within { number result < 2 ^ BITS };
 
     /// The places that the block doesn't have.
-    final fn bnot(self) -> Self
+    fn bnot(self) -> Self
         ensures places { HasPlaces BITS (number result) (λ j. not (place j (number self))) }
-        ensures within { number result < 2 ^ BITS }
-    {
-        self.in_range();
-        !self
-    }
+        ensures within { number result < 2 ^ BITS };
 
     /// Moves each place up by `n`. What passes the width is dropped, and the low `n` places are false.
     fn up(self, n: usize) -> Self
         requires { n < BITS }
         ensures places { HasPlaces BITS (number result) (λ j. nat_le n j && place (j - n) (number self)) }
-        ensures within { number result < 2 ^ BITS }
-    {
-        self.in_range();
-        self.unsigned_shl(n as u32)
-    }
+        ensures within { number result < 2 ^ BITS };
 
     /// Moves each place down by `n`. The low `n` places are dropped, and the high `n` are false.
-    final fn down(self, n: usize) -> Self
+    fn down(self, n: usize) -> Self
         requires { n < BITS }
         ensures places { HasPlaces BITS (number result)
             (λ j. nat_lt (j + n) BITS && place (j + n) (number self)) }
-        ensures within { number result < 2 ^ BITS }
-    {
-        self.in_range();
-        self.unsigned_shr(n as u32)
-    }
+        ensures within { number result < 2 ^ BITS };
 
     /// Moves each place up by `n`, and the `n` places that pass the width to the lowest ones.
-    final fn rotate_up(self, n: usize) -> Self
+    fn rotate_up(self, n: usize) -> Self
         requires positive { 0 < n }
         requires below { n < BITS }
         ensures places { HasPlaces BITS (number result) (λ j. place ((j + (BITS - n)) % BITS) (number self)) }
-        ensures within { number result < 2 ^ BITS }
-    {
-        self.in_range();
-        self.rotate_left(n as u32)
-    }
+        ensures within { number result < 2 ^ BITS };
 
     /// A funnel shift: the places from `from` on, and behind them the low places of `high`. So two
     /// neighbours, of which `self` is the lower one, give the block that begins at place `from`.
@@ -131,28 +101,23 @@ pub trait Block: PrimInt + Hash + Debug {
     }
 
     /// How many places are true.
-    final fn ones_in(self) -> usize
-        ensures { result ≡ true_places BITS (number self) }
-    {
-        self.in_range();
-        self.count_ones() as usize
-    }
+    fn ones_in(self) -> usize
+        ensures { result ≡ true_places BITS (number self) };
 
     /// The first true place, or `BITS` where no place is true.
-    final fn zeros_low(self) -> usize
-        ensures { HasZerosLow BITS (number self) result }
-    {
-        self.in_range();
-        self.trailing_zeros() as usize
-    }
+    fn zeros_low(self) -> usize
+        ensures { HasZerosLow BITS (number self) result };
 
     /// `BITS - 1` minus the last true place, or `BITS` where no place is true.
-    final fn zeros_high(self) -> usize
-        ensures { HasZerosHigh BITS (number self) result }
-    {
-        self.in_range();
-        self.leading_zeros() as usize
-    }
+    fn zeros_high(self) -> usize
+        ensures { HasZerosHigh BITS (number self) result };
+
+    /// The block with its first true place made false. The number of that place isn't waited for.
+    fn without_first(self) -> Self
+        requires { number self ≢ 0 }
+        ensures places { (j : ℕ) → HasZerosLow BITS (number self) j → HasPlaces BITS (number result)
+            (λ i. if i == j then false else place i (number self)) }
+        ensures within { number result < 2 ^ BITS };
 
     /// The places below `n`, and no others.
     final fn low_mask(n: usize) -> Self
@@ -232,23 +197,19 @@ pub trait Block: PrimInt + Hash + Debug {
         changed != Self::ZERO
     }
 
-    // The number is the one that `PrimInt` states.
-    ghost number_law: { (x : Self) → Self.value x ≡ pos (number x) };
-
     // `==` on blocks is `==` on their numbers.
     ghost equal_law: { (x y : Self) → IsTrue (Self.eq x y) ↔ (number x ≡ number y) };
 
     // Equal numbers feed a hasher the same.
     ghost hash_law: { (x y : Self) → number x ≡ number y → Self.hash_input x ≡ Self.hash_input y };
 
-    ghost width_law: { BITS ≡ bit_len Self.width };
-
     // A block has a place.
     ghost wide_law: { 0 < BITS };
 
-    ghost bits_law: { (x : Self) → Self.bits_of x ≡ number x };
+    // It has 128 at most, so that their number can be added to.
+    ghost narrow_law: { BITS ≤ 128 };
 
-    ghost of_bits_number_law: { (n : ℕ) → n < 2 ^ BITS → number (Self.of_bits n) ≡ n };
+    ghost of_bits_number_law: { (n : ℕ) → n < 2 ^ BITS → number (of_bits n) ≡ n };
 
     ghost zero_number_law: { number ZERO ≡ 0 };
 

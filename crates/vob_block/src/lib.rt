@@ -3,8 +3,12 @@
 
 pub mod block;
 mod blocks;
-mod impls;
 mod lanes;
+mod narrow;
+mod prim;
+mod wide;
+mod word;
 
 pub use block::Block;
 pub use blocks::Blocks;
+pub use prim::PrimBlock;

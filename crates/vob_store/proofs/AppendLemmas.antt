@@ -263,3 +263,11 @@ module _ {X : Type 0} (number : X → ℕ) (w : ℕ) (wide : 0 < w) (n : ℕ) (i
             ∙ ap (λ b. place j (get_or xs (n / w) 0) || b)
             (up.each j below ∙ ap (λ v. leb (n % v) j && place (j - n % v) x) same);
       }) fits held)
+
+-- where fewer bits than there are find room, they fill the block up
+pub full-room : (w len taken size : ℕ) → 0 < w → taken ≡ min size (w - len % w) → taken ≢ size
+    → (len + taken) % w ≡ 0
+full-room w len taken size wide is less =
+    let end : len + taken ≡ (len / w + 1) * w + 0 = omega
+    (arith, is, less, div-add-mod' len w, mod-lt len wide, add-mul (len / w) 1 w, one-mul w) in
+    ap (λ n. n % w) end ∙ mod-mul-add (len / w + 1) w 0 wide

@@ -2,7 +2,7 @@
 use Rattle.std.proofs.Common.{◌≡◌, ◌⊎◌, ℕ, ◌+◌, ◌-◌, ◌*◌, ◌/◌, ◌%◌, ◌<◌, ◌≤◌, min, ◌&&◌, cond, List, length, get_or, set, leb, ltb, refl, sym, ap, ◌∙◌, subst, arith, inl, inr, mod-lt, div-add-mod', add-mul, one-mul, zero-add, zero-mul}
 use Rattle.std.proofs.lemmas.Bool.{cases_lt, cases_eq, lt-ltb, le-ltb, le-leb, cond-true, cond-false}
 use Rattle.std.proofs.lemmas.List.{get_or-set_same}
-use Rattle.std.proofs.lemmas.Nat.{mul-le, le-div, div-mul-add}
+use Rattle.std.proofs.lemmas.Nat.{mul-le, le-div, div-mul-add, mod-mul-add}
 use Rattle.vob_block.specs.Places.{place, HasPlaces}
 use Rattle.vob_block.specs.Packing.{bit_at}
 use Rattle.vob_block.proofs.PackingLemmas.{bit_at-in_block, bit_at-is_place, bit_at-set_same, bit_at-set_other}
@@ -201,6 +201,37 @@ module _ (w : ℕ) (wide : 0 < w) (at count head whole u : ℕ) (same : u ≡ w)
         let row = mul-le 1 w whole w (omega (arith, some)) (omega arith) in
         inr (at_block (omega (arith, row, one-mul w, whole-le, wide)))
   ]
+
+  -- the whole blocks are there, and what is left behind them is within a block
+  pub whole_inside : (n : ℕ) → at + count ≤ n * w → (at + head) / u + whole ≤ n
+  whole_inside n inside = rw same (elim (cases_lt n ((at + head) / w + whole)) [
+    | inr there ↦ there
+    | inl less ↦
+        let q = (at + head) / w in
+        let row = mul-le (n + 1) w (q + whole) w (omega (arith, less)) (omega arith) in
+        absurd (omega (
+          arith,
+          row,
+          wide,
+          inside,
+          whole-le,
+          add-mul q whole w,
+          add-mul n 1 w,
+          one-mul w,
+          div-add-mod' (at + head) w,
+        ))
+  ])
+
+  pub rest_one : (at + (head + whole * u)) % w + (count - (head + whole * u)) ≤ w
+  rest_one = rw same (elim (cases_lt head count) [
+    | inl more ↦
+        let q = (at + head) / w in
+        let start : at + (head + whole * w) ≡ (q + whole) * w + 0 =
+        omega (arith, at_block more, add-mul q whole w) in
+        let none = ap (λ n. n % w) start ∙ mod-mul-add (q + whole) w 0 wide in
+        omega (arith, none, rest_w, mod-lt (count - head) wide)
+    | inr past ↦ omega (arith, past, head-le.0, mod-lt (at + (head + whole * w)) wide)
+  ])
 
   -- the three parts are the stretch
   pub AreCopied-parts : {start : ℕ} {olds others a b c : List ℕ}

@@ -1,5 +1,5 @@
 -- Bits taken out, and those behind them closed up, at a plain width.
-use Rattle.std.proofs.Common.{◌≡◌, ℕ, ◌+◌, ◌-◌, ◌*◌, ◌/◌, ◌%◌, ◌<◌, ◌≤◌, false, cond, List, ◌++◌, length, get_or, set, drop, take, map, ltb, sym, ap, subst, ◌∙◌, arith, inl, inr, mod-lt, div-add-mod', add-mul}
+use Rattle.std.proofs.Common.{◌≡◌, ◌≢◌, ℕ, ◌+◌, ◌-◌, ◌*◌, ◌/◌, ◌%◌, ◌<◌, ◌≤◌, false, cond, List, ◌++◌, length, get_or, set, drop, take, map, ltb, sym, ap, subst, ◌∙◌, arith, inl, inr, mod-lt, div-add-mod', add-mul, one-mul}
 use Rattle.std.proofs.Math.Nat.{div-lt_iff_lt-mul}
 use Rattle.std.proofs.lemmas.Bool.{cases_lt, cases_eq, lt-ltb, le-ltb, cond-true, cond-false}
 use Rattle.std.proofs.lemmas.List.{length-append, length-drop, length-map, map-set, get_or-drop, get_or-map}
@@ -124,6 +124,35 @@ first-inside w u from by n wide same some inside =
 
 pub first-room : (w u from by m : ℕ) → u ≡ w → from + by ≤ m → from / u * w + by ≤ m
 first-room w u from by m same inside = rw same (omega (arith, div-add-mod' from w, inside))
+
+-- so is the block that the first one is made of, and the one behind it where places are left
+pub skip-inside : (w u first by n : ℕ) → 0 < w → u ≡ w → first * w + by ≤ n * w
+    → first + by / u ≤ n
+skip-inside w u first by n wide same inside = rw same (elim (cases_lt n (first + by / w)) [
+  | inr there ↦ there
+  | inl less ↦
+      let row = mul-le (n + 1) w (first + by / w) w (omega (arith, less)) (omega arith) in
+      absurd (omega (
+        arith,
+        row,
+        wide,
+        inside,
+        add-mul first (by / w) w,
+        add-mul n 1 w,
+        one-mul w,
+        div-add-mod' by w,
+      ))
+])
+
+pub skip-below : (w u first by n : ℕ) → u ≡ w → by % u ≢ 0 → first * w + by ≤ n * w
+    → first + by / u < n
+skip-below w u first by n same some inside = rw same (elim (cases_lt (first + by / w) n) [
+  | inl there ↦ there
+  | inr past ↦
+      let row = mul-le n w (first + by / w) w past (omega arith) in
+      let left : by % w ≢ 0 = rw same at some in
+      absurd (omega (arith, row, left, inside, add-mul first (by / w) w, div-add-mod' by w))
+])
 
 -- closed up by whole blocks and some places
 pub AreBuilt-by : (w u by m first : ℕ) (xs source : List ℕ) → u ≡ w

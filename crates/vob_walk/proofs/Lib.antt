@@ -3,7 +3,6 @@ pub mod BlockBitsLemmas
 pub mod CountLemmas
 pub mod CursorLemmas
 pub mod IndexLemmas
-pub mod LowestLemmas
 pub mod MatchesLemmas
 pub mod NextLemmas
 pub mod PullLemmas

@@ -40,20 +40,6 @@ pub(crate) fn is_zero<T: Block>(block: T) -> bool
     block == T::ZERO
 }
 
-/// The block with its first true place made false. The number of that place isn't waited for.
-#[inline(always)]
-fn without_first<T: Block>(block: T) -> T
-    requires { T.number block ≢ 0 }
-    ensures places { (j : ℕ) → HasZerosLow T.BITS (T.number block) j
-        → HasPlaces T.BITS (T.number result)
-        (λ i. if i == j then false else place i (T.number block)) }
-    ensures within { T.number result < 2 ^ T.BITS }
-{
-    block.in_range();
-    let less = block - T::ONE;
-    block.band(less)
-}
-
 impl<T: Block> BlockBits<T> {
     /// No indices.
     pub(crate) fn none() -> BlockBits<T>
@@ -121,7 +107,7 @@ impl<T: Block> BlockBits<T> {
             return None;
         }
         let index = self.ready;
-        *self = BlockBits::counted(without_first(self.word), self.at, self.left - 1);
+        *self = BlockBits::counted(self.word.without_first(), self.at, self.left - 1);
         Some(index)
     }
 }

@@ -2,7 +2,7 @@
 use super::support::{same, vob_of};
 use std::slice;
 use vob::iter::{End, IndexWalk, count_ones_in, deal};
-use vob::vob_block::{Block, Blocks};
+use vob::vob_block::{Block, Blocks, PrimBlock};
 use vob::{Vob, VobError};
 use vob_run::run::{Command, Reply, UsizeCommand, run, run_usize};
 
@@ -35,11 +35,17 @@ fn walks_are_named_at_the_root_and_in_their_module(rt: HostRuntime) {
     );
 }
 
+/// The number of bits, over any block with arithmetic, which the calls of a Vob take as it is.
+fn length_of<T: PrimBlock>(vob: &Vob<T>) -> usize {
+    vob.len()
+}
+
 #[test]
 fn counts_and_blocks_are_named_by_their_modules(rt: HostRuntime) {
     let mut blocks: Blocks<'_, u8> = Blocks::new(&[5]);
     assert_eq!(rt; count_ones_in(&mut blocks, 0, 0), 0);
     assert_eq!(rt; <u8 as Block>::BITS, 8);
+    assert_eq!(rt; length_of::<u8>(&vob_of(&rt, "101")), 3);
     let refused: Result<(), VobError> = Err(VobError::TooLong);
     assert_eq!(rt; refused.map_err(|error| error.number()), Err(1));
 }

@@ -1,7 +1,22 @@
 -- The parts stand one behind the other.
 use Rattle.std.proofs.Common.{◌-◌, ◌/◌, refl, arith}
-use Rattle.vob_store.proofs.CopyLemmas.{AreCopied-parts, whole-few}
+use Rattle.vob_store.proofs.CopyLemmas.{AreCopied-parts, whole-few, whole_inside, rest_one}
 use Rattle.vob_store.proofs.copy.copy_bits.Goals as goal
+
+pub copy_whole-requires-clause-inside : goal.copy_whole-requires-clause-inside
+copy_whole-requires-clause-inside g c =
+    let head = c.min-head.result in
+    let u = c.BITS-width.result in
+    rw c.copy_part.auto.own (whole_inside g.T.Block.BITS g.met.T.Block.wide_law c.args.at
+    c.args.cut.count head ((c.args.cut.count - head) / u) u c.BITS-width.ensures
+    c.min-head.ensures refl _ c.requires.inside)
+
+pub copy_part-requires-2-clause-one : goal.copy_part-requires-2-clause-one
+copy_part-requires-2-clause-one g c =
+    let head = c.min-head.result in
+    let u = c.BITS-width.result in
+    rest_one g.T.Block.BITS g.met.T.Block.wide_law c.args.at c.args.cut.count head
+    ((c.args.cut.count - head) / u) u c.BITS-width.ensures c.min-head.ensures refl
 
 pub returns-clause-copied : goal.returns-clause-copied
 returns-clause-copied g c =

@@ -1,6 +1,24 @@
 -- Whole blocks are moved as they are, and otherwise each is made of two.
-use Rattle.vob_store.proofs.DrainLemmas.{AreBuilt-moved, AreBuilt-by}
+use Rattle.std.proofs.Common.{arith}
+use Rattle.vob_store.proofs.DrainLemmas.{AreBuilt-moved, AreBuilt-by, skip-inside, skip-below}
 use Rattle.vob_store.proofs.drain.close_blocks.Goals as goal
+
+pub overflow_add-first : goal.overflow_add-first
+overflow_add-first g c = record {
+  fits = omega (
+    arith,
+    skip-inside _ _ _ _ _ g.met.T.Block.wide_law c.BITS-width.ensures c.requires.inside,
+    c.well_formed.0.0,
+  );
+}
+
+pub copy_within-requires-clause-start_le_end : goal.copy_within-requires-clause-start_le_end
+copy_within-requires-clause-start_le_end g c = skip-inside _ _ _ _ _ g.met.T.Block.wide_law
+    c.BITS-width.ensures c.requires.inside
+
+pub shift_down-requires-clause-inside : goal.shift_down-requires-clause-inside
+shift_down-requires-clause-inside g c = skip-below _ _ _ _ _ c.BITS-width.ensures
+    c.if-places-eq0.false c.requires.inside
 
 pub returns-then-places-eq0 : goal.returns-then-places-eq0
 returns-then-places-eq0 g c =

@@ -1,7 +1,7 @@
 -- As many bits as find room are packed and put there.
 use Rattle.std.proofs.Common.{◌≡◌, ◌-◌, ◌%◌, length, min, take, arith, mod-lt}
 use Rattle.std.proofs.lemmas.List.{length-take-le}
-use Rattle.vob_store.proofs.AppendLemmas.{HasPlaces-fewer}
+use Rattle.vob_store.proofs.AppendLemmas.{HasPlaces-fewer, full-room}
 use Rattle.vob_store.proofs.pack.top_up.Goals as goal
 
 pub returns-clause-stores : goal.returns-clause-stores
@@ -15,3 +15,7 @@ returns-clause-stores g c =
     length-take-le taken c.args.bits.now (omega (arith, size)) in
     rw long at (c.extend_last.ensures (take taken c.args.bits.now) (omega (arith, long, size, rest))
     (HasPlaces-fewer c.pack_block.ensures.places (omega arith)))
+
+pub returns-clause-whole : goal.returns-clause-whole
+returns-clause-whole g c = λ less. full-room g.T.Block.BITS c.args.len c.min-taken.result _
+    g.met.T.Block.wide_law (rw c.BITS-width.ensures at c.min-taken.ensures) less

@@ -10,7 +10,7 @@ pub returns : goal.returns
 returns g c =
     let number = g.T.Block.number in
     let fed = g.T.Hash.hash_input in
-    let block_of = g.T.FixedWidth.of_bits in
+    let block_of = g.T.Block.of_bits in
     let w = g.T.Block.BITS in
     let items = c.self.inside.vec.items in
     let bit_at : map number items ≡ packing c.args.self.now.bits w =
