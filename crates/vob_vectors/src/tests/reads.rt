@@ -1,12 +1,14 @@
 //! How many blocks a walk reads, said by contracts: at most one for each index that it gave and each
 //! block that its range meets; and one more than these blocks, as no end reads again what it holds.
+//! A walk over runs reads each block once.
 ghost use Rattle.std.specs.Prelude.{◌≡◌, ◌+◌, ◌≤◌, [], length, None, IfOk};
 ghost use Rattle.vob_walk.specs.Walk.{given_count};
 
 use super::support::{filled, same, vob_of};
 use std::alloc::AllocError;
+use std::ops::Range;
 use std::process::Abort;
-use vob::{End, IterSetBits, IterUnsetBits, Vob, deal};
+use vob::{End, IterSetBits, IterUnsetBits, Runs, Vob, deal};
 
 /// Pulls at the set bits of ten bits, which two bytes hold.
 fn set_of_ten<'a>(
@@ -67,6 +69,18 @@ fn ends_of_none<'a>(vob: &'a Vob<u8>) -> (Option<usize>, Option<usize>, IterSetB
     (first, last, walk)
 }
 
+/// The third run of ten bits, which two bytes hold, and the walk behind it.
+fn third_of_ten<'a>(vob: &'a Vob<u8>) -> (Option<Range<usize>>, Runs<'a, u8>)
+    requires ten { length vob.now.bits ≡ 10 }
+    ensures { result.1.reads ≤ 2 }
+{
+    let mut runs = vob.runs();
+    runs.next();
+    runs.next();
+    let third = runs.next();
+    (third, runs)
+}
+
 /// Pulls at both ends in turn until none of ten bits is left: seven are set, three are unset.
 fn check_ten(rt: &(impl Abort + AllocGlobal), vob: &Vob<u8>) {
     let (front, back) = (End::Front, End::Back);
@@ -98,6 +112,16 @@ fn blocks_in_hand_are_not_read_again(rt: HostRuntime) {
     check_ten(&rt, &vob_of(&rt, "1011011101"));
     check_24(&rt, false, &[End::Front; 2], None);
     check_24(&rt, true, &[End::Front; 24], Some(23));
+    let ten = vob_of(&rt, "1011011101");
+    assert!(rt; ten.len() == 10);
+    let (third, mut runs) = third_of_ten(&ten);
+    same(
+        &rt,
+        "the last two runs",
+        0,
+        (third, runs.next()),
+        (Some(5..8), Some(9..10)),
+    );
     let none = vob_of::<u8>(&rt, "");
     assert!(rt; none.len() == 0);
     let (first, last, walk) = ends_of_none(&none);
