@@ -1,7 +1,7 @@
 //! What a peer offers, and the workloads over it: the same as those of the crate `vob_bench`.
 
 use crate::input::Input;
-use crate::rows::Call;
+use crate::rows::{Call, INDICES};
 
 /// Whether a library has a call, and whether it does the same work by it.
 #[derive(Clone, Copy, PartialEq, Eq)]
@@ -12,6 +12,13 @@ pub enum Offer {
     /// It has no such call, and reaches the same by others.
     Other(&'static str),
     None,
+}
+
+/// The end of a walk that an index is asked from.
+#[derive(Clone, Copy)]
+pub enum End {
+    Front,
+    Back,
 }
 
 /// A vector of bits. A method that its `offer` has `None` for is never called.
@@ -46,6 +53,17 @@ pub trait Bits: Sized {
         unimplemented!()
     }
     fn unset_bits(&self) -> u64 {
+        unimplemented!()
+    }
+    fn unset_bits_back(&self) -> u64 {
+        unimplemented!()
+    }
+    fn set_bits_between(&self, _from: usize, _to: usize) -> u64 {
+        unimplemented!()
+    }
+
+    /// The indices of set bits as they are asked for, from either end.
+    fn deal(&self, _pulls: &[End], _answers: &mut Vec<Option<usize>>) {
         unimplemented!()
     }
     fn counted(&self) -> u64 {
@@ -229,7 +247,7 @@ fn seen<B: Bits>(input: &Input, rounds: usize, mut look: impl FnMut(&B, usize) -
 }
 
 /// The same, where the bit that changes changes back.
-fn walked<B: Bits>(input: &Input, rounds: usize, look: impl Fn(&B) -> u64) -> u64 {
+fn walked<B: Bits>(input: &Input, rounds: usize, mut look: impl FnMut(&B) -> u64) -> u64 {
     let mut times = 0u64;
     let mut bits = B::from_bytes(&input.bytes);
     for round in 0..rounds {
@@ -318,6 +336,18 @@ fn selected<B: Bits>(input: &Input, rounds: usize) -> u64 {
     let k = B::from_bytes(&input.bytes).counted() as usize / 2;
     seen(input, rounds, |bits: &B, _| {
         bits.select(k).unwrap_or(0) as u64
+    })
+}
+
+fn dealt<B: Bits>(input: &Input, rounds: usize) -> u64 {
+    let pulls: Vec<End> = (0..INDICES)
+        .map(|pull| if pull % 2 == 0 { End::Front } else { End::Back })
+        .collect();
+    let mut answers = Vec::new();
+    walked(input, rounds, |bits: &B| {
+        answers.clear();
+        bits.deal(&pulls, &mut answers);
+        answers.iter().flatten().map(|index| *index as u64).sum()
     })
 }
 
@@ -539,6 +569,11 @@ pub fn run<B: Bits>(call: Call, input: &Input, rounds: usize) -> u64 {
         Call::SetBits => walked(input, rounds, B::set_bits),
         Call::SetBitsBack => walked(input, rounds, B::set_bits_back),
         Call::UnsetBits => walked(input, rounds, B::unset_bits),
+        Call::SetBitsBetween => walked(input, rounds, |bits: &B| {
+            bits.set_bits_between(13, 8 * input.bytes.len() - 29)
+        }),
+        Call::UnsetBitsBack => walked(input, rounds, B::unset_bits_back),
+        Call::Deal => dealt::<B>(input, rounds),
         Call::NextSet => walked(input, rounds, next_bits::<B>),
         Call::Runs => walked(input, rounds, run_sum::<B>),
         Call::Select => selected::<B>(input, rounds),

@@ -91,6 +91,9 @@ pub fn conthiral(call: Call, input: &Input, rounds: usize) -> u64 {
         Call::NextSet => walk(5),
         Call::Runs => walk(6),
         Call::Select => walk(7),
+        Call::SetBitsBetween => walk(8),
+        Call::UnsetBitsBack => walk(9),
+        Call::Deal => walk(10),
         Call::Closure => unsafe {
             vob_bench_closure(bytes.as_ptr(), bytes.len(), input.row_bytes, rounds)
         },

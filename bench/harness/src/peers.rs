@@ -1,6 +1,6 @@
 //! The peers in Rust, by their own calls. What a peer's call does less, its `offer` says.
 
-use crate::bits::{Bits, Offer};
+use crate::bits::{Bits, End, Offer};
 use crate::rows::Call;
 use bit_set::BitSet;
 use bit_vec::BitVec;
@@ -43,6 +43,7 @@ impl Bits for Vob {
             Call::FromIndices => Offer::Other("from_elem, then set"),
             Call::Runs => Offer::Other("both walks in turn"),
             Call::Select => Offer::Other("nth of a walk"),
+            Call::Deal => Offer::Other("next or next_back, pull by pull"),
             _ => Offer::Same,
         }
     }
@@ -89,6 +90,21 @@ impl Bits for Vob {
     }
     fn unset_bits(&self) -> u64 {
         sum_of(self.iter_unset_bits(..))
+    }
+    fn unset_bits_back(&self) -> u64 {
+        sum_of(self.iter_unset_bits(..).rev())
+    }
+    fn set_bits_between(&self, from: usize, to: usize) -> u64 {
+        sum_of(self.iter_set_bits(from..to))
+    }
+    fn deal(&self, pulls: &[End], answers: &mut Vec<Option<usize>>) {
+        let mut walk = self.iter_set_bits(..);
+        for pull in pulls {
+            answers.push(match pull {
+                End::Front => walk.next(),
+                End::Back => walk.next_back(),
+            });
+        }
     }
     fn counted(&self) -> u64 {
         self.iter_set_bits(..).count() as u64
@@ -328,6 +344,9 @@ impl Bits for BitVec {
             | Call::FromIndices
             | Call::Runs
             | Call::Select
+            | Call::SetBitsBetween
+            | Call::UnsetBitsBack
+            | Call::Deal
             | Call::FirstFree
             | Call::Filter => Offer::None,
             // Its split_off within a block can leave a block too many, which append takes in.

@@ -47,6 +47,9 @@ pub enum Call {
     FromIndices,
     Runs,
     Select,
+    SetBitsBetween,
+    UnsetBitsBack,
+    Deal,
 }
 
 /// What the machine can do at most, measured on the row's own size.
@@ -138,19 +141,23 @@ enum Unit {
     Round,
 }
 
-const INDICES: usize = 1 << 16;
+pub const INDICES: usize = 1 << 16;
 const MILLION: usize = 1 << 20;
 /// The sizes of the rows on two Vobs of one length.
 const SIZES: [usize; 5] = [64, 1024, 65536, MILLION, 64 * MILLION];
 
 /// How many bits in 65536 are set for a walk over indices.
-const DENSITIES: [(&str, u32); 7] = [
+const DENSITIES: [(&str, u32); 11] = [
     ("none set", 0),
     ("1 in 4096 set", 16),
     ("1 in 256 set", 256),
     ("1 in 64 set", 1024),
     ("1 in 8 set", 8192),
     ("half set", 32768),
+    ("7 in 8 set", 57344),
+    ("63 in 64 set", 64512),
+    ("255 in 256 set", 65280),
+    ("4095 in 4096 set", 65520),
     ("all set", 65536),
 ];
 
@@ -230,6 +237,7 @@ pub fn all() -> Vec<Row> {
         ("iter_set_bits", Call::SetBits),
         ("iter_set_bits from the back", Call::SetBitsBack),
         ("iter_unset_bits", Call::UnsetBits),
+        ("iter_unset_bits from the back", Call::UnsetBitsBack),
         ("next_set", Call::NextSet),
         ("runs", Call::Runs),
     ] {
@@ -237,7 +245,12 @@ pub fn all() -> Vec<Row> {
             rows.push(Row::walk(name, call, density, set));
         }
     }
+    for (density, set) in [("1 in 64 set", 1024), ("half set", 32768)] {
+        let name = "iter_set_bits of a range";
+        rows.push(Row::walk(name, Call::SetBitsBetween, density, set));
+    }
     rows.extend([
+        Row::over("deal, half set", Call::Deal, MILLION, Index, Limit::None),
         Row::over("count of set bits", Call::Count, MILLION, Word, Limit::Count),
         Row::over("select in the middle", Call::Select, MILLION, Word, Limit::None),
         Row::over(

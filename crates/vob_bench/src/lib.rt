@@ -101,12 +101,14 @@ pub extern "C" fn vob_bench_pair(
 }
 
 /// Calls on indices: 0 `iter_set_bits`, 1 the same from the back, 2 `iter_unset_bits`, 3 `count`, 4 the
-/// first unset bit, 5 `next_set`, 6 `runs`, 7 `select`.
+/// first unset bit, 5 `next_set`, 6 `runs`, 7 `select`, 8 `iter_set_bits` of a range, 9 `iter_unset_bits`
+/// from the back, 10 `deal`.
 #[unsafe(no_mangle)]
 pub extern "C" fn vob_bench_walk(alloc: Global, row: u32, bytes: &[u8], rounds: usize) -> u64 {
     answer(match row {
         4 => walk::first_free(alloc, bytes, rounds),
         7 => walk::select(alloc, bytes, rounds),
+        10 => walk::deal_in_turn(alloc, bytes, rounds),
         _ => walk::walk(alloc, row, bytes, rounds),
     })
 }

@@ -1,8 +1,12 @@
 //! Workloads on the indices of set bits and of unset bits.
 
 use crate::checksum::{checksum, flip, touch};
-use std::alloc::Global;
+use std::alloc::{AllocError, Global};
+use vob::iter::{End, deal};
 use vob::{Vob, VobError};
+
+/// How many pulls a round of `deal` has.
+const PULLS: usize = 1 << 16;
 
 /// The sum of the indices of the set bits, the first one first.
 #[inline(never)]
@@ -29,6 +33,26 @@ fn set_bits_back(vob: &Vob) -> u64 {
 fn unset_bits(vob: &Vob) -> u64 {
     let mut sum: u64 = 0;
     for index in vob.iter_unset_bits(..) {
+        sum = sum.wrapping_add(index as u64);
+    }
+    sum
+}
+
+/// The same, the last one first.
+#[inline(never)]
+fn unset_bits_back(vob: &Vob) -> u64 {
+    let mut sum: u64 = 0;
+    for index in vob.iter_unset_bits(..).rev() {
+        sum = sum.wrapping_add(index as u64);
+    }
+    sum
+}
+
+/// The sum of the indices of the set bits from one index to below another.
+#[inline(never)]
+fn set_bits_between(vob: &Vob, from: usize, to: usize) -> u64 {
+    let mut sum: u64 = 0;
+    for index in vob.iter_set_bits(from..to) {
         sum = sum.wrapping_add(index as u64);
     }
     sum
@@ -92,7 +116,8 @@ fn counted(vob: &Vob) -> u64 {
 }
 
 /// A walk a round: 0 over the set bits, 1 over those from the back, 2 over the unset bits; or 3 a
-/// count; or 5 a call of `next_set` for each set bit, 6 the runs.
+/// count; or 5 a call of `next_set` for each set bit, 6 the runs; or 8 a walk over the set bits of a
+/// range that begins and ends within a block, 9 one over the unset bits from the back.
 #[inline(never)]
 pub(crate) fn walk(alloc: Global, row: u32, bytes: &[u8], rounds: usize) -> Result<u64, VobError> {
     let mut times: u64 = 0;
@@ -105,9 +130,49 @@ pub(crate) fn walk(alloc: Global, row: u32, bytes: &[u8], rounds: usize) -> Resu
             2 => unset_bits(&vob),
             5 => next_bits(&vob),
             6 => run_sum(&vob),
+            8 => set_bits_between(&vob, 13, vob.len().saturating_sub(29)),
+            9 => unset_bits_back(&vob),
             _ => counted(&vob),
         };
         times = times.wrapping_add(sum);
+    }
+    Ok(checksum(&vob, times))
+}
+
+/// Asks for indices of set bits as the pulls say, and answers the sum of those that are there.
+#[inline(never)]
+fn dealt(vob: &Vob, pulls: &[End], answers: &mut Vec<Option<usize>>) -> Result<u64, AllocError> {
+    let mut sum: u64 = 0;
+    answers.clear();
+    deal(&mut vob.iter_set_bits(..), pulls, answers)?;
+    for answer in answers.iter() {
+        if let Some(index) = answer {
+            sum = sum.wrapping_add(*index as u64);
+        }
+    }
+    Ok(sum)
+}
+
+/// Pulls from both ends in turn.
+fn pulls_in_turn(alloc: Global) -> Result<Vec<End>, AllocError> {
+    let mut pulls = Vec::new(alloc);
+    for _ in 0..PULLS / 2 {
+        pulls.push(End::Front)?;
+        pulls.push(End::Back)?;
+    }
+    Ok(pulls)
+}
+
+/// A list of pulls from both ends in turn, once a round.
+#[inline(never)]
+pub(crate) fn deal_in_turn(alloc: Global, bytes: &[u8], rounds: usize) -> Result<u64, VobError> {
+    let mut times: u64 = 0;
+    let mut vob = Vob::from_bytes(alloc, bytes)?;
+    let pulls = pulls_in_turn(alloc)?;
+    let mut answers = Vec::new(alloc);
+    for round in 0..rounds {
+        flip(&mut vob, round);
+        times = times.wrapping_add(dealt(&vob, &pulls, &mut answers)?);
     }
     Ok(checksum(&vob, times))
 }
