@@ -138,6 +138,19 @@ module _ (w : ℕ) (xs : List ℕ) where
       (omega (arith, product-more w k))
       ∙ ap (λ n. ones_between w xs (from * w) (k * w) + n) (ones-block k x read)
 
+  -- those of two stretches that meet, each counted up to where it ends
+  pub ones-halves : (from middle to low high : ℕ) → from ≤ middle → middle ≤ to
+      → low ≡ ones_between w xs (from * w) (middle * w)
+      → high ≡ ones_between w xs (middle * w) (to * w)
+      → low + high ≡ ones_between w xs (from * w) (to * w)
+  ones-halves from middle to low high first second ones more = omega (
+    arith,
+    ones,
+    more,
+    ones-split (from * w) (middle * w) (to * w) (mul-le from w middle w first (omega arith))
+        (mul-le middle w to w second (omega arith)),
+  )
+
   -- ---- within a window
 
   hit_parts : (value : Bool) (start stop i : ℕ) → is_hit w xs value start stop i ≡ true

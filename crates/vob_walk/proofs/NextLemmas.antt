@@ -1,4 +1,5 @@
 -- The next bit of a value, within a block and over blocks without one, and the previous one.
+use Rattle.std.specs.Bool.{beq}
 use Rattle.std.proofs.Common.{◌≡◌, ◌≢◌, ℕ, ◌+◌, ◌-◌, ◌*◌, ◌/◌, ◌%◌, ◌^◌, ◌<◌, ◌≤◌, min, Bool, true, false, ◌&&◌, nat_lt, leb, cond, List, map, get_or, Some, None, refl, sym, ap, ◌∙◌, arith, inl, inr, mod-lt, div-add-mod'}
 use Rattle.std.proofs.lemmas.Bool.{cases_lt, and_from, and_parts, le-leb, leb-true, lt-ltb, ltb-true, false≢true}
 use Rattle.std.proofs.lemmas.Nat.{div-mul-add, div_below, le-div, mul-le, pow_pos}
@@ -13,6 +14,12 @@ use Rattle.vob_walk.specs.Next.{HasNoBit, IsFirstPlace, IsLastPlace, FindsUp, Fi
 use Rattle.vob_walk.specs.Skip.{AreSkipped, ScansUp, ScansDown}
 use Rattle.vob_walk.proofs.IndexLemmas.{value_is, has_value-same}
 use Rattle.vob_walk.proofs.ScanLemmas.{HasPlaces-from_part, without_value, product-more}
+
+pub beq-true : (a b : Bool) → beq a b ≡ true → a ≡ b
+beq-true true true h = refl
+beq-true true false h = sym h
+beq-true false true h = h
+beq-true false false h = refl
 
 -- ---- within a block: x is the block, v its bits of the value, and h those from place n on
 

@@ -61,11 +61,35 @@ fn ones_in_blocks<T: Block>(blocks: &mut Blocks<'_, T>, from: usize, to: usize) 
     ensures reads { blocks.new.reads ≡ blocks.old.reads + (to - from) }
     ensures items { blocks.new.items ≡ blocks.old.items }
 {
-    let mut ones = 0;
-    for k in from..to {
-        ones += blocks.block(k).ones_in();
+    let half = (to - from) / 2;
+    let ones = ones_in_halves(blocks, from, half);
+    let last = from + half + half;
+    if last < to {
+        ones + blocks.block(last).ones_in()
+    } else {
+        ones
     }
-    ones
+}
+
+/// How many places are true in twice `half` blocks from `from` on. Reads each of them once: those of
+/// both halves side by side, so that no count waits for the one before, in a loop that a compiler
+/// still turns into one over vectors where the processor has them for it.
+#[inline(always)]
+fn ones_in_halves<T: Block>(blocks: &mut Blocks<'_, T>, from: usize, half: usize) -> usize
+    requires count { from + half + half ≤ length blocks.old.items }
+    requires fits { (from + half + half) * T.BITS ≤ usize.MAX }
+    ensures ones { result ≡ ones_between T.BITS (map T.number blocks.old.items)
+        (from * T.BITS) ((from + half + half) * T.BITS) }
+    ensures reads { blocks.new.reads ≡ blocks.old.reads + half + half }
+    ensures items { blocks.new.items ≡ blocks.old.items }
+{
+    let mut low = 0;
+    let mut high = 0;
+    for k in from..from + half {
+        low += blocks.block(k).ones_in();
+        high += blocks.block(k + half).ones_in();
+    }
+    low + high
 }
 
 /// How many indices of the window stand in the blocks from `next` to below `end`.

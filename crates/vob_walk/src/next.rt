@@ -124,6 +124,11 @@ pub fn next_index<T: Block>(
         return None;
     }
     let block = blocks.block(from / T::BITS);
+    // Who asks behind each index that was given meets the next one at once where most bits have the
+    // value: a processor foretells that branch, and so waits for no count of zeros.
+    if block.bit(from % T::BITS) == value {
+        return Some(from);
+    }
     let (index, _) = next_in_hand(blocks, value, len, (from, block));
     if index < len { Some(index) } else { None }
 }
