@@ -130,9 +130,9 @@ impl<T: Block> Vob<T> {
 /// What is written and read in place of a Vob: its length in bits and its blocks. One that was read
 /// promises nothing before `into_vob`; vob 4.0.1 reads a Vob with any length and any blocks.
 #[derive(Debug, Drop, Serialize, Deserialize)]
-pub struct VobRecord {
+pub struct VobRecord<T = usize> {
     pub len: usize,
-    pub vec: Vec<usize>,
+    pub vec: Vec<T>,
 }
 
 impl VobRecord {
@@ -170,13 +170,6 @@ struct Lent<'a, T> {
     vec: &'a [T],
 }
 
-/// What is read before it is tested.
-#[derive(Drop, Deserialize)]
-struct Untested<T> {
-    len: usize,
-    vec: Vec<T>,
-}
-
 impl<T: Block> Described for Vob<T> {}
 
 impl<T: Block + Serialize> Serialize for Vob<T> {
@@ -197,7 +190,7 @@ impl<'de, T: Block + Deserialize<'de>> Deserialize<'de> for Vob<T> {
         alloc: Global,
         from: &mut Deserializer<'de, '_, F>,
     ) -> Result<Vob<T>, F::Error> {
-        let read = Untested::deserialize(alloc, from)?;
+        let read = VobRecord::<T>::deserialize(alloc, from)?;
         match vob_of_parts(read.len, read.vec) {
             Ok(vob) => Ok(vob),
             Err(_) => Err(from.custom("the blocks are not the storage of a Vob of that length")),
