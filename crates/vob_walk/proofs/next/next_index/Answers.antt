@@ -1,5 +1,5 @@
 -- The block of `from` is one of those that the bits need.
-use Rattle.std.proofs.Common.{◌∙◌, ◌/◌, ◌%◌, map, refl, sym, ap, arith}
+use Rattle.std.proofs.Common.{◌∙◌, ◌/◌, ◌%◌, map, sym, ap, arith}
 use Rattle.vob_block.specs.Places.{place}
 use Rattle.vob_block.proofs.NeedLemmas.{div-lt-need}
 use Rattle.vob_block.proofs.NumberLemmas.{number_read}
