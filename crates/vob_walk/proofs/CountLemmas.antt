@@ -1,15 +1,16 @@
 -- How many bits are true in a window, over its blocks.
 use Rattle.std.specs.Cmp.{both_ways}
 use Rattle.std.specs.declared.ops.Bound.TheVariants.{Included, Excluded}
-use Rattle.std.proofs.Common.{◌≡◌, ◌≢◌, ℕ, zero, suc, ◌+◌, ◌-◌, ◌*◌, ◌/◌, ◌^◌, ◌<◌, ◌≤◌, min, max, Bool, true, false, not, ◌&&◌, nat_le, nat_lt, cond, List, ◌∷◌, ◌++◌, length, get_or, refl, sym, ap, ◌∙◌, arith, inl, inr, length-append, add-mul, mod-lt, div-add-mod', div-mul-le_self}
+use Rattle.std.proofs.Common.{◌≡◌, ◌≢◌, ℕ, zero, suc, ◌+◌, ◌-◌, ◌*◌, ◌/◌, ◌^◌, ◌<◌, ◌≤◌, min, max, Bool, true, false, not, ◌&&◌, nat_le, nat_lt, cond, List, ◌∷◌, ◌++◌, length, map, get_or, Some, refl, sym, ap, ◌∙◌, arith, inl, inr, length-append, add-mul, mod-lt, div-add-mod', div-mul-le_self}
 use Rattle.std.proofs.Math.Bool.{and_self}
 use Rattle.std.proofs.lemmas.Bool.{cases_lt, and_from, and_parts, lt-ltb, le-leb, ltb-true, leb-true}
-use Rattle.std.specs.List.{range_with_len}
+use Rattle.std.specs.List.{range_with_len, slice_get}
 use Rattle.std.proofs.lemmas.List.Sums.{length-filter}
 use Rattle.std.proofs.lemmas.Nat.{mul-le}
 use Rattle.vob_block.specs.Places.{place, HasPlaces, true_places}
 use Rattle.vob_block.specs.Packing.{need, bit_at}
 use Rattle.vob_block.proofs.NeedLemmas.{need_enough}
+use Rattle.vob_block.proofs.NumberLemmas.{number_read}
 use Rattle.vob_block.proofs.PackingLemmas.{bit_at-in_block}
 use Rattle.vob_walk.specs.Matches.{has_value, blocks_met}
 use Rattle.vob_walk.specs.Count.{ones_between}
@@ -138,18 +139,23 @@ module _ (w : ℕ) (xs : List ℕ) where
       (omega (arith, product-more w k))
       ∙ ap (λ n. ones_between w xs (from * w) (k * w) + n) (ones-block k x read)
 
-  -- those of two stretches that meet, each counted up to where it ends
-  pub ones-halves : (from middle to low high : ℕ) → from ≤ middle → middle ≤ to
-      → low ≡ ones_between w xs (from * w) (middle * w)
-      → high ≡ ones_between w xs (middle * w) (to * w)
-      → low + high ≡ ones_between w xs (from * w) (to * w)
-  ones-halves from middle to low high first second ones more = omega (
-    arith,
-    ones,
-    more,
-    ones-split (from * w) (middle * w) (to * w) (mul-le from w middle w first (omega arith))
-        (mul-le middle w to w second (omega arith)),
-  )
+  -- those of two halves, each counted up to where it ends
+  pub ones-halves : (from half k : ℕ) {low high : ℕ} → k ≡ from + half
+      → low ≡ ones_between w xs (from * w) (k * w)
+      → high ≡ ones_between w xs ((from + half) * w) ((k + half) * w)
+      → low + high ≡ ones_between w xs (from * w) ((from + half + half) * w)
+  ones-halves from half k last first second =
+      let middle = from + half in
+      let to = middle + half in
+      omega (
+        arith,
+        first,
+        second,
+        ap (λ n. ones_between w xs (from * w) (n * w)) last,
+        ap (λ n. ones_between w xs (middle * w) ((n + half) * w)) last,
+        ones-split (from * w) (middle * w) (to * w) (mul-le from w middle w (omega arith)
+            (omega arith)) (mul-le middle w to w (omega arith) (omega arith)),
+      )
 
   -- ---- within a window
 
@@ -332,3 +338,19 @@ length-left w front_at front back_at back between =
       length-block_indices w front_at front,
       length-block_indices w back_at back,
     )
+
+-- ---- blocks as they are read
+
+-- one block more of those before block `to`
+pub ones-next : {A : Type 0} (w : ℕ) (number : A → ℕ) (items : List A) {from k : ℕ} {x : A}
+    {sum more : ℕ} (next to : ℕ) → slice_get items k ≡ Some x
+    → sum ≡ ones_between w (map number items) (from * w) (k * w) → more ≡ true_places w (number x)
+    → from ≤ k → next ≡ k + 1 → next ≤ to
+    → (sum + more ≡ ones_between w (map number items) (from * w) (next * w)) × (sum + more ≤ to * w)
+ones-next w number items {from} {k} {x} next to read so_far here low is_next high =
+    let xs = map number items in
+    let all = ones-more w xs from k (number x) low (number_read number items k x read) in
+    let same = ap (λ n. ones_between w xs (from * w) (n * w)) is_next in
+    let few = ones-le w xs (from * w) (next * w) in
+    let within = mul-le next w to w high (omega arith) in
+    (omega (arith, so_far, here, all, same), omega (arith, so_far, here, all, same, few, within))
