@@ -65,7 +65,9 @@ fn flow(numbers: &mut Numbers, vars: usize) -> Vec<usize> {
     for node in 0..FLOW_NODES {
         let next = (node + 1).min(FLOW_NODES - 1);
         let branch = match numbers.below(8) {
-            0 => (node + numbers.below(129)).saturating_sub(64).min(FLOW_NODES - 1),
+            0 => (node + numbers.below(129))
+                .saturating_sub(64)
+                .min(FLOW_NODES - 1),
             _ => next,
         };
         graph.extend([numbers.below(vars), numbers.below(vars), next, branch]);

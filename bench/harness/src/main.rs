@@ -3,7 +3,9 @@
 //! many, in which all libraries take turns: so what is built once and the call across languages
 //! drop out.
 //!
-//! `harness [--check] [--turns N] [FILTER]` writes lines of tab-separated values.
+//! `harness [--check] [--turns N] [FILTER]` writes lines of tab-separated values. `harness --names FILTER`
+//! prints the rows and the libraries that have a call for each, and `harness --alone LIBRARY ROUNDS ROW`
+//! has one library do one row, and prints nothing: for whatever counts instructions.
 
 mod bits;
 mod foreign;
@@ -203,8 +205,16 @@ fn measure(row: &Row, input: &Input, offered: &[&Library], turns: usize) {
     }
 }
 
+/// One library that works alone, and for how many rounds.
+struct Alone {
+    library: String,
+    rounds: usize,
+}
+
 struct Options {
     check: bool,
+    names: bool,
+    alone: Option<Alone>,
     turns: usize,
     filter: String,
 }
@@ -212,6 +222,8 @@ struct Options {
 fn options() -> Options {
     let mut found = Options {
         check: false,
+        names: false,
+        alone: None,
         turns: 21,
         filter: String::new(),
     };
@@ -219,6 +231,12 @@ fn options() -> Options {
     while let Some(word) = words.next() {
         match word.as_str() {
             "--check" => found.check = true,
+            "--names" => found.names = true,
+            "--alone" => {
+                let library = words.next().unwrap_or_default();
+                let rounds = words.next().and_then(|n| n.parse().ok()).unwrap_or(1);
+                found.alone = Some(Alone { library, rounds });
+            }
             "--turns" => found.turns = words.next().and_then(|n| n.parse().ok()).unwrap_or(21),
             _ => found.filter = word,
         }
@@ -246,7 +264,7 @@ fn main() -> ExitCode {
     let libraries = libraries();
     let rows: Vec<Row> = rows::all()
         .into_iter()
-        .filter(|row| row.name.contains(&options.filter))
+        .filter(|row| row.title().contains(&options.filter))
         .collect();
     let offered = |row: &Row| -> Vec<&Library> {
         libraries
@@ -254,6 +272,31 @@ fn main() -> ExitCode {
             .filter(|library| (library.offer)(row.call) != Offer::None)
             .collect()
     };
+    if options.names {
+        for row in &rows {
+            for library in offered(row) {
+                println!(
+                    "{}\t{}\t{}\t{}",
+                    row.title(),
+                    row.unit,
+                    row.units,
+                    library.name
+                );
+            }
+        }
+        return ExitCode::SUCCESS;
+    }
+    if let Some(alone) = &options.alone {
+        for row in rows.iter().filter(|row| row.title() == options.filter) {
+            let rounds = alone.rounds.min(row.most);
+            for library in offered(row) {
+                if library.name == alone.library {
+                    std::hint::black_box((library.run)(row.call, &row.input(), rounds));
+                }
+            }
+        }
+        return ExitCode::SUCCESS;
+    }
     let mut differing = Vec::new();
     for row in &rows {
         differing.extend(disagreements(row, &row.input(), &offered(row)));

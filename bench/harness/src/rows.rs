@@ -87,6 +87,11 @@ pub struct Row {
 }
 
 impl Row {
+    /// What a filter looks into.
+    pub fn title(&self) -> String {
+        format!("{} at {} bits", self.name, self.bits)
+    }
+
     fn over(name: &str, call: Call, bits: usize, unit: Unit, limit: Limit) -> Row {
         let (unit, units) = match unit {
             Unit::Bit => ("bit", bits as f64),
@@ -188,8 +193,20 @@ pub fn all() -> Vec<Row> {
         Row::over("set_all", Call::SetAll, MILLION, Word, Limit::Fill),
         Row::over("negate", Call::Negate, MILLION, Word, Limit::Copy),
         Row::over("set_range", Call::SetRange, MILLION, Word, Limit::Fill),
-        Row::over("negate_range", Call::NegateRange, MILLION, Word, Limit::Copy),
-        Row::over("from_indices", Call::FromIndices, MILLION, Index, Limit::None),
+        Row::over(
+            "negate_range",
+            Call::NegateRange,
+            MILLION,
+            Word,
+            Limit::Copy,
+        ),
+        Row::over(
+            "from_indices",
+            Call::FromIndices,
+            MILLION,
+            Index,
+            Limit::None,
+        ),
         Row::over("to_bytes", Call::ToBytes, MILLION, Word, Limit::Copy),
         Row::over("clone", Call::Clone, MILLION, Word, Limit::Copy),
     ];
@@ -227,8 +244,20 @@ pub fn all() -> Vec<Row> {
             Word,
             Limit::Copy,
         ),
-        Row::over("drain aligned", Call::DrainAligned, MILLION, Word, Limit::Copy),
-        Row::over("drain misaligned", Call::DrainShifted, MILLION, Word, Limit::Copy),
+        Row::over(
+            "drain aligned",
+            Call::DrainAligned,
+            MILLION,
+            Word,
+            Limit::Copy,
+        ),
+        Row::over(
+            "drain misaligned",
+            Call::DrainShifted,
+            MILLION,
+            Word,
+            Limit::Copy,
+        ),
         Row::over("copy_range", Call::CopyRange, MILLION, Word, Limit::Copy),
         Row::over("equality", Call::Equal, MILLION, Word, Limit::Count),
         Row::over("hash", Call::Hash, MILLION, Word, Limit::Hasher),
@@ -251,8 +280,20 @@ pub fn all() -> Vec<Row> {
     }
     rows.extend([
         Row::over("deal, half set", Call::Deal, MILLION, Index, Limit::None),
-        Row::over("count of set bits", Call::Count, MILLION, Word, Limit::Count),
-        Row::over("select in the middle", Call::Select, MILLION, Word, Limit::None),
+        Row::over(
+            "count of set bits",
+            Call::Count,
+            MILLION,
+            Word,
+            Limit::Count,
+        ),
+        Row::over(
+            "select in the middle",
+            Call::Select,
+            MILLION,
+            Word,
+            Limit::None,
+        ),
         Row::over(
             "first unset bit, the last one",
             Call::FirstFree,
