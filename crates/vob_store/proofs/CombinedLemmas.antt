@@ -1,6 +1,6 @@
 -- Blocks combined one after another: how many places are true so far, and whether one is.
 use Rattle.std.specs.List.{range_with_len}
-use Rattle.std.proofs.Common.{◌≡◌, ℕ, zero, suc, ◌+◌, ◌-◌, ◌*◌, ◌/◌, ◌%◌, ◌^◌, ◌<◌, ◌≤◌, Bool, not, ◌&&◌, ◌||◌, cond, List, get_or, count_by, refl, sym, ap, ◌∙◌, subst, arith, inl, inr, add-mul, mod-lt}
+use Rattle.std.proofs.Common.{◌≡◌, ◌↔◌, ℕ, zero, suc, ◌+◌, ◌-◌, ◌*◌, ◌/◌, ◌%◌, ◌^◌, ◌<◌, ◌≤◌, Bool, not, ◌&&◌, ◌||◌, cond, List, get_or, count_by, refl, sym, ap, ◌∙◌, subst, arith, inl, inr, add-mul, mod-lt}
 use Rattle.std.proofs.lemmas.Bool.{cases_eq}
 use Rattle.std.proofs.lemmas.List.Sums.{sum_by-cons}
 use Rattle.std.proofs.lemmas.Nat.{div-mul-add, mul-le, pow_pos}
@@ -151,3 +151,13 @@ module _ (f : Bool → Bool → Bool) (w : ℕ) (xs ys : List ℕ) where
 
     pub IsFound-more : IsFound from (k + 1) after
     IsFound-more = record { small = after-in; none = none_more; zero = zero_more }
+
+  -- one block alone
+  pub HaveNone-alone : 0 < w → (x y z : ℕ) → x ≡ get_or xs 0 0 → y ≡ get_or ys 0 0 → z < 2 ^ w
+      → HasPlaces w z (λ j. f (place j x) (place j y)) → (z ≡ 0) ↔ HaveNone f w 0 1 xs ys
+  HaveNone-alone wide x y z is its z-in places =
+      let packed : HasPlaces w z (λ j. place j 0 || place j z) =
+      record { each = λ j _. sym (ap (λ b. b || place j z) (place-zero j)) } in
+      let found = IsFound-more wide 0 0 0 (IsFound-start 0 0 refl) (omega arith) x y z z is its
+      z-in z-in places packed in
+      (found.none, found.zero)

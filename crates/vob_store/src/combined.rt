@@ -129,13 +129,16 @@ fn none_between<C: Combine, T: Block>(
 }
 
 /// Whether no place is true in both combined. Each block of `other` is read once at most, and none
-/// behind a chunk with such a place.
+/// behind a chunk with such a place. A block that is alone needs no loop.
 pub fn has_none<C: Combine, T: Block>(own: &[T], other: &mut Blocks<'_, T>) -> bool
     requires { length own.now ≡ length other.old.items }
     ensures none { IsTrue result ↔ HaveNone C.of_bits T.BITS 0 (length own.now)
         (map T.number own.now) (map T.number other.old.items) }
     ensures reads { other.new.reads ≤ other.old.reads + length other.old.items }
 {
+    if own.len() == 1 {
+        return C::block(own[0], other.block(0)) == T::ZERO;
+    }
     let whole = own.len() / CHUNK;
     for chunk in 0..whole {
         let from = chunk * CHUNK;
