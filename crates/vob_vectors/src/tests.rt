@@ -1,5 +1,4 @@
 //! Rows worked out by hand, and patterns against lists of bits.
-mod agreement;
 mod commands;
 mod constructors;
 mod copies;

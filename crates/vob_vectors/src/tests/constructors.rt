@@ -16,15 +16,15 @@ fn nothing_has_no_blocks(rt: HostRuntime) {
     check_made(&rt, vob::vob!(alloc;), 0, &[]);
     check_made(&rt, Vob::new(alloc).clone(), 0, &[]);
     let empty = vob::vob!(alloc;).expect(&rt, "memory");
-    assert!(rt; empty.is_empty());
+    same(&rt, "empty", 0, empty.is_empty(), true);
     let roomless = Vob::with_capacity(alloc, 0).expect(&rt, "memory");
-    assert_eq!(rt; roomless.capacity(), 0);
+    same(&rt, "no room", 0, roomless.capacity(), 0);
 }
 
 #[test]
 fn a_new_vob_takes_memory_with_its_first_bit(rt: HostRuntime) {
     let mut vob = Vob::new(rt.alloc());
-    assert_eq!(rt; vob.capacity(), 0);
+    same(&rt, "no room", 0, vob.capacity(), 0);
     push(&rt, &mut vob, true);
     check_blocks(&rt, &vob, 1, &[1]);
     // A length that can't be is refused.
@@ -71,7 +71,7 @@ fn items_and_bits_are_kept_in_order(rt: HostRuntime) {
     check_blocks(&rt, &items, 3, &[5]);
     check_made(&rt, items.clone(), 3, &[5]);
     let text = format!(in alloc; "{items:?}").expect(&rt, "memory");
-    assert_eq!(rt; text.as_str(), "Vob[101]");
+    same(&rt, "as text", 0, text.as_str(), "Vob[101]");
     let ones = [true; 65];
     check_made(&rt, Vob::from_slice(alloc, &ones), 65, &[usize::MAX, 1]);
     check_made(&rt, Vob::from_iter(alloc, ones), 65, &[usize::MAX, 1]);
@@ -85,7 +85,7 @@ fn the_macro_has_three_forms(rt: HostRuntime) {
     check_made(&rt, vob::vob!(alloc; true; 2), 2, &[3]);
     let one = vob::vob!(alloc; true).expect(&rt, "memory");
     check_blocks(&rt, &one, 1, &[1]);
-    assert!(rt; !one.is_empty());
+    same(&rt, "empty", 1, one.is_empty(), false);
     let mut pushed = Vob::with_capacity(alloc, 0).expect(&rt, "memory");
     push(&rt, &mut pushed, true);
     push(&rt, &mut pushed, false);
@@ -106,23 +106,30 @@ fn listed_bits_can_be_read_and_set(rt: HostRuntime) {
     check_equal(&rt, &two, &ones, true);
     check_equal(&rt, &two, &zeros, false);
     let two = vob::vob!(alloc; false, true).expect(&rt, "memory");
-    assert!(rt; two.len() == 2 && !two[0] && two[1]);
+    assert!(rt; two.len() == 2);
+    same(&rt, "by index", 0, [two[0], two[1]], [false, true]);
 }
 
 #[test]
 fn room_is_made_counted_from_the_length(rt: HostRuntime) {
     let alloc = rt.alloc();
     let roomy = Vob::with_capacity(alloc, 65).expect(&rt, "memory");
-    assert!(rt; roomy.capacity() >= 128);
+    same(&rt, "room for 65 bits", 0, roomy.capacity() >= 128, true);
     let mut vob = Vob::new(alloc);
     vob.reserve(10).expect(&rt, "memory");
     let room = vob.capacity();
-    assert!(rt; room >= 64, "room for ten bits");
+    same(&rt, "room for ten bits", 0, room >= 64, true);
     vob.reserve(10).expect(&rt, "memory");
     same(&rt, "room that is there already", 0, vob.capacity(), room);
     push(&rt, &mut vob, true);
     vob.reserve(64).expect(&rt, "memory");
-    assert!(rt; vob.capacity() >= 128, "room for 64 bits behind one");
+    same(
+        &rt,
+        "room for 64 bits behind one",
+        0,
+        vob.capacity() >= 128,
+        true,
+    );
     vob.shrink_to_fit();
     check_blocks(&rt, &vob, 1, &[1]);
 }

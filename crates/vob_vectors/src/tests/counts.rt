@@ -80,12 +80,16 @@ fn count_in_no_block(blocks: &mut Blocks<'_, u8>) -> usize
 fn each_block_of_a_window_is_read_once(rt: HostRuntime) {
     let stored = [237, 2];
     let mut blocks = Blocks::new(&stored);
-    assert_eq!(rt; count_across_two_blocks(&mut blocks), 5);
-    assert_eq!(rt; count_in_one_block(&mut blocks), 6);
-    assert_eq!(rt; count_in_no_block(&mut blocks), 0);
+    let ones = count_across_two_blocks(&mut blocks);
+    same(&rt, "from 3 to 10", 0, ones, 5);
+    let ones = count_in_one_block(&mut blocks);
+    same(&rt, "from 0 to 8", 0, ones, 6);
+    let ones = count_in_no_block(&mut blocks);
+    same(&rt, "from 8 to 8", 0, ones, 0);
     // That reads are counted takes no memory.
-    assert_eq!(rt; size_of::<Blocks<'_, u8>>(), size_of::<&[u8]>());
-    assert_eq!(rt; size_of::<Blocks<'_, u128>>(), size_of::<&[u128]>());
+    let slice = size_of::<&[u8]>();
+    same(&rt, "size", 8, size_of::<Blocks<'_, u8>>(), slice);
+    same(&rt, "size", 128, size_of::<Blocks<'_, u128>>(), slice);
 }
 
 /// Counts from one bound to each further one, against how many indices below it `next` gives.

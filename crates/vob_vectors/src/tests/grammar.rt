@@ -145,8 +145,10 @@ fn a_chain_longer_than_a_block_is_gone_up(rt: HostRuntime) {
 /// Compares that both calls name the first rule that isn't one.
 fn check_bad(rt: &(impl Abort + AllocGlobal), grammar: &Grammar, rule: usize) {
     let refusal = GrammarError::BadSymbol { rule };
-    assert_eq!(rt; nullable(rt.alloc(), grammar).err(), Some(refusal));
-    assert_eq!(rt; first_sets(rt.alloc(), grammar).err(), Some(refusal));
+    let refused = nullable(rt.alloc(), grammar).err();
+    same(rt, "nullable", rule, refused, Some(refusal));
+    let refused = first_sets(rt.alloc(), grammar).err();
+    same(rt, "first sets", rule, refused, Some(refusal));
 }
 
 #[test]

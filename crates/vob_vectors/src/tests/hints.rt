@@ -110,5 +110,6 @@ fn a_hint_that_cannot_be_met_is_refused_first(rt: HostRuntime) {
     check_blocks(&rt, &none, 0, &[]);
     none.extend(Countdown { left: 3 }).expect(&rt, "memory");
     check_blocks(&rt, &none, 3, &[7]);
-    assert!(rt; Vob::from_iter(rt.alloc(), Countdown { left }).is_err());
+    let refused = Vob::from_iter(rt.alloc(), Countdown { left }).is_err();
+    same(&rt, "refused", left, refused, true);
 }

@@ -43,11 +43,12 @@ fn length_of<T: PrimBlock>(vob: &Vob<T>) -> usize {
 #[test]
 fn counts_and_blocks_are_named_by_their_modules(rt: HostRuntime) {
     let mut blocks: Blocks<'_, u8> = Blocks::new(&[5]);
-    assert_eq!(rt; count_ones_in(&mut blocks, 0, 0), 0);
-    assert_eq!(rt; <u8 as Block>::BITS, 8);
-    assert_eq!(rt; length_of::<u8>(&vob_of(&rt, "101")), 3);
-    let refused: Result<(), VobError> = Err(VobError::TooLong);
-    assert_eq!(rt; refused.map_err(|error| error.number()), Err(1));
+    same(&rt, "ones", 0, count_ones_in(&mut blocks, 0, 0), 0);
+    same(&rt, "the width", 8, <u8 as Block>::BITS, 8);
+    let length = length_of::<u8>(&vob_of(&rt, "101"));
+    same(&rt, "the length", 3, length, 3);
+    let refusal: VobError = VobError::TooLong;
+    same(&rt, "the number", 1, refusal.number(), 1);
 }
 
 #[test]

@@ -199,7 +199,8 @@ fn one_bit_in_many_blocks_is_a_change(rt: HostRuntime) {
     let mut other = pattern::<usize>(&rt, 0, 576);
     assert!(rt; 575 < other.len());
     other.set(575, !pattern_bit(0, 575));
-    assert!(rt; combine(&rt, Call::Xor, &mut nine, &other));
+    let changed = combine(&rt, Call::Xor, &mut nine, &other);
+    same(&rt, "xor", 576, changed, true);
     check_blocks(
         &rt,
         &nine,
@@ -207,5 +208,6 @@ fn one_bit_in_many_blocks_is_a_change(rt: HostRuntime) {
         &[0, 0, 0, 0, 0, 0, 0, 0, 0x8000_0000_0000_0000],
     );
     let mut eight = pattern::<usize>(&rt, 0, 512);
-    assert!(rt; !combine(&rt, Call::And, &mut eight, &pattern(&rt, 0, 512)));
+    let changed = combine(&rt, Call::And, &mut eight, &pattern(&rt, 0, 512));
+    same(&rt, "and", 512, changed, false);
 }

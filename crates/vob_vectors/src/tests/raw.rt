@@ -68,7 +68,7 @@ fn dirty_storage_is_taken_once_it_is_masked(rt: HostRuntime) {
     check_taken(&rt, one, "010101010101010111111111111111", &[1_073_719_978]);
     let two = masked(&rt, raw_of(&rt, 68, &[word, word]));
     check_raw(&rt, &two, 68, &[word, 10u64]);
-    assert!(rt; two.into_vob().is_ok());
+    same(&rt, "taken", 68, two.into_vob().is_ok(), true);
 }
 
 #[test]

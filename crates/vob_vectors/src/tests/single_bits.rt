@@ -104,7 +104,7 @@ fn a_full_block_and_one_bit_more(rt: HostRuntime) {
 #[test]
 fn a_popped_bit_leaves_no_trace(rt: HostRuntime) {
     let mut vob = Vob::new(rt.alloc());
-    assert!(rt; vob.is_empty());
+    same(&rt, "empty", 0, vob.is_empty(), true);
     push(&rt, &mut vob, false);
     check_blocks(&rt, &vob, 1, &[0]);
     same(&rt, "pop", 0, vob.pop(), Some(false));
@@ -113,7 +113,7 @@ fn a_popped_bit_leaves_no_trace(rt: HostRuntime) {
     check_blocks(&rt, &vob, 1, &[1]);
     same(&rt, "pop", 1, vob.pop(), Some(true));
     same(&rt, "pop", 2, vob.pop(), None);
-    assert!(rt; vob.is_empty());
+    same(&rt, "empty", 0, vob.is_empty(), true);
     // Its room is used again.
     let mut vob = vob_of::<u8>(&rt, "11111111");
     let room = vob.capacity();
@@ -234,5 +234,6 @@ fn a_cloned_walk_over_blocks_goes_on_from_the_same_place(rt: HostRuntime) {
     );
     let rest = listed(&rt, others);
     same(&rt, "blocks left", 0, rest.len(), 2);
-    assert!(rt; rest.as_slice() == listed(&rt, blocks).as_slice());
+    let others = listed(&rt, blocks);
+    same(&rt, "blocks", 2, rest.as_slice(), others.as_slice());
 }

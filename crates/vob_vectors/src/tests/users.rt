@@ -102,12 +102,12 @@ fn rows_of_another_length_are_seen(rt: HostRuntime) {
     let nodes = vob_of::<usize>(&rt, "00");
     let mut rows = Vec::new(rt.alloc());
     rows.push(vob_of::<usize>(&rt, "11")).expect(&rt, "memory");
-    assert!(rt; !is_square(&nodes, &rows), "a row is missing");
+    same(&rt, "a row is missing", 1, is_square(&nodes, &rows), false);
     rows.push(vob_of::<usize>(&rt, "111")).expect(&rt, "memory");
-    assert!(rt; !is_square(&nodes, &rows), "a row is too long");
+    same(&rt, "a row is too long", 3, is_square(&nodes, &rows), false);
     rows.pop();
     rows.push(vob_of::<usize>(&rt, "11")).expect(&rt, "memory");
-    assert!(rt; is_square(&nodes, &rows));
+    same(&rt, "square", 2, is_square(&nodes, &rows), true);
 }
 
 #[test]
@@ -125,7 +125,7 @@ fn free_slots_are_taken_from_the_first_on(rt: HostRuntime) {
     for (at, slot) in [Some(1), Some(3), None].into_iter().enumerate() {
         same(&rt, "slot", at, take_slot(&mut taken), slot);
     }
-    assert!(rt; taken == vob_of(&rt, "1111"));
+    check_bits(&rt, &taken, "1111");
     // A slot that is given back comes again.
     let mut slots = Slots::new(rt.alloc(), 3).expect(&rt, "memory");
     same(&rt, "slot", 0, slots.alloc(), Some(0));

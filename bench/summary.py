@@ -1,0 +1,127 @@
+#!/usr/bin/env python3
+"""Prints the table of README.md: bench/summary.py V2 V3, two results files, by default those of bench/results."""
+
+import pathlib
+import sys
+
+from report import ORIGINAL, OURS, best, read
+
+DENSITIES = {
+    "no index or few": ("none", "1 in 4096"),
+    "1 in 256 to 255 in 256": ("1 in 256", "1 in 64", "1 in 8", "half", "7 in 8", "63 in 64", "255 in 256"),
+    "every index or almost": ("4095 in 4096", "all"),
+}
+# of the walk over unset bits: where that many are set, it gives the others
+TURNED = {"none": "all", "all": "none", "half": "half"}
+
+
+def turned(density):
+    if density in TURNED:
+        return TURNED[density]
+    some, _, of = density.split()
+    return f"{int(of) - int(some)} in {of}"
+
+
+def walk(call, label):
+    for title, densities in DENSITIES.items():
+        if "unset" in call:
+            densities = [turned(density) for density in densities]
+        names = [f"{call}, {density} set" for density in densities]
+        yield f"{label}: {title}", names, None
+
+
+def rows():
+    """The label of each row, the names of the results that it takes in, and their least and greatest bits."""
+    many = (1024, 1 << 20)
+    yield "`push`", ["push"], None
+    yield "`get` at random", ["get at random"], None
+    yield "`set` at random", ["set at random"], None
+    yield "a walk over all bits", ["iterate"], None
+    yield "`from_bytes`", ["from_bytes"], None
+    yield "`to_bytes`", ["to_bytes"], None
+    yield "`from_slice`, `extend_from_slice`", ["from_slice", "extend_from_slice"], None
+    yield "`from_indices`", ["from_indices"], None
+    yield "`resize`, `set_all`, `negate`, `clone`", ["resize true", "set_all", "negate", "clone"], None
+    yield "`set_range`", ["set_range"], None
+    yield "`negate_range`", ["negate_range"], None
+    yield "`copy_range`", ["copy_range"], None
+    yield "`and`, `or`, `xor` of one block", ["and", "or", "xor"], (64, 64)
+    yield "the same of 1024 bits to 1M", ["and", "or", "xor"], many
+    yield "the same of 64M bits", ["and", "or", "xor"], (1 << 26, 1 << 26)
+    yield "`and_not`", ["and_not"], None
+    yield "`is_subset` of one block", ["is_subset"], (64, 64)
+    yield "`is_subset` of 1024 bits to 64M", ["is_subset"], (1024, 1 << 26)
+    yield "`count_and`", ["count_and"], None
+    yield "`extend_from_vob` behind full blocks", ["extend_from_vob aligned"], None
+    yield "`extend_from_vob` within a block", ["extend_from_vob at +13"], None
+    yield "`split_off` within a block", ["split_off misaligned"], None
+    yield "`drain`", ["drain aligned", "drain misaligned"], None
+    yield "`==`", ["equality"], None
+    yield "hash", ["hash"], None
+    yield from walk("iter_set_bits", "`iter_set_bits`")
+    yield from walk("iter_set_bits from the back", "the same from the back")
+    yield from walk("iter_unset_bits", "`iter_unset_bits`")
+    yield from walk("iter_unset_bits from the back", "the same from the back")
+    ranges = [f"iter_set_bits of a range, {density} set" for density in ("1 in 64", "half")]
+    yield "`iter_set_bits` of a range", ranges, None
+    yield "`deal`, from both ends in turn", ["deal, half set"], None
+    few = ("none", "1 in 4096", "1 in 256", "1 in 64", "1 in 8", "half")
+    yield "`next_set`: none to half set", [f"next_set, {density} set" for density in few], None
+    most = ("7 in 8", "63 in 64", "255 in 256", "4095 in 4096", "all")
+    yield "`next_set`: 7 in 8 to all set", [f"next_set, {density} set" for density in most], None
+    yield "`runs`", [f"runs, {density} set" for density in few + most], None
+    yield "`select`", ["select in the middle"], None
+    yield "`count`", ["count of set bits"], None
+    yield "the first unset bit, the last one of all", ["first unset bit, the last one"], None
+    yield "a filter over three columns", ["filter over three columns"], None
+    yield "closure of 1000 by 1000 bits, by rows", ["closure 1000 x 1000"], None
+    yield "the same by `BitMatrix`", ["matrix closure, 1000 nodes"], None
+    yield "liveness of 10,000 nodes, 1,000 variables", ["liveness, 10000 nodes"], None
+
+
+def cell(found, taken):
+    """The least and the greatest ratio of some rows, with a star where one isn't within a tenth of itself."""
+    ratios, noisy = [], False
+    for times in found:
+        ours, other, again = times[OURS][2], taken(times), times[f"{OURS} again"][2]
+        if other is not None and other > 0:
+            ratios.append(ours / other)
+            noisy = noisy or not 0.9 <= ours / again <= 1.1
+    if not ratios:
+        return ""
+    least, most = min(ratios), max(ratios)
+    if most < 0.005:
+        text = "< 0.01"
+    elif f"{least:.2f}" == f"{most:.2f}":
+        text = f"{most:.2f}"
+    else:
+        text = f"{least:.2f} to {most:.2f}"
+    return text + ("*" if noisy else "")
+
+
+def main():
+    folder = pathlib.Path(__file__).parent / "results"
+    words = sys.argv[1:] or [folder / f"x86-64-{cpu}.tsv" for cpu in ("v2", "v3")]
+    tables = [read(pathlib.Path(word))[1] for word in words]
+    taken = (lambda times: times.get(ORIGINAL, (None, None, None))[2], lambda times: best(times, ("same", "other")))
+    named = set()
+    print("| Call | v2 | v3 | v2, best peer | v3, best peer |\n|---|---|---|---|---|")
+    for label, names, bits in rows():
+        named.update(names)
+        cells = [label]
+        for other in taken:
+            for table in tables:
+                found = [
+                    times
+                    for (name, size, _), times in table.items()
+                    if name in names and OURS in times and (bits is None or bits[0] <= size <= bits[1])
+                ]
+                cells.append(cell(found, other))
+        print("| " + " | ".join(cells) + " |")
+    left = {name for table in tables for name, _, _ in table} - named
+    if left:
+        print("not in the table: " + ", ".join(sorted(left)), file=sys.stderr)
+
+
+if __name__ == "__main__":
+    main()
