@@ -15,6 +15,11 @@ fn nothing_has_no_blocks(rt: HostRuntime) {
     check_made(&rt, Vob::from_iter(alloc, None), 0, &[]);
     check_made(&rt, vob::vob!(alloc;), 0, &[]);
     check_made(&rt, Vob::new(alloc).clone(), 0, &[]);
+}
+
+#[test]
+fn nothing_is_empty_and_has_no_room(rt: HostRuntime) {
+    let alloc = rt.alloc();
     let empty = vob::vob!(alloc;).expect(&rt, "memory");
     same(&rt, "empty", 0, empty.is_empty(), true);
     let roomless = Vob::with_capacity(alloc, 0).expect(&rt, "memory");
@@ -83,6 +88,11 @@ fn the_macro_has_three_forms(rt: HostRuntime) {
     check_made(&rt, vob::vob!(alloc; false, true), 2, &[2]);
     check_made(&rt, vob::vob!(alloc; false, true, false,), 3, &[2]);
     check_made(&rt, vob::vob!(alloc; true; 2), 2, &[3]);
+}
+
+#[test]
+fn bits_listed_are_bits_pushed(rt: HostRuntime) {
+    let alloc = rt.alloc();
     let one = vob::vob!(alloc; true).expect(&rt, "memory");
     check_blocks(&rt, &one, 1, &[1]);
     same(&rt, "empty", 1, one.is_empty(), false);
@@ -99,15 +109,20 @@ fn listed_bits_can_be_read_and_set(rt: HostRuntime) {
     let mut three = vob::vob!(alloc; false, true, false).expect(&rt, "memory");
     same(&rt, "bit", 2, write(&mut three, 2, true), Some(true));
     check_blocks(&rt, &three, 3, &[6]);
+    let two = vob::vob!(alloc; false, true).expect(&rt, "memory");
+    assert!(rt; two.len() == 2);
+    same(&rt, "by index", 0, [two[0], two[1]], [false, true]);
+}
+
+#[test]
+fn a_bit_that_is_set_makes_two_equal(rt: HostRuntime) {
+    let alloc = rt.alloc();
     let mut two = vob::vob!(alloc; true, false).expect(&rt, "memory");
     same(&rt, "bit", 1, write(&mut two, 1, true), Some(true));
     let ones = vob::vob!(alloc; true; 2).expect(&rt, "memory");
     let zeros = vob::vob!(alloc; false; 2).expect(&rt, "memory");
     check_equal(&rt, &two, &ones, true);
     check_equal(&rt, &two, &zeros, false);
-    let two = vob::vob!(alloc; false, true).expect(&rt, "memory");
-    assert!(rt; two.len() == 2);
-    same(&rt, "by index", 0, [two[0], two[1]], [false, true]);
 }
 
 #[test]

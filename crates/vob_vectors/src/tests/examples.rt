@@ -32,11 +32,16 @@ fn digits_indices_and_bytes_are_vobs(rt: HostRuntime) -> Result<(), Fail> {
 }
 
 #[test]
-fn a_vob_is_copied_and_its_length_and_bits_are_read(rt: HostRuntime) -> Result<(), Fail> {
+fn a_vob_is_copied(rt: HostRuntime) -> Result<(), Fail> {
     let alloc = rt.alloc();
     let vob = vob::vob!(alloc; true, false)?;
     assert!(rt; vob.clone()? == vob);
+    Ok(())
+}
 
+#[test]
+fn the_length_and_bits_are_read(rt: HostRuntime) -> Result<(), Fail> {
+    let alloc = rt.alloc();
     let vob = vob::vob!(alloc; true, false)?;
     assert_eq!(rt; vob.len(), 2);
 
@@ -138,17 +143,27 @@ fn bits_of_both_and_of_either_are_kept(rt: HostRuntime) -> Result<(), Fail> {
 }
 
 #[test]
-fn bits_indices_and_runs_are_walked(rt: HostRuntime) -> Result<(), Fail> {
+fn bits_are_walked(rt: HostRuntime) -> Result<(), Fail> {
     let alloc = rt.alloc();
     let vob = vob::vob!(alloc; true, false)?;
     let mut bits = vob.iter();
     assert_eq!(rt; bits.next_back(), Some(false));
+    Ok(())
+}
 
+#[test]
+fn indices_are_walked(rt: HostRuntime) -> Result<(), Fail> {
+    let alloc = rt.alloc();
     let vob = vob::vob!(alloc; true, false, true)?;
     let mut indices = vob.iter_set_bits(1..);
     assert_eq!(rt; indices.next(), Some(2));
     assert_eq!(rt; indices.next(), None);
+    Ok(())
+}
 
+#[test]
+fn runs_are_walked(rt: HostRuntime) -> Result<(), Fail> {
+    let alloc = rt.alloc();
     let vob = vob::vob!(alloc; true, false, true, true)?;
     let mut runs = vob.runs();
     assert_eq!(rt; runs.next(), Some(0..1));

@@ -83,42 +83,65 @@ fn check_texts(
     check_sets(rt, &grammar, null, rows);
 }
 
-#[test]
-fn expressions_have_the_sets_of_the_textbooks(rt: HostRuntime) {
+/// The names of nonterminals and of terminals, rules, which nonterminals can become empty, and which
+/// terminals can begin each.
+type Row = (
+    (&'static str, &'static str),
+    &'static [&'static str],
+    &'static str,
+    &'static [&'static str],
+);
+
+const GRAMMARS: [Row; 10] = [
     // e stands for E', t for T', and i for id. Only e and t have an empty right side, and each
     // other right side has a terminal or a nonterminal that isn't nullable. F begins with ( or id,
     // and so does T, and so E; e begins with +, t with *.
-    let rules = ["E=Te", "e=+Te", "e=", "T=Ft", "t=*Ft", "t=", "F=(E)", "F=i"];
-    let rows = ["00101", "10000", "00101", "01000", "00101"];
-    check_texts(&rt, ("EeTtF", "+*()i"), &rules, "01010", &rows);
-}
+    (
+        ("EeTtF", "+*()i"),
+        &["E=Te", "e=+Te", "e=", "T=Ft", "t=*Ft", "t=", "F=(E)", "F=i"],
+        "01010",
+        &["00101", "10000", "00101", "01000", "00101"],
+    ),
+    // B, C and D can each be empty, so A can, and begins with what any of them begins with. A's
+    // rule comes first, so that one pass doesn't find it.
+    (
+        ("ABCD", "bcd"),
+        &["A=BCD", "B=b", "B=", "C=c", "C=", "D=d", "D="],
+        "1111",
+        &["111", "100", "010", "001"],
+    ),
+    // C can't be empty here, so that D comes too late, and A isn't nullable.
+    (
+        ("ABCD", "bcd"),
+        &["A=BCD", "B=b", "B=", "C=c", "D=d", "D="],
+        "0101",
+        &["110", "100", "010", "001"],
+    ),
+    // Behind a terminal nothing counts.
+    (
+        ("AB", "xyb"),
+        &["A=BxBy", "B=", "B=b"],
+        "01",
+        &["101", "001"],
+    ),
+    // A b, A b b, .. : A can be empty, so that b begins it.
+    (("A", "ab"), &["A=Ab", "A="], "1", &["01"]),
+    // Here A begins with a alone.
+    (("A", "ab"), &["A=Ab", "A=a"], "0", &["10"]),
+    // Nothing comes to an end here, and the least sets have nothing.
+    (("AB", "a"), &["A=B", "B=A", "A=AA"], "00", &["0", "0"]),
+    // Without rules all sets are empty.
+    (("", ""), &[], "", &[]),
+    (("AB", "abc"), &[], "00", &["000", "000"]),
+    // B has no rule, and so nothing behind it counts.
+    (("AB", "a"), &["A=Ba"], "00", &["0", "0"]),
+];
 
 #[test]
 fn what_can_be_empty_or_begin_is_found(rt: HostRuntime) {
-    // B, C and D can each be empty, so A can, and begins with what any of them begins with. A's
-    // rule comes first, so that one pass doesn't find it.
-    let chain = ["A=BCD", "B=b", "B=", "C=c", "C=", "D=d", "D="];
-    let rows = ["111", "100", "010", "001"];
-    check_texts(&rt, ("ABCD", "bcd"), &chain, "1111", &rows);
-    // C can't be empty here, so that D comes too late, and A isn't nullable.
-    let cut = ["A=BCD", "B=b", "B=", "C=c", "D=d", "D="];
-    let rows = ["110", "100", "010", "001"];
-    check_texts(&rt, ("ABCD", "bcd"), &cut, "0101", &rows);
-    // Behind a terminal nothing counts.
-    let rules = ["A=BxBy", "B=", "B=b"];
-    check_texts(&rt, ("AB", "xyb"), &rules, "01", &["101", "001"]);
-    // A b, A b b, .. : A can be empty, so that b begins it.
-    check_texts(&rt, ("A", "ab"), &["A=Ab", "A="], "1", &["01"]);
-    // Here A begins with a alone.
-    check_texts(&rt, ("A", "ab"), &["A=Ab", "A=a"], "0", &["10"]);
-    // Nothing comes to an end here, and the least sets have nothing.
-    let rules = ["A=B", "B=A", "A=AA"];
-    check_texts(&rt, ("AB", "a"), &rules, "00", &["0", "0"]);
-    // Without rules all sets are empty.
-    check_texts(&rt, ("", ""), &[], "", &[]);
-    check_texts(&rt, ("AB", "abc"), &[], "00", &["000", "000"]);
-    // B has no rule, and so nothing behind it counts.
-    check_texts(&rt, ("AB", "a"), &["A=Ba"], "00", &["0", "0"]);
+    for (names, rules, null, rows) in &GRAMMARS {
+        check_texts(&rt, *names, rules, null, rows);
+    }
 }
 
 #[test]

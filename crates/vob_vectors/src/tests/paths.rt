@@ -52,7 +52,7 @@ fn counts_and_blocks_are_named_by_their_modules(rt: HostRuntime) {
 }
 
 #[test]
-fn pulls_and_commands_are_named_in_the_modules_of_their_calls(rt: HostRuntime) {
+fn pulls_are_named_in_the_module_of_their_calls(rt: HostRuntime) {
     let three: Vob<u8> = vob_of(&rt, "101");
     let mut answers = Vec::new(rt.alloc());
     deal(&mut three.iter_set_bits(..), &[End::Back], &mut answers).expect(&rt, "memory");
@@ -63,16 +63,19 @@ fn pulls_and_commands_are_named_in_the_modules_of_their_calls(rt: HostRuntime) {
         IndexWalk::pull(&mut walk, End::Back),
     ];
     same(&rt, "both ends", 0, ends, [Some(1), None]);
+}
 
+#[test]
+fn commands_are_named_in_the_module_of_their_calls(rt: HostRuntime) {
     let mut vobs: Vec<Vob<u8>> = Vec::new(rt.alloc());
     let mut replies = Vec::new(rt.alloc());
     let new = Command::New { capacity: 0 };
     let commands = slice::from_ref(&new);
     run(rt.alloc(), commands, &mut vobs, &mut replies).expect(&rt, "memory");
-    assert!(rt; replies.pop() == Some(Reply::Made(0)));
+    same(&rt, "new", 0, replies.pop(), Some(Reply::Made(0)));
     let mut words: Vec<Vob> = Vec::new(rt.alloc());
     let mut replies = Vec::new(rt.alloc());
     let commands = slice::from_ref(&UsizeCommand::Fresh);
     run_usize(rt.alloc(), commands, &mut words, &mut replies).expect(&rt, "memory");
-    assert!(rt; replies.pop() == Some(Reply::Made(0)));
+    same(&rt, "fresh", 0, replies.pop(), Some(Reply::Made(0)));
 }

@@ -126,7 +126,10 @@ fn free_slots_are_taken_from_the_first_on(rt: HostRuntime) {
         same(&rt, "slot", at, take_slot(&mut taken), slot);
     }
     check_bits(&rt, &taken, "1111");
-    // A slot that is given back comes again.
+}
+
+#[test]
+fn a_slot_that_is_given_back_comes_again(rt: HostRuntime) {
     let mut slots = Slots::new(rt.alloc(), 3).expect(&rt, "memory");
     same(&rt, "slot", 0, slots.alloc(), Some(0));
     same(&rt, "slot", 1, slots.alloc(), Some(1));

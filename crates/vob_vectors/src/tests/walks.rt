@@ -129,7 +129,10 @@ fn check_turns<T: Block>(rt: &(impl Abort + AllocGlobal)) {
 #[test]
 fn both_ends_meet_in_the_middle(rt: HostRuntime) {
     at_each_block_type!(check_turns(&rt));
-    // Answers come behind those of earlier deals.
+}
+
+#[test]
+fn answers_come_behind_those_of_earlier_deals(rt: HostRuntime) {
     let three = vob_of::<usize>(&rt, "111");
     let mut walk = three.iter_set_bits(..);
     let mut answers = Vec::new(rt.alloc());
