@@ -12,15 +12,15 @@ use Rattle.vob.specs.Bits.{count_of, IsWritten, GainsBits}
 use Rattle.vob.proofs.BitsLemmas.{differ-true}
 use Rattle.vob_users.specs.Grammar.{IsNull, IsHead, HasFirst}
 use Rattle.vob_users.specs.GrammarPass.{AddsFirst, HasHeads}
-use Rattle.vob_users.specs.Live.{AreWithin}
-use Rattle.vob_users.specs.LivePass.{true_places}
+use Rattle.vob_live.specs.Live.{AreWithin}
+use Rattle.vob_live.specs.LivePass.{true_places}
 use Rattle.vob_users.specs.Matrix.{row_of, entry, GetsRow, HaveShapeOf, IsEntryWritten}
 use Rattle.vob_users.specs.declared.grammar.Rule.{Rule}
 use Rattle.vob_users.specs.declared.grammar.Symbol.{Symbol}
 use Rattle.vob_users.specs.declared.grammar.Symbol.TheVariants.{Terminal, Nonterminal}
 use Rattle.vob_users.proofs.GrowthLemmas.{Adds-as, Adds-at}
 use Rattle.vob_users.proofs.ShapeLemmas.{AreLong-empty}
-use Rattle.vob_users.proofs.StartLemmas.{true_places_le}
+use Rattle.vob_live.proofs.StartLemmas.{true_places_le}
 
 -- ---- one row gains bits
 

@@ -4,7 +4,7 @@ use Rattle.vob_users.specs.declared.grammar.Grammar.{Grammar}
 use Rattle.vob_users.specs.declared.grammar.GrammarError.{GrammarError}
 use Rattle.vob_users.specs.declared.grammar.GrammarError.TheVariants.{Memory, BadSymbol}
 use Rattle.vob_users.specs.GrammarFaults.{IsSound, IsBadRule, IsFault}
-use Rattle.vob_users.proofs.FaultLemmas.{all_at, one_first}
+use Rattle.vob_live.proofs.FaultLemmas.{all_at, one_first}
 
 module _ (grammar : Grammar) where
   -- where all rules are sound none is the first that isn't

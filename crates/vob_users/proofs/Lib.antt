@@ -1,13 +1,7 @@
-mod FaultLemmas
 mod FirstLemmas
-mod FlowLemmas
 mod GrammarLemmas
 mod GrowthLemmas
-mod LiveLemmas
 mod MatrixLemmas
-mod PassLemmas
 mod PathLemmas
 mod ReachLemmas
-mod SetLemmas
 mod ShapeLemmas
-mod StartLemmas

@@ -9,10 +9,10 @@ use Rattle.vob_block.specs.Packing.{item}
 use Rattle.vob_walk.specs.Matches.{matches}
 use Rattle.vob_walk.proofs.IndexLemmas.{matches-exactly}
 use Rattle.vob.specs.Vob.{BitVector}
-use Rattle.vob_users.specs.Live.{bits_of}
+use Rattle.vob_live.specs.Live.{bits_of}
 use Rattle.vob_users.specs.Matrix.{Matrix, row_of, entry, AreLong, HaveShapeOf, IsEntryWritten, IsTransposed}
 use Rattle.vob_users.specs.MatrixRows.{IsRowCombined, IsLedThrough, IsColumnMarked, AreColumnsMarked}
-use Rattle.vob_users.proofs.SetLemmas.{true_within, item-replicate}
+use Rattle.vob_live.proofs.SetLemmas.{true_within, item-replicate}
 use Rattle.vob_users.proofs.ShapeLemmas.{HaveShapeOf-same, HaveShapeOf-trans, AreLong-kept, AreLong-empty, GetsRow-combined}
 
 or_none : (b : Bool) → (b || false) ≡ b

@@ -7,8 +7,9 @@ use Rattle.std.proofs.lemmas.List.Sums.{count_by-le-length}
 use Rattle.vob_block.specs.Packing.{item}
 use Rattle.vob_walk.specs.Matches.{has_value}
 use Rattle.vob.specs.Bits.{count_of, AreCombined, GainsBits}
-use Rattle.vob_users.specs.Reachable.{IsMatrix, IsWithin, IsClosed, IsRound}
-use Rattle.vob_users.proofs.SetLemmas.{GainsBits-more}
+use Rattle.vob_live.specs.Live.{IsWithin}
+use Rattle.vob_users.specs.Reachable.{IsMatrix, IsClosed, IsRound}
+use Rattle.vob_live.proofs.SetLemmas.{GainsBits-more}
 
 -- ---- the rows of a matrix, as the code reads them
 

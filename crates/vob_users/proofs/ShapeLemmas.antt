@@ -5,7 +5,7 @@ use Rattle.std.proofs.lemmas.List.{length-set, length-replicate, get_or-replicat
 use Rattle.vob_block.specs.Packing.{item}
 use Rattle.vob.specs.Bits.{IsWritten, AreCombined, GainsBits}
 use Rattle.vob.specs.Vob.{BitVector}
-use Rattle.vob_users.specs.Live.{bits_of}
+use Rattle.vob_live.specs.Live.{bits_of}
 use Rattle.vob_users.specs.Matrix.{row_of, entry, AreLong, HaveShapeOf, IsEntryWritten, GetsRow}
 use Rattle.vob_users.specs.MatrixRows.{IsRowCombined}
 

@@ -2,9 +2,8 @@
 -- stands for.
 use Rattle.std.specs.Prelude.{◌≡◌, ℕ, Bool, true, List, length, take, slice_get, Some, All}
 use Rattle.vob_block.specs.Packing.{item}
-use Rattle.vob_users.specs.Live.{AreWithin}
+use Rattle.vob_live.specs.Live.{AreWithin, IsWithin}
 use Rattle.vob_users.specs.Matrix.{Matrix, AreLong, entry}
-use Rattle.vob_users.specs.Reachable.{IsWithin}
 use Rattle.vob_users.specs.declared.grammar.Grammar.{Grammar}
 use Rattle.vob_users.specs.declared.grammar.Rule.{Rule}
 use Rattle.vob_users.specs.declared.grammar.Symbol.{Symbol}

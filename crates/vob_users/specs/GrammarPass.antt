@@ -2,10 +2,9 @@
 use Rattle.std.specs.Prelude.{◌≡◌, ℕ, ◌<◌, Bool, true, false, List}
 use Rattle.vob.specs.Bits.{count_of}
 use Rattle.vob_users.specs.Grammar.{IsHead}
-use Rattle.vob_users.specs.Live.{AreWithin}
-use Rattle.vob_users.specs.LivePass.{true_places}
+use Rattle.vob_live.specs.Live.{AreWithin, IsWithin}
+use Rattle.vob_live.specs.LivePass.{true_places}
 use Rattle.vob_users.specs.Matrix.{entry}
-use Rattle.vob_users.specs.Reachable.{IsWithin}
 use Rattle.vob_users.specs.declared.grammar.Symbol.{Symbol}
 
 -- a state that met a demand already, or has more places now, and is within all others that meet it

@@ -1,10 +1,6 @@
-pub mod FlowFaults
 pub mod Grammar
 pub mod GrammarFaults
 pub mod GrammarPass
-pub mod Live
-pub mod LivePass
-pub mod LiveSets
 pub mod Matrix
 pub mod MatrixRows
 pub mod Reachable

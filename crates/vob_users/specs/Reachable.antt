@@ -2,15 +2,12 @@
 use Rattle.std.specs.Prelude.{◌≡◌, ℕ, ◌<◌, Bool, true, false, List, [], length, slice_index_or, All}
 use Rattle.vob_block.specs.Packing.{item}
 use Rattle.vob.specs.Bits.{count_of}
+use Rattle.vob_live.specs.Live.{IsWithin}
 
 -- a row for each of some nodes, and in each row a bit for each of them
 pub record IsMatrix (nodes : ℕ) (rows : List (List Bool)) : Type 0 where
   pub count : length rows ≡ nodes
   pub square : All (λ row. length row ≡ nodes) rows
-
--- every bit that is true in the first list is true in the second
-abbrev pub IsWithin : List Bool → List Bool → Type 0
-IsWithin bits others = (i : ℕ) → item bits i ≡ true → item others i ≡ true
 
 -- nodes that lead to themselves alone
 abbrev pub IsClosed : List (List Bool) → List Bool → Type 0

@@ -4,8 +4,9 @@
 
 pub mod grammar;
 pub mod joined;
-pub mod live;
 pub mod matrix;
 pub mod reachable;
 pub mod rows;
 pub mod slots;
+
+pub use vob_live::live;

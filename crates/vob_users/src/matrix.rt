@@ -3,7 +3,7 @@
 ghost use Rattle.std.specs.Prelude.{◌≡◌, ◌≢◌, ◌↔◌, ◌<◌, ◌≤◌, ℕ, [], false, length, map, replicate, slice_get, IsOk, IsTrue, IfOk};
 ghost use Rattle.vob.specs.Bits.{GainsBits, IsWritten};
 ghost use Rattle.vob_block.specs.Pointwise.{differ};
-ghost use Rattle.vob_users.specs.Live.{bits_of};
+ghost use Rattle.vob_live.specs.Live.{bits_of};
 ghost use Rattle.vob_users.specs.Matrix.{row_of, entry, AreLong, GetsRow, HaveShapeOf, IsClosure, IsEntryWritten, IsTransposed};
 ghost use Rattle.vob_users.specs.MatrixRows.{HaveOneLength, AreColumnsMarked, IsColumnMarked, IsLedThrough, IsRowCombined};
 

@@ -2,7 +2,7 @@
 use Rattle.std.proofs.Common.{◌≡◌, ◌∙◌, List, Bool, false, length, replicate, sym, ap, subst, arith}
 use Rattle.std.proofs.lemmas.List.{length-map, length-replicate, with_items_is}
 use Rattle.vob.specs.Vob.{BitVector}
-use Rattle.vob_users.specs.Live.{bits_of}
+use Rattle.vob_live.specs.Live.{bits_of}
 use Rattle.vob_users.specs.Matrix.{AreLong}
 use Rattle.vob_users.specs.MatrixRows.{AreColumnsMarked}
 use Rattle.vob_users.proofs.ShapeLemmas.{AreLong-kept}

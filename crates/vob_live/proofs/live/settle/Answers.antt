@@ -1,0 +1,55 @@
+-- A pass that goes on made a place more true, of which there are only so many.
+use Rattle.std.proofs.Common.{length, arith}
+use Rattle.vob_live.proofs.StartLemmas.{IsSolution-whole, true_places_le, product_fits}
+use Rattle.vob_live.proofs.live.settle.Goals as goal
+
+pub passes-init : goal.passes-init
+passes-init c = record { ready = c.requires; rounds = omega arith }
+
+pub pass-requires : goal.pass-requires
+pass-requires c = c.passes.invariant.ready
+
+pub overflow_add-rounds : goal.overflow_add-rounds
+overflow_add-rounds c =
+    let nodes = c.args.nodes.now in
+    let places = true_places_le c.args.vars (length nodes) _ c.pass.ensures.underway.after_sets in
+    let fits = product_fits (length nodes) c.args.vars (omega arith) (omega arith) in
+    omega (
+      arith,
+      fits,
+      places,
+      c.pass.ensures.more c.passes-test.true,
+      c.passes.invariant.rounds,
+    )
+
+pub passes-preserved : goal.passes-preserved
+passes-preserved c = record {
+  ready = record {
+    next = c.requires.next;
+    count = c.requires.count;
+    possible_sets = c.requires.possible_sets;
+    underway = c.pass.ensures.underway;
+  };
+  rounds = omega (
+    arith,
+    c.passes.invariant.rounds,
+    c.pass.ensures.more c.passes-test.true,
+  );
+}
+
+pub passes-smaller : goal.passes-smaller
+passes-smaller c =
+    let places = true_places_le c.args.vars (length c.args.nodes.now) _
+    c.pass.ensures.underway.after_sets in
+    omega (arith, places, c.pass.ensures.more c.passes-test.true)
+
+pub returns : goal.returns
+returns c =
+    let sets = c.passes.invariant.ready.underway.after_sets in
+    let places = true_places_le c.args.vars (length c.args.nodes.now) _ sets in
+    record {
+      solution = IsSolution-whole c.args.vars c.args.nodes.now _ _ c.pass.ensures.underway
+          (c.pass.ensures.none c.passes-test.false);
+      least = c.pass.ensures.underway.least;
+      rounds = omega (arith, places, c.passes.invariant.rounds);
+    }

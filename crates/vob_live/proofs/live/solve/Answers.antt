@@ -1,0 +1,14 @@
+-- The sets of what is read are on the way to the least solution.
+use Rattle.vob_live.proofs.PassLemmas.{possible_count}
+use Rattle.vob_live.proofs.StartLemmas.{AreUnderway-start}
+use Rattle.vob_live.proofs.live.solve.Goals as goal
+
+pub settle-requires : goal.settle-requires
+settle-requires c = record {
+  next = λ k d less. (c.requires k d less).1;
+  count = rw c.deref.ensures.value (possible_count c.args.vars c.args.nodes.now _
+      c.in_ok-possible.ensures);
+  possible_sets = rw c.deref.ensures.value c.in_ok-possible.ensures;
+  underway = AreUnderway-start c.args.vars c.args.nodes.now c.in_ok-read_sets.field-0.items
+      c.in_ok-empty_sets.field-0.items c.in_ok-read_sets.ensures c.in_ok-empty_sets.ensures;
+}

@@ -1,0 +1,41 @@
+-- What can be wrong with the nodes of a flow graph, and which node is the first with a fault.
+use Rattle.std.specs.Prelude.{◌≡◌, ℕ, ◌<◌, List, length, slice_get, Some, All}
+use Rattle.vob_live.specs.declared.live.Flow.{Flow}
+use Rattle.vob_live.specs.declared.live.LiveError.{LiveError}
+use Rattle.vob_live.specs.declared.live.LiveError.TheVariants.{Memory, BadVariable, BadNext}
+
+-- a node that reads and writes variables alone
+abbrev pub NamesVariables : ℕ → Flow → Type 0
+NamesVariables vars flow =
+    All (λ v. v < vars) flow.reads.items × All (λ v. v < vars) flow.writes.items
+
+-- a node with nodes alone next to it
+abbrev pub NamesNodes : ℕ → Flow → Type 0
+NamesNodes count flow = All (λ m. m < count) flow.next.items
+
+-- a node at which nothing is wrong
+abbrev pub IsSound : ℕ → List Flow → Flow → Type 0
+IsSound vars nodes flow = NamesVariables vars flow × NamesNodes (length nodes) flow
+
+-- node n is the first at which something is wrong: it names no variable
+pub record IsBadVariable (vars : ℕ) (nodes : List Flow) (n : ℕ) : Type 0 where
+  pub lower : (k : ℕ) (flow : Flow) → k < n → slice_get nodes k ≡ Some flow →
+      IsSound vars nodes flow
+  pub flow : Flow
+  pub is : slice_get nodes n ≡ Some flow
+  pub bad : ¬ NamesVariables vars flow
+
+-- node n is the first at which something is wrong: it names variables alone, and leads to no node
+pub record IsBadNext (vars : ℕ) (nodes : List Flow) (n : ℕ) : Type 0 where
+  pub lower : (k : ℕ) (flow : Flow) → k < n → slice_get nodes k ≡ Some flow →
+      IsSound vars nodes flow
+  pub flow : Flow
+  pub is : slice_get nodes n ≡ Some flow
+  pub good : NamesVariables vars flow
+  pub bad : ¬ NamesNodes (length nodes) flow
+
+-- the number of a refusal
+abbrev pub live_error_number : LiveError → ℕ
+live_error_number Memory = 2
+live_error_number (BadVariable node) = 5
+live_error_number (BadNext node) = 6

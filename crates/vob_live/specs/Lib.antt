@@ -1,0 +1,4 @@
+pub mod FlowFaults
+pub mod Live
+pub mod LivePass
+pub mod LiveSets

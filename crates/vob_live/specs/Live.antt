@@ -1,0 +1,58 @@
+-- Which variables are live at the nodes of a flow graph: the sets that solve its flow equations.
+use Rattle.std.specs.Prelude.{◌≡◌, ℕ, ◌+◌, ◌*◌, ◌≤◌, ◌⊎◌, ◌↔◌, Bool, true, List, [], length, map, slice_index_or, slice_get, Some, All, Any, Contains}
+use Rattle.vob_block.specs.Packing.{item}
+use Rattle.vob.specs.Vob.{BitVector}
+use Rattle.vob_live.specs.declared.live.Flow.{Flow}
+use Rattle.vob_live.specs.declared.live.Live.{Live}
+
+-- the bits of some Vobs
+abbrev pub bits_of : List BitVector → List (List Bool)
+bits_of vobs = map (λ vob. vob.bits) vobs
+
+-- a set for each of some nodes, and in each set a bit for each variable
+pub record AreSets (vars nodes : ℕ) (sets : List (List Bool)) : Type 0 where
+  pub count : length sets ≡ nodes
+  pub long : All (λ set. length set ≡ vars) sets
+
+-- whether variable v is in the set of node n
+abbrev pub IsLive : List (List Bool) → ℕ → ℕ → Type 0
+IsLive sets n v = item (slice_index_or sets n []) v ≡ true
+
+-- live before some node that comes next
+abbrev pub IsLiveNext : List (List Bool) → Flow → ℕ → Type 0
+IsLiveNext before flow v = Any (λ m. IsLive before m v) flow.next.items
+
+-- read by a node, or live after it and not written by it
+abbrev pub IsLiveHere : List (List Bool) → Flow → ℕ → ℕ → Type 0
+IsLiveHere after flow n v =
+    Contains flow.reads.items v ⊎ (IsLive after n v × ¬ Contains flow.writes.items v)
+
+-- sets that meet both flow equations at every node
+pub record IsSolution (vars : ℕ) (nodes : List Flow) (before after : List (List Bool))
+    : Type 0 where
+  pub before_sets : AreSets vars (length nodes) before
+  pub after_sets : AreSets vars (length nodes) after
+  pub before_is : (n : ℕ) (flow : Flow) → slice_get nodes n ≡ Some flow →
+      (v : ℕ) → IsLive before n v ↔ IsLiveHere after flow n v
+  pub after_is : (n : ℕ) (flow : Flow) → slice_get nodes n ≡ Some flow →
+      (v : ℕ) → IsLive after n v ↔ IsLiveNext before flow v
+
+-- every bit that is true in the first list is true in the second
+abbrev pub IsWithin : List Bool → List Bool → Type 0
+IsWithin bits others = (i : ℕ) → item bits i ≡ true → item others i ≡ true
+
+-- what is in the first sets is in the second
+abbrev pub AreWithin : List (List Bool) → List (List Bool) → Type 0
+AreWithin sets others = (n v : ℕ) → IsLive sets n v → IsLive others n v
+
+-- sets that are within those of every solution
+abbrev pub AreLeast : ℕ → List Flow → List (List Bool) → List (List Bool) → Type 0
+AreLeast vars nodes before after = (others others_after : List (List Bool)) →
+    IsSolution vars nodes others others_after →
+    AreWithin before others × AreWithin after others_after
+
+-- the least sets that meet the flow equations, found in at most one pass for each place and one more
+pub record AreLive (vars : ℕ) (nodes : List Flow) (live : Live) : Type 0 where
+  pub solution : IsSolution vars nodes (bits_of live.before.items) (bits_of live.after.items)
+  pub least : AreLeast vars nodes (bits_of live.before.items) (bits_of live.after.items)
+  pub rounds : live.rounds ≤ 1 + length nodes * vars

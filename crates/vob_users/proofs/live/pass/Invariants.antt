@@ -1,9 +1,0 @@
--- The nodes from the last one on were walked.
-use Rattle.vob_users.specs.Live.{bits_of}
-use Rattle.vob_users.proofs.LiveLemmas.{IsWalked}
-use Rattle.vob_users.proofs.live.pass.Given as goal
-
-abbrev pub invariant-loop-node : goal.invariant-loop-node
-invariant-loop-node l =
-    IsWalked l.vars l.nodes (bits_of l.fn.live.after.items) (bits_of l.live.before.items)
-    (bits_of l.live.after.items) l.node l.changed
