@@ -205,7 +205,16 @@ fn no_other_line_is_read(rt: HostRuntime) {
         b"raw 0\n",
         b"raw 0 0 -\n",
         b"raw 0 2 0\n",
+        b"raw x 0 0\n",
         b"record 0 0 x\n",
+        b"record x 0\n",
+        b"append x 1\n",
+        b"extend 0 1 1\n",
+        b"items 1 1\n",
+        b"bytes 00 00\n",
+        b"walk x 1 .. F\n",
+        b"walk 0 2 .. F\n",
+        b"walk 0 1 .. F F\n",
         b"walk 0 1 .. X\n",
         b"walk 0 1 .. f\n",
         b"walk 0 1 ..\n",
@@ -268,12 +277,15 @@ fn lines_are_read_whatever_their_spaces_and_ends(rt: HostRuntime) {
     expect(&rt, b"len 0\n", b"skipped\n", 0);
 }
 
-/// A reader that always has one more space.
+/// A reader that always has one more space, and counts how often it is read.
 #[derive(Drop)]
-struct Spaces;
+struct Spaces {
+    reads: usize,
+}
 
 impl Read for Spaces {
     fn read(&mut self, buf: &mut [u8]) -> io::Result<usize> {
+        self.reads = self.reads.saturating_add(1);
         if buf.is_empty() {
             return Ok(0);
         }
@@ -284,9 +296,11 @@ impl Read for Spaces {
 
 #[test]
 fn reading_ends_though_the_input_does_not(rt: HostRuntime) {
+    let mut input = Spaces { reads: 0 };
     let mut written = Vec::new(rt.alloc());
-    assert_eq!(rt; converse(rt.alloc(), &mut Spaces, &mut written), 1);
+    assert_eq!(rt; converse(rt.alloc(), &mut input, &mut written), 1);
     assert!(rt; written.is_empty(), "nothing is written");
+    assert_eq!(rt; input.reads, 1048576);
 }
 
 /// A reader of one byte at a time and a writer, which fail once a number of calls were made.

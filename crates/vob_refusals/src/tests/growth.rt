@@ -165,6 +165,7 @@ fn hinted_items_are_added_by_one_request(rt: HostRuntime) {
     let Ok(mut vob) = vob_of(rt.alloc(), "101") else {
         return;
     };
-    let answer = vob.extend([true; 299]);
-    tell(&rt, is_grown(&rt, answer, &vob, 302));
+    // No fewer items tell: the first block comes with room for eight, and a second request makes 16.
+    let answer = vob.extend([true; 126]);
+    tell(&rt, is_grown(&rt, answer, &vob, 129));
 }

@@ -153,8 +153,8 @@ fn operators_make_a_vob_or_are_refused_from_5_on(rt: HostRuntime) {
 fn hinted_items_are_made_by_one_request(rt: HostRuntime) {
     request(&rt, FIRST);
     let all = usize::MAX;
-    // Four whole words, and 43 bits of a fifth.
-    let blocks = [all, all, all, all, 8_796_093_022_207];
-    let made = Vob::from_iter(rt.alloc(), [true; 299]);
-    tell(&rt, is_made(&rt, made, 299, &blocks));
+    // No fewer items tell: the first of these blocks would come with room for four.
+    let blocks = [all, all, all, all, 1];
+    let made = Vob::from_iter(rt.alloc(), [true; 257]);
+    tell(&rt, is_made(&rt, made, 257, &blocks));
 }

@@ -88,6 +88,43 @@ fn check_length<T: Block>(rt: &(impl Abort + AllocGlobal), len: usize) {
     check_room(rt, &vobs, 1, len.saturating_mul(6));
 }
 
+/// Commands that make Vobs of words of about `len` bits or blocks, by the calls that these alone have.
+fn makers_of_words(alloc: Global, len: usize) -> Result<Vec<UsizeCommand>, AllocError> {
+    let value = true;
+    let bits = Vec::from_elem(alloc, value, len)?;
+    let items = Vec::from_elem(alloc, value, len)?;
+    let bytes = Vec::from_elem(alloc, 255, len)?;
+    let blocks = Vec::from_elem(alloc, usize::MAX, len)?;
+    let copy = Vec::from_elem(alloc, usize::MAX, len)?;
+    let places = len.saturating_mul(64);
+    let mut commands = Vec::new(alloc);
+    commands.push(UsizeCommand::WithCapacity { capacity: len })?;
+    commands.push(UsizeCommand::Fill { value, len })?;
+    commands.push(UsizeCommand::FromSlice { bits })?;
+    commands.push(UsizeCommand::FromItems { bits: items })?;
+    commands.push(UsizeCommand::FromBytes { bytes })?;
+    commands.push(UsizeCommand::FromRecord {
+        len: places,
+        blocks,
+    })?;
+    commands.push(UsizeCommand::Common(Command::FromRaw {
+        len: places,
+        mask: true,
+        blocks: copy,
+    }))?;
+    Ok(commands)
+}
+
+/// Runs those at this length.
+fn check_words(rt: &(impl Abort + AllocGlobal), len: usize) {
+    let mut vobs = Vec::new(rt.alloc());
+    let mut replies = Vec::new(rt.alloc());
+    let makers = makers_of_words(rt.alloc(), len).expect(rt, "memory");
+    run_usize(rt.alloc(), &makers, &mut vobs, &mut replies).expect(rt, "memory");
+    check_replies(rt, len, &replies, 7);
+    check_room(rt, &vobs, 0, len);
+}
+
 #[test]
 fn no_length_is_refused_where_memory_is_there(rt: HostRuntime) {
     for len in 0..130 {
@@ -96,11 +133,6 @@ fn no_length_is_refused_where_memory_is_there(rt: HostRuntime) {
     for len in [1, 2, 63, 64, 65, 128, 192, 193, 256, 257, 512, 1000, 4097] {
         check_length::<u16>(&rt, len);
         check_length::<usize>(&rt, len);
-    } // Room in words is made too.
-    let mut vobs = Vec::new(rt.alloc());
-    let mut replies = Vec::new(rt.alloc());
-    let room = UsizeCommand::WithCapacity { capacity: 65 };
-    run_usize(rt.alloc(), &[room], &mut vobs, &mut replies).expect(&rt, "memory");
-    check_replies(&rt, 65, &replies, 1);
-    check_room(&rt, &vobs, 0, 65);
+        check_words(&rt, len);
+    }
 }
