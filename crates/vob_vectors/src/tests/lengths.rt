@@ -43,10 +43,9 @@ fn growers<T: Block>(alloc: Global, len: usize) -> Result<Vec<Command<T>>, Alloc
         len: more,
         value,
     })?;
-    commands.push(Command::Reserve {
-        which,
-        additional: len,
-    })?;
+    // One bit past whole blocks, where they are whole; and past what growing alone makes room for.
+    let additional = len.saturating_mul(25).saturating_add(1);
+    commands.push(Command::Reserve { which, additional })?;
     commands.push(Command::Bits { which: other })?;
     commands.push(Command::Storage { which: other })?;
     commands.push(Command::Walk {
@@ -85,7 +84,7 @@ fn check_length<T: Block>(rt: &(impl Abort + AllocGlobal), len: usize) {
     let growers = growers(rt.alloc(), len).expect(rt, "memory");
     run(rt.alloc(), &growers, &mut vobs, &mut replies).expect(rt, "memory");
     check_replies(rt, len, &replies, 17);
-    check_room(rt, &vobs, 1, len.saturating_mul(6));
+    check_room(rt, &vobs, 1, len.saturating_mul(30).saturating_add(1));
 }
 
 /// Commands that make Vobs of words of about `len` bits or blocks, by the calls that these alone have.
