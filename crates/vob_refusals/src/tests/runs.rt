@@ -1,5 +1,6 @@
-//! Runs of commands: refused before the first of them, they ran none. Where one command was refused, all
-//! is as after the same run with a command in its place that is skipped.
+//! Runs of commands: refused before the first of them, they ran none. Where one command was
+//! refused, all is as after the same run with a command in its place that is skipped, and where none
+//! was, as after the same run.
 use super::support::{FIRST, request, same, same_list, tell};
 use std::alloc::{AllocError, Global};
 use std::ops::Bound::{Excluded, Included, Unbounded};
@@ -14,8 +15,8 @@ trait Runs: Drop {
     /// What the Vobs store their bits in.
     type Stored: Block;
 
-    /// A command that names no Vob.
-    fn skipped() -> Self;
+    /// A command that Vobs of every block type have.
+    fn common(command: Command<Self::Stored>) -> Self;
 
     /// Runs the commands.
     fn run_all(
@@ -29,8 +30,8 @@ trait Runs: Drop {
 impl Runs for Command<u8> {
     type Stored = u8;
 
-    fn skipped() -> Command<u8> {
-        Command::Pop { which: usize::MAX }
+    fn common(command: Command<u8>) -> Command<u8> {
+        command
     }
 
     fn run_all(
@@ -46,8 +47,8 @@ impl Runs for Command<u8> {
 impl Runs for UsizeCommand {
     type Stored = usize;
 
-    fn skipped() -> UsizeCommand {
-        UsizeCommand::Common(Command::Pop { which: usize::MAX })
+    fn common(command: Command<usize>) -> UsizeCommand {
+        UsizeCommand::Common(command)
     }
 
     fn run_all(
@@ -72,21 +73,31 @@ fn refused_at<T: Block>(rt: &impl Abort, replies: &[Reply<T>]) -> Option<usize> 
     found
 }
 
-/// Compares what a run left with what the same run leaves where this command is skipped.
-fn check_others<C: Runs>(
-    rt: &(impl Abort + AllocGlobal),
-    at: usize,
-    commands: &mut [C],
-    vobs: &[Vob<C::Stored>],
-    replies: &mut [Reply<C::Stored>],
-) {
-    *commands.get_mut(at).expect(rt, "a command") = C::skipped();
+/// Puts a command that is skipped in the place of this one, and its reply.
+fn skip<C: Runs>(rt: &impl Abort, at: usize, commands: &mut [C], replies: &mut [Reply<C::Stored>]) {
+    let skipped = C::common(Command::Pop { which: usize::MAX });
+    *commands.get_mut(at).expect(rt, "a command") = skipped;
     *replies.get_mut(at).expect(rt, "its reply") = Reply::Skipped;
+}
+
+/// Compares what a run left with what the same commands leave once more. Where none was refused,
+/// one may be refused now, and there is nothing to compare.
+fn check_again<C: Runs>(
+    rt: &(impl Abort + AllocGlobal),
+    was_refused: bool,
+    commands: &[C],
+    vobs: &[Vob<C::Stored>],
+    replies: &[Reply<C::Stored>],
+) {
     let mut left = Vec::new(rt.alloc());
     let mut answered = Vec::new(rt.alloc());
-    C::run_all(rt.alloc(), commands, &mut left, &mut answered).expect(rt, "memory");
-    same_list(rt, "the replies", replies, &answered);
-    same_list(rt, "the Vobs", vobs, &left);
+    let ran = C::run_all(rt.alloc(), commands, &mut left, &mut answered);
+    if ran.is_ok() && refused_at(rt, &answered).is_none() {
+        same_list(rt, "the replies", replies, &answered);
+        same_list(rt, "the Vobs", vobs, &left);
+    } else {
+        same(rt, "one request is refused", was_refused, false);
+    }
 }
 
 /// Whether all commands were run, and none wanted memory that wasn't there.
@@ -102,11 +113,53 @@ fn is_run<C: Runs>(rt: &(impl Abort + AllocGlobal), commands: Result<Vec<C>, All
         return false;
     }
     same(rt, "the replies", replies.len(), commands.len());
-    let Some(at) = refused_at(rt, &replies) else {
-        return true;
-    };
-    check_others(rt, at, &mut commands, &vobs, &mut replies);
-    false
+    let refused = refused_at(rt, &replies);
+    if let Some(at) = refused {
+        skip(rt, at, &mut commands, &mut replies);
+    }
+    check_again(rt, refused.is_some(), &commands, &vobs, &replies);
+    refused.is_none()
+}
+
+/// Nine commands that each take a bit off Vob 0.
+fn pops<C: Runs>(alloc: Global) -> Result<Vec<C>, AllocError> {
+    let mut commands = Vec::with_capacity(alloc, 9)?;
+    for _ in 0..9 {
+        commands.push(C::common(Command::Pop { which: 0 }))?;
+    }
+    Ok(commands)
+}
+
+/// Whether nine pops at nine bits were answered behind a reply that was there. If not, the bits and
+/// the reply are as they were.
+fn are_popped<C: Runs>(rt: &impl Abort, alloc: Global) -> Result<bool, AllocError> {
+    let pops: Vec<C> = pops(alloc)?;
+    let mut vobs = Vec::with_capacity(alloc, 1)?;
+    let nine = Vob::<C::Stored>::from_elem_with_storage_type(alloc, true, 9)?;
+    vobs.push(nine)?;
+    let mut replies = Vec::with_capacity(alloc, 1)?;
+    replies.push(Reply::Done)?;
+    if C::run_all(alloc, &pops, &mut vobs, &mut replies).is_ok() {
+        same(rt, "the replies", replies.len(), 10);
+        return Ok(true);
+    }
+    same_list(rt, "the reply of before", &replies, &[Reply::Done]);
+    let before = vobs.first().expect(rt, "the Vob of before");
+    same(rt, "its bits", before.len(), 9);
+    Ok(false)
+}
+
+#[test]
+fn a_run_that_is_refused_leaves_all_of_before(rt: HostRuntime) {
+    // Those for the commands and the list of Vobs aren't refused.
+    request(&rt, FIRST - 2);
+    tell(&rt, are_popped::<Command<u8>>(&rt, rt.alloc()) == Ok(true));
+}
+
+#[test]
+fn a_run_of_words_that_is_refused_leaves_all_of_before(rt: HostRuntime) {
+    request(&rt, FIRST - 2);
+    tell(&rt, are_popped::<UsizeCommand>(&rt, rt.alloc()) == Ok(true));
 }
 
 /// Commands that make Vobs of their own, or of other Vobs' bits.
