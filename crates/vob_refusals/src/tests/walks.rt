@@ -9,49 +9,70 @@ fn pulled<W: IndexWalk>(walk: &mut W) -> Option<usize> {
     walk.pull(End::Front)
 }
 
-/// Compares the indices that a walk still gives from the front, and that it gives no more.
-fn check_rest<W: IndexWalk>(rt: &impl Abort, walk: &mut W, indices: &[usize]) {
-    for index in indices {
-        same(rt, "an index", pulled(walk), Some(*index));
-    }
-    same(rt, "the end", pulled(walk), None);
-}
-
-/// Whether there was room for the answers of many pulls at the back. If not, the walk still gives these
-/// indices, from the front.
-fn is_dealt<W: IndexWalk>(rt: &impl Abort, alloc: Global, walk: &mut W, indices: &[usize]) -> bool {
-    let mut answers = Vec::new(alloc);
-    if answers.push(Some(9)).is_err() {
-        return false;
-    }
-    if deal(walk, &[End::Back; 99], &mut answers).is_ok() {
+/// Whether many pulls at the back were answered behind an answer that was there. If not, that one
+/// stands alone, and the walk's next index is still `next`.
+fn is_dealt<W: IndexWalk>(
+    rt: &impl Abort,
+    walk: &mut W,
+    answers: &mut Vec<Option<usize>>,
+    next: usize,
+) -> bool {
+    if deal(walk, &[End::Back; 99], answers).is_ok() {
         same(rt, "the answers", answers.len(), 100);
         same(rt, "the first answer", answers.first(), Some(&Some(9)));
-        check_rest(rt, walk, &[]);
+        same(rt, "the end", pulled(walk), None);
         return true;
     }
-    same_list(rt, "the answers", &answers, &[Some(9)]);
-    check_rest(rt, walk, indices);
+    same_list(rt, "the answers", answers, &[Some(9)]);
+    same(rt, "the next index", pulled(walk), Some(next));
     false
 }
 
-/// Whether pulls at both walks over `101101` were answered.
-fn are_both_dealt(rt: &impl Abort, alloc: Global, vob: &Vob<u8>) -> bool {
-    let mut set = vob.iter_set_bits(..);
-    same(rt, "the first index", set.next(), Some(0));
-    same(rt, "the last index", set.next_back(), Some(5));
-    let set = is_dealt(rt, alloc, &mut set, &[2, 3]);
-    let unset = is_dealt(rt, alloc, &mut vob.iter_unset_bits(..), &[1, 4]);
-    set && unset
+/// Whether pulls at the walk over the set bits of `1011011` were answered, of which each end had
+/// given one. If not, 3 and 5 are left behind the next index.
+fn are_set_dealt(rt: &impl Abort, alloc: Global, vob: &Vob<u8>) -> bool {
+    let Ok(mut answers) = [Some(9)].to_vec(alloc) else {
+        return false;
+    };
+    let mut walk = vob.iter_set_bits(..);
+    same(rt, "the first index", walk.next(), Some(0));
+    same(rt, "the last index", walk.next_back(), Some(6));
+    let dealt = is_dealt(rt, &mut walk, &mut answers, 2);
+    same(
+        rt,
+        "how many are left",
+        walk.count(),
+        if dealt { 0 } else { 2 },
+    );
+    dealt
+}
+
+/// Whether pulls at the walk over its unset bits were answered. If not, 4 is left behind the next
+/// index.
+fn are_unset_dealt(rt: &impl Abort, alloc: Global, vob: &Vob<u8>) -> bool {
+    let Ok(mut answers) = [Some(9)].to_vec(alloc) else {
+        return false;
+    };
+    let mut walk = vob.iter_unset_bits(..);
+    let dealt = is_dealt(rt, &mut walk, &mut answers, 1);
+    same(
+        rt,
+        "how many are left",
+        walk.count(),
+        if dealt { 0 } else { 1 },
+    );
+    dealt
 }
 
 /// Whether they were answered behind so many requests.
 fn are_pulls_answered(rt: &(impl Abort + AllocGlobal), behind: usize) -> bool {
     request(rt, behind);
-    let Ok(vob) = vob_of(rt.alloc(), "101101") else {
+    let Ok(vob) = vob_of(rt.alloc(), "1011011") else {
         return false;
     };
-    are_both_dealt(rt, rt.alloc(), &vob)
+    let set = are_set_dealt(rt, rt.alloc(), &vob);
+    let unset = are_unset_dealt(rt, rt.alloc(), &vob);
+    set && unset
 }
 
 #[test]
