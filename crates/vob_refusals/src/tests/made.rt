@@ -1,6 +1,7 @@
 //! Calls that make a Vob: refused, they say so and leave what they were given.
 use super::support::{FIRST, check_blocks, request, same, tell, vob_of};
 use super::unhinted::Unhinted;
+use std::alloc::AllocError;
 use std::process::Abort;
 use vob::{Vob, VobError};
 use vob_block::Block;
@@ -24,13 +25,23 @@ fn is_made<T: Block, E: Into<VobError> + Drop>(
     }
 }
 
+/// Whether a Vob was made, which then has no bits and this room. If not, there was no memory.
+fn has_room<T: Block>(rt: &impl Abort, answer: Result<Vob<T>, AllocError>, room: usize) -> bool {
+    let Ok(vob) = answer else {
+        return false;
+    };
+    check_blocks(rt, &vob, 0, &[]);
+    same(rt, "the room", vob.capacity() >= room, true);
+    true
+}
+
 #[test]
 fn room_is_made_or_refused(rt: HostRuntime) {
     request(&rt, FIRST);
     let words = Vob::with_capacity(rt.alloc(), 65);
-    let words = is_made(&rt, words, 0, &[]);
+    let words = has_room(&rt, words, 65);
     let bytes = Vob::<u8>::new_with_storage_type(rt.alloc(), 9);
-    let bytes = is_made(&rt, bytes, 0, &[]);
+    let bytes = has_room(&rt, bytes, 9);
     tell(&rt, words && bytes);
 }
 
