@@ -1,5 +1,5 @@
 //! What blocks answer: they ask for no memory.
-use super::support::{same, same_list, tell};
+use super::support::{FIRST, request, same, same_list, tell};
 use std::process::Abort;
 use vob_block::{Block, Blocks};
 
@@ -57,12 +57,22 @@ fn check_kernels(rt: &impl Abort) {
     same_list(rt, "and", &own, &[0, 0]);
 }
 
+/// Eight blocks, read at once.
+fn check_chunk(rt: &impl Abort) {
+    let stored = [6u8, 9, 0, 0, 0, 0, 0, 1];
+    let mut blocks = Blocks::new(&stored);
+    assert!(rt; blocks.len() >= 8);
+    same_list(rt, "a chunk", &blocks.chunk(0), &stored);
+}
+
 #[test]
 fn blocks_take_no_memory(rt: HostRuntime) {
+    request(&rt, FIRST);
     check_operators(&rt);
     check_moves(&rt);
     check_places(&rt);
     check_kernels(&rt);
+    check_chunk(&rt);
     let stored = [6u8, 9];
     let mut blocks = Blocks::new(&stored);
     same(&rt, "the blocks", blocks.len(), 2);

@@ -18,6 +18,7 @@ fn check_empty<T: Block, E: Debug + Drop>(rt: &impl Abort, made: Result<Vob<T>, 
 
 #[test]
 fn no_bits_take_no_memory(rt: HostRuntime) {
+    request(&rt, FIRST);
     let alloc = rt.alloc();
     check_empty(&rt, Vob::new(alloc).clone());
     check_empty(&rt, Vob::with_capacity(alloc, 0));
@@ -45,6 +46,7 @@ fn check_no_run(rt: &(impl Abort + AllocGlobal)) {
 
 #[test]
 fn refusals_and_no_commands_take_no_memory(rt: HostRuntime) {
+    request(&rt, FIRST);
     same(&rt, "its number", VobError::Memory.number(), 2);
     same(
         &rt,
@@ -71,6 +73,7 @@ fn check_reads(rt: &impl Abort, vob: &Vob<u8>) {
     same(rt, "past the end", vob.get(3), None);
     same(rt, "room for it", vob.capacity() >= 3, true);
     same(rt, "the bits", vob.iter().len(), 3);
+    same(rt, "the first bit", vob.iter().next(), Some(false));
     same(rt, "the last bit", vob.iter().next_back(), Some(true));
     same(rt, "the first block", vob.iter_storage().next(), Some(6));
     same(rt, "the blocks", vob.blocks().len(), 1);
