@@ -303,23 +303,15 @@ fn reading_ends_though_the_input_does_not(rt: HostRuntime) {
     assert_eq!(rt; input.reads, 1048576);
 }
 
-/// A reader of one byte at a time and a writer, which fail once a number of calls were made.
+/// A reader of one byte at a time and a writer, which fail behind a number of calls, and go on: a
+/// failure that is passed over isn't told by the next call.
 #[derive(Drop)]
 struct Failing<'a> {
     input: &'a [u8],
     calls_left: usize,
-    has_failed: bool,
 }
 
-impl<'a> Failing<'a> {
-    fn after(calls_left: usize, input: &'a [u8]) -> Failing<'a> {
-        Failing {
-            input,
-            calls_left,
-            has_failed: false,
-        }
-    }
-
+impl Failing<'_> {
     fn call(&mut self) -> io::Result<()> {
         match self.calls_left.checked_sub(1) {
             Some(left) => {
@@ -327,7 +319,7 @@ impl<'a> Failing<'a> {
                 Ok(())
             }
             None => {
-                self.has_failed = true;
+                self.calls_left = usize::MAX;
                 Err(io::Error::from(ErrorKind::Other))
             }
         }
@@ -360,33 +352,55 @@ impl Write for Failing<'_> {
     }
 }
 
+/// Lines of 63 bytes, and what comes of them.
+const LINES: &[u8] = b"new 0\npush 0 1\npush 0 0\npush 0 1\nbits 0\nblocks 0\nlen 0\nget 0 3\n";
+
+const ANSWERS: &[u8] = b"vob 0\ndone\ndone\ndone\nbits 101\nblocks 5\nnumber 3\nbit none\n";
+
+/// What comes of an input that fails behind so many reads, if there are more.
+fn expect_after(
+    rt: &(impl Abort + AllocGlobal),
+    reads: usize,
+    input: &[u8],
+    output: &[u8],
+    status: u8,
+) {
+    let calls_left = reads;
+    let mut failing = Failing { input, calls_left };
+    let mut written = Vec::new(rt.alloc());
+    let ended = converse(rt.alloc(), &mut failing, &mut written);
+    assert_eq!(rt; ended, status, "after {reads} reads");
+    assert_eq!(rt; written.as_slice(), output, "after {reads} reads");
+}
+
 #[test]
 fn a_failed_read_is_told_by_the_status_alone(rt: HostRuntime) {
-    // Twelve bytes and the end take thirteen reads.
-    for calls in 0..13 {
-        let mut input = Failing::after(calls, b"new 0\nfoo 0\n");
-        let mut written = Vec::new(rt.alloc());
-        let ended = converse(rt.alloc(), &mut input, &mut written);
-        assert_eq!(rt; ended, 1, "after {calls} reads");
-        assert!(rt; written.is_empty(), "after {calls} reads");
+    // Each byte and the end take a read.
+    for reads in 0..64 {
+        expect_after(&rt, reads, LINES, b"", 1);
     }
+    expect_after(&rt, 64, LINES, ANSWERS, 0);
+    for reads in 0..13 {
+        expect_after(&rt, reads, b"new 0\nfoo 0\n", b"", 1);
+    }
+    expect_after(&rt, 13, b"new 0\nfoo 0\n", b"bad line 2\n", 2);
 }
 
 #[test]
 fn a_failed_write_is_told_by_the_status(rt: HostRuntime) {
-    for (lines, status) in [(b"new 0\nlen 0\nbits 0\n".as_slice(), 0), (b"foo\n", 2)] {
-        for calls in 0..20 {
-            let mut input = lines;
-            let mut output = Failing::after(calls, b"");
-            let ended = converse(rt.alloc(), &mut input, &mut output);
-            assert!(rt; calls != 0 || output.has_failed, "the first write fails");
-            let wanted = if output.has_failed { 1 } else { status };
-            assert_eq!(rt; ended, wanted, "after {calls} writes");
+    // Replies of more than two pieces take three writes.
+    for (lines, writes, status) in [
+        (LINES, 1, 0),
+        (b"foo\n", 1, 2),
+        (b"elem 1 9000\nbits 0\n", 3, 0),
+    ] {
+        for calls_left in 0..=writes {
+            let input = b"".as_slice();
+            let mut output = Failing { input, calls_left };
+            let ended = converse(rt.alloc(), &mut { lines }, &mut output);
+            let wanted = if calls_left < writes { 1 } else { status };
+            assert_eq!(rt; ended, wanted, "after {calls_left} writes of {writes}");
         }
-        assert_eq!(rt;
-            converse(rt.alloc(), &mut { lines }, &mut Failing::after(20, b"")),
-            status
-        );
     }
 }
 
