@@ -57,13 +57,25 @@ fn growers<T: Block>(alloc: Global, len: usize) -> Result<Vec<Command<T>>, Alloc
     Ok(commands)
 }
 
-/// Compares that no reply is a refusal.
+/// For how many items the list of a reply has room, and how many it holds.
+fn room_of<T: Block>(reply: &Reply<T>) -> (usize, usize) {
+    match reply {
+        Reply::BitList(list) => (list.capacity(), list.len()),
+        Reply::BlockList(list) => (list.capacity(), list.len()),
+        Reply::Dealt(list) => (list.capacity(), list.len()),
+        _ => (0, 0),
+    }
+}
+
+/// Compares that no reply is a refusal, and that the room of a list is as large as the list.
 fn check_replies<T: Block>(rt: &impl Abort, len: usize, replies: &[Reply<T>], count: usize) {
     same(rt, "replies of length", len, replies.len(), count);
     for reply in replies {
         if let Reply::Refused(reason) = reply {
             same(rt, "a refusal at length", len, *reason, 0);
         }
+        let (room, count) = room_of(reply);
+        same(rt, "room for a list of length", len, room, count);
     }
 }
 
