@@ -18,6 +18,9 @@ trait Runs: Drop {
     /// A command that Vobs of every block type have.
     fn common(command: Command<Self::Stored>) -> Self;
 
+    /// The blocks of nine true bits.
+    fn nine(alloc: Global) -> Result<Vec<Self::Stored>, AllocError>;
+
     /// Runs the commands.
     fn run_all(
         alloc: Global,
@@ -32,6 +35,10 @@ impl Runs for Command<u8> {
 
     fn common(command: Command<u8>) -> Command<u8> {
         command
+    }
+
+    fn nine(alloc: Global) -> Result<Vec<u8>, AllocError> {
+        [255, 1].to_vec(alloc)
     }
 
     fn run_all(
@@ -49,6 +56,10 @@ impl Runs for UsizeCommand {
 
     fn common(command: Command<usize>) -> UsizeCommand {
         UsizeCommand::Common(command)
+    }
+
+    fn nine(alloc: Global) -> Result<Vec<usize>, AllocError> {
+        [511].to_vec(alloc)
     }
 
     fn run_all(
@@ -163,127 +174,191 @@ fn a_run_of_words_that_is_refused_leaves_all_of_before(rt: HostRuntime) {
 }
 
 /// Commands that make Vobs of their own, or of other Vobs' bits.
-fn makers(alloc: Global) -> Result<Vec<Command<u8>>, AllocError> {
+fn makers<C: Runs>(alloc: Global) -> Result<Vec<C>, AllocError> {
     let value = true;
-    let blocks = [255, 1].to_vec(alloc)?;
+    let blocks = C::nine(alloc)?;
     let mut commands = Vec::with_capacity(alloc, 7)?;
-    commands.push(Command::New { capacity: 9 })?;
-    commands.push(Command::FromElem { value, len: 9 })?;
-    commands.push(Command::Copy { which: 1 })?;
+    commands.push(C::common(Command::New { capacity: 9 }))?;
+    commands.push(C::common(Command::FromElem { value, len: 9 }))?;
+    commands.push(C::common(Command::Copy { which: 1 }))?;
     let (len, mask) = (9, false);
-    commands.push(Command::FromRaw { len, mask, blocks })?;
-    commands.push(Command::SplitOff { which: 1, index: 5 })?;
+    commands.push(C::common(Command::FromRaw { len, mask, blocks }))?;
+    commands.push(C::common(Command::SplitOff { which: 1, index: 5 }))?;
     let bounds = (Included(2), Excluded(5));
-    commands.push(Command::Drain { which: 2, bounds })?;
-    commands.push(Command::Length { which: 5 })?;
+    commands.push(C::common(Command::Drain { which: 2, bounds }))?;
+    commands.push(C::common(Command::Length { which: 5 }))?;
     Ok(commands)
+}
+
+/// Whether they were run, behind so many requests.
+fn are_made<C: Runs>(rt: &(impl Abort + AllocGlobal), behind: usize) -> bool {
+    request(rt, behind);
+    is_run(rt, makers::<C>(rt.alloc()))
 }
 
 #[test]
 fn vobs_are_made_or_refused(rt: HostRuntime) {
-    request(&rt, FIRST);
-    tell(&rt, is_run(&rt, makers(rt.alloc())));
+    tell(&rt, are_made::<Command<u8>>(&rt, FIRST));
 }
 
 #[test]
 fn vobs_are_made_or_refused_from_5_on(rt: HostRuntime) {
-    request(&rt, FIRST - 4);
-    tell(&rt, is_run(&rt, makers(rt.alloc())));
+    tell(&rt, are_made::<Command<u8>>(&rt, FIRST - 4));
 }
 
 #[test]
 fn vobs_are_made_or_refused_from_9_on(rt: HostRuntime) {
-    request(&rt, FIRST - 8);
-    tell(&rt, is_run(&rt, makers(rt.alloc())));
+    tell(&rt, are_made::<Command<u8>>(&rt, FIRST - 8));
 }
 
-/// Commands that each make room behind eight bits, for more than the room before; the last gives it back.
-fn growers(alloc: Global) -> Result<Vec<Command<u8>>, AllocError> {
+#[test]
+fn vobs_of_words_are_made_or_refused(rt: HostRuntime) {
+    tell(&rt, are_made::<UsizeCommand>(&rt, FIRST));
+}
+
+#[test]
+fn vobs_of_words_are_made_or_refused_from_5_on(rt: HostRuntime) {
+    tell(&rt, are_made::<UsizeCommand>(&rt, FIRST - 4));
+}
+
+#[test]
+fn vobs_of_words_are_made_or_refused_from_9_on(rt: HostRuntime) {
+    tell(&rt, are_made::<UsizeCommand>(&rt, FIRST - 8));
+}
+
+/// Commands that each make room behind whole blocks, for more than the room before; the last gives it back.
+fn growers<C: Runs>(alloc: Global) -> Result<Vec<C>, AllocError> {
     let (which, value) = (0, true);
-    let slice = [true; 99].to_vec(alloc)?;
-    let items = [false; 199].to_vec(alloc)?;
+    let slice = [true; 399].to_vec(alloc)?;
+    let items = [false; 599].to_vec(alloc)?;
     let mut commands = Vec::with_capacity(alloc, 9)?;
-    commands.push(Command::FromElem { value, len: 8 })?;
-    commands.push(Command::FromElem { value, len: 999 })?;
-    commands.push(Command::Push { which, value })?;
-    let len = 99;
-    commands.push(Command::Resize { which, len, value })?;
-    commands.push(Command::ExtendSlice { which, bits: slice })?;
-    commands.push(Command::ExtendItems { which, bits: items })?;
-    commands.push(Command::ExtendVob { which, other: 1 })?;
-    let additional = 9999;
-    commands.push(Command::Reserve { which, additional })?;
-    commands.push(Command::Shrink { which })?;
+    commands.push(C::common(Command::FromElem { value, len: 128 }))?;
+    commands.push(C::common(Command::FromElem { value, len: 3999 }))?;
+    commands.push(C::common(Command::Push { which, value }))?;
+    let len = 299;
+    commands.push(C::common(Command::Resize { which, len, value }))?;
+    commands.push(C::common(Command::ExtendSlice { which, bits: slice }))?;
+    commands.push(C::common(Command::ExtendItems { which, bits: items }))?;
+    commands.push(C::common(Command::ExtendVob { which, other: 1 }))?;
+    let additional = 19999;
+    commands.push(C::common(Command::Reserve { which, additional }))?;
+    commands.push(C::common(Command::Shrink { which }))?;
     Ok(commands)
+}
+
+/// Whether they were run, behind so many requests.
+fn are_grown<C: Runs>(rt: &(impl Abort + AllocGlobal), behind: usize) -> bool {
+    request(rt, behind);
+    is_run(rt, growers::<C>(rt.alloc()))
 }
 
 #[test]
 fn vobs_grow_or_are_refused(rt: HostRuntime) {
-    request(&rt, FIRST);
-    tell(&rt, is_run(&rt, growers(rt.alloc())));
+    tell(&rt, are_grown::<Command<u8>>(&rt, FIRST));
 }
 
 #[test]
 fn vobs_grow_or_are_refused_from_5_on(rt: HostRuntime) {
-    request(&rt, FIRST - 4);
-    tell(&rt, is_run(&rt, growers(rt.alloc())));
+    tell(&rt, are_grown::<Command<u8>>(&rt, FIRST - 4));
 }
 
 #[test]
 fn vobs_grow_or_are_refused_from_9_on(rt: HostRuntime) {
-    request(&rt, FIRST - 8);
-    tell(&rt, is_run(&rt, growers(rt.alloc())));
+    tell(&rt, are_grown::<Command<u8>>(&rt, FIRST - 8));
 }
 
 #[test]
 fn vobs_grow_or_are_refused_from_13_on(rt: HostRuntime) {
-    request(&rt, FIRST - 12);
-    tell(&rt, is_run(&rt, growers(rt.alloc())));
+    tell(&rt, are_grown::<Command<u8>>(&rt, FIRST - 12));
+}
+
+#[test]
+fn vobs_of_words_grow_or_are_refused(rt: HostRuntime) {
+    tell(&rt, are_grown::<UsizeCommand>(&rt, FIRST));
+}
+
+#[test]
+fn vobs_of_words_grow_or_are_refused_from_5_on(rt: HostRuntime) {
+    tell(&rt, are_grown::<UsizeCommand>(&rt, FIRST - 4));
+}
+
+#[test]
+fn vobs_of_words_grow_or_are_refused_from_9_on(rt: HostRuntime) {
+    tell(&rt, are_grown::<UsizeCommand>(&rt, FIRST - 8));
+}
+
+#[test]
+fn vobs_of_words_grow_or_are_refused_from_13_on(rt: HostRuntime) {
+    tell(&rt, are_grown::<UsizeCommand>(&rt, FIRST - 12));
 }
 
 /// Commands that combine two Vobs in a new one, and such that answer a list.
-fn readers(alloc: Global) -> Result<Vec<Command<u8>>, AllocError> {
+fn readers<C: Runs>(alloc: Global) -> Result<Vec<C>, AllocError> {
     let (which, other, value) = (0, 1, true);
     let pulls = [End::Front, End::Back].to_vec(alloc)?;
+    let bounds = (Unbounded, Unbounded);
     let mut commands = Vec::with_capacity(alloc, 8)?;
-    commands.push(Command::FromElem { value, len: 9 })?;
-    commands.push(Command::Copy { which })?;
-    commands.push(Command::AndNew { which, other })?;
-    commands.push(Command::OrNew { which, other })?;
-    commands.push(Command::XorNew { which, other })?;
-    commands.push(Command::Bits { which })?;
-    commands.push(Command::Storage { which })?;
-    commands.push(Command::Walk {
+    commands.push(C::common(Command::FromElem { value, len: 9 }))?;
+    commands.push(C::common(Command::Copy { which }))?;
+    commands.push(C::common(Command::AndNew { which, other }))?;
+    commands.push(C::common(Command::OrNew { which, other }))?;
+    commands.push(C::common(Command::XorNew { which, other }))?;
+    commands.push(C::common(Command::Bits { which }))?;
+    commands.push(C::common(Command::Storage { which }))?;
+    let walk = Command::Walk {
         which,
         value,
-        bounds: (Unbounded, Unbounded),
+        bounds,
         pulls,
-    })?;
+    };
+    commands.push(C::common(walk))?;
     Ok(commands)
+}
+
+/// Whether they were run, behind so many requests.
+fn are_answered<C: Runs>(rt: &(impl Abort + AllocGlobal), behind: usize) -> bool {
+    request(rt, behind);
+    is_run(rt, readers::<C>(rt.alloc()))
 }
 
 #[test]
 fn lists_are_answered_or_refused(rt: HostRuntime) {
-    request(&rt, FIRST);
-    tell(&rt, is_run(&rt, readers(rt.alloc())));
+    tell(&rt, are_answered::<Command<u8>>(&rt, FIRST));
 }
 
 #[test]
 fn lists_are_answered_or_refused_from_5_on(rt: HostRuntime) {
-    request(&rt, FIRST - 4);
-    tell(&rt, is_run(&rt, readers(rt.alloc())));
+    tell(&rt, are_answered::<Command<u8>>(&rt, FIRST - 4));
 }
 
 #[test]
 fn lists_are_answered_or_refused_from_9_on(rt: HostRuntime) {
-    request(&rt, FIRST - 8);
-    tell(&rt, is_run(&rt, readers(rt.alloc())));
+    tell(&rt, are_answered::<Command<u8>>(&rt, FIRST - 8));
 }
 
 #[test]
 fn lists_are_answered_or_refused_from_13_on(rt: HostRuntime) {
-    request(&rt, FIRST - 12);
-    tell(&rt, is_run(&rt, readers(rt.alloc())));
+    tell(&rt, are_answered::<Command<u8>>(&rt, FIRST - 12));
+}
+
+#[test]
+fn lists_of_words_are_answered_or_refused(rt: HostRuntime) {
+    tell(&rt, are_answered::<UsizeCommand>(&rt, FIRST));
+}
+
+#[test]
+fn lists_of_words_are_answered_or_refused_from_5_on(rt: HostRuntime) {
+    tell(&rt, are_answered::<UsizeCommand>(&rt, FIRST - 4));
+}
+
+#[test]
+fn lists_of_words_are_answered_or_refused_from_9_on(rt: HostRuntime) {
+    tell(&rt, are_answered::<UsizeCommand>(&rt, FIRST - 8));
+}
+
+#[test]
+fn lists_of_words_are_answered_or_refused_from_13_on(rt: HostRuntime) {
+    tell(&rt, are_answered::<UsizeCommand>(&rt, FIRST - 12));
 }
 
 /// Commands that only Vobs of the default block type have, and one that all have.
@@ -308,25 +383,25 @@ fn makers_of_words(alloc: Global) -> Result<Vec<UsizeCommand>, AllocError> {
 }
 
 #[test]
-fn vobs_of_words_are_made_or_refused(rt: HostRuntime) {
+fn makers_of_words_are_run_or_refused(rt: HostRuntime) {
     request(&rt, FIRST);
     tell(&rt, is_run(&rt, makers_of_words(rt.alloc())));
 }
 
 #[test]
-fn vobs_of_words_are_made_or_refused_from_5_on(rt: HostRuntime) {
+fn makers_of_words_are_run_or_refused_from_5_on(rt: HostRuntime) {
     request(&rt, FIRST - 4);
     tell(&rt, is_run(&rt, makers_of_words(rt.alloc())));
 }
 
 #[test]
-fn vobs_of_words_are_made_or_refused_from_9_on(rt: HostRuntime) {
+fn makers_of_words_are_run_or_refused_from_9_on(rt: HostRuntime) {
     request(&rt, FIRST - 8);
     tell(&rt, is_run(&rt, makers_of_words(rt.alloc())));
 }
 
 #[test]
-fn vobs_of_words_are_made_or_refused_from_13_on(rt: HostRuntime) {
+fn makers_of_words_are_run_or_refused_from_13_on(rt: HostRuntime) {
     request(&rt, FIRST - 12);
     tell(&rt, is_run(&rt, makers_of_words(rt.alloc())));
 }

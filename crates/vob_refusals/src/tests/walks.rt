@@ -38,12 +38,8 @@ fn are_set_dealt(rt: &impl Abort, alloc: Global, vob: &Vob<u8>) -> bool {
     same(rt, "the first index", walk.next(), Some(0));
     same(rt, "the last index", walk.next_back(), Some(6));
     let dealt = is_dealt(rt, &mut walk, &mut answers, 2);
-    same(
-        rt,
-        "how many are left",
-        walk.count(),
-        if dealt { 0 } else { 2 },
-    );
+    let left = if dealt { 0 } else { 2 };
+    same(rt, "how many are left", walk.count(), left);
     dealt
 }
 
@@ -55,12 +51,8 @@ fn are_unset_dealt(rt: &impl Abort, alloc: Global, vob: &Vob<u8>) -> bool {
     };
     let mut walk = vob.iter_unset_bits(..);
     let dealt = is_dealt(rt, &mut walk, &mut answers, 1);
-    same(
-        rt,
-        "how many are left",
-        walk.count(),
-        if dealt { 0 } else { 1 },
-    );
+    let left = if dealt { 0 } else { 1 };
+    same(rt, "how many are left", walk.count(), left);
     dealt
 }
 
