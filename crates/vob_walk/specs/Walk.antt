@@ -6,8 +6,9 @@ use Rattle.vob_walk.specs.Matches.{matches, blocks_met}
 use Rattle.vob_walk.specs.declared.walk.End.{End}
 use Rattle.vob_walk.specs.declared.walk.End.TheVariants.{Front, Back}
 
--- the indices still to give, how many blocks were read, how many blocks hold an index of what is
--- left of the range, and how many of them neither end has read
+-- the indices still to give, how many blocks were read, how many may still give one (the unread
+-- ones that hold an index of the range, and at each end the one in hand while an index of it is
+-- left), and how many of these are unread
 pub record Walk : Type 0 where
   pub rest : List ℕ
   pub reads : ℕ
