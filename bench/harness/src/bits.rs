@@ -464,12 +464,19 @@ fn matrix<B: Bits>(input: &Input, rounds: usize) -> u64 {
     checksum_all(&last, times)
 }
 
-/// One pass over the nodes of a flow graph, the last one first, as `vob_users::live` makes it.
-fn pass<B: Bits>(nodes: &[&[usize]], possible: &[B], before: &mut [B], after: &mut [B]) -> bool {
+/// A node of a flow graph, in lists of its own as `vob_live::live` takes it.
+struct Flow {
+    reads: Vec<usize>,
+    writes: Vec<usize>,
+    next: Vec<usize>,
+}
+
+/// One pass over the nodes of a flow graph, the last one first, as `vob_live::live` makes it.
+fn pass<B: Bits>(nodes: &[Flow], possible: &[B], before: &mut [B], after: &mut [B]) -> bool {
     let mut changed = false;
     for node in (0..nodes.len()).rev() {
         let mut grew = false;
-        for next in &nodes[node][2..] {
+        for next in &nodes[node].next {
             grew |= after[node].or_grows(&before[*next]);
         }
         if grew {
@@ -481,25 +488,34 @@ fn pass<B: Bits>(nodes: &[&[usize]], possible: &[B], before: &mut [B], after: &m
 }
 
 fn live<B: Bits>(input: &Input, rounds: usize) -> u64 {
-    let nodes: Vec<&[usize]> = input.indices.chunks(4).collect();
+    let flow_of = |numbers: &[usize]| Flow {
+        reads: numbers[..1].to_vec(),
+        writes: numbers[1..2].to_vec(),
+        next: numbers[2..].to_vec(),
+    };
+    let nodes: Vec<Flow> = input.indices.chunks(4).map(flow_of).collect();
     let vars = input.bits.len();
     let mut times = 0;
     let mut last = Vec::new();
     for _ in 0..rounds {
         let none = B::from_bytes(&vec![0; vars / 8]);
-        let set_of = |variable| {
+        let set_of = |variables: &[usize]| {
             let mut set = none.copied();
-            set.set(variable, true);
+            for variable in variables {
+                set.set(*variable, true);
+            }
             set
         };
-        let possible_at = |node: &&[usize]| {
-            let mut set = set_of(node[1]);
+        let possible_at = |node: &Flow| {
+            let mut set = set_of(&node.writes);
             set.negate();
-            set.set(node[0], true);
+            for variable in &node.reads {
+                set.set(*variable, true);
+            }
             set
         };
-        let mut before: Vec<B> = nodes.iter().map(|node| set_of(node[0])).collect();
         let possible: Vec<B> = nodes.iter().map(possible_at).collect();
+        let mut before: Vec<B> = nodes.iter().map(|node| set_of(&node.reads)).collect();
         let mut after: Vec<B> = nodes.iter().map(|_| none.copied()).collect();
         times += 1;
         while pass(&nodes, &possible, &mut before, &mut after) {
