@@ -125,8 +125,9 @@ pub(crate) fn count_and(
     Ok(checksum(&vob, times))
 }
 
-/// The bits from `start` to below `end` written over those from `at` on, where they are there and fit.
-fn copy_bits(vob: &mut Vob, at: usize, other: &Vob, start: usize, end: usize) {
+/// The bits from one index to below another written over those from `at` on, where they are there and fit.
+fn copy_bits(vob: &mut Vob, at: usize, other: &Vob, bounds: (usize, usize)) {
+    let (start, end) = bounds;
     if start <= end && end <= other.len() && at <= vob.len() && end - start <= vob.len() - at {
         vob.copy_range(at, other, start..end);
     }
@@ -145,7 +146,7 @@ pub(crate) fn copy_range(
     let other = Vob::from_bytes(alloc, others)?;
     let end = other.len().saturating_sub(64);
     for round in 0..rounds {
-        copy_bits(&mut vob, 29, &other, 13, end);
+        copy_bits(&mut vob, 29, &other, (13, end));
         times = times.wrapping_add(sample(&vob, round) as u64);
     }
     Ok(checksum(&vob, times))

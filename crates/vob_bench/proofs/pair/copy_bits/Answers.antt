@@ -5,6 +5,6 @@ use Rattle.vob_bench.proofs.pair.copy_bits.Goals as goal
 
 pub copy_range-requires-clause-fits : goal.copy_range-requires-clause-fits
 copy_range-requires-clause-fits c =
-    let few = length-bits_within c.args.other.now.bits c.args.start c.args.end
+    let few = length-bits_within c.args.other.now.bits c.args.bounds.0 c.args.bounds.1
     c.if-start-end.true (omega (arith, c.if-end-len.true, c.len-then-end-len.ensures.len)) in
     omega (arith, few, c.if-at-len.true, c.if-end-start.true, c.len-then-at-len.ensures.len)
