@@ -232,7 +232,12 @@ fn growers<C: Runs>(alloc: Global) -> Result<Vec<C>, AllocError> {
     let slice = [true; 399].to_vec(alloc)?;
     let items = [false; 599].to_vec(alloc)?;
     let mut commands = Vec::with_capacity(alloc, 9)?;
-    commands.push(C::common(Command::FromElem { value, len: 128 }))?;
+    // False bits tell that a refused call kept them: what is resized behind them is true.
+    let kept = Command::FromElem {
+        value: false,
+        len: 128,
+    };
+    commands.push(C::common(kept))?;
     commands.push(C::common(Command::FromElem { value, len: 3999 }))?;
     commands.push(C::common(Command::Push { which, value }))?;
     let len = 299;
