@@ -1,10 +1,10 @@
 //! A Vob as a set of indices, those of its set bits: whether there are some, the one that is next
 //! to another, how many stand below one, the one below which so many stand, and two sets of one
 //! length. vob 4.0.1 has none of these calls.
-ghost use Rattle.std.specs.Prelude.{◌≡◌, ◌≢◌, ◌↔◌, ℕ, ◌<◌, ◌&&◌, ◌||◌, true, false, take, length, replicate, All, Err, IfOk, IsTrue, MatchOption, None};
+ghost use Rattle.std.specs.Prelude.{◌≡◌, ◌≢◌, ◌↔◌, ℕ, ◌<◌, ◌/◌, ◌*◌, ◌&&◌, ◌||◌, true, false, take, length, replicate, slice_index_or, All, Err, IfOk, IsTrue, MatchOption, None};
 ghost use Rattle.vob_block.specs.Pointwise.{differ, pointwise};
 ghost use Rattle.vob_store.specs.Combined.{without};
-ghost use Rattle.vob.specs.Bits.{AreCombined, LosesBits, count_of};
+ghost use Rattle.vob.specs.Bits.{AreCombined, IsWritten, LosesBits, count_of};
 ghost use Rattle.vob.specs.Indices.{HasSet, IsFirstOutside, IsMadeOf};
 ghost use Rattle.vob.specs.Sets.{AreDisjoint, HasBit, HasOnly, IsIndexOfRank, IsNext, IsPrevious, IsSubset};
 ghost use Rattle.vob.specs.Vob.{HaveSameLength};
@@ -37,35 +37,69 @@ impl<T: Block> Vob<T> {
             ↔ IsFirstOutside len indices.now position }
         ensures nothing { len ≡ 0 → result ≢ Err IndicesError.Memory }
     {
-        let Ok(mut vob) = Vob::from_elem_with_storage_type(alloc, false, len) else {
-            return Err(match first_outside(indices, len) {
-                Some(position) => IndicesError::OutOfRange { position },
-                None => IndicesError::Memory,
-            });
-        };
-        match vob.set_each(indices) {
-            Some(position) => Err(IndicesError::OutOfRange { position }),
-            None => Ok(vob),
+        if let Ok(mut vob) = Vob::from_elem_with_storage_type(alloc, false, len) {
+            if vob.set_each(indices) {
+                return Ok(vob);
+            }
         }
+        Err(match first_outside(indices, len) {
+            Some(position) => IndicesError::OutOfRange { position },
+            None => IndicesError::Memory,
+        })
     }
 
-    /// Sets the bits at the given indices, up to the first one that is past the end, and answers its
-    /// position.
-    fn set_each(&mut self, indices: &[usize]) -> Option<usize>
-        ensures found { MatchOption result
-            (HasSet indices.now (length indices.now) self.old.bits self.new.bits)
-            (IsFirstOutside (length self.old.bits) indices.now) }
-        ensures inside { result ≡ None → All (λ i. i < length self.old.bits) indices.now }
+    /// Sets the bits at the given indices up to the first one that is past the end, and answers
+    /// whether there is none.
+    fn set_each(&mut self, indices: &[usize]) -> bool
+        ensures inside { IsTrue result ↔ All (λ i. i < length self.old.bits) indices.now }
+        ensures set { IsTrue result
+            → HasSet indices.now (length indices.now) self.old.bits self.new.bits }
     {
-        let len = self.len();
-        for position in 0..indices.len() {
-            let index = indices[position];
-            if index >= len {
-                return Some(position);
+        if !self.set_fours(indices) {
+            return false;
+        }
+        for position in indices.len() / 4 * 4..indices.len() {
+            if !self.set_inside(indices[position]) {
+                return false;
             }
+        }
+        true
+    }
+
+    /// The same for the indices that make whole fours, four a turn, as a turn's own steps cost as
+    /// much as a half of one index's.
+    fn set_fours(&mut self, indices: &[usize]) -> bool
+        ensures inside { IsTrue result
+            ↔ ((k : ℕ) → k < length indices.now / 4 * 4
+            → slice_index_or indices.now k 0 < length self.old.bits) }
+        ensures set { IsTrue result
+            → HasSet indices.now (length indices.now / 4 * 4) self.old.bits self.new.bits }
+    {
+        for turn in 0..indices.len() / 4 {
+            let position = 4 * turn;
+            if !(self.set_inside(indices[position])
+                && self.set_inside(indices[position + 1])
+                && self.set_inside(indices[position + 2])
+                && self.set_inside(indices[position + 3]))
+            {
+                return false;
+            }
+        }
+        true
+    }
+
+    /// Sets the bit at an index, and answers true, or false where it is past the end.
+    #[inline(always)]
+    fn set_inside(&mut self, index: usize) -> bool
+        ensures inside { IsTrue result ↔ index < length self.old.bits }
+        ensures written { IsTrue result → IsWritten self.old.bits index true self.new.bits }
+        ensures len { length self.new.bits ≡ length self.old.bits }
+    {
+        let inside = index < self.len();
+        if inside {
             self.set(index, true);
         }
-        None
+        inside
     }
 
     /// Whether some bit is set. Where there are no bits, none is.

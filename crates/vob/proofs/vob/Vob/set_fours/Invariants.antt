@@ -1,0 +1,10 @@
+-- The fours of indices so far are below the length, and the bits at them are set.
+use Rattle.std.proofs.Common.{ℕ, ◌<◌, ◌*◌, length, get_or}
+use Rattle.vob.specs.Indices.{HasSet}
+use Rattle.vob.proofs.vob.Vob.set_fours.Given as goal
+
+abbrev pub invariant-loop-turn : goal.invariant-loop-turn
+invariant-loop-turn g l = record {
+  set : HasSet l.fn.indices (l.turn * 4) l.fn.self.bits l.self.bits;
+  lower : (k : ℕ) → k < l.turn * 4 → get_or l.fn.indices k 0 < length l.fn.self.bits;
+}
