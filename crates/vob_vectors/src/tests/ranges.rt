@@ -132,6 +132,8 @@ fn indices_give_a_vob_or_the_first_one_past_the_end(rt: HostRuntime) {
         (10, [9, 10, 11].as_slice(), 1),
         (0, &[0], 0),
         (3, &[0, 1, 2, usize::MAX, 3], 3),
+        (9, &[0, 1, 2, 3, 9], 4),
+        (9, &[0, 1, 2, 3, 4, 9, 5, 9], 5),
     ] {
         let refused = made_of::<u8>(&rt, len, indices).err();
         same(&rt, "refused", len, refused, Some(position));
