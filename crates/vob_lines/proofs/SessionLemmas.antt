@@ -8,7 +8,7 @@ use Rattle.std.proofs.lemmas.List.Elements.{filter-append}
 use Rattle.vob_run.specs.Call.{Call}
 use Rattle.vob_lines.specs.Cuts.{words_of}
 use Rattle.vob_lines.specs.Grammar.{Reads}
-use Rattle.vob_lines.specs.Conversation.{sentences, AllRead, IsFirstBad, Says, IsInput, Converses}
+use Rattle.vob_lines.specs.Conversation.{sentences, AllRead, IsFirstBadLine, Says, IsInput, Converses}
 use Rattle.vob_lines.specs.Texts.{line_of}
 use Rattle.vob_lines.specs.Written.{Puts}
 use Rattle.vob_lines.proofs.WrittenLemmas.{but_all, but_none}
@@ -85,7 +85,7 @@ module _ (lines rest after : List (List ℕ)) (line : List ℕ) (n : ℕ) (calls
 
   -- one that reads as no call is the first bad one
   pub reads_bad : words_of line ≢ [] → ((call : Call) → Reads (words_of line) call → ⊥) →
-      IsFirstBad lines (n + 1)
+      IsFirstBadLine lines (n + 1)
   reads_bad some bad = record {
     before = so_far.before;
     line = line;

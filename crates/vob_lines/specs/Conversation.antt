@@ -36,7 +36,7 @@ pub record Answers (input written : List ℕ) : Type 0 where
   pub text : written ≡ lines_for answers
 
 -- a line that has words and reads as no call, after lines that do; its number counts from 1
-pub record IsFirstBad (lines : List (List ℕ)) (n : ℕ) : Type 0 where
+pub record IsFirstBadLine (lines : List (List ℕ)) (n : ℕ) : Type 0 where
   pub before : List (List ℕ)
   pub line : List ℕ
   pub others : List (List ℕ)
@@ -50,7 +50,7 @@ pub record IsFirstBad (lines : List (List ℕ)) (n : ℕ) : Type 0 where
 -- the number of the first bad line is written, and nothing else
 abbrev pub Refuses : List ℕ → List ℕ → Type 0
 Refuses input written =
-    (n : ℕ) × IsFirstBad (lines_of input) n × (written ≡ line_of (codes "bad line " ++ decimal n))
+    (n : ℕ) × IsFirstBadLine (lines_of input) n × (written ≡ line_of (codes "bad line " ++ decimal n))
 
 -- what is written for an input with each exit status, where reading and writing don't fail
 abbrev pub Says : ℕ → List ℕ → List ℕ → Type 0

@@ -4,12 +4,12 @@ use Rattle.vob_lines.specs.declared.session.Ending.{Ending}
 use Rattle.vob_lines.specs.declared.session.Ending.TheVariants.{Failed, BadLine, Memory}
 use Rattle.vob_lines.specs.declared.line.LineError.{LineError}
 use Rattle.vob_lines.specs.declared.line.LineError.TheVariants as line_error
-use Rattle.vob_lines.specs.Conversation.{IsFirstBad}
+use Rattle.vob_lines.specs.Conversation.{IsFirstBadLine}
 
 -- only a bad line is told from these lines
 abbrev pub Ends : List (List ℕ) → Ending → Type 0
 Ends lines Failed = ⊤
-Ends lines (BadLine n) = IsFirstBad lines n
+Ends lines (BadLine n) = IsFirstBadLine lines n
 Ends lines Memory = ⊤
 
 -- how a conversation ends at the line with this number

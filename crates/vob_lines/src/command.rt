@@ -332,7 +332,8 @@ impl<'a> Words<'a> {
     }
 }
 
-/// The command that a line reads as.
+/// The command that a line reads as. `Unreadable` where it reads as none, and `Memory` where that
+/// was refused for a list in a line that begins as a command with one.
 pub fn read_command(alloc: Global, line: &[u8]) -> Result<UsizeCommand, LineError>
     ensures found { IfOk result (λ command. Reads (words_of line.now) (usize_call_of command)) }
     ensures one { IfOk result (λ command. (other : Call) → Reads (words_of line.now) other →

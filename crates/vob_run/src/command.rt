@@ -4,7 +4,7 @@ use vob::End;
 
 /// A call on numbered Vobs. `which` and `other` are numbers of Vobs, counted from 0 in the order of
 /// the list; lengths, indices and capacities are in bits. A Vob that is made comes at the end of
-/// the list.
+/// the list. vob 4.0.1 has no commands.
 #[derive(Debug, Drop)]
 pub enum Command<T> {
     /// Makes an empty Vob with room for `capacity` bits: `Vob::new_with_storage_type`.
@@ -227,9 +227,9 @@ pub enum UsizeCommand {
 pub enum Reply<T> {
     /// The call was made, and has no answer of its own.
     Done,
-    /// A bit, or `None` where the index is past the last one.
+    /// A bit, or `None` where there is none: the index is past the last one, or nothing to pop.
     Bit(Option<bool>),
-    /// Whether it is so, or whether something changed.
+    /// The bit at an index that has to be there, whether something is so, or whether a bit changed.
     Flag(bool),
     /// A count.
     Number(usize),

@@ -1,4 +1,4 @@
-//! Slots that are free or taken: a user of the walk over unset bits, and of the flag of `set`.
+//! Slots that are free or taken: a user of `first_unset`, and of the flag of `set`.
 ghost use Rattle.std.specs.Prelude.{◌≡◌, ◌≢◌, ◌↔◌, ◌+◌, ◌<◌, ◌++◌, false, length, replicate, slice_set, IsOk, IfOk, IfSome, OnOk, OnErr, Err};
 ghost use Rattle.vob.specs.Bits.{count_of};
 ghost use Rattle.vob_block.specs.Packing.{item};
@@ -14,7 +14,7 @@ pub fn take_slot(slots: &mut Vob) -> Option<usize>
     ensures fewer { IfSome result (λ _.
         count_of false slots.old.bits ≡ count_of false slots.new.bits + 1) }
 {
-    let slot = slots.iter_unset_bits(..).next()?;
+    let slot = slots.first_unset()?;
     slots.set(slot, true);
     Some(slot)
 }

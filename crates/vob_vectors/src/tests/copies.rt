@@ -1,5 +1,6 @@
 //! Bits copied over others, against one bit after another.
 use super::support::{pattern, same};
+use std::ops::Range;
 use std::process::Abort;
 use vob::Vob;
 use vob_block::Block;
@@ -11,22 +12,40 @@ fn copy<T: Block>(vob: &mut Vob<T>, at: usize, other: &Vob<T>, start: usize, end
     }
 }
 
-/// Each bit from `at` on is the other's from `start` on, `count` of them, and the others are old.
-fn check_copied<T: Block>(rt: &(impl Abort + AllocGlobal), at: usize, start: usize, count: usize) {
-    let old = pattern::<T>(rt, 1, 130);
-    let other = pattern::<T>(rt, 3, 140);
-    let mut vob = pattern::<T>(rt, 1, 130);
-    let end = start.saturating_add(count);
+/// Each of so many bits from `at` on is the other's from `start` on, and the others are old: of a
+/// Vob of this length, and another that is ten bits longer.
+fn check_part<T: Block>(
+    rt: &(impl Abort + AllocGlobal),
+    len: usize,
+    at: usize,
+    part: Range<usize>,
+) {
+    let old = pattern::<T>(rt, 1, len);
+    let other = pattern::<T>(rt, 3, len.saturating_add(10));
+    let mut vob = pattern::<T>(rt, 1, len);
+    let Range { start, end } = part;
     copy(&mut vob, at, &other, start, end);
-    same(rt, "the length", at, vob.len(), 130);
-    for index in 0..130 {
-        let wanted = if at <= index && index - at < count {
-            other.get(start.saturating_add(index - at))
+    same(rt, "the length", at, vob.len(), len);
+    for index in 0..len {
+        let from = start.saturating_add(index.saturating_sub(at));
+        let wanted = if at <= index && from < end {
+            other.get(from)
         } else {
             old.get(index)
         };
         same(rt, "bit", index, vob.get(index), wanted);
     }
+}
+
+/// Of a Vob of 130 bits.
+fn check_copied<T: Block>(rt: &(impl Abort + AllocGlobal), at: usize, start: usize, count: usize) {
+    check_part::<T>(rt, 130, at, start..start.saturating_add(count));
+}
+
+/// A half of a Vob of this length, at another place of its block.
+fn check_half<T: Block>(rt: &(impl Abort + AllocGlobal), len: usize) {
+    let start = len / 4;
+    check_part::<T>(rt, len, len / 3, start..start.saturating_add(len / 2));
 }
 
 #[test]
@@ -48,5 +67,10 @@ fn stretches_are_copied(rt: HostRuntime) {
             check_copied::<u64>(&rt, at, start, 120);
             check_copied::<u128>(&rt, at, start, 120);
         }
+    }
+    for len in 0..130 {
+        check_half::<u8>(&rt, len);
+        check_half::<u64>(&rt, len);
+        check_half::<u128>(&rt, len);
     }
 }

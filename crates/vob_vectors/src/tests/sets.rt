@@ -1,5 +1,5 @@
 //! A Vob as a set of indices, by patterns and by single bits, against one bit after another.
-use super::support::{copy_of, filled, pattern, pattern_bit, same, write};
+use super::support::{copy_of, filled, pattern, same, write};
 use std::process::Abort;
 use vob::{End, Vob};
 use vob_block::Block;
@@ -78,13 +78,20 @@ fn check_single<T: Block>(rt: &(impl Abort + AllocGlobal), index: usize) {
     }
 }
 
+/// A pattern of this length, and its bits of both values.
+fn check_pattern<T: Block>(rt: &(impl Abort + AllocGlobal), seed: usize, len: usize) {
+    let vob = pattern::<T>(rt, seed, len);
+    for value in [true, false] {
+        check_found(rt, &vob, value);
+    }
+}
+
 #[test]
 fn bits_of_patterns_and_single_bits_are_found(rt: HostRuntime) {
     for len in 0..130 {
-        let value = pattern_bit(len, len);
-        check_found(&rt, &pattern::<u8>(&rt, 1, len), value);
-        check_found(&rt, &pattern::<u64>(&rt, 2, len), value);
-        check_found(&rt, &pattern::<u128>(&rt, 3, len), value);
+        check_pattern::<u8>(&rt, 1, len);
+        check_pattern::<u64>(&rt, 2, len);
+        check_pattern::<u128>(&rt, 3, len);
     }
     for index in 0..13 {
         check_single::<u8>(&rt, index * 10);
