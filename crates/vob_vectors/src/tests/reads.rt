@@ -1,5 +1,5 @@
 //! How many blocks a walk reads, said by contracts: at most one for each index that it gave and each
-//! block that its range meets; and one more than these blocks, as no end reads again what it holds.
+//! block that its range meets; and at most as many as these blocks, as none is read twice.
 //! A walk over runs reads each block once.
 ghost use Rattle.std.specs.Prelude.{◌≡◌, ◌+◌, ◌≤◌, [], length, None, IfOk};
 ghost use Rattle.vob_walk.specs.Walk.{given_count};
@@ -19,7 +19,7 @@ fn set_of_ten<'a>(
     requires ten { length vob.now.bits ≡ 10 }
     requires empty { answers.old.items ≡ [] }
     ensures given { IfOk result (λ walk. walk.reads ≤ given_count answers.new.items + 2) }
-    ensures held { IfOk result (λ walk. walk.reads ≤ 3) }
+    ensures held { IfOk result (λ walk. walk.reads ≤ 2) }
 {
     let mut walk = vob.iter_set_bits(..);
     deal(&mut walk, pulls, answers)?;
@@ -35,7 +35,7 @@ fn unset_of_ten<'a>(
     requires ten { length vob.now.bits ≡ 10 }
     requires empty { answers.old.items ≡ [] }
     ensures given { IfOk result (λ walk. walk.reads ≤ given_count answers.new.items + 2) }
-    ensures held { IfOk result (λ walk. walk.reads ≤ 3) }
+    ensures held { IfOk result (λ walk. walk.reads ≤ 2) }
 {
     let mut walk = vob.iter_unset_bits(..);
     deal(&mut walk, pulls, answers)?;
@@ -51,7 +51,7 @@ fn set_of_24<'a>(
     requires many { length vob.now.bits ≡ 24 }
     requires empty { answers.old.items ≡ [] }
     ensures given { IfOk result (λ walk. walk.reads ≤ given_count answers.new.items + 3) }
-    ensures held { IfOk result (λ walk. walk.reads ≤ 4) }
+    ensures held { IfOk result (λ walk. walk.reads ≤ 3) }
 {
     let mut walk = vob.iter_set_bits(..);
     deal(&mut walk, pulls, answers)?;
