@@ -1,6 +1,7 @@
 //! The walks over the indices of set bits and of unset bits within a range, from both ends.
-ghost use Rattle.std.specs.Prelude.{◌≡◌, true, false, length, map};
-ghost use Rattle.std.specs.Iterator.{item_count};
+ghost use Rattle.std.specs.Prelude.{◌≡◌, true, false, length, map, IfSome};
+ghost use Rattle.std.specs.Iterator.{item_count, at_most, UpTo};
+ghost use Rattle.std.specs.Iterator.SizeHint.{IsWithinCount};
 ghost use Rattle.std.specs.Iterator.Runs.{YieldsInOrder, YieldsInReverse};
 ghost use Rattle.vob_block.specs.Packing.{need, unpacking};
 ghost use Rattle.vob_walk.specs.Walk.{IsFresh, GivesFirst, GivesLast};
@@ -66,6 +67,15 @@ impl<'a, T: Block> Iterator for IterSetBits<'a, T> {
     #[inline(always)]
     fn next(&mut self) -> Option<usize> {
         self.cursor.next()
+    }
+
+    /// No bounds, as vob 4.0.1 answers: how many indices are left only a count can say.
+    fn size_hint(&self) -> (usize, Option<usize>)
+        ensures lower { IsWithinCount result.0 (at_most (length self.now.rest)) }
+        ensures upper { IfSome result.1 (UpTo (at_most (length self.now.rest))) }
+        ensures exact { result ≡ (0, None) }
+    {
+        (0, None)
     }
 }
 
@@ -144,6 +154,15 @@ impl<'a, T: Block> Iterator for IterUnsetBits<'a, T> {
     #[inline(always)]
     fn next(&mut self) -> Option<usize> {
         self.cursor.next()
+    }
+
+    /// No bounds, as vob 4.0.1 answers: how many indices are left only a count can say.
+    fn size_hint(&self) -> (usize, Option<usize>)
+        ensures lower { IsWithinCount result.0 (at_most (length self.now.rest)) }
+        ensures upper { IfSome result.1 (UpTo (at_most (length self.now.rest))) }
+        ensures exact { result ≡ (0, None) }
+    {
+        (0, None)
     }
 }
 
