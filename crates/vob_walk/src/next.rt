@@ -38,7 +38,8 @@ fn past_last_place<T: Block>(block: T, value: bool, upto: usize) -> usize
     }
 }
 
-/// The block of index `from`: the one in hand, which none is before the first index.
+/// The block of index `from`, where a walk goes on: `hand`, which is that block and isn't read again,
+/// unless `from` is 0. There `hand` may be any block, and block 0 is read.
 #[inline(always)]
 pub fn block_in_hand<T: Block>(blocks: &mut Blocks<'_, T>, hand: T, from: usize) -> T
     requires count { from / T.BITS < length blocks.old.items }
@@ -52,9 +53,9 @@ pub fn block_in_hand<T: Block>(blocks: &mut Blocks<'_, T>, hand: T, from: usize)
     if from == 0 { blocks.block(0) } else { hand }
 }
 
-/// The first index from another on whose bit has the value, with its block, or `len` where there is
-/// none below it. The block of the other is in hand beside it, and those behind it are read until
-/// one has such a bit.
+/// The first index from `from.0` to below `len` whose bit has the value, with its block; where there
+/// is none, `len`, and which block is beside it isn't said. `from.1` is the block of `from.0`, which
+/// isn't read again; those behind it are read, once each, until one has such a bit.
 #[inline(always)]
 pub fn next_in_hand<T: Block>(
     blocks: &mut Blocks<'_, T>,
@@ -103,8 +104,10 @@ fn past_last_index_of<T: Block>(blocks: &mut Blocks<'_, T>, value: bool, upto: u
     found.0 * T::BITS + past_last_place(found.1, value, T::BITS - 1)
 }
 
-/// The first index from `from` to below `len` whose bit has the value. Reads the blocks from that
-/// of `from` to that of the index once each, and no other. vob 4.0.1 has no public call like it.
+/// The first index from `from` to below `len` whose bit has the value. Reads the blocks from that of
+/// `from` to that of the index, or to the last one that `len` bits need where the answer is None, at
+/// most once each, and no other; none where `from` is at or past `len`. vob 4.0.1 has no public call
+/// like it.
 #[inline(always)]
 pub fn next_index<T: Block>(
     blocks: &mut Blocks<'_, T>,
@@ -133,9 +136,10 @@ pub fn next_index<T: Block>(
     if index < len { Some(index) } else { None }
 }
 
-/// The last index up to `upto` and below `len` whose bit has the value. Reads the blocks from that
-/// of the greatest index that is looked at down to that of the index once each, and no other. vob
-/// 4.0.1 has no public call like it.
+/// The last index up to `upto` and below `len` whose bit has the value. Reads the blocks from that of
+/// the greatest index that is looked at down to that of the index, or to the first one where the
+/// answer is None, at most once each, and no other; none where `len` is 0. vob 4.0.1 has no public
+/// call like it.
 #[inline(always)]
 pub fn previous_index<T: Block>(
     blocks: &mut Blocks<'_, T>,
