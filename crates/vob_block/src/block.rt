@@ -112,7 +112,7 @@ pub trait Block: Copy + Eq + Hash + Debug {
     fn zeros_high(self) -> usize
         ensures { HasZerosHigh BITS (number self) result };
 
-    /// The block with its first true place made false. The number of that place isn't waited for.
+    /// The block with its first true place made false.
     fn without_first(self) -> Self
         requires { number self ≢ 0 }
         ensures places { (j : ℕ) → HasZerosLow BITS (number self) j → HasPlaces BITS (number result)
