@@ -1,5 +1,5 @@
 -- By the lemmas on blocks that are read one after another.
-use Rattle.std.proofs.Common.{◌-◌, ◌<◌, ◌∙◌, length, sym, ap, arith}
+use Rattle.std.proofs.Common.{◌∙◌, length, sym, ap, arith}
 use Rattle.std.proofs.lemmas.Bool.{false≢true}
 use Rattle.vob_walk.proofs.ReadLemmas.{ScansDown-inside, ReadsDown-start, ReadsDown-found, ReadsDown-end}
 use Rattle.vob_walk.proofs.scan.find_back.Goals as goal
@@ -35,9 +35,7 @@ loop-found-preserved g c =
 
 pub loop-found-smaller : goal.loop-found-smaller
 loop-found-smaller g c =
-    let less : c.in-Some.found.0 - c.args.next < c.loop-found.till - c.args.next =
-    omega (arith, ScansDown-inside c.in-Some.is c.last_other.ensures) in
-    less
+    omega (arith, ScansDown-inside c.in-Some.is c.last_other.ensures)
 
 pub returns-then-not-is_empty-clause-reads : goal.returns-then-not-is_empty-clause-reads
 returns-then-not-is_empty-clause-reads g c =

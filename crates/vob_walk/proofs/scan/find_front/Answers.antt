@@ -1,5 +1,5 @@
 -- By the lemmas on blocks that are read one after another.
-use Rattle.std.proofs.Common.{◌+◌, ◌-◌, ◌<◌, ◌∙◌, length, sym, ap, arith}
+use Rattle.std.proofs.Common.{◌∙◌, length, sym, ap, arith}
 use Rattle.std.proofs.lemmas.Bool.{false≢true}
 use Rattle.vob_walk.proofs.ReadLemmas.{ScansUp-inside, ReadsUp-start, ReadsUp-found, ReadsUp-end}
 use Rattle.vob_walk.proofs.scan.find_front.Goals as goal
@@ -37,9 +37,7 @@ loop-found-preserved g c =
 
 pub loop-found-smaller : goal.loop-found-smaller
 loop-found-smaller g c =
-    let less : c.args.end - (c.in-Some.found.0 + 1) < c.args.end - c.loop-found.from =
-    omega (arith, ScansUp-inside c.in-Some.is c.first_other.ensures) in
-    less
+    omega (arith, ScansUp-inside c.in-Some.is c.first_other.ensures)
 
 pub returns-then-not-is_empty-clause-reads : goal.returns-then-not-is_empty-clause-reads
 returns-then-not-is_empty-clause-reads g c =
