@@ -287,6 +287,7 @@ impl<T: Block> Vob<T> {
     /// The blocks, the one with bit 0 first, to be read with a count that contracts see.
     pub fn blocks(&self) -> Blocks<'_, T>
         ensures blocks { map T.number result.items ≡ packing self.now.bits T.BITS }
+        ensures canonical { IsCanonical (length self.now.bits) (map T.number result.items) T.BITS }
         ensures reads { result.reads ≡ 0 }
     {
         Blocks::new(self.vec.as_slice())
