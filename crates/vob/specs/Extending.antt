@@ -64,4 +64,4 @@ module _ {S : Type 0} (steps : S → Option Bool → S → Type 0) (it : S) (hin
     pub ok : OnOk result (AddsAll steps it before after)
     pub err : IfErr result (λ refusal. RefusesHint steps it before after hint refusal
         ⊎ RefusesItem steps it before after hint refusal)
-    pub too_long : IsTooLong before hint → result ≡ Err TooLong
+    pub too_long : IsTooLong before hint → (result ≡ Err TooLong) × (after.bits ≡ before.bits)

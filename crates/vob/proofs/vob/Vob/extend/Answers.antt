@@ -20,7 +20,7 @@ returns-in_err-reserve-clause-extended g c =
       rw (p.1, p.2) (record {
         ok = tt;
         err = inl (refused.0, refused.1, e.bits);
-        too_long = λ h. e.refused.too_long.1 h;
+        too_long = λ h. (e.refused.too_long.1 h, e.bits);
       }),
     )
 
