@@ -12,8 +12,8 @@ use vob_store::copy::{Stretch, copy_bits};
 impl<T: Block> Vob<T> {
     /// Writes the other's bits of the range over those from `at` on. Every pair of bounds is
     /// accepted: the range is cut at the other's length, and holds no bit where its end is before
-    /// its start. What it holds has to fit behind `at`. The other bits stay, and no memory is asked
-    /// for.
+    /// its start. What it holds has to fit from `at` on. The other bits stay, and no memory is
+    /// asked for.
     pub fn copy_range<R: RangeBounds<usize>>(&mut self, at: usize, other: &Vob<T>, range: R)
         requires bounds { R.has_bounds range }
         requires fits { FitsFrom at (R.start_bound range) (R.end_bound range) other.now.bits

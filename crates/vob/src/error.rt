@@ -4,7 +4,8 @@ ghost use Rattle.vob.specs.declared.error.VobError.TheVariants.{Memory};
 use std::alloc::AllocError;
 use thiserror::Error;
 
-/// Why a call was refused. vob 4.0.1 panics, or ends the process, in its place.
+/// Why a call was refused. vob 4.0.1 panics in place of `TooLong`, ends the process in place of
+/// `Memory`, and gives an empty Vob in place of `PastEnd`.
 #[derive(Clone, Copy, Debug, PartialEq, Eq, Error)]
 pub enum VobError {
     /// The new length would pass the greatest one, `usize::MAX`.
@@ -51,10 +52,12 @@ pub enum IndicesError {
     /// There was no memory for the blocks.
     #[error("out of memory")]
     Memory,
-    /// An index was at or past the length. Of the indices given, the one at `position` is the first
-    /// such one.
+    /// An index was at or past the length.
     #[error("the index at position {position} is at or past the length")]
-    OutOfRange { position: usize },
+    OutOfRange {
+        /// Where the first such index stands among those given, counted from 0.
+        position: usize,
+    },
 }
 
 impl From<AllocError> for IndicesError {

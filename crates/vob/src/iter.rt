@@ -67,8 +67,11 @@ impl<T: Block> Vob<T> {
         }
     }
 
-    /// The indices of the set bits within a range, the least first. vob 4.0.1 adds 1 to an included
-    /// end and to an excluded start unchecked, so `usize::MAX` there panics or wraps.
+    /// The indices of the set bits within a range, the least first. Every pair of bounds is
+    /// accepted, and the range is cut at the length. No block is read before an index is asked
+    /// for, and in all there is at most one read more than blocks that hold an index of the range.
+    /// vob 4.0.1 adds 1 to an included end and to an excluded start unchecked, so `usize::MAX`
+    /// there panics or wraps.
     ///
     /// ```
     /// let vob = vob::vob!(alloc; true, false, true)?;
@@ -87,8 +90,11 @@ impl<T: Block> Vob<T> {
         IterSetBits::over(self.blocks(), self.len(), range)
     }
 
-    /// The indices of the unset bits within a range, the least first. vob 4.0.1 adds 1 to an included
-    /// end and to an excluded start unchecked, so `usize::MAX` there panics or wraps.
+    /// The indices of the unset bits within a range, the least first. Every pair of bounds is
+    /// accepted, and the range is cut at the length. No block is read before an index is asked
+    /// for, and in all there is at most one read more than blocks that hold an index of the range.
+    /// vob 4.0.1 adds 1 to an included end and to an excluded start unchecked, so `usize::MAX`
+    /// there panics or wraps.
     pub fn iter_unset_bits<R: RangeBounds<usize>>(&self, range: R) -> IterUnsetBits<'_, T>
         ensures fresh { R.has_bounds range
             → IsFresh result self.now.bits false (R.start_bound range) (R.end_bound range) T.BITS }

@@ -50,8 +50,8 @@ impl<T: Block> Vob<T> {
         negate(&mut self.vec, self.len);
     }
 
-    /// Keeps the bits that both have, and answers whether a bit changed. vob 4.0.1 panics on
-    /// unequal lengths.
+    /// Keeps the bits that both have, and answers whether a bit changed. The lengths have to be
+    /// equal; vob 4.0.1 panics where they aren't.
     ///
     /// ```
     /// let mut vob = vob::vob!(alloc; true, true)?;
@@ -69,8 +69,8 @@ impl<T: Block> Vob<T> {
         T::and_into(self.vec.as_mut_slice(), &mut other.blocks())
     }
 
-    /// Gets the bits that either has, and answers whether a bit changed. vob 4.0.1 panics on
-    /// unequal lengths.
+    /// Gets the bits that either has, and answers whether a bit changed. The lengths have to be
+    /// equal; vob 4.0.1 panics where they aren't.
     ///
     /// ```
     /// let mut vob = vob::vob!(alloc; true, false)?;
@@ -88,8 +88,8 @@ impl<T: Block> Vob<T> {
         T::or_into(self.vec.as_mut_slice(), &mut other.blocks())
     }
 
-    /// Gets the bits that one has and the other hasn't, and answers whether a bit changed. vob
-    /// 4.0.1 panics on unequal lengths.
+    /// Gets the bits that one has and the other hasn't, and answers whether a bit changed. The
+    /// lengths have to be equal; vob 4.0.1 panics where they aren't.
     pub fn xor(&mut self, other: &Vob<T>) -> bool
         requires { HaveSameLength self.old other.now }
         ensures bits { self.new.bits ≡ pointwise differ self.old.bits other.now.bits }
@@ -110,8 +110,8 @@ impl<'a, 'b, T: Block> BitAnd<&'b Vob<T>> for &'a Vob<T> {
     ghost bitand_gives = { λ vob other result. IfOk result
         (λ made. made.bits ≡ pointwise ◌&&◌ vob.now.bits other.now.bits) };
 
-    /// The bits that both have, in a new Vob, or a refusal for its memory. vob 4.0.1 panics on
-    /// unequal lengths, and ends the process where memory is refused.
+    /// The bits that both have, in a new Vob, or a refusal for its memory. The lengths have to be
+    /// equal; vob 4.0.1 panics where they aren't, and ends the process where memory is refused.
     fn bitand(self, other: &'b Vob<T>) -> Result<Vob<T>, AllocError> {
         let mut made = self.clone()?;
         made.and(other);
@@ -127,8 +127,8 @@ impl<'a, 'b, T: Block> BitOr<&'b Vob<T>> for &'a Vob<T> {
     ghost bitor_gives = { λ vob other result. IfOk result
         (λ made. made.bits ≡ pointwise ◌||◌ vob.now.bits other.now.bits) };
 
-    /// The bits that either has, in a new Vob, or a refusal for its memory. vob 4.0.1 panics on
-    /// unequal lengths, and ends the process where memory is refused.
+    /// The bits that either has, in a new Vob, or a refusal for its memory. The lengths have to be
+    /// equal; vob 4.0.1 panics where they aren't, and ends the process where memory is refused.
     fn bitor(self, other: &'b Vob<T>) -> Result<Vob<T>, AllocError> {
         let mut made = self.clone()?;
         made.or(other);
@@ -144,8 +144,9 @@ impl<'a, 'b, T: Block> BitXor<&'b Vob<T>> for &'a Vob<T> {
     ghost bitxor_gives = { λ vob other result. IfOk result
         (λ made. made.bits ≡ pointwise differ vob.now.bits other.now.bits) };
 
-    /// The bits that one has and the other hasn't, in a new Vob, or a refusal for its memory. vob
-    /// 4.0.1 panics on unequal lengths, and ends the process where memory is refused.
+    /// The bits that one has and the other hasn't, in a new Vob, or a refusal for its memory. The
+    /// lengths have to be equal; vob 4.0.1 panics where they aren't, and ends the process where
+    /// memory is refused.
     fn bitxor(self, other: &'b Vob<T>) -> Result<Vob<T>, AllocError> {
         let mut made = self.clone()?;
         made.xor(other);
@@ -160,7 +161,8 @@ impl<'a, T: Block> BitAnd<&'a Vob<T>> for Vob<T> {
 
     ghost bitand_gives = { λ vob other result. BecomesPointwise ◌&&◌ vob other.now result };
 
-    /// The bits that both have, in the blocks of the left one. vob 4.0.1 panics on unequal lengths.
+    /// The bits that both have, in the blocks of the left one. The lengths have to be equal; vob
+    /// 4.0.1 panics where they aren't.
     fn bitand(mut self, other: &'a Vob<T>) -> Vob<T> {
         self.and(other);
         self
@@ -172,7 +174,7 @@ impl<'a, T: Block> BitAndAssign<&'a Vob<T>> for Vob<T> {
 
     ghost bitand_assign_gives = { λ vob other after. BecomesPointwise ◌&&◌ vob other.now after };
 
-    /// As `and`, without its answer.
+    /// As `and`, on equal lengths too, without its answer.
     fn bitand_assign(&mut self, other: &'a Vob<T>) {
         self.and(other);
     }
@@ -185,8 +187,8 @@ impl<'a, T: Block> BitOr<&'a Vob<T>> for Vob<T> {
 
     ghost bitor_gives = { λ vob other result. BecomesPointwise ◌||◌ vob other.now result };
 
-    /// The bits that either has, in the blocks of the left one. vob 4.0.1 panics on unequal
-    /// lengths.
+    /// The bits that either has, in the blocks of the left one. The lengths have to be equal; vob
+    /// 4.0.1 panics where they aren't.
     fn bitor(mut self, other: &'a Vob<T>) -> Vob<T> {
         self.or(other);
         self
@@ -198,7 +200,7 @@ impl<'a, T: Block> BitOrAssign<&'a Vob<T>> for Vob<T> {
 
     ghost bitor_assign_gives = { λ vob other after. BecomesPointwise ◌||◌ vob other.now after };
 
-    /// As `or`, without its answer.
+    /// As `or`, on equal lengths too, without its answer.
     fn bitor_assign(&mut self, other: &'a Vob<T>) {
         self.or(other);
     }
@@ -211,8 +213,8 @@ impl<'a, T: Block> BitXor<&'a Vob<T>> for Vob<T> {
 
     ghost bitxor_gives = { λ vob other result. BecomesPointwise differ vob other.now result };
 
-    /// The bits that one has and the other hasn't, in the blocks of the left one. vob 4.0.1 panics
-    /// on unequal lengths.
+    /// The bits that one has and the other hasn't, in the blocks of the left one. The lengths have
+    /// to be equal; vob 4.0.1 panics where they aren't.
     fn bitxor(mut self, other: &'a Vob<T>) -> Vob<T> {
         self.xor(other);
         self
@@ -224,7 +226,7 @@ impl<'a, T: Block> BitXorAssign<&'a Vob<T>> for Vob<T> {
 
     ghost bitxor_assign_gives = { λ vob other after. BecomesPointwise differ vob other.now after };
 
-    /// As `xor`, without its answer.
+    /// As `xor`, on equal lengths too, without its answer.
     fn bitxor_assign(&mut self, other: &'a Vob<T>) {
         self.xor(other);
     }

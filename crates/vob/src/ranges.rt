@@ -10,8 +10,7 @@ use vob_store::range::{Negate, Set, Unset, change_range};
 
 impl<T: Block> Vob<T> {
     /// Makes each bit of the range `value`, and answers whether a bit changed. The range is cut at
-    /// the length, and one whose end is before its start is empty. Only its first and its last
-    /// block are masked.
+    /// the length, and one whose end is before its start is empty.
     ///
     /// ```
     /// let mut vob = vob::vob!(alloc; false, false, false)?;
@@ -37,7 +36,7 @@ impl<T: Block> Vob<T> {
     }
 
     /// Negates each bit of the range. The range is cut at the length, and one whose end is before
-    /// its start is empty. Only its first and its last block are masked.
+    /// its start is empty.
     ///
     /// ```
     /// let mut vob = vob::vob!(alloc; true, false, true)?;

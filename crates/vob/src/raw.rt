@@ -127,11 +127,15 @@ impl<T: Block> Vob<T> {
     }
 }
 
-/// What is written and read in place of a Vob: its length in bits and its blocks. One that was read
-/// promises nothing before `into_vob`; vob 4.0.1 reads a Vob with any length and any blocks.
+/// A length in bits and some blocks, in the form in which a Vob is written and read too. It is for
+/// a program that wants refused storage back: `into_vob` hands that back, where reading a Vob drops
+/// it with an error. A record that was read promises nothing; vob 4.0.1 reads a Vob with any length
+/// and any blocks.
 #[derive(Debug, Drop, Serialize, Deserialize)]
 pub struct VobRecord<T = usize> {
+    /// The length in bits.
     pub len: usize,
+    /// The blocks, the one with bit 0 first.
     pub vec: Vec<T>,
 }
 

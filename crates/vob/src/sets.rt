@@ -205,8 +205,8 @@ impl<T: Block> Vob<T> {
         index_of_rank(&mut self.blocks(), k)
     }
 
-    /// Keeps the bits that the other hasn't, and answers whether a bit changed. Each block of the
-    /// other is read once.
+    /// Keeps the bits that the other hasn't, and answers whether a bit changed. The lengths have to
+    /// be equal. Each block of the other is read once.
     pub fn and_not(&mut self, other: &Vob<T>) -> bool
         requires { HaveSameLength self.old other.now }
         ensures bits { self.new.bits ≡ pointwise without self.old.bits other.now.bits }
@@ -218,7 +218,7 @@ impl<T: Block> Vob<T> {
         combine_into::<Without, T>(self.vec.as_mut_slice(), &mut other.blocks())
     }
 
-    /// Whether the other has each set bit too.
+    /// Whether the other has each set bit too. The lengths have to be equal.
     pub fn is_subset(&self, other: &Vob<T>) -> bool
         requires { HaveSameLength self.now other.now }
         ensures answer { IsTrue result ↔ IsSubset self.now.bits other.now.bits }
@@ -228,7 +228,7 @@ impl<T: Block> Vob<T> {
         has_none::<Without, T>(self.vec.as_slice(), &mut other.blocks())
     }
 
-    /// Whether each set bit of the other is set here too.
+    /// Whether each set bit of the other is set here too. The lengths have to be equal.
     pub fn is_superset(&self, other: &Vob<T>) -> bool
         requires { HaveSameLength self.now other.now }
         ensures answer { IsTrue result ↔ IsSubset other.now.bits self.now.bits }
@@ -238,7 +238,7 @@ impl<T: Block> Vob<T> {
         other.is_subset(self)
     }
 
-    /// Whether no bit is set in both.
+    /// Whether no bit is set in both. The lengths have to be equal.
     pub fn is_disjoint(&self, other: &Vob<T>) -> bool
         requires { HaveSameLength self.now other.now }
         ensures answer { IsTrue result ↔ AreDisjoint self.now.bits other.now.bits }
@@ -248,7 +248,7 @@ impl<T: Block> Vob<T> {
         has_none::<And, T>(self.vec.as_slice(), &mut other.blocks())
     }
 
-    /// How many bits are set in both.
+    /// How many bits are set in both. The lengths have to be equal.
     pub fn count_and(&self, other: &Vob<T>) -> usize
         requires { HaveSameLength self.now other.now }
         ensures { result ≡ count_of true (pointwise ◌&&◌ self.now.bits other.now.bits) }
@@ -256,7 +256,7 @@ impl<T: Block> Vob<T> {
         self.combined_count::<And>(other)
     }
 
-    /// How many bits are set in either.
+    /// How many bits are set in either. The lengths have to be equal.
     pub fn count_or(&self, other: &Vob<T>) -> usize
         requires { HaveSameLength self.now other.now }
         ensures { result ≡ count_of true (pointwise ◌||◌ self.now.bits other.now.bits) }
@@ -264,7 +264,7 @@ impl<T: Block> Vob<T> {
         self.combined_count::<Or>(other)
     }
 
-    /// How many bits are set here and not in the other.
+    /// How many bits are set here and not in the other. The lengths have to be equal.
     pub fn count_and_not(&self, other: &Vob<T>) -> usize
         requires { HaveSameLength self.now other.now }
         ensures { result ≡ count_of true (pointwise without self.now.bits other.now.bits) }
@@ -272,7 +272,7 @@ impl<T: Block> Vob<T> {
         self.combined_count::<Without>(other)
     }
 
-    /// How many bits are set in one of them alone.
+    /// How many bits are set in one of them alone. The lengths have to be equal.
     pub fn count_xor(&self, other: &Vob<T>) -> usize
         requires { HaveSameLength self.now other.now }
         ensures { result ≡ count_of true (pointwise differ self.now.bits other.now.bits) }

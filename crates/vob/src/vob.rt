@@ -51,7 +51,8 @@ impl<T: Block> Model for Vob<T> {
 }
 
 impl<T: Block> Vob<T> {
-    /// An empty Vob with room for `capacity` bits. Capacity 0 takes no memory.
+    /// An empty Vob with room for `capacity` bits. Capacity 0 takes no memory; refused memory is an
+    /// `AllocError`, where vob 4.0.1 ends the process.
     pub fn new_with_storage_type(alloc: Global, capacity: usize) -> Result<Vob<T>, AllocError>
         ensures empty { IfOk result (λ vob. vob.bits ≡ []) }
         ensures room { IfOk result (λ vob. capacity ≤ vob.capacity) }
@@ -61,7 +62,8 @@ impl<T: Block> Vob<T> {
         Ok(Vob { len: 0, vec })
     }
 
-    /// `len` times `value`. Length 0 takes no memory.
+    /// `len` times `value`. Length 0 takes no memory; refused memory is an `AllocError`, where vob
+    /// 4.0.1 ends the process.
     pub fn from_elem_with_storage_type(
         alloc: Global,
         value: bool,
@@ -75,7 +77,8 @@ impl<T: Block> Vob<T> {
         Ok(Vob { len, vec })
     }
 
-    /// A Vob with the same bits. The copy of an empty Vob takes no memory.
+    /// A Vob with the same bits. The copy of an empty Vob takes no memory; refused memory is an
+    /// `AllocError`. In vob 4.0.1 this is a trait's method, and ends the process there.
     ///
     /// ```
     /// let vob = vob::vob!(alloc; true, false)?;
@@ -123,9 +126,9 @@ impl<T: Block> Vob<T> {
     }
 
     /// Makes room for `additional` bits more than there are. Where there is that room already,
-    /// nothing changes; a length that can't be is refused first. vob 4.0.1 counts the missing blocks
-    /// from the capacity, and so may make too little room; it panics where the sum passes
-    /// `usize::MAX`.
+    /// nothing changes. A length past `usize::MAX` is refused first, where vob 4.0.1 panics, and
+    /// then memory, where it ends the process. It counts the missing blocks from the capacity, and
+    /// so may make too little room.
     pub fn reserve(&mut self, additional: usize) -> Result<(), VobError>
         ensures ok { OnOk result (length self.old.bits + additional ≤ self.new.capacity) }
         ensures bits { self.new.bits ≡ self.old.bits }
@@ -143,7 +146,8 @@ impl<T: Block> Vob<T> {
         Ok(())
     }
 
-    /// Gives room back that isn't used, as far as memory allows. The bits stay.
+    /// Gives room back that isn't used, as far as memory allows. The bits stay. vob 4.0.1 ends the
+    /// process where memory for the smaller room is refused.
     pub fn shrink_to_fit(&mut self)
         ensures bits { self.new.bits ≡ self.old.bits }
         ensures capacity { self.new.capacity ≤ self.old.capacity }
@@ -277,14 +281,16 @@ impl<T: Block> Vob<T> {
         self.truncate(0);
     }
 
-    /// The blocks, the one with bit 0 first.
+    /// The blocks, the one with bit 0 first. vob 4.0.1 has this behind the cargo feature
+    /// `unsafe_internals`, as a safe call.
     pub fn get_storage(&self) -> &[T]
         ensures { map T.number result.now ≡ packing self.now.bits T.BITS }
     {
         self.vec.as_slice()
     }
 
-    /// The blocks, the one with bit 0 first, to be read with a count that contracts see.
+    /// The blocks, the one with bit 0 first, to be read with a count that contracts see. vob 4.0.1
+    /// has no such call.
     pub fn blocks(&self) -> Blocks<'_, T>
         ensures blocks { map T.number result.items ≡ packing self.now.bits T.BITS }
         ensures canonical { IsCanonical (length self.now.bits) (map T.number result.items) T.BITS }
@@ -310,7 +316,8 @@ impl Vob<usize> {
         }
     }
 
-    /// An empty Vob with room for `capacity` bits. Capacity 0 takes no memory.
+    /// An empty Vob with room for `capacity` bits. Capacity 0 takes no memory; refused memory is an
+    /// `AllocError`, where vob 4.0.1 ends the process.
     pub fn with_capacity(alloc: Global, capacity: usize) -> Result<Vob<usize>, AllocError>
         ensures empty { IfOk result (λ vob. vob.bits ≡ []) }
         ensures room { IfOk result (λ vob. capacity ≤ vob.capacity) }
@@ -319,7 +326,8 @@ impl Vob<usize> {
         Vob::new_with_storage_type(alloc, capacity)
     }
 
-    /// `len` times `value`. Length 0 takes no memory.
+    /// `len` times `value`. Length 0 takes no memory; refused memory is an `AllocError`, where vob
+    /// 4.0.1 ends the process.
     ///
     /// ```
     /// let vob = Vob::from_elem(alloc, true, 129)?;
@@ -333,7 +341,8 @@ impl Vob<usize> {
         Vob::from_elem_with_storage_type(alloc, value, len)
     }
 
-    /// The bits of a slice. No bits take no memory.
+    /// The bits of a slice. No bits take no memory; refused memory is an `AllocError`. vob 4.0.1
+    /// has no such call.
     ///
     /// ```
     /// let vob = Vob::from_slice(alloc, &[true, false, true])?;
@@ -370,7 +379,8 @@ impl Vob<usize> {
     }
 
     /// The items of an iterator that ends. The lower bound of its size hint is reserved first.
-    /// vob 4.0.1 panics where there are more than `usize::MAX` items.
+    /// Refused are more than `usize::MAX` items, where vob 4.0.1 panics, and memory, where it ends
+    /// the process.
     pub fn from_iter<I: IntoIterator<Item = bool>>(
         alloc: Global,
         iter: I,
@@ -411,6 +421,7 @@ impl<T: Block> Index<usize> for Vob<T> {
 }
 
 impl<T: Block> fmt::Debug for Vob<T> {
+    /// `Vob[`, a digit for each bit, that of index 0 first, and `]`, as vob 4.0.1 writes it.
     fn fmt<W: fmt::Write>(&self, f: &mut fmt::Formatter<W>) -> fmt::Result {
         write!(f, "Vob[")?;
         for bit in self {
