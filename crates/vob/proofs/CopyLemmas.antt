@@ -2,16 +2,17 @@
 use Rattle.std.specs.Prelude.{All}
 use Rattle.std.specs.declared.ops.Bound.{Bound}
 use Rattle.std.specs.declared.ops.Bound.TheVariants.{Included, Excluded, Unbounded}
-use Rattle.std.proofs.Common.{◌≡◌, ℕ, ◌+◌, ◌-◌, ◌*◌, ◌^◌, ◌<◌, ◌≤◌, nat_le, nat_lt, Bool, true, false, ◌&&◌, List, ◌++◌, length, map, take, drop, refl, sym, ap, ◌∙◌, subst, arith, inl, inr}
+use Rattle.std.proofs.Common.{◌≡◌, ℕ, ◌+◌, ◌-◌, ◌*◌, ◌^◌, ◌<◌, ◌≤◌, nat_le, nat_lt, Bool, true, false, List, ◌++◌, length, map, take, drop, refl, sym, ap, ◌∙◌, subst, arith, inl, inr}
 use Rattle.std.proofs.lemmas.Bool.{cases_lt, and_from, and_parts, le-leb, leb-true, lt-ltb, ltb-true}
 use Rattle.std.proofs.lemmas.List.{ext_get_or, get_or_append_left, get_or-append_right, get_or-take, get_or-drop, length-append, length-drop, length-map, length-take-le}
 use Rattle.vob_block.specs.Packing.{item, need, packing, unpacking, IsCanonical}
 use Rattle.vob_block.proofs.NeedLemmas.{need_enough}
 use Rattle.vob_block.proofs.PackingLemmas.{bit_at-is_item, length-unpacking, packing_is}
 use Rattle.vob_store.specs.Copying.{AreCopied}
-use Rattle.vob_walk.specs.Matches.{from_start, up_to_end, within}
+use Rattle.vob_walk.specs.Matches.{from_start, up_to_end}
 use Rattle.vob.specs.Copy.{start_of, written_over, IsCopied, FitsFrom, IsRangeCopied}
 use Rattle.vob.specs.Drain.{bits_within}
+use Rattle.vob.specs.Ranges.{IsRangeOf}
 use Rattle.vob.proofs.BitsLemmas.{bits_within-cut}
 
 -- ---- where a range begins
@@ -32,18 +33,18 @@ end_below (Excluded b) i j less h = lt-ltb i b (omega (arith, less, ltb-true j b
 end_below Unbounded i j less h = refl
 
 -- the indices of the range below a length are those from one to below another
-module _ (low high : Bound ℕ) (from to n : ℕ) (inside : to ≤ n)
-    (each : (i : ℕ) → i < n → within low high i ≡ (nat_le from i && nat_lt i to)) where
+module _ {low high : Bound ℕ} {from to n : ℕ} (range : IsRangeOf low high n from to) where
   -- where there is one, the first is that where the range begins
   pub start-is : from < to → from ≡ start_of low
   start-is some =
       let first = start_of low in
-      let here = and_parts (from_start low from) (up_to_end high from) (each from (omega arith)
+      let here = and_parts (from_start low from) (up_to_end high from)
+      (range.each from (omega (arith, some, range.inside))
       ∙ and_from (nat_le from from) (nat_lt from to) (le-leb from from (omega arith))
       (lt-ltb from to some)) in
       let least = start_least low from here.0 in
       let there = and_parts (nat_le from first) (nat_lt first to)
-      (sym (each first (omega (arith, least, some, inside)))
+      (sym (range.each first (omega (arith, least, some, range.inside)))
       ∙ and_from (from_start low first) (up_to_end high first) (start_meets low)
       (end_below high first from least here.1)) in
       omega (arith, least, leb-true from first there.0)
@@ -134,21 +135,20 @@ IsCopied-from {at} {start} {count} {bits} {others} {after} first same h = record
 
 -- the range cut to the indices from one to below another
 module _ (low high : Bound ℕ) (others : List Bool) {from to m : ℕ} (len : m ≡ length others)
-    (ordered : from ≤ to) (inside : to ≤ m)
-    (window : (i : ℕ) → i < m → within low high i ≡ (nat_le from i && nat_lt i to)) where
+    (range : IsRangeOf low high m from to) where
   taken_is : bits_within low high others ≡ take (to - from) (drop from others)
-  taken_is = bits_within-cut low high others from to ordered (omega (arith, inside, len))
-      (λ i below. window i (omega (arith, below, len)))
+  taken_is = bits_within-cut low high others from to range.order
+      (omega (arith, range.inside, len)) (λ i below. range.each i (omega (arith, below, len)))
 
   pub count_is : length (bits_within low high others) ≡ to - from
   count_is = ap length taken_is ∙ length-take-le (to - from) (drop from others)
-      (omega (arith, length-drop from others, inside, len))
+      (omega (arith, length-drop from others, range.inside, len))
 
   module _ {at : ℕ} {bits after : List Bool} (h : IsCopied at from (to - from) bits others after)
     where
       pub IsCopied-range : IsRangeCopied at low high bits others after
       IsCopied-range = rw count_is (IsCopied-from (start_of low)
-          (λ some. start-is low high from to m inside window (omega (arith, some))) h)
+          (λ some. start-is range (omega (arith, some))) h)
 
       pub IsCopied-list : FitsFrom at low high others bits
           → after ≡ written_over at (bits_within low high others) bits

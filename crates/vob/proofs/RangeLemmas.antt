@@ -1,6 +1,6 @@
 -- What becomes of a list of bits whose blocks are changed from one index to below another.
 use Rattle.std.specs.declared.ops.Bound.{Bound}
-use Rattle.std.proofs.Common.{◌≡◌, ℕ, ◌+◌, ◌-◌, ◌<◌, ◌≤◌, nat_le, nat_lt, Bool, true, false, ◌&&◌, List, [], ◌∷◌, ◌++◌, length, map, take, drop, replicate, refl, sym, ap, ◌∙◌, subst, arith, inl, inr, length-append}
+use Rattle.std.proofs.Common.{◌≡◌, ℕ, ◌+◌, ◌-◌, ◌<◌, ◌≤◌, nat_le, nat_lt, Bool, true, false, List, [], ◌∷◌, ◌++◌, length, map, take, drop, replicate, refl, sym, ap, ◌∙◌, subst, arith, inl, inr, length-append}
 use Rattle.std.proofs.lemmas.Bool.{cases_lt, and_left, and_right, and_from, and_parts, lt-leb, le-leb, lt-ltb, le-ltb, ltb-true, leb-true, false≢true}
 use Rattle.std.proofs.lemmas.List.{ext_get_or, length-take-le, length-drop, length-map, get_or-take, get_or-drop, get_or-map, get_or_append_left, get_or-append_right}
 use Rattle.vob_block.specs.Packing.{item, unpacking, IsCanonical}
@@ -125,16 +125,13 @@ IsChangedWithin-value {value} {low} {high} {bits} changed start stop range =
 -- the same as the code lends the blocks and gets them back
 module _ {X : Type 0} (number : X → ℕ) (w : ℕ) (wide : 0 < w) {low high : Bound ℕ} {n : ℕ}
     {items : List X} {bits : List Bool} (h : IsCanonical n (map number items) w)
-    (view : unpacking n (map number items) w ≡ bits) (start stop : ℕ) (order : start ≤ stop)
-    (inside : stop ≤ n)
-    (window : (i : ℕ) → i < n → within low high i ≡ (nat_le start i && nat_lt i stop)) where
+    (view : unpacking n (map number items) w ≡ bits) {start stop : ℕ}
+    (range : IsRangeOf low high n start stop) where
   pub changed_here : {f : Bool → Bool} {lent own left : List X} → lent ≡ items → left ≡ own
       → IsCanonical n (map number own) w
       → IsRanged w f start stop (map number lent) (map number own)
       → IsChangedWithin f low high bits (unpacking n (map number left) w)
   changed_here {f} {lent} {own} {left} lent_is left_is canonical ranged =
-      let range : IsRangeOf low high n start stop =
-      record { order = order; inside = inside; each = window } in
       let whole = IsChangedWithin-ranged w wide h canonical
       (subst (λ (xs : List X). IsRanged w f start stop (map number xs) (map number own)) lent_is
       ranged)

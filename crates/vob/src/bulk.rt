@@ -1,12 +1,12 @@
 //! Calls on many bits at once: growing, joining and cutting.
-ghost use Rattle.std.specs.Prelude.{◌≡◌, ◌≢◌, ◌↔◌, ℕ, ◌+◌, ◌-◌, ◌<◌, ◌≤◌, ◌&&◌, nat_le, nat_lt, [], ◌++◌, map, length, take, drop, replicate, IsOk, IfOk, IfErr, OnOk, OnErr, Err};
+ghost use Rattle.std.specs.Prelude.{◌≡◌, ◌≢◌, ◌↔◌, ℕ, ◌+◌, ◌-◌, ◌<◌, ◌≤◌, [], ◌++◌, map, length, take, drop, replicate, IsOk, IfOk, IfErr, OnOk, OnErr, Err};
 ghost use Rattle.std.specs.Iterator.{IsFinite};
 ghost use Rattle.std.specs.Iterator.SizeHint.{IsWithinCount};
 ghost use Rattle.vob_block.specs.Packing.{need, unpacking, IsCanonical};
 ghost use Rattle.vob_block.specs.Reading.{AreReadOnce};
-ghost use Rattle.vob_walk.specs.Matches.{within};
 ghost use Rattle.vob.specs.Drain.{bits_within, IsDrained};
 ghost use Rattle.vob.specs.Extending.{AddsAll, IsExtended, RefusesItem, RefusesMore};
+ghost use Rattle.vob.specs.Ranges.{IsRangeOf};
 ghost use Rattle.vob.specs.Refusal.{RefusesPastEnd};
 ghost use Rattle.vob.specs.Vob.{HasRoomFor};
 
@@ -228,9 +228,8 @@ impl<T: Block> Vob<T> {
 pub(crate) fn cut_range<R: RangeBounds<usize>>(range: &R, len: usize) -> (usize, usize)
     ensures ordered { result.0 ≤ result.1 }
     ensures inside { result.1 ≤ len }
-    ensures window { R.has_bounds range.now → (i : ℕ) → i < len
-        → within (R.start_bound range.now) (R.end_bound range.now) i
-        ≡ (nat_le result.0 i && nat_lt i result.1) }
+    ensures window { R.has_bounds range.now
+        → IsRangeOf (R.start_bound range.now) (R.end_bound range.now) len result.0 result.1 }
 {
     let to = past_last_index(range, len);
     (first_index(range, to), to)

@@ -11,8 +11,7 @@ copy_between-requires-clause-fits g c =
     omega (
       arith,
       c.requires.fits,
-      count_is low high c.args.other.now.bits c.len.ensures.len cut.ordered cut.inside
-          (cut.window c.requires.bounds),
+      count_is low high c.args.other.now.bits c.len.ensures.len (cut.window c.requires.bounds),
     )
 
 pub returns-clause-bits : goal.returns-clause-bits
@@ -20,7 +19,7 @@ returns-clause-bits g c =
     let cut = c.cut_range-start.ensures in
     let low = g.R.RangeBounds.start_bound c.args.range in
     let high = g.R.RangeBounds.end_bound c.args.range in
-    IsCopied-list low high c.args.other.now.bits c.len.ensures.len cut.ordered cut.inside
+    IsCopied-list low high c.args.other.now.bits c.len.ensures.len
     (cut.window c.requires.bounds) c.copy_between.ensures.each c.requires.fits
 
 pub returns-clause-each : goal.returns-clause-each
@@ -28,5 +27,5 @@ returns-clause-each g c =
     let cut = c.cut_range-start.ensures in
     let low = g.R.RangeBounds.start_bound c.args.range in
     let high = g.R.RangeBounds.end_bound c.args.range in
-    IsCopied-range low high c.args.other.now.bits c.len.ensures.len cut.ordered cut.inside
+    IsCopied-range low high c.args.other.now.bits c.len.ensures.len
     (cut.window c.requires.bounds) c.copy_between.ensures.each

@@ -16,9 +16,7 @@ pub returns-then-from-to-clause-ok : goal.returns-then-from-to-clause-ok
 returns-then-from-to-clause-ok g c = λ in_range.
     let cut = c.cut_range-from in
     rw unpacking-zero (IsDrained-nothing _ _ _ g.T.Block.BITS _ (map g.T.Block.number c.self.inside.vec.items)
-    (ap (λ v. v.bits) c.self.view_is) cut.result.0 cut.result.1 cut.ensures.ordered
-    cut.ensures.inside (cut.ensures.window in_range)
-    c.if-from-to.true)
+    (ap (λ v. v.bits) c.self.view_is) (cut.ensures.window in_range) c.if-from-to.true)
 
 pub split_blocks-requires-clause-count : goal.split_blocks-requires-clause-count
 split_blocks-requires-clause-count g c = omega (
@@ -34,16 +32,13 @@ pub returns-in_err-vec-clause-nothing : goal.returns-in_err-vec-clause-nothing
 returns-in_err-vec-clause-nothing g c = λ in_range none.
     let cut = c.cut_range-from in
     absurd (c.if-from-to.false (drained_none _ _ _ g.T.Block.BITS _ (map g.T.Block.number c.self.inside.vec.items)
-    (ap (λ v. v.bits) c.self.view_is) cut.result.0 cut.result.1 cut.ensures.ordered
-    cut.ensures.inside (cut.ensures.window in_range)
-    none))
+    (ap (λ v. v.bits) c.self.view_is) (cut.ensures.window in_range) none))
 
 pub returns-clause-ok : goal.returns-clause-ok
 returns-clause-ok g c = λ in_range.
     let cut = c.cut_range-from in
     let range = is_cut _ _ _ g.T.Block.BITS _ (map g.T.Block.number c.self.inside.vec.items)
-    (ap (λ v. v.bits) c.self.view_is) cut.result.0 cut.result.1 cut.ensures.ordered
-    cut.ensures.inside (cut.ensures.window in_range) in
+    (ap (λ v. v.bits) c.self.view_is) (cut.ensures.window in_range) in
     record {
       given = c.in_ok-vec.ensures.bits
           ∙ ap (λ items. drop cut.result.0 (unpacking cut.result.1 (map g.T.Block.number items)

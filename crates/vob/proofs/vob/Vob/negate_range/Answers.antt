@@ -6,10 +6,9 @@ use Rattle.vob.proofs.vob.Vob.negate_range.Goals as goal
 
 pub returns-clause-each : goal.returns-clause-each
 returns-clause-each g c = λ in_range.
-    let cut = c.cut_range-start in
     changed_here g.T.Block.number g.T.Block.BITS g.met.T.Block.wide_law c.self.invariant
-    (ap (λ v. v.bits) c.self.view_is) cut.result.0 cut.result.1 cut.ensures.ordered
-    cut.ensures.inside (cut.ensures.window in_range) c.deref_mut.ensures.value
+    (ap (λ v. v.bits) c.self.view_is) (c.cut_range-start.ensures.window in_range)
+    c.deref_mut.ensures.value
     (take_at c.change_range.new.blocks (drop (length c.change_range.new.blocks)
     c.self.inside.vec.items) c.self.inside.vec.len
     (c.change_range.auto.blocks ∙ c.deref_mut.ensures.len))

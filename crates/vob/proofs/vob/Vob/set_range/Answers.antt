@@ -6,10 +6,9 @@ use Rattle.vob.proofs.vob.Vob.set_range.Goals as goal
 
 pub returns-then-value-clause-each : goal.returns-then-value-clause-each
 returns-then-value-clause-each g c = λ in_range.
-    let cut = c.cut_range-start in
     rw c.if-value.true (changed_here g.T.Block.number g.T.Block.BITS g.met.T.Block.wide_law
-    c.self.invariant (ap (λ v. v.bits) c.self.view_is) cut.result.0 cut.result.1
-    cut.ensures.ordered cut.ensures.inside (cut.ensures.window in_range)
+    c.self.invariant (ap (λ v. v.bits) c.self.view_is)
+    (c.cut_range-start.ensures.window in_range)
     c.deref_mut.ensures.value
     (take_at c.change_range.new.blocks (drop (length c.change_range.new.blocks)
     c.self.inside.vec.items) c.self.inside.vec.len
@@ -22,11 +21,10 @@ returns-then-value-clause-bits g c = λ in_range.
 
 pub returns-clause-each : goal.returns-clause-each
 returns-clause-each g c = λ in_range.
-    let cut = c.cut_range-start in
     let after = c.change_range-else-value in
     rw c.if-value.false (changed_here g.T.Block.number g.T.Block.BITS g.met.T.Block.wide_law
-    c.self.invariant (ap (λ v. v.bits) c.self.view_is) cut.result.0 cut.result.1
-    cut.ensures.ordered cut.ensures.inside (cut.ensures.window in_range)
+    c.self.invariant (ap (λ v. v.bits) c.self.view_is)
+    (c.cut_range-start.ensures.window in_range)
     c.deref_mut-else-value.ensures.value
     (take_at after.new.blocks (drop (length after.new.blocks)
     c.self.inside.vec.items) c.self.inside.vec.len
