@@ -42,6 +42,7 @@ impl Bits for Vob {
             Call::ToBytes => Offer::Other("its blocks, reversed"),
             Call::FromIndices => Offer::Other("from_elem, then set"),
             Call::Runs => Offer::Other("both walks in turn"),
+            Call::FirstFree => Offer::Other("next of iter_unset_bits"),
             Call::Select => Offer::Other("nth of a walk"),
             Call::Deal => Offer::Other("next or next_back, pull by pull"),
             _ => Offer::Same,

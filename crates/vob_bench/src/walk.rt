@@ -180,7 +180,7 @@ pub(crate) fn deal_in_turn(alloc: Global, bytes: &[u8], rounds: usize) -> Result
 /// The index of the first unset bit, or the length.
 #[inline(never)]
 fn first_unset(vob: &Vob) -> usize {
-    match vob.iter_unset_bits(..).next() {
+    match vob.first_unset() {
         Some(index) => index,
         None => vob.len(),
     }
