@@ -49,6 +49,11 @@ enum class Call : uint32_t {
     set_range,
     negate_range,
     copy_range,
+    superset,
+    disjoint,
+    count_or,
+    any,
+    all,
 };
 
 struct Input {
@@ -161,6 +166,8 @@ template <class B> uint64_t sample(const B &bits, size_t round) {
 }
 
 template <class B> void touch(B &bits, size_t round) { bits[round % bits.size()] = true; }
+
+template <class B> void clear(B &bits, size_t round) { bits[round % bits.size()] = false; }
 
 template <class B> uint64_t push(const Input &in, size_t rounds) {
     uint64_t times = 0;
@@ -294,6 +301,43 @@ uint64_t subset(const Input &in, size_t rounds) {
     return checksum(bits, times);
 }
 
+uint64_t superset(const Input &in, size_t rounds) {
+    uint64_t times = 0;
+    Dynamic bits = made_of<Dynamic>(in.bytes, in.byte_count);
+    Dynamic other = made_of<Dynamic>(in.others, in.other_count);
+    bits |= other;
+    for (size_t round = 0; round < rounds; round++) {
+        touch(bits, round);
+        touch(other, round);
+        times += other.is_subset_of(bits);
+    }
+    return checksum(bits, times);
+}
+
+uint64_t disjoint(const Input &in, size_t rounds) {
+    uint64_t times = 0;
+    Dynamic bits = made_of<Dynamic>(in.bytes, in.byte_count);
+    Dynamic other = made_of<Dynamic>(in.others, in.other_count);
+    other -= bits;
+    for (size_t round = 0; round < rounds; round++) {
+        touch(bits, round);
+        clear(other, round);
+        times += !bits.intersects(other);
+    }
+    return checksum(bits, times);
+}
+
+// What is counted are the rounds in which no bit is set.
+uint64_t any(const Input &in, size_t rounds) {
+    uint64_t times = 0;
+    Dynamic bits = made_of<Dynamic>(in.bytes, in.byte_count);
+    for (size_t round = 0; round < rounds; round++) {
+        clear(bits, round);
+        times += !bits.any();
+    }
+    return checksum(bits, times);
+}
+
 uint64_t set_bits(const Dynamic &bits) {
     uint64_t sum = 0;
     for (size_t index = bits.find_first(); index != Dynamic::npos; index = bits.find_next(index))
@@ -361,6 +405,19 @@ uint64_t run_dynamic(Call call, const Input &in, size_t rounds) {
         return seen<Dynamic>(in, rounds,
                              [&](const Dynamic &bits, size_t) { return (bits & other).count(); });
     }
+    case Call::superset:
+        return superset(in, rounds);
+    case Call::disjoint:
+        return disjoint(in, rounds);
+    case Call::count_or: {
+        Dynamic other = made_of<Dynamic>(in.others, in.other_count);
+        return seen<Dynamic>(in, rounds,
+                             [&](const Dynamic &bits, size_t) { return (bits | other).count(); });
+    }
+    case Call::any:
+        return any(in, rounds);
+    case Call::all:
+        return seen<Dynamic>(in, rounds, [](const Dynamic &bits, size_t) { return bits.all(); });
     case Call::closure:
         return closure(in, rounds);
     case Call::set_bits:

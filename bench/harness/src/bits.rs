@@ -122,7 +122,22 @@ pub trait Bits: Sized {
     fn subset(&self, _other: &Self) -> bool {
         unimplemented!()
     }
+    fn superset(&self, other: &Self) -> bool {
+        other.subset(self)
+    }
+    fn disjoint(&self, _other: &Self) -> bool {
+        unimplemented!()
+    }
     fn count_and(&self, _other: &Self) -> u64 {
+        unimplemented!()
+    }
+    fn count_or(&self, _other: &Self) -> u64 {
+        unimplemented!()
+    }
+    fn any(&self) -> bool {
+        unimplemented!()
+    }
+    fn all(&self) -> bool {
         unimplemented!()
     }
 
@@ -161,6 +176,11 @@ pub trait Bits: Sized {
 
     /// The first set bit at or above an index.
     fn next_set(&self, _from: usize) -> Option<usize> {
+        unimplemented!()
+    }
+
+    /// The last set bit below an index.
+    fn previous_set(&self, _below: usize) -> Option<usize> {
         unimplemented!()
     }
     fn same(&self, _other: &Self) -> bool {
@@ -206,6 +226,11 @@ fn sample<B: Bits>(bits: &B, round: usize) -> u64 {
 fn touch<B: Bits>(bits: &mut B, round: usize) {
     let index = round % bits.len();
     bits.set(index, true);
+}
+
+fn clear<B: Bits>(bits: &mut B, round: usize) {
+    let index = round % bits.len();
+    bits.set(index, false);
 }
 
 fn flip<B: Bits>(bits: &mut B, round: usize) {
@@ -310,9 +335,46 @@ fn subset<B: Bits>(input: &Input, rounds: usize) -> u64 {
     checksum(&bits, times)
 }
 
-fn count_and<B: Bits>(input: &Input, rounds: usize) -> u64 {
+fn superset<B: Bits>(input: &Input, rounds: usize) -> u64 {
+    let mut times = 0;
+    let mut bits = B::from_bytes(&input.bytes);
+    let mut other = B::from_bytes(&input.others);
+    bits.or(&other);
+    for round in 0..rounds {
+        touch(&mut bits, round);
+        touch(&mut other, round);
+        times += bits.superset(&other) as u64;
+    }
+    checksum(&bits, times)
+}
+
+fn disjoint<B: Bits>(input: &Input, rounds: usize) -> u64 {
+    let mut times = 0;
+    let mut bits = B::from_bytes(&input.bytes);
+    let mut other = B::from_bytes(&input.others);
+    other.and_not(&bits);
+    for round in 0..rounds {
+        touch(&mut bits, round);
+        clear(&mut other, round);
+        times += bits.disjoint(&other) as u64;
+    }
+    checksum(&bits, times)
+}
+
+/// `any` of no bit set: what is counted are the rounds in which none is.
+fn any<B: Bits>(input: &Input, rounds: usize) -> u64 {
+    let mut times = 0;
+    let mut bits = B::from_bytes(&input.bytes);
+    for round in 0..rounds {
+        clear(&mut bits, round);
+        times += !bits.any() as u64;
+    }
+    checksum(&bits, times)
+}
+
+fn count_both<B: Bits>(input: &Input, rounds: usize, count: impl Fn(&B, &B) -> u64) -> u64 {
     let other = B::from_bytes(&input.others);
-    seen(input, rounds, |bits: &B, _| bits.count_and(&other))
+    seen(input, rounds, |bits: &B, _| count(bits, &other))
 }
 
 /// The last round's bytes, of which each round looks at one.
@@ -357,6 +419,16 @@ fn next_bits<B: Bits>(bits: &B) -> u64 {
     while let Some(index) = bits.next_set(from) {
         sum = sum.wrapping_add(index as u64);
         from = index + 1;
+    }
+    sum
+}
+
+fn previous_bits<B: Bits>(bits: &B) -> u64 {
+    let mut sum = 0u64;
+    let mut below = bits.len();
+    while let Some(index) = bits.previous_set(below) {
+        sum = sum.wrapping_add(index as u64);
+        below = index;
     }
     sum
 }
@@ -574,7 +646,12 @@ pub fn run<B: Bits>(call: Call, input: &Input, rounds: usize) -> u64 {
         Call::Xor => taken(input, rounds, B::xor),
         Call::AndNot => taken(input, rounds, B::and_not),
         Call::Subset => subset::<B>(input, rounds),
-        Call::CountAnd => count_and::<B>(input, rounds),
+        Call::Superset => superset::<B>(input, rounds),
+        Call::Disjoint => disjoint::<B>(input, rounds),
+        Call::CountAnd => count_both(input, rounds, B::count_and),
+        Call::CountOr => count_both(input, rounds, B::count_or),
+        Call::Any => any::<B>(input, rounds),
+        Call::All => seen(input, rounds, |bits: &B, _| bits.all() as u64),
         Call::Equal => equal::<B>(input, rounds),
         Call::ExtendAligned => joined::<B>(input, 64, rounds),
         Call::ExtendShifted => joined::<B>(input, 64 + 13, rounds),
@@ -591,6 +668,7 @@ pub fn run<B: Bits>(call: Call, input: &Input, rounds: usize) -> u64 {
         Call::UnsetBitsBack => walked(input, rounds, B::unset_bits_back),
         Call::Deal => dealt::<B>(input, rounds),
         Call::NextSet => walked(input, rounds, next_bits::<B>),
+        Call::PreviousSet => walked(input, rounds, previous_bits::<B>),
         Call::Runs => walked(input, rounds, run_sum::<B>),
         Call::Select => selected::<B>(input, rounds),
         Call::Count => walked(input, rounds, B::counted),

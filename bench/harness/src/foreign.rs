@@ -83,6 +83,9 @@ pub fn conthiral(call: Call, input: &Input, rounds: usize) -> u64 {
         Call::Subset => pair(8),
         Call::CountAnd => pair(9),
         Call::CopyRange => pair(10),
+        Call::Superset => pair(11),
+        Call::Disjoint => pair(12),
+        Call::CountOr => pair(13),
         Call::SetBits => walk(0),
         Call::SetBitsBack => walk(1),
         Call::UnsetBits => walk(2),
@@ -94,6 +97,9 @@ pub fn conthiral(call: Call, input: &Input, rounds: usize) -> u64 {
         Call::SetBitsBetween => walk(8),
         Call::UnsetBitsBack => walk(9),
         Call::Deal => walk(10),
+        Call::PreviousSet => walk(11),
+        Call::Any => walk(12),
+        Call::All => walk(13),
         Call::Closure => unsafe {
             vob_bench_closure(bytes.as_ptr(), bytes.len(), input.row_bytes, rounds)
         },
@@ -172,7 +178,8 @@ pub fn twin_offer(library: Twin, call: Call) -> Offer {
         (Twin::VectorBool, Call::Set) => Offer::Less("no flag, no test of the index"),
         (Twin::Boost, Call::Iterate) => Offer::Less("by index, no test of it"),
         (Twin::Boost, Call::And | Call::Or | Call::Xor | Call::AndNot | Call::Closure) => NO_FLAG,
-        (Twin::Boost, Call::CountAnd) => Offer::Other("count of a new one"),
+        (Twin::Boost, Call::CountAnd | Call::CountOr) => Offer::Other("count of a new one"),
+        (Twin::Boost, Call::Superset) => Offer::Other("is_subset_of, turned round"),
         (Twin::Boost, Call::SetRange) => NO_FLAG,
         (Twin::Boost, Call::NegateRange) => Offer::Other("flip of a range"),
         (Twin::Boost, Call::NextSet) => Offer::Other("find_first, then find_next"),
@@ -188,6 +195,9 @@ pub fn twin_offer(library: Twin, call: Call) -> Offer {
             | Call::Clone
             | Call::Equal
             | Call::Subset
+            | Call::Disjoint
+            | Call::Any
+            | Call::All
             | Call::SetBits
             | Call::Count,
         ) => Offer::Same,

@@ -35,9 +35,14 @@ impl Bits for Vob {
             Call::FromSlice => COLLECT,
             Call::DrainAligned | Call::DrainShifted => CUTS,
             Call::AndNot => Offer::Other("and with a negated copy"),
-            Call::Subset => Offer::Other("and of a copy, then =="),
+            Call::Subset | Call::Superset => Offer::Other("and of a copy, then =="),
+            Call::Disjoint => Offer::Other("and of a copy, then next of iter_set_bits"),
             Call::CountAnd => Offer::Other("and of a copy, then count"),
+            Call::CountOr => Offer::Other("or of a copy, then count"),
+            Call::Any => Offer::Other("next of iter_set_bits"),
+            Call::All => Offer::Other("next of iter_unset_bits"),
             Call::NextSet => Offer::Other("iter_set_bits from there"),
+            Call::PreviousSet => Offer::Other("iter_set_bits to there, from the back"),
             Call::SetRange | Call::NegateRange | Call::CopyRange => Offer::Other("bit by bit"),
             Call::ToBytes => Offer::Other("its blocks, reversed"),
             Call::FromIndices => Offer::Other("from_elem, then set"),
@@ -156,10 +161,29 @@ impl Bits for Vob {
         both.and(other);
         both == *self
     }
+    fn disjoint(&self, other: &Vob) -> bool {
+        let mut both = self.clone();
+        both.and(other);
+        !both.any()
+    }
     fn count_and(&self, other: &Vob) -> u64 {
         let mut both = self.clone();
         both.and(other);
         both.iter_set_bits(..).count() as u64
+    }
+    fn count_or(&self, other: &Vob) -> u64 {
+        let mut either = self.clone();
+        either.or(other);
+        either.iter_set_bits(..).count() as u64
+    }
+    fn any(&self) -> bool {
+        self.iter_set_bits(..).next().is_some()
+    }
+    fn all(&self) -> bool {
+        self.iter_unset_bits(..).next().is_none()
+    }
+    fn previous_set(&self, below: usize) -> Option<usize> {
+        self.iter_set_bits(..below).next_back()
     }
     fn next_set(&self, from: usize) -> Option<usize> {
         self.iter_set_bits(from..).next()
@@ -197,6 +221,8 @@ impl Bits for FixedBitSet {
             Call::Push => Offer::Less("pre-sized"),
             Call::Set | Call::And | Call::Or | Call::Xor | Call::AndNot | Call::Closure => NO_FLAG,
             Call::CountAnd => Offer::Other("intersection, counted"),
+            Call::CountOr => Offer::Other("union, counted"),
+            Call::All => Offer::Other("count_ones, compared"),
             Call::SetRange => NO_FLAG,
             Call::NegateRange => Offer::Other("toggle_range"),
             Call::FromIndices => Offer::Other("insert by insert"),
@@ -211,6 +237,9 @@ impl Bits for FixedBitSet {
             | Call::Hash
             | Call::Equal
             | Call::Subset
+            | Call::Superset
+            | Call::Disjoint
+            | Call::Any
             | Call::SetBits
             | Call::Count => Offer::Same,
             _ => Offer::None,
@@ -229,6 +258,18 @@ impl Bits for FixedBitSet {
     fn subset(&self, other: &FixedBitSet) -> bool {
         self.is_subset(other)
     }
+    fn superset(&self, other: &FixedBitSet) -> bool {
+        self.is_superset(other)
+    }
+    fn disjoint(&self, other: &FixedBitSet) -> bool {
+        self.is_disjoint(other)
+    }
+    fn any(&self) -> bool {
+        !self.is_clear()
+    }
+    fn all(&self) -> bool {
+        self.count_ones(..) == FixedBitSet::len(self)
+    }
     fn set_range(&mut self, from: usize, to: usize, value: bool) {
         FixedBitSet::set_range(self, from..to, value);
     }
@@ -244,6 +285,9 @@ impl Bits for FixedBitSet {
     }
     fn count_and(&self, other: &FixedBitSet) -> u64 {
         self.intersection(other).count() as u64
+    }
+    fn count_or(&self, other: &FixedBitSet) -> u64 {
+        self.union(other).count() as u64
     }
     fn set_bits(&self) -> u64 {
         sum_of(self.ones())
@@ -337,8 +381,12 @@ impl Bits for BitVec {
             | Call::UnsetBits
             | Call::Count
             | Call::Subset
+            | Call::Superset
+            | Call::Disjoint
             | Call::CountAnd
+            | Call::CountOr
             | Call::NextSet
+            | Call::PreviousSet
             | Call::SetRange
             | Call::NegateRange
             | Call::CopyRange
@@ -425,6 +473,12 @@ impl Bits for BitVec {
     fn and_not(&mut self, other: &BitVec) -> bool {
         self.difference(other)
     }
+    fn any(&self) -> bool {
+        BitVec::any(self)
+    }
+    fn all(&self) -> bool {
+        BitVec::all(self)
+    }
     fn to_bytes(&self) -> Vec<u8> {
         BitVec::to_bytes(self)
     }
@@ -441,6 +495,7 @@ impl Bits for BitSet {
         match call {
             Call::And | Call::Or | Call::Xor | Call::AndNot | Call::Closure => NO_FLAG,
             Call::CountAnd => Offer::Other("intersection, counted"),
+            Call::CountOr => Offer::Other("union, counted"),
             Call::Set => Offer::Other("insert or remove"),
             Call::Get
             | Call::Matrix
@@ -448,6 +503,9 @@ impl Bits for BitSet {
             | Call::Hash
             | Call::Equal
             | Call::Subset
+            | Call::Superset
+            | Call::Disjoint
+            | Call::Any
             | Call::SetBits
             | Call::Count => Offer::Same,
             _ => Offer::None,
@@ -460,8 +518,20 @@ impl Bits for BitSet {
     fn subset(&self, other: &BitSet) -> bool {
         self.is_subset(other)
     }
+    fn superset(&self, other: &BitSet) -> bool {
+        self.is_superset(other)
+    }
+    fn disjoint(&self, other: &BitSet) -> bool {
+        self.is_disjoint(other)
+    }
+    fn any(&self) -> bool {
+        !self.is_empty()
+    }
     fn count_and(&self, other: &BitSet) -> u64 {
         self.intersection(other).count() as u64
+    }
+    fn count_or(&self, other: &BitSet) -> u64 {
+        self.union(other).count() as u64
     }
     fn set_bits(&self) -> u64 {
         sum_of(self.iter())
@@ -517,6 +587,8 @@ impl Bits for SmallBitVec {
             Call::Push
             | Call::Get
             | Call::Iterate
+            | Call::Any
+            | Call::All
             | Call::Resize
             | Call::Clone
             | Call::Hash
@@ -566,6 +638,12 @@ impl Bits for SmallBitVec {
     }
     fn resize(&mut self, len: usize, value: bool) {
         SmallBitVec::resize(self, len, value);
+    }
+    fn any(&self) -> bool {
+        !self.all_false()
+    }
+    fn all(&self) -> bool {
+        self.all_true()
     }
     fn copied(&self) -> SmallBitVec {
         self.clone()

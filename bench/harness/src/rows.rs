@@ -43,6 +43,11 @@ pub enum Call {
     SetRange,
     NegateRange,
     CopyRange,
+    Superset,
+    Disjoint,
+    CountOr,
+    Any,
+    All,
     ToBytes,
     FromIndices,
     Runs,
@@ -50,6 +55,7 @@ pub enum Call {
     SetBitsBetween,
     UnsetBitsBack,
     Deal,
+    PreviousSet,
 }
 
 /// What the machine can do at most, measured on the row's own size.
@@ -222,6 +228,15 @@ pub fn all() -> Vec<Row> {
             rows.push(Row::over(name, call, bits, Word, Limit::Copy));
         }
     }
+    for (name, call) in [
+        ("is_superset", Call::Superset),
+        ("is_disjoint", Call::Disjoint),
+        ("count_or", Call::CountOr),
+    ] {
+        for bits in [64, MILLION] {
+            rows.push(Row::over(name, call, bits, Word, Limit::Copy));
+        }
+    }
     rows.extend([
         Row::over(
             "extend_from_vob aligned",
@@ -279,6 +294,9 @@ pub fn all() -> Vec<Row> {
         rows.push(Row::walk(name, Call::SetBitsBetween, density, set));
     }
     rows.extend([
+        Row::walk("previous_set", Call::PreviousSet, "half set", 32768),
+        Row::walk("any", Call::Any, "none set", 0),
+        Row::walk("all", Call::All, "all set", 65536),
         Row::over("deal, half set", Call::Deal, MILLION, Index, Limit::None),
         Row::over(
             "count of set bits",

@@ -69,6 +69,14 @@ pub(crate) fn touch(vob: &mut Vob, round: usize) {
     }
 }
 
+/// Makes the bit false that a round changes.
+pub(crate) fn clear(vob: &mut Vob, round: usize) {
+    let index = index_of(vob, round);
+    if index < vob.len() {
+        vob.set(index, false);
+    }
+}
+
 /// Makes the bit that a round changes true in one round, and false in the next.
 pub(crate) fn flip(vob: &mut Vob, round: usize) {
     let index = index_of(vob, round / 2);

@@ -76,7 +76,8 @@ pub extern "C" fn vob_bench_whole(alloc: Global, row: u32, bytes: &[u8], rounds:
 
 /// Calls on two Vobs: 0 `and`, 1 `or`, 2 `xor`, 3 `==`, 4 `extend_from_vob` behind one whole block,
 /// 5 `extend_from_vob` behind 13 bits more, 6 a filter over these columns and a third, 7 `and_not`,
-/// 8 `is_subset`, 9 `count_and`, 10 `copy_range`.
+/// 8 `is_subset`, 9 `count_and`, 10 `copy_range`, 11 `is_superset`, 12 `is_disjoint`, 13
+/// `count_or`.
 #[unsafe(no_mangle)]
 pub extern "C" fn vob_bench_pair(
     alloc: Global,
@@ -96,19 +97,24 @@ pub extern "C" fn vob_bench_pair(
         7 => pair::and_not(alloc, bytes, others, rounds),
         8 => pair::subset(alloc, bytes, others, rounds),
         9 => pair::count_and(alloc, bytes, others, rounds),
+        11 => pair::superset(alloc, bytes, others, rounds),
+        12 => pair::disjoint(alloc, bytes, others, rounds),
+        13 => pair::count_or(alloc, bytes, others, rounds),
         _ => pair::copy_range(alloc, bytes, others, rounds),
     })
 }
 
 /// Calls on indices: 0 `iter_set_bits`, 1 the same from the back, 2 `iter_unset_bits`, 3 `count`, 4 the
 /// first unset bit, 5 `next_set`, 6 `runs`, 7 `select`, 8 `iter_set_bits` of a range, 9 `iter_unset_bits`
-/// from the back, 10 `deal`.
+/// from the back, 10 `deal`, 11 `previous_set`, 12 `any`, 13 `all`.
 #[unsafe(no_mangle)]
 pub extern "C" fn vob_bench_walk(alloc: Global, row: u32, bytes: &[u8], rounds: usize) -> u64 {
     answer(match row {
         4 => walk::first_free(alloc, bytes, rounds),
         7 => walk::select(alloc, bytes, rounds),
         10 => walk::deal_in_turn(alloc, bytes, rounds),
+        12 => walk::any(alloc, bytes, rounds),
+        13 => walk::all(alloc, bytes, rounds),
         _ => walk::walk(alloc, row, bytes, rounds),
     })
 }

@@ -1,6 +1,6 @@
 //! Workloads on two Vobs.
 
-use crate::checksum::{checksum, sample, touch};
+use crate::checksum::{checksum, clear, sample, touch};
 use std::alloc::Global;
 use vob::{Vob, VobError};
 use vob_users::rows::{count_rows, select};
@@ -105,6 +105,54 @@ pub(crate) fn subset(
     Ok(checksum(&vob, times))
 }
 
+/// `is_superset` of a Vob whose bits this one has in each round.
+#[inline(never)]
+pub(crate) fn superset(
+    alloc: Global,
+    bytes: &[u8],
+    others: &[u8],
+    rounds: usize,
+) -> Result<u64, VobError> {
+    let mut times: u64 = 0;
+    let mut vob = Vob::from_bytes(alloc, bytes)?;
+    let mut other = Vob::from_bytes(alloc, others)?;
+    if other.len() == vob.len() {
+        vob.or(&other);
+    }
+    for round in 0..rounds {
+        touch(&mut vob, round);
+        touch(&mut other, round);
+        if vob.len() == other.len() && vob.is_superset(&other) {
+            times = times.wrapping_add(1);
+        }
+    }
+    Ok(checksum(&vob, times))
+}
+
+/// `is_disjoint` with a Vob that has none of the bits in each round.
+#[inline(never)]
+pub(crate) fn disjoint(
+    alloc: Global,
+    bytes: &[u8],
+    others: &[u8],
+    rounds: usize,
+) -> Result<u64, VobError> {
+    let mut times: u64 = 0;
+    let mut vob = Vob::from_bytes(alloc, bytes)?;
+    let mut other = Vob::from_bytes(alloc, others)?;
+    if other.len() == vob.len() {
+        other.and_not(&vob);
+    }
+    for round in 0..rounds {
+        touch(&mut vob, round);
+        clear(&mut other, round);
+        if vob.len() == other.len() && vob.is_disjoint(&other) {
+            times = times.wrapping_add(1);
+        }
+    }
+    Ok(checksum(&vob, times))
+}
+
 /// `count_and` of a Vob that changes a little before each round.
 #[inline(never)]
 pub(crate) fn count_and(
@@ -120,6 +168,26 @@ pub(crate) fn count_and(
         touch(&mut vob, round);
         if vob.len() == other.len() {
             times = times.wrapping_add(vob.count_and(&other) as u64);
+        }
+    }
+    Ok(checksum(&vob, times))
+}
+
+/// `count_or` of a Vob that changes a little before each round.
+#[inline(never)]
+pub(crate) fn count_or(
+    alloc: Global,
+    bytes: &[u8],
+    others: &[u8],
+    rounds: usize,
+) -> Result<u64, VobError> {
+    let mut times: u64 = 0;
+    let mut vob = Vob::from_bytes(alloc, bytes)?;
+    let other = Vob::from_bytes(alloc, others)?;
+    for round in 0..rounds {
+        touch(&mut vob, round);
+        if vob.len() == other.len() {
+            times = times.wrapping_add(vob.count_or(&other) as u64);
         }
     }
     Ok(checksum(&vob, times))

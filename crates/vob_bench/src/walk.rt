@@ -1,6 +1,6 @@
 //! Workloads on the indices of set bits and of unset bits.
 
-use crate::checksum::{checksum, flip, touch};
+use crate::checksum::{checksum, clear, flip, touch};
 use std::alloc::{AllocError, Global};
 use vob::iter::{End, deal};
 use vob::{Vob, VobError};
@@ -75,6 +75,26 @@ fn next_bits(vob: &Vob) -> u64 {
     sum
 }
 
+/// The same, the last one first, each looked for below the one before.
+#[inline(never)]
+fn previous_bits(vob: &Vob) -> u64 {
+    let mut sum: u64 = 0;
+    let mut from = vob.len();
+    for _ in 0..vob.len() {
+        match vob.previous_set(from) {
+            Some(index) => {
+                sum = sum.wrapping_add(index as u64);
+                if index == 0 {
+                    break;
+                }
+                from = index - 1;
+            }
+            None => break,
+        }
+    }
+    sum
+}
+
 /// The sum of the lengths of the runs of set bits, and of where each begins.
 #[inline(never)]
 fn run_sum(vob: &Vob) -> u64 {
@@ -117,7 +137,8 @@ fn counted(vob: &Vob) -> u64 {
 
 /// A walk a round: 0 over the set bits, 1 over those from the back, 2 over the unset bits; or 3 a
 /// count; or 5 a call of `next_set` for each set bit, 6 the runs; or 8 a walk over the set bits of a
-/// range that begins and ends within a block, 9 one over the unset bits from the back.
+/// range that begins and ends within a block, 9 one over the unset bits from the back, 11 a call of
+/// `previous_set` for each set bit.
 #[inline(never)]
 pub(crate) fn walk(alloc: Global, row: u32, bytes: &[u8], rounds: usize) -> Result<u64, VobError> {
     let mut times: u64 = 0;
@@ -132,6 +153,7 @@ pub(crate) fn walk(alloc: Global, row: u32, bytes: &[u8], rounds: usize) -> Resu
             6 => run_sum(&vob),
             8 => set_bits_between(&vob, 13, vob.len().saturating_sub(29)),
             9 => unset_bits_back(&vob),
+            11 => previous_bits(&vob),
             _ => counted(&vob),
         };
         times = times.wrapping_add(sum);
@@ -194,6 +216,30 @@ pub(crate) fn first_free(alloc: Global, bytes: &[u8], rounds: usize) -> Result<u
     for round in 0..rounds {
         touch(&mut vob, round);
         times = times.wrapping_add(first_unset(&vob) as u64);
+    }
+    Ok(checksum(&vob, times))
+}
+
+/// `any`, once a round. It is the rounds in which no bit is set that are counted.
+#[inline(never)]
+pub(crate) fn any(alloc: Global, bytes: &[u8], rounds: usize) -> Result<u64, VobError> {
+    let mut times: u64 = 0;
+    let mut vob = Vob::from_bytes(alloc, bytes)?;
+    for round in 0..rounds {
+        clear(&mut vob, round);
+        times = times.wrapping_add(!vob.any() as u64);
+    }
+    Ok(checksum(&vob, times))
+}
+
+/// `all`, once a round.
+#[inline(never)]
+pub(crate) fn all(alloc: Global, bytes: &[u8], rounds: usize) -> Result<u64, VobError> {
+    let mut times: u64 = 0;
+    let mut vob = Vob::from_bytes(alloc, bytes)?;
+    for round in 0..rounds {
+        touch(&mut vob, round);
+        times = times.wrapping_add(vob.all() as u64);
     }
     Ok(checksum(&vob, times))
 }
