@@ -52,6 +52,9 @@ def rows():
     yield "`is_subset` of one block", ["is_subset"], (64, 64)
     yield "`is_subset` of 1024 bits to 64M", ["is_subset"], (1024, 1 << 26)
     yield "`count_and`", ["count_and"], None
+    yield "`is_superset`, `is_disjoint` of one block", ["is_superset", "is_disjoint"], (64, 64)
+    yield "`is_superset`, `is_disjoint` of 1M bits", ["is_superset", "is_disjoint"], many
+    yield "`count_or`", ["count_or"], None
     yield "`extend_from_vob` behind full blocks", ["extend_from_vob aligned"], None
     yield "`extend_from_vob` within a block", ["extend_from_vob at +13"], None
     yield "`split_off` within a block", ["split_off misaligned"], None
@@ -69,9 +72,11 @@ def rows():
     yield "`next_set`: none to half set", [f"next_set, {density} set" for density in few], None
     most = ("7 in 8", "63 in 64", "255 in 256", "4095 in 4096", "all")
     yield "`next_set`: 7 in 8 to all set", [f"next_set, {density} set" for density in most], None
+    yield "`previous_set`: half set", ["previous_set, half set"], None
     yield "`runs`", [f"runs, {density} set" for density in few + most], None
     yield "`select`", ["select in the middle"], None
     yield "`count`", ["count of set bits"], None
+    yield "`any` of no set bit, `all` of set bits alone", ["any, none set", "all, all set"], None
     yield "the first unset bit, the last one of all", ["first unset bit, the last one"], None
     yield "a filter over three columns", ["filter over three columns"], None
     yield "closure of 1000 by 1000 bits, by rows", ["closure 1000 x 1000"], None
