@@ -4,13 +4,20 @@ use Rattle.std.specs.Bool.{Decides}
 use Rattle.std.specs.List.{range_with_len}
 use Rattle.std.specs.declared.ops.Bound.{Bound}
 use Rattle.std.specs.declared.ops.Bound.TheVariants.{Included, Excluded}
-use Rattle.std.proofs.Common.{not, ◌≡◌, ◌≢◌, ◌↔◌, ◌⊎◌, ℕ, zero, suc, ◌+◌, ◌-◌, ◌<◌, ◌≤◌, nat_le, nat_lt, Bool, true, false, ◌&&◌, ◌||◌, cond, List, [], ◌∷◌, ◌++◌, length, map, take, drop, replicate, refl, sym, ap, ◌∙◌, arith, inl, inr}
+use Rattle.std.proofs.Common.{not, ◌≡◌, ◌≢◌, ◌↔◌, ◌⊎◌, ℕ, zero, suc, ◌+◌, ◌-◌, ◌<◌, ◌≤◌, nat_le}
+use Rattle.std.proofs.Common.{nat_lt, Bool, true, false, ◌&&◌, ◌||◌, cond, List, [], ◌∷◌, ◌++◌}
+use Rattle.std.proofs.Common.{length, map, take, drop, replicate, refl, sym, ap, ◌∙◌, arith, inl}
+use Rattle.std.proofs.Common.{inr}
 use Rattle.std.proofs.lemmas.Bool.{false≢true, and_from, and_left, and_right, lt-ltb, le-ltb, le-leb, lt-leb}
-use Rattle.std.proofs.lemmas.List.{length-map, length-set, length-replicate, get_or-replicate, get_or-set_same, get_or-set_other, get_or-map, ext_get_or, append-nil, map-append, take_all, length-drop, length-take-le, get_or-drop, get_or-take}
+use Rattle.std.proofs.lemmas.List.{length-map, length-set, length-replicate, get_or-replicate}
+use Rattle.std.proofs.lemmas.List.{get_or-set_same, get_or-set_other, get_or-map, ext_get_or}
+use Rattle.std.proofs.lemmas.List.{append-nil, map-append, take_all, length-drop, length-take-le}
+use Rattle.std.proofs.lemmas.List.{get_or-drop, get_or-take}
 use Rattle.std.proofs.lemmas.List.FromFn.{length-map-range_with_len, get_or-map-range_with_len}
 use Rattle.std.proofs.lemmas.List.Sums.{sum_by-set, sum_by-cons}
 use Rattle.vob_block.specs.Packing.{item}
 use Rattle.vob_block.specs.Pointwise.{differ, pointwise}
+use Rattle.vob_block.proofs.BoolLemmas.{differ-is}
 use Rattle.vob_block.proofs.PointwiseLemmas.{length-pointwise, item-pointwise}
 use Rattle.vob_walk.specs.Matches.{within, has_value}
 use Rattle.vob_walk.specs.Cursor.{indices_where}
@@ -37,26 +44,6 @@ IsWritten-set bits index value inside = record {
   others = λ i other. get_or-set_other bits index i value false other;
   count = λ v. sum_by-set (λ b. cond (has_value v b) 1 0) bits index value false inside;
 }
-
--- a flag that is true where a bit has another value is whether they differ
-pub differ-is : (r b v : Bool) → ((r ≡ true) ↔ (Some b ≢ Some v)) → r ≡ differ b v
-differ-is true true true h = absurd (h.0 refl refl)
-differ-is false true true h = refl
-differ-is true false false h = absurd (h.0 refl refl)
-differ-is false false false h = refl
-differ-is true true false h = refl
-differ-is false true false h = h.1 (λ e. cc)
-differ-is true false true h = refl
-differ-is false false true h = h.1 (λ e. cc)
-
--- what a bit was, where a write of false or of true tells whether it changed
-pub differ-false : (b : Bool) → differ b false ≡ b
-differ-false true = refl
-differ-false false = refl
-
-pub differ-true : (b : Bool) → differ b true ≡ not b
-differ-true true = refl
-differ-true false = refl
 
 pub differ-at : (bits : List Bool) (index : ℕ) (value r : Bool) → index < length bits
     → ((r ≡ true) ↔ (slice_get bits index ≢ Some value)) → r ≡ differ (item bits index) value

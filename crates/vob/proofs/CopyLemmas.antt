@@ -2,9 +2,13 @@
 use Rattle.std.specs.Prelude.{All}
 use Rattle.std.specs.declared.ops.Bound.{Bound}
 use Rattle.std.specs.declared.ops.Bound.TheVariants.{Included, Excluded, Unbounded}
-use Rattle.std.proofs.Common.{◌≡◌, ℕ, ◌+◌, ◌-◌, ◌*◌, ◌^◌, ◌<◌, ◌≤◌, nat_le, nat_lt, Bool, true, false, List, ◌++◌, length, map, take, drop, refl, sym, ap, ◌∙◌, subst, arith, inl, inr}
+use Rattle.std.proofs.Common.{◌≡◌, ℕ, ◌+◌, ◌-◌, ◌*◌, ◌^◌, ◌<◌, ◌≤◌, nat_le, nat_lt, Bool, true}
+use Rattle.std.proofs.Common.{false, List, ◌++◌, length, map, take, drop, refl, sym, ap, ◌∙◌, subst}
+use Rattle.std.proofs.Common.{arith, inl, inr}
 use Rattle.std.proofs.lemmas.Bool.{cases_lt, and_from, and_parts, le-leb, leb-true, lt-ltb, ltb-true}
-use Rattle.std.proofs.lemmas.List.{ext_get_or, get_or_append_left, get_or-append_right, get_or-take, get_or-drop, length-append, length-drop, length-map, length-take-le}
+use Rattle.std.proofs.lemmas.List.{ext_get_or, get_or_append_left, get_or-append_right, get_or-take}
+use Rattle.std.proofs.lemmas.List.{get_or-drop, length-append, length-drop, length-map}
+use Rattle.std.proofs.lemmas.List.{length-take-le}
 use Rattle.vob_block.specs.Packing.{item, need, packing, unpacking, IsCanonical}
 use Rattle.vob_block.proofs.NeedLemmas.{need_enough}
 use Rattle.vob_block.proofs.PackingLemmas.{bit_at-is_item, length-unpacking, packing_is}

@@ -1,6 +1,8 @@
 -- Bits that are packed in a block at hand, behind the blocks that are full, at a plain width.
 use Rattle.std.specs.Prelude.{None, Some}
-use Rattle.std.proofs.Common.{◌≡◌, ◌≢◌, ℕ, ◌+◌, ◌*◌, ◌/◌, ◌%◌, ◌^◌, ◌<◌, Bool, false, ◌&&◌, ◌||◌, List, [], ◌∷◌, ◌++◌, length, eqb, Option, refl, sym, ap, ◌∙◌, subst, arith, inl, inr, mod-lt, div-add-mod', add-one, suc-mul}
+use Rattle.std.proofs.Common.{◌≡◌, ◌≢◌, ℕ, ◌+◌, ◌*◌, ◌/◌, ◌%◌, ◌^◌, ◌<◌, Bool, false, ◌&&◌, ◌||◌}
+use Rattle.std.proofs.Common.{List, [], ◌∷◌, ◌++◌, length, eqb, Option, refl, sym, ap, ◌∙◌, subst}
+use Rattle.std.proofs.Common.{arith, inl, inr, mod-lt, div-add-mod', add-one, suc-mul}
 use Rattle.std.proofs.lemmas.Bool.{cases_eq}
 use Rattle.std.proofs.lemmas.List.{get_or_past, length_push}
 use Rattle.std.proofs.lemmas.List.Elements.{All-push}

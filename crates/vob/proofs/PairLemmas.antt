@@ -1,16 +1,19 @@
 -- Two Vobs of one length as sets: what their blocks say of their bits.
 use Rattle.std.specs.Prelude.{replicate}
-use Rattle.std.proofs.Common.{◌≡◌, ◌↔◌, ℕ, ◌+◌, ◌*◌, ◌/◌, ◌<◌, ◌≤◌, Bool, true, false, not, ◌&&◌, ◌⊎◌, List, [], ◌∷◌, length, map, refl, sym, ap, ◌∙◌, subst, arith, inl, inr}
+use Rattle.std.proofs.Common.{◌≡◌, ◌↔◌, ℕ, ◌+◌, ◌*◌, ◌/◌, ◌<◌, ◌≤◌, Bool, true, false, not, ◌&&◌}
+use Rattle.std.proofs.Common.{◌⊎◌, List, [], ◌∷◌, length, map, refl, sym, ap, ◌∙◌, subst, arith}
+use Rattle.std.proofs.Common.{inl, inr}
 use Rattle.std.proofs.lemmas.Bool.{cases_lt, false≢true}
 use Rattle.std.proofs.lemmas.List.Sums.{count_by-le-length}
 use Rattle.std.proofs.lemmas.List.{ext_get_or, get_or-replicate, get_or_past, length-map, length-replicate}
 use Rattle.vob_block.specs.Packing.{item, bit_at, packing, unpacking, need, IsCanonical}
-use Rattle.vob_block.specs.Pointwise.{pointwise}
+use Rattle.vob_block.specs.Pointwise.{pointwise, without}
 use Rattle.vob_block.proofs.NeedLemmas.{need_enough}
 use Rattle.vob_block.proofs.PackingLemmas.{bit_at-is_item, bit_at-packing, bit_at-past, length-unpacking}
+use Rattle.vob_block.proofs.BoolLemmas.{and-none, has_too, without-none}
 use Rattle.vob_block.proofs.PointwiseLemmas.{item-pointwise, length-pointwise, same_count}
 use Rattle.vob_walk.specs.Matches.{has_value}
-use Rattle.vob_store.specs.Combined.{without, combined_bit, ones_combined, HaveNone}
+use Rattle.vob_store.specs.Combined.{combined_bit, ones_combined, HaveNone}
 use Rattle.vob.specs.Bits.{count_of}
 use Rattle.vob.specs.Sets.{IsSubset, AreDisjoint}
 use Rattle.vob.proofs.BitsLemmas.{and_fewer}
@@ -41,19 +44,6 @@ module _ (f : Bool → Bool → Bool) (none : f false false ≡ false) (bits oth
         | inr past ↦ get_or_past (replicate n false) i false
             (omega (arith, length-replicate n false, past))
       ]
-
-has_too : (a b : Bool) → without a b ≡ false → a ≡ true → b ≡ true
-has_too true true e h = refl
-has_too true false e h = absurd (false≢true (sym e))
-has_too false b e h = absurd (false≢true h)
-
-without-none : (a b : Bool) → (a ≡ true → b ≡ true) → without a b ≡ false
-without-none true b h = ap not (h refl)
-without-none false b h = refl
-
-and-none : (a b : Bool) → (a ≡ true → b ≡ false) → (a && b) ≡ false
-and-none true b h = h refl
-and-none false b h = refl
 
 hasnt : (a b : Bool) → (a && b) ≡ false → a ≡ true → b ≡ false
 hasnt true b e h = e

@@ -1,8 +1,11 @@
 -- What becomes of a list of bits whose blocks are changed from one index to below another.
 use Rattle.std.specs.declared.ops.Bound.{Bound}
-use Rattle.std.proofs.Common.{◌≡◌, ℕ, ◌+◌, ◌-◌, ◌<◌, ◌≤◌, nat_le, nat_lt, Bool, true, false, List, [], ◌∷◌, ◌++◌, length, map, take, drop, replicate, refl, sym, ap, ◌∙◌, subst, arith, inl, inr, length-append}
+use Rattle.std.proofs.Common.{◌≡◌, ℕ, ◌+◌, ◌-◌, ◌<◌, ◌≤◌, nat_le, nat_lt, Bool, true, false, List}
+use Rattle.std.proofs.Common.{[], ◌∷◌, ◌++◌, length, map, take, drop, replicate, refl, sym, ap, ◌∙◌}
+use Rattle.std.proofs.Common.{subst, arith, inl, inr, length-append}
 use Rattle.std.proofs.lemmas.Bool.{cases_lt, and_left, and_right, and_from, and_parts, lt-leb, le-leb, lt-ltb, le-ltb, ltb-true, leb-true, false≢true}
-use Rattle.std.proofs.lemmas.List.{ext_get_or, length-take-le, length-drop, length-map, get_or-take, get_or-drop, get_or-map, get_or_append_left, get_or-append_right}
+use Rattle.std.proofs.lemmas.List.{ext_get_or, length-take-le, length-drop, length-map, get_or-take}
+use Rattle.std.proofs.lemmas.List.{get_or-drop, get_or-map, get_or_append_left, get_or-append_right}
 use Rattle.vob_block.specs.Packing.{item, unpacking, IsCanonical}
 use Rattle.vob_block.proofs.PackingLemmas.{length-unpacking, bit_at-is_item}
 use Rattle.vob_store.specs.Range.{IsRanged}

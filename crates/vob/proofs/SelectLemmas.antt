@@ -1,7 +1,8 @@
 -- The set bit of a rank, by a list of bits and by its blocks.
 use Rattle.std.specs.Prelude.{Option, Some, None, MatchOption}
 use Rattle.std.specs.List.{range_with_len}
-use Rattle.std.proofs.Common.{◌≡◌, ℕ, zero, suc, ◌+◌, ◌-◌, ◌<◌, ◌≤◌, Bool, true, false, cond, List, [], ◌∷◌, length, take, count_by, refl, sym, ap, ◌∙◌, arith, inl, inr}
+use Rattle.std.proofs.Common.{◌≡◌, ℕ, zero, suc, ◌+◌, ◌-◌, ◌<◌, ◌≤◌, Bool, true, false, cond, List}
+use Rattle.std.proofs.Common.{[], ◌∷◌, length, take, count_by, refl, sym, ap, ◌∙◌, arith, inl, inr}
 use Rattle.std.proofs.lemmas.Bool.{cases_lt, false≢true}
 use Rattle.std.proofs.lemmas.List.{get_or_past, take_all}
 use Rattle.std.proofs.lemmas.List.Sums.{sum_by-cons}

@@ -1,5 +1,7 @@
 -- The runs of a list of bits: its longest stretches of set bits.
-use Rattle.std.specs.Prelude.{◌≡◌, ◌≢◌, ◌==◌, if◌then◌else◌, ℕ, ◌+◌, ◌-◌, ◌/◌, ◌<◌, ◌≤◌, Bool, true, false, List, length, slice_index_or, Option, MatchOption, All, Any, AllPairs}
+use Rattle.std.specs.Prelude.{◌≡◌, ◌≢◌, ◌==◌, if◌then◌else◌, ℕ, ◌+◌, ◌-◌, ◌/◌, ◌<◌, ◌≤◌, Bool, true}
+use Rattle.std.specs.Prelude.{false, List, length, slice_index_or, Option, MatchOption, All, Any}
+use Rattle.std.specs.Prelude.{AllPairs}
 use Rattle.std.specs.declared.ops.Range.{Range}
 use Rattle.vob_block.specs.Packing.{item, need, bit_at}
 use Rattle.vob_walk.specs.Next.{HasNoBit}

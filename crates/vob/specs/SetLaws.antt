@@ -3,8 +3,7 @@ use Rattle.std.specs.Prelude.{◌≡◌, ◌↔◌, ℕ, Bool, true, false, not,
 use Rattle.std.specs.Iterator.{Drains}
 use Rattle.std.specs.declared.ops.Range.{Range}
 use Rattle.vob_block.specs.Packing.{item}
-use Rattle.vob_block.specs.Pointwise.{pointwise}
-use Rattle.vob_store.specs.Combined.{without}
+use Rattle.vob_block.specs.Pointwise.{pointwise, without}
 use Rattle.vob.specs.Bits.{count_of}
 use Rattle.vob.specs.Runs.{AreRuns, GivesRun, RunWalk}
 use Rattle.vob.specs.Sets.{IsIndexOfRank}

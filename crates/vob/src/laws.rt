@@ -1,7 +1,12 @@
 //! The laws of the operations on lists of bits. Each function does nothing: its contract is the law.
-ghost use Rattle.vob.specs.Laws.{JoinUndoesCut, DrainFromIsSplit, JoinIsPushes, EqualWhereListsAre, EqualWhereStorageIs, UnequalWherePlacesDiffer, PointwiseChangesBits, SetChangesBit, NegateTwice, XorOfEqual, NegatedAnd};
+ghost use Rattle.vob.specs.Laws.{JoinUndoesCut, DrainFromIsSplit, JoinIsPushes, EqualWhereListsAre};
+ghost use Rattle.vob.specs.Laws.{EqualWhereStorageIs, UnequalWherePlacesDiffer};
+ghost use Rattle.vob.specs.Laws.{PointwiseChangesBits, SetChangesBit, NegateTwice, XorOfEqual};
+ghost use Rattle.vob.specs.Laws.{NegatedAnd};
 ghost use Rattle.vob.specs.SetLaws.{DifferenceIsAndNot, NoneIsCounted, RankUndoesSelect, SelectUndoesRank, WalkGivesRuns};
-ghost use Rattle.vob_walk.specs.Laws.{MatchesShareNoIndex, MatchesFillTheRange, MatchesAddUp, MatchesExactly, MatchesRise, FirstMatchIsLeast, NoMatchIsNone, MatchesAreCounted, MatchesAreFew};
+ghost use Rattle.vob_walk.specs.Laws.{MatchesShareNoIndex, MatchesFillTheRange, MatchesAddUp};
+ghost use Rattle.vob_walk.specs.Laws.{MatchesExactly, MatchesRise, FirstMatchIsLeast};
+ghost use Rattle.vob_walk.specs.Laws.{NoMatchIsNone, MatchesAreCounted, MatchesAreFew};
 ghost use Rattle.vob_walk.specs.Laws.{NoneIsForGood};
 
 /// Cutting a list and joining the parts gives it back, so a `split_off` and an `extend_from_vob` of

@@ -1,9 +1,10 @@
 //! A Vob as a set of indices, those of its set bits: whether there are some, the one that is next
 //! to another, how many stand below one, the one below which so many stand, and two sets of one
 //! length. vob 4.0.1 has none of these calls.
-ghost use Rattle.std.specs.Prelude.{◌≡◌, ◌≢◌, ◌↔◌, ℕ, ◌<◌, ◌/◌, ◌*◌, ◌&&◌, ◌||◌, true, false, take, length, replicate, slice_index_or, All, Err, IfOk, IsTrue, MatchOption, None};
-ghost use Rattle.vob_block.specs.Pointwise.{differ, pointwise};
-ghost use Rattle.vob_store.specs.Combined.{without};
+ghost use Rattle.std.specs.Prelude.{◌≡◌, ◌≢◌, ◌↔◌, ℕ, ◌<◌, ◌/◌, ◌*◌, ◌&&◌, ◌||◌, true, false, take};
+ghost use Rattle.std.specs.Prelude.{length, replicate, slice_index_or, All, Err, IfOk, IsTrue};
+ghost use Rattle.std.specs.Prelude.{MatchOption, None};
+ghost use Rattle.vob_block.specs.Pointwise.{differ, pointwise, without};
 ghost use Rattle.vob.specs.Bits.{AreCombined, IsWritten, LosesBits, count_of};
 ghost use Rattle.vob.specs.Indices.{HasSet, IsFirstOutside, IsMadeOf};
 ghost use Rattle.vob.specs.Sets.{AreDisjoint, HasBit, HasOnly, IsIndexOfRank, IsNext, IsPrevious, IsSubset};

@@ -1,5 +1,8 @@
 //! The vector of bits, seen by contracts as its list of bits and its capacity.
-ghost use Rattle.std.specs.Prelude.{◌≡◌, ◌↔◌, ◌+◌, ◌<◌, ◌≤◌, [], ◌∷◌, ◌++◌, map, length, slice_get, IsOk, IfOk, IfErr, OnOk, OnErr, Err, ◌≢◌, ◌==◌, ◌-◌, take, slice_set, IsTrue, Some, vec_capacity, ◌^◌, List, Bool, replicate, ℕ, ◌⊎◌, ◌*◌, ◌/◌, ◌%◌};
+ghost use Rattle.std.specs.Prelude.{◌≡◌, ◌↔◌, ◌+◌, ◌<◌, ◌≤◌, [], ◌∷◌, ◌++◌, map, length, slice_get};
+ghost use Rattle.std.specs.Prelude.{IsOk, IfOk, IfErr, OnOk, OnErr, Err, ◌≢◌, ◌==◌, ◌-◌, take};
+ghost use Rattle.std.specs.Prelude.{slice_set, IsTrue, Some, vec_capacity, ◌^◌, List, Bool};
+ghost use Rattle.std.specs.Prelude.{replicate, ℕ, ◌⊎◌, ◌*◌, ◌/◌, ◌%◌};
 ghost use Rattle.vob_block.specs.Packing.{item, packing, unpacking, IsCanonical, Stores};
 ghost use Rattle.vob_block.specs.Places.{place};
 ghost use Rattle.vob_block.specs.Bytes.{bytes_list};

@@ -1,7 +1,8 @@
 -- A loop that combines blocks with others, one after another, and collects whether one changed.
 use Rattle.std.specs.Prelude.{Some, slice_get, ◌↔◌}
 use Rattle.std.proofs.lemmas.Option.{get_or_from_slice_get, slice_get-map}
-use Rattle.std.proofs.Common.{◌≡◌, ◌≢◌, ℕ, ◌+◌, ◌^◌, ◌<◌, ◌≤◌, Bool, true, false, not, ◌||◌, List, length, map, get_or, set, refl, sym, ap, ◌∙◌, subst, arith, inl, inr}
+use Rattle.std.proofs.Common.{◌≡◌, ◌≢◌, ℕ, ◌+◌, ◌^◌, ◌<◌, ◌≤◌, Bool, true, false, not, ◌||◌, List}
+use Rattle.std.proofs.Common.{length, map, get_or, set, refl, sym, ap, ◌∙◌, subst, arith, inl, inr}
 use Rattle.std.proofs.lemmas.Bool.{cases_lt, or_parts, false≢true}
 use Rattle.std.proofs.lemmas.List.{ext_get_or, get_or-set_same, get_or-set_other, get_or-map, map-set, length-map, length-set}
 use Rattle.std.proofs.lemmas.List.Elements.{All-from_get_or}
@@ -9,18 +10,8 @@ use Rattle.std.proofs.lemmas.Nat.{pow_pos}
 use Rattle.vob_block.specs.Places.{place, HasPlaces}
 use Rattle.vob_block.specs.Kernel.{AreTaken}
 use Rattle.vob_block.specs.Pointwise.{IsCombined, differ}
+use Rattle.vob_block.proofs.BoolLemmas.{same_from_differ, differ-same}
 use Rattle.vob_block.proofs.PlaceLemmas.{same_from_places, place-zero}
-
--- two bits that don't differ are the same
-same_from_differ : (a b : Bool) → differ a b ≡ false → a ≡ b
-same_from_differ true true e = refl
-same_from_differ true false e = absurd (false≢true (sym e))
-same_from_differ false true e = sym e
-same_from_differ false false e = refl
-
-differ-same : (a : Bool) → differ a a ≡ false
-differ-same true = refl
-differ-same false = refl
 
 -- a number with the places where two others differ is 0 exactly where these are the same
 pub differ-zero : (w a b x : ℕ) → a < 2 ^ w → b < 2 ^ w

@@ -1,3 +1,4 @@
+pub mod BoolLemmas
 pub mod ByteLemmas
 pub mod KernelLemmas
 pub mod LaneLemmas

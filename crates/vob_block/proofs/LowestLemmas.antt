@@ -1,6 +1,8 @@
 -- A number and the one before it have the same places but the first true one and those below it.
 use Rattle.std.specs.Prelude.{◌==◌, if◌then◌else◌}
-use Rattle.std.proofs.Common.{◌≡◌, ◌≢◌, ℕ, zero, suc, ◌+◌, ◌-◌, ◌*◌, ◌/◌, ◌%◌, ◌^◌, ◌<◌, true, false, ◌&&◌, eqb, eqb-true, eq-eqb, ℤ, pos, ◌-ℤ◌, unsigned_abs, refl, sym, ap, ◌∙◌, subst, inl, inr, arith}
+use Rattle.std.proofs.Common.{◌≡◌, ◌≢◌, ℕ, zero, suc, ◌+◌, ◌-◌, ◌*◌, ◌/◌, ◌%◌, ◌^◌, ◌<◌, true}
+use Rattle.std.proofs.Common.{false, ◌&&◌, eqb, eqb-true, eq-eqb, ℤ, pos, ◌-ℤ◌, unsigned_abs, refl}
+use Rattle.std.proofs.Common.{sym, ap, ◌∙◌, subst, inl, inr, arith}
 use Rattle.std.proofs.Math.Bool.{and_self, and-false}
 use Rattle.std.proofs.Math.IntN.{ -ℤ_one}
 use Rattle.std.proofs.Math.Nat.{div-one}

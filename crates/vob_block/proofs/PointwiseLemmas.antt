@@ -1,12 +1,16 @@
 -- Canonical storage combined with another, place by place.
 use Rattle.std.specs.Prelude.{All}
-use Rattle.std.proofs.Common.{◌≡◌, ◌≢◌, ◌↔◌, ℕ, zero, suc, ◌/◌, ◌%◌, ◌^◌, ◌<◌, Bool, true, false, List, [], ◌∷◌, length, map, get_or, refl, sym, ap, ◌∙◌, subst, arith, inl, inr, mod-lt}
+use Rattle.std.proofs.Common.{◌≡◌, ◌≢◌, ◌↔◌, ℕ, zero, suc, ◌/◌, ◌%◌, ◌^◌, ◌<◌, Bool, true, false}
+use Rattle.std.proofs.Common.{List, [], ◌∷◌, length, map, get_or, refl, sym, ap, ◌∙◌, subst, arith}
+use Rattle.std.proofs.Common.{inl, inr, mod-lt}
 use Rattle.std.proofs.lemmas.Bool.{cases_lt}
 use Rattle.std.proofs.lemmas.List.{length-map}
 use Rattle.vob_block.specs.Places.{place}
 use Rattle.vob_block.specs.Packing.{item, packing, bit_at, unpacking, IsCanonical, Stores}
 use Rattle.vob_block.specs.Pointwise.{IsCombined, IsPointwise, pointwise}
-use Rattle.vob_block.proofs.PackingLemmas.{IsCanonical-packing, unpacking-packing, bit_at-is_place, bit_at-past, length-unpacking, bit_at-is_item, stores_from_items, packing-unpacking}
+use Rattle.vob_block.proofs.PackingLemmas.{IsCanonical-packing, unpacking-packing, bit_at-is_place}
+use Rattle.vob_block.proofs.PackingLemmas.{bit_at-past, length-unpacking, bit_at-is_item}
+use Rattle.vob_block.proofs.PackingLemmas.{stores_from_items, packing-unpacking}
 
 pub length-pointwise : (f : Bool → Bool → Bool) (bs cs : List Bool) → length bs ≡ length cs
     → length (pointwise f bs cs) ≡ length bs

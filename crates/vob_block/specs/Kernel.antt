@@ -1,5 +1,4 @@
--- Within the crate: how blocks are combined, and how far a kernel has come. No public contract
--- cites this page.
+-- How blocks are combined, and how far a kernel has come. No public contract cites this page.
 use Rattle.std.specs.Prelude.{◌≡◌, ◌↔◌, ℕ, ◌^◌, ◌<◌, ◌≤◌, Bool, ◌&&◌, ◌||◌, List, length, slice_index_or, bit_and, bit_or, bit_xor}
 use Rattle.vob_block.specs.Places.{place, HasPlaces}
 use Rattle.vob_block.specs.Pointwise.{differ}

@@ -1,5 +1,5 @@
 -- Two lists, place by place.
-use Rattle.std.specs.Prelude.{◌≡◌, ◌≢◌, ◌↔◌, ℕ, ◌^◌, ◌<◌, Bool, true, false, not, IsTrue, List, length, map, slice_index_or, All}
+use Rattle.std.specs.Prelude.{◌≡◌, ◌≢◌, ◌↔◌, ℕ, ◌^◌, ◌<◌, Bool, true, false, not, ◌&&◌, IsTrue, List, length, map, slice_index_or, All}
 use Rattle.std.specs.List.{zip}
 use Rattle.vob_block.specs.Places.{place, HasPlaces}
 
@@ -7,6 +7,10 @@ use Rattle.vob_block.specs.Places.{place, HasPlaces}
 abbrev pub differ : Bool → Bool → Bool
 differ true value = not value
 differ false value = value
+
+-- a bit that the first has and the other hasn't
+abbrev pub without : Bool → Bool → Bool
+without bit other = bit && not other
 
 -- the bits of both lists combined by f, one place after another
 abbrev pub pointwise : (Bool → Bool → Bool) → List Bool → List Bool → List Bool

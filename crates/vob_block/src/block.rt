@@ -1,5 +1,7 @@
 //! The trait of the types that store bits, by their places.
-ghost use Rattle.std.specs.Prelude.{◌≡◌, ◌≢◌, ◌==◌, ℕ, ◌+◌, ◌-◌, ◌%◌, ◌^◌, ◌<◌, if◌then◌else◌, ◌≤◌, ◌&&◌, ◌||◌, ◌↔◌, not, nat_le, nat_lt, IsTrue, length, All, map, true, false};
+ghost use Rattle.std.specs.Prelude.{◌≡◌, ◌≢◌, ◌==◌, ℕ, ◌+◌, ◌-◌, ◌%◌, ◌^◌, ◌<◌, if◌then◌else◌, ◌≤◌};
+ghost use Rattle.std.specs.Prelude.{◌&&◌, ◌||◌, ◌↔◌, not, nat_le, nat_lt, IsTrue, length, All, map};
+ghost use Rattle.std.specs.Prelude.{true, false};
 ghost use Rattle.vob_block.specs.Places.{place, HasPlaces, HasZerosLow, HasZerosHigh, true_places};
 ghost use Rattle.vob_block.specs.Pointwise.{IsCombined, differ};
 ghost use Rattle.vob_block.specs.Reading.{AreReadOnce};

@@ -14,7 +14,11 @@ use Rattle.vob_lines.specs.Lists.{HasList, BeginsAsList}
 use Rattle.vob_lines.specs.Kinds.{Kinds, nothing, numbers, before, kinds_of, Are, Begins, IsLine}
 use Rattle.vob_lines.specs.Keywords.{word_of, keywords, keyword_named}
 use Rattle.vob_lines.specs.declared.keyword.Keyword.{Keyword}
-use Rattle.vob_lines.specs.declared.keyword.Keyword.TheVariants.{Fresh, Number, NumberNumber, BitNumber, NumberBit, NumberNumberBit, BitList, NumberBitList, Bytes, Raw, Record, Drain, Walk, Count}
+use Rattle.vob_lines.specs.declared.keyword.Keyword.TheVariants.{Fresh, Number, NumberNumber}
+use Rattle.vob_lines.specs.declared.keyword.Keyword.TheVariants.{BitNumber, NumberBit}
+use Rattle.vob_lines.specs.declared.keyword.Keyword.TheVariants.{NumberNumberBit, BitList}
+use Rattle.vob_lines.specs.declared.keyword.Keyword.TheVariants.{NumberBitList, Bytes, Raw, Record}
+use Rattle.vob_lines.specs.declared.keyword.Keyword.TheVariants.{Drain, Walk, Count}
 use Rattle.vob_lines.specs.declared.keyword.BitList.TheVariants.{Slice, Items}
 use Rattle.vob_lines.specs.declared.keyword.NumberBitList.TheVariants.{Append, Extend}
 use Rattle.vob_lines.proofs.SpellsLemmas.{spells_once}

@@ -1,6 +1,11 @@
 -- Which words stand for which call.
 use Rattle.std.specs.Prelude.{◌≡◌, ℕ, List, [], ◌∷◌, map, codes}
-use Rattle.vob_run.specs.Call.{Call, New, FromElem, Copy, FromRaw, Push, Pop, GetBit, GetUnchecked, IndexBit, SetBit, SetUnchecked, Length, IsEmpty, Truncate, Clear, SetAll, Negate, Resize, ExtendSlice, ExtendItems, ExtendVob, SplitOff, Drain, And, Or, Xor, AndNew, OrNew, XorNew, Equal, Reserve, Shrink, Bits, Storage, Walk, Count, Fresh, WithCapacity, Fill, FromBytes, FromSlice, FromItems, FromRecord}
+use Rattle.vob_run.specs.Call.{Call, New, FromElem, Copy, FromRaw, Push, Pop, GetBit, GetUnchecked}
+use Rattle.vob_run.specs.Call.{IndexBit, SetBit, SetUnchecked, Length, IsEmpty, Truncate, Clear}
+use Rattle.vob_run.specs.Call.{SetAll, Negate, Resize, ExtendSlice, ExtendItems, ExtendVob}
+use Rattle.vob_run.specs.Call.{SplitOff, Drain, And, Or, Xor, AndNew, OrNew, XorNew, Equal, Reserve}
+use Rattle.vob_run.specs.Call.{Shrink, Bits, Storage, Walk, Count, Fresh, WithCapacity, Fill}
+use Rattle.vob_run.specs.Call.{FromBytes, FromSlice, FromItems, FromRecord}
 use Rattle.vob_lines.specs.Arguments.{Argument, number, bit, bits, bytes, range, pulls, AllSpell}
 
 -- a line: its first word, and the arguments behind it

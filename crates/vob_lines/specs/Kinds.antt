@@ -5,7 +5,11 @@ use Rattle.vob_lines.specs.Arguments.{Argument, number, bit, bits, bytes, range,
 use Rattle.vob_lines.specs.Grammar.{form_of}
 use Rattle.vob_lines.specs.Keywords.{word_of}
 use Rattle.vob_lines.specs.declared.keyword.Keyword.{Keyword}
-use Rattle.vob_lines.specs.declared.keyword.Keyword.TheVariants.{Fresh, Number, NumberNumber, BitNumber, NumberBit, NumberNumberBit, BitList, NumberBitList, Bytes, Raw, Record, Drain, Walk, Count}
+use Rattle.vob_lines.specs.declared.keyword.Keyword.TheVariants.{Fresh, Number, NumberNumber}
+use Rattle.vob_lines.specs.declared.keyword.Keyword.TheVariants.{BitNumber, NumberBit}
+use Rattle.vob_lines.specs.declared.keyword.Keyword.TheVariants.{NumberNumberBit, BitList}
+use Rattle.vob_lines.specs.declared.keyword.Keyword.TheVariants.{NumberBitList, Bytes, Raw, Record}
+use Rattle.vob_lines.specs.declared.keyword.Keyword.TheVariants.{Drain, Walk, Count}
 
 -- a kind of word
 pub data Kind : Type 0 where

@@ -8,7 +8,9 @@ ghost use Rattle.vob_lines.specs.Arguments.{number, bit, bits, bytes, range, pul
 ghost use Rattle.vob_lines.specs.Errors.{OnlyUnreadable, TakesMemory};
 ghost use Rattle.vob_lines.specs.Grammar.{Reads};
 ghost use Rattle.vob_lines.specs.Lists.{BeginsAsList};
-ghost use Rattle.vob_lines.specs.Kinds.{a_number, a_bit, some_bits, some_bytes, a_range, some_pulls, nothing, numbers, before, kinds_of, Begins, Are, Takes, IsLine};
+ghost use Rattle.vob_lines.specs.Kinds.{a_number, a_bit, some_bits, some_bytes, a_range};
+ghost use Rattle.vob_lines.specs.Kinds.{some_pulls, nothing, numbers, before, kinds_of, Begins};
+ghost use Rattle.vob_lines.specs.Kinds.{Are, Takes, IsLine};
 ghost use Rattle.vob_lines.specs.declared.keyword.Keyword.TheVariants.{Fresh, Bytes, Raw, Record, Drain, Walk, Count};
 
 use crate::keyword::Keyword;

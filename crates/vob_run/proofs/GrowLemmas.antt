@@ -1,5 +1,7 @@
 -- Calls on one Vob that are refused past the greatest length, or for want of memory.
-use Rattle.std.proofs.Common.{◌≡◌, ◌≢◌, ◌^◌, ◌+◌, ◌-◌, ◌<◌, [], ◌∷◌, ◌++◌, ◌↔◌, ℕ, List, Bool, Result, Ok, Err, OnOk, OnErr, IfErr, length, set, refl, ◌∙◌, inl, inr, arith}
+use Rattle.std.proofs.Common.{◌≡◌, ◌≢◌, ◌^◌, ◌+◌, ◌-◌, ◌<◌, [], ◌∷◌, ◌++◌, ◌↔◌, ℕ, List, Bool}
+use Rattle.std.proofs.Common.{Result, Ok, Err, OnOk, OnErr, IfErr, length, set, refl, ◌∙◌, inl, inr}
+use Rattle.std.proofs.Common.{arith}
 use Rattle.std.proofs.lemmas.Bool.{lt-ltb, le-ltb, cases_lt}
 use Rattle.vob_block.specs.Packing.{need}
 use Rattle.vob.specs.Refusal.{refusal_number}

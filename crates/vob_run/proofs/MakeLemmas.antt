@@ -1,5 +1,6 @@
 -- What a Vob that was made, and put behind the others, is as a step.
-use Rattle.std.proofs.Common.{◌≡◌, ◌≢◌, ◌<◌, ◌≤◌, ℕ, List, [], ◌∷◌, ◌++◌, Bool, length, take, drop, set, Result, Ok, Err, IfOk, IfErr, OnErr, ap, refl, ◌∙◌, inl, inr}
+use Rattle.std.proofs.Common.{◌≡◌, ◌≢◌, ◌<◌, ◌≤◌, ℕ, List, [], ◌∷◌, ◌++◌, Bool, length, take, drop}
+use Rattle.std.proofs.Common.{set, Result, Ok, Err, IfOk, IfErr, OnErr, ap, refl, ◌∙◌, inl, inr}
 use Rattle.std.proofs.lemmas.Bool.{lt-ltb, le-ltb}
 use Rattle.std.proofs.lemmas.List.{map_push, length-map}
 use Rattle.vob.specs.Refusal.{refusal_number}

@@ -1,6 +1,8 @@
 -- Two items of a list that is cut between them, and two Vobs of which one changes.
 use Rattle.std.specs.Prelude.{Some, slice_get, ◌==◌, if◌then◌else◌}
-use Rattle.std.proofs.Common.{◌≡◌, ◌-◌, ◌<◌, ◌≢◌, ◌↔◌, ℕ, List, ◌++◌, Bool, true, false, not, Decides, Option, None, length, take, drop, set, get_or, ap, sym, refl, ◌∙◌, inl, inr, arith, length-append}
+use Rattle.std.proofs.Common.{◌≡◌, ◌-◌, ◌<◌, ◌≢◌, ◌↔◌, ℕ, List, ◌++◌, Bool, true, false, not}
+use Rattle.std.proofs.Common.{Decides, Option, None, length, take, drop, set, get_or, ap, sym, refl}
+use Rattle.std.proofs.Common.{◌∙◌, inl, inr, arith, length-append}
 use Rattle.std.proofs.lemmas.List.{set-append_left, set-append_right, set_comm, set-get_or, take_at, length-set, get_or_append_left, get_or-append_right}
 use Rattle.std.specs.Option.{option_map_or}
 use Rattle.std.proofs.lemmas.Bool.{ne_eqb, eq-eqb, cases_lt}

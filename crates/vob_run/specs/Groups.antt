@@ -1,7 +1,12 @@
 -- The commands on one Vob: words of inner functions, in no public contract.
 use Rattle.std.specs.Prelude.{⊤}
 use Rattle.vob_run.specs.declared.command.Command.{Command}
-use Rattle.vob_run.specs.declared.command.Command.TheVariants.{Push, Pop, SetBit, SetUnchecked, Truncate, Clear, SetAll, Negate, Resize, ExtendSlice, ExtendItems, Reserve, Shrink, GetBit, GetUnchecked, IndexBit, Length, IsEmpty, Bits, Storage, Walk, Count}
+use Rattle.vob_run.specs.declared.command.Command.TheVariants.{Push, Pop, SetBit, SetUnchecked}
+use Rattle.vob_run.specs.declared.command.Command.TheVariants.{Truncate, Clear, SetAll, Negate}
+use Rattle.vob_run.specs.declared.command.Command.TheVariants.{Resize, ExtendSlice, ExtendItems}
+use Rattle.vob_run.specs.declared.command.Command.TheVariants.{Reserve, Shrink, GetBit}
+use Rattle.vob_run.specs.declared.command.Command.TheVariants.{GetUnchecked, IndexBit, Length}
+use Rattle.vob_run.specs.declared.command.Command.TheVariants.{IsEmpty, Bits, Storage, Walk, Count}
 
 -- a command reads one Vob
 abbrev pub IsRead : {X : Type 0} → Command X → Type 0

@@ -1,7 +1,10 @@
 -- Which calls may be refused for want of memory.
 use Rattle.std.specs.Prelude.{◌≢◌, ℕ, ◌+◌, ◌<◌, List, [], length, get_or, slice_get, Bool, IsSomeAnd, ⊤}
 use Rattle.vob_block.specs.Packing.{need}
-use Rattle.vob_run.specs.Call.{Call, New, FromElem, Copy, FromRaw, Push, Resize, ExtendSlice, ExtendItems, ExtendVob, SplitOff, Drain, AndNew, OrNew, XorNew, Reserve, Bits, Storage, Walk, Fresh, WithCapacity, Fill, FromBytes, FromSlice, FromItems, FromRecord}
+use Rattle.vob_run.specs.Call.{Call, New, FromElem, Copy, FromRaw, Push, Resize, ExtendSlice}
+use Rattle.vob_run.specs.Call.{ExtendItems, ExtendVob, SplitOff, Drain, AndNew, OrNew, XorNew}
+use Rattle.vob_run.specs.Call.{Reserve, Bits, Storage, Walk, Fresh, WithCapacity, Fill, FromBytes}
+use Rattle.vob_run.specs.Call.{FromSlice, FromItems, FromRecord}
 use Rattle.vob_run.specs.Answer.{skipped, refused}
 use Rattle.vob_run.specs.Step.{step}
 

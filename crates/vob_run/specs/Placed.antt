@@ -1,5 +1,4 @@
--- What becomes of a Vob that is to stand behind the others: a word of inner functions, in no public
--- contract.
+-- What becomes of a Vob that is to stand behind the others. No public contract cites this page.
 use Rattle.std.specs.Prelude.{◌≡◌, ◌⊎◌, List, [], ◌∷◌, ◌++◌, length}
 use Rattle.vob.specs.Vob.{BitVector}
 use Rattle.vob_run.specs.Answer.{Answer, made, refused}

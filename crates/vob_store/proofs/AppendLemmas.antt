@@ -1,15 +1,22 @@
 -- Bits put behind others: blocks behind whole ones, and places in the last one, at a plain width.
 use Rattle.std.specs.Prelude.{◌⊎◌}
-use Rattle.std.proofs.Common.{◌≡◌, ◌≢◌, ℕ, ◌+◌, ◌-◌, ◌*◌, ◌/◌, ◌%◌, ◌^◌, ◌<◌, ◌≤◌, Bool, true, false, ◌&&◌, ◌||◌, List, [], ◌∷◌, ◌++◌, length, map, get_or, set, take, drop, min, replicate, leb, refl, sym, ap, ◌∙◌, subst, arith, inl, inr, mod-lt, div-add-mod', add-mul, zero-mul, one-mul}
+use Rattle.std.proofs.Common.{◌≡◌, ◌≢◌, ℕ, ◌+◌, ◌-◌, ◌*◌, ◌/◌, ◌%◌, ◌^◌, ◌<◌, ◌≤◌, Bool, true}
+use Rattle.std.proofs.Common.{false, ◌&&◌, ◌||◌, List, [], ◌∷◌, ◌++◌, length, map, get_or, set}
+use Rattle.std.proofs.Common.{take, drop, min, replicate, leb, refl, sym, ap, ◌∙◌, subst, arith}
+use Rattle.std.proofs.Common.{inl, inr, mod-lt, div-add-mod', add-mul, zero-mul, one-mul}
 use Rattle.std.proofs.lemmas.Bool.{cases_lt, cases_eq, lt-leb, le-leb}
-use Rattle.std.proofs.lemmas.List.{nil_from_length, append-nil, append_assoc, take-append-drop, length-take-le, length-drop, length-map, map-set, length-append, length-replicate, get_or_past, get_or-replicate}
+use Rattle.std.proofs.lemmas.List.{nil_from_length, append-nil, append_assoc, take-append-drop}
+use Rattle.std.proofs.lemmas.List.{length-take-le, length-drop, length-map, map-set, length-append}
+use Rattle.std.proofs.lemmas.List.{length-replicate, get_or_past, get_or-replicate}
 use Rattle.std.proofs.lemmas.List.Elements.{All-append, All-push, All-nil}
 use Rattle.std.proofs.Math.Bool.{or-false}
 use Rattle.std.proofs.lemmas.Nat.{mod-mul-add, le-div}
 use Rattle.vob_block.specs.Places.{place, HasPlaces}
 use Rattle.vob_block.specs.Packing.{item, need, packing, bit_at, unpacking, IsCanonical, Stores}
 use Rattle.vob_block.proofs.NeedLemmas.{need_is, need-zero, need_enough, need_at_full, need_at_open, div-lt-need, lt-need}
-use Rattle.vob_block.proofs.PackingLemmas.{bit_at-in_block, bit_at-past, bit_at-is_item, packing_is, length-unpacking, stores_from_items, length-packing, packing-unpacking}
+use Rattle.vob_block.proofs.PackingLemmas.{bit_at-in_block, bit_at-past, bit_at-is_item, packing_is}
+use Rattle.vob_block.proofs.PackingLemmas.{length-unpacking, stores_from_items, length-packing}
+use Rattle.vob_block.proofs.PackingLemmas.{packing-unpacking}
 use Rattle.vob_block.proofs.PlaceLemmas.{place-ones}
 use Rattle.vob_store.proofs.BuildLemmas.{number_indexed, Stores-last, Stores-built, item-low, item-high, bit_at-append_left, bit_at-append_right}
 use Rattle.vob_store.proofs.RoomLemmas.{need-add}

@@ -1,15 +1,21 @@
 -- Blocks stored one after another so that they hold wanted bits, at a plain width.
 use Rattle.std.specs.Prelude.{All}
-use Rattle.std.proofs.Common.{◌≡◌, ℕ, ◌+◌, ◌-◌, ◌*◌, ◌/◌, ◌%◌, ◌^◌, ◌<◌, ◌≤◌, Bool, false, List, ◌++◌, length, map, get_or, set, drop, take, ltb, refl, sym, ap, ◌∙◌, arith, inl, inr, mod-lt, div-add-mod', add-mul, one-mul}
+use Rattle.std.proofs.Common.{◌≡◌, ℕ, ◌+◌, ◌-◌, ◌*◌, ◌/◌, ◌%◌, ◌^◌, ◌<◌, ◌≤◌, Bool, false, List}
+use Rattle.std.proofs.Common.{◌++◌, length, map, get_or, set, drop, take, ltb, refl, sym, ap, ◌∙◌}
+use Rattle.std.proofs.Common.{arith, inl, inr, mod-lt, div-add-mod', add-mul, one-mul}
 use Rattle.std.proofs.lemmas.Bool.{cases_lt, cases_eq, lt-ltb, le-ltb, cond-true, cond-false}
-use Rattle.std.proofs.lemmas.List.{length-set, length-append, get_or-map, get_or-drop, get_or_append_left, get_or-append_right, get_or_past, get_or-take, length-take-le, drop_at}
+use Rattle.std.proofs.lemmas.List.{length-set, length-append, get_or-map, get_or-drop}
+use Rattle.std.proofs.lemmas.List.{get_or_append_left, get_or-append_right, get_or_past}
+use Rattle.std.proofs.lemmas.List.{get_or-take, length-take-le, drop_at}
 use Rattle.std.proofs.lemmas.List.Elements.{All-set}
 use Rattle.std.proofs.lemmas.Nat.{mul-le, le-div}
 use Rattle.std.proofs.Math.Nat.{add-mul-div_right}
 use Rattle.vob_block.specs.Places.{place, HasPlaces}
 use Rattle.vob_block.specs.Packing.{item, need, bit_at, unpacking, Stores}
 use Rattle.vob_block.proofs.NeedLemmas.{need_enough}
-use Rattle.vob_block.proofs.PackingLemmas.{bit_at-in_block, bit_at-is_place, bit_at-past, bit_at-set_same, bit_at-set_other, length-unpacking, get_or-unpacking, stores_from_items}
+use Rattle.vob_block.proofs.PackingLemmas.{bit_at-in_block, bit_at-is_place, bit_at-past}
+use Rattle.vob_block.proofs.PackingLemmas.{bit_at-set_same, bit_at-set_other, length-unpacking}
+use Rattle.vob_block.proofs.PackingLemmas.{get_or-unpacking, stores_from_items}
 use Rattle.vob_store.specs.Building.{AreBuilt, joined_bit}
 
 -- a block read from some items, by its number

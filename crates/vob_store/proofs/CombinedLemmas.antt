@@ -1,6 +1,8 @@
 -- Blocks combined one after another: how many places are true so far, and whether one is.
 use Rattle.std.specs.List.{range_with_len}
-use Rattle.std.proofs.Common.{◌≡◌, ◌↔◌, ℕ, zero, suc, ◌+◌, ◌-◌, ◌*◌, ◌/◌, ◌%◌, ◌^◌, ◌<◌, ◌≤◌, Bool, not, ◌&&◌, ◌||◌, cond, List, get_or, count_by, refl, sym, ap, ◌∙◌, subst, arith, inl, inr, add-mul, mod-lt}
+use Rattle.std.proofs.Common.{◌≡◌, ◌↔◌, ℕ, zero, suc, ◌+◌, ◌-◌, ◌*◌, ◌/◌, ◌%◌, ◌^◌, ◌<◌, ◌≤◌, Bool}
+use Rattle.std.proofs.Common.{not, ◌&&◌, ◌||◌, cond, List, get_or, count_by, refl, sym, ap, ◌∙◌}
+use Rattle.std.proofs.Common.{subst, arith, inl, inr, add-mul, mod-lt}
 use Rattle.std.proofs.lemmas.Bool.{cases_eq}
 use Rattle.std.proofs.lemmas.List.Sums.{sum_by-cons}
 use Rattle.std.proofs.lemmas.Nat.{div-mul-add, mul-le, pow_pos}
@@ -9,7 +11,8 @@ use Rattle.vob_block.specs.Packing.{bit_at}
 use Rattle.vob_block.proofs.KernelLemmas.{or-zero, zero-or}
 use Rattle.vob_block.proofs.PackingLemmas.{bit_at-in_block, bit_at-is_place}
 use Rattle.vob_block.proofs.PlaceLemmas.{same_from_places, place-zero}
-use Rattle.vob_store.specs.Combined.{without, combined_bit, ones_combined, HaveNone}
+use Rattle.vob_block.specs.Pointwise.{without}
+use Rattle.vob_store.specs.Combined.{combined_bit, ones_combined, HaveNone}
 
 -- what a block has where another, negated, has it too
 pub HasPlaces-without : (w own other negated both : ℕ)

@@ -1,6 +1,8 @@
 -- The bits from some index on taken off, at a plain width.
 use Rattle.std.specs.Prelude.{All}
-use Rattle.std.proofs.Common.{Bool, ◌≡◌, ◌≢◌, ℕ, ◌+◌, ◌*◌, ◌/◌, ◌%◌, ◌^◌, ◌<◌, ◌≤◌, min, false, ◌&&◌, List, [], length, add-zero, map, get_or, set, take, ltb, sym, ap, ◌∙◌, arith, inl, inr, div-add-mod'}
+use Rattle.std.proofs.Common.{Bool, ◌≡◌, ◌≢◌, ℕ, ◌+◌, ◌*◌, ◌/◌, ◌%◌, ◌^◌, ◌<◌, ◌≤◌, min, false}
+use Rattle.std.proofs.Common.{◌&&◌, List, [], length, add-zero, map, get_or, set, take, ltb, sym}
+use Rattle.std.proofs.Common.{ap, ◌∙◌, arith, inl, inr, div-add-mod'}
 use Rattle.std.proofs.lemmas.Bool.{cases_eq, cases_lt, lt-ltb, le-ltb, and_right}
 use Rattle.std.proofs.Math.Bool.{and-true}
 use Rattle.std.proofs.lemmas.List.{append-nil, get_or-map, map-set, length-map, get_or-take, length-take-le, take-map}

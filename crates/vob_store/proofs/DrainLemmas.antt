@@ -1,5 +1,7 @@
 -- Bits taken out, and those behind them closed up, at a plain width.
-use Rattle.std.proofs.Common.{◌≡◌, ◌≢◌, ℕ, ◌+◌, ◌-◌, ◌*◌, ◌/◌, ◌%◌, ◌<◌, ◌≤◌, false, cond, List, ◌++◌, length, get_or, set, drop, take, map, ltb, sym, ap, subst, ◌∙◌, arith, inl, inr, mod-lt, div-add-mod', add-mul, one-mul}
+use Rattle.std.proofs.Common.{◌≡◌, ◌≢◌, ℕ, ◌+◌, ◌-◌, ◌*◌, ◌/◌, ◌%◌, ◌<◌, ◌≤◌, false, cond, List}
+use Rattle.std.proofs.Common.{◌++◌, length, get_or, set, drop, take, map, ltb, sym, ap, subst, ◌∙◌}
+use Rattle.std.proofs.Common.{arith, inl, inr, mod-lt, div-add-mod', add-mul, one-mul}
 use Rattle.std.proofs.Math.Nat.{div-lt_iff_lt-mul}
 use Rattle.std.proofs.lemmas.Bool.{cases_lt, cases_eq, lt-ltb, le-ltb, cond-true, cond-false}
 use Rattle.std.proofs.lemmas.List.{length-append, length-drop, length-map, map-set, get_or-drop, get_or-map}
@@ -7,7 +9,9 @@ use Rattle.std.proofs.lemmas.Nat.{mul-le, le-div}
 use Rattle.vob_block.specs.Places.{place, HasPlaces}
 use Rattle.vob_block.specs.Packing.{need, bit_at, unpacking}
 use Rattle.vob_block.proofs.NeedLemmas.{div-lt-need}
-use Rattle.vob_block.proofs.PackingLemmas.{bit_at-in_block, bit_at-is_place, bit_at-set_same, bit_at-set_other, length-unpacking, get_or-unpacking, unpacking_from_items}
+use Rattle.vob_block.proofs.PackingLemmas.{bit_at-in_block, bit_at-is_place, bit_at-set_same}
+use Rattle.vob_block.proofs.PackingLemmas.{bit_at-set_other, length-unpacking, get_or-unpacking}
+use Rattle.vob_block.proofs.PackingLemmas.{unpacking_from_items}
 use Rattle.vob_store.specs.Building.{AreBuilt, closed_bit}
 use Rattle.vob_store.proofs.BuildLemmas.{number_indexed, AreBuilt-more, item-low, item-high}
 use Rattle.vob_store.proofs.CutLemmas.{take-unpacking}

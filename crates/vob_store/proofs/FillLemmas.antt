@@ -1,5 +1,7 @@
 -- Blocks filled up with bits of one value, at the numbers of some items.
-use Rattle.std.proofs.Common.{◌≡◌, ℕ, ◌+◌, ◌-◌, ◌*◌, ◌^◌, ◌<◌, ◌≤◌, Bool, true, false, cond, List, ◌++◌, length, map, take, drop, replicate, sym, ap, ◌∙◌, arith, add-mul}
+use Rattle.std.proofs.Common.{◌≡◌, ℕ, ◌+◌, ◌-◌, ◌*◌, ◌^◌, ◌<◌, ◌≤◌, Bool, true, false, cond, List}
+use Rattle.std.proofs.Common.{◌++◌, length, map, take, drop, replicate, sym, ap, ◌∙◌, arith}
+use Rattle.std.proofs.Common.{add-mul}
 use Rattle.std.proofs.lemmas.Bool.{cond-true}
 use Rattle.std.proofs.lemmas.List.{length-append, length-replicate, map-append, append_assoc, replicate-append-replicate, take_all, take_at}
 use Rattle.std.proofs.Math.Nat.{mul-mod_left}

@@ -1,5 +1,7 @@
 -- Blocks that are each made of two neighbours, and the bits from some index on, at a plain width.
-use Rattle.std.proofs.Common.{◌≡◌, ℕ, ◌+◌, ◌-◌, ◌*◌, ◌/◌, ◌%◌, ◌<◌, ◌≤◌, false, cond, List, length, get_or, set, drop, take, map, ltb, sym, ap, ◌∙◌, arith, inl, inr, div-add-mod', add-mul, one-mul}
+use Rattle.std.proofs.Common.{◌≡◌, ℕ, ◌+◌, ◌-◌, ◌*◌, ◌/◌, ◌%◌, ◌<◌, ◌≤◌, false, cond, List, length}
+use Rattle.std.proofs.Common.{get_or, set, drop, take, map, ltb, sym, ap, ◌∙◌, arith, inl, inr}
+use Rattle.std.proofs.Common.{div-add-mod', add-mul, one-mul}
 use Rattle.std.proofs.lemmas.Bool.{cases_lt, lt-ltb, le-ltb, cond-true, cond-false}
 use Rattle.std.proofs.lemmas.List.{length-drop, get_or-drop, drop-map, take_rest}
 use Rattle.vob_block.specs.Places.{place, HasPlaces}

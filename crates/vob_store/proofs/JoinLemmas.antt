@@ -1,6 +1,9 @@
 -- The bits of some blocks joined behind those of others, at a plain width.
 use Rattle.std.specs.Prelude.{All}
-use Rattle.std.proofs.Common.{◌≡◌, ◌≢◌, ℕ, ◌+◌, ◌-◌, ◌*◌, ◌/◌, ◌%◌, ◌^◌, ◌<◌, ◌≤◌, ◌&&◌, List, map, append-nil, ◌∷◌, ◌++◌, length, get_or, drop, take, ltb, leb, sym, ap, ◌∙◌, arith, inl, inr, mod-lt, div-add-mod', one-mul, zero-mul, zero-add, add-mul}
+use Rattle.std.proofs.Common.{◌≡◌, ◌≢◌, ℕ, ◌+◌, ◌-◌, ◌*◌, ◌/◌, ◌%◌, ◌^◌, ◌<◌, ◌≤◌, ◌&&◌, List, map}
+use Rattle.std.proofs.Common.{append-nil, ◌∷◌, ◌++◌, length, get_or, drop, take, ltb, leb, sym, ap}
+use Rattle.std.proofs.Common.{◌∙◌, arith, inl, inr, mod-lt, div-add-mod', one-mul, zero-mul}
+use Rattle.std.proofs.Common.{zero-add, add-mul}
 use Rattle.std.proofs.lemmas.Bool.{cases_lt, lt-ltb, le-ltb, le-leb, cond-true, cond-false}
 use Rattle.std.proofs.lemmas.List.{length-map, length-drop, length-append, length-take-le, take_rest, drop_all, take-map, drop-map, map-append}
 use borrow.Rule.Slice.PartMut.{put_mid}

@@ -1,12 +1,18 @@
 -- Blocks of which the bits of a range are changed, at a plain width.
-use Rattle.std.proofs.Common.{◌≡◌, ◌≢◌, ◌↔◌, ℕ, ◌+◌, ◌-◌, ◌*◌, ◌/◌, ◌%◌, ◌^◌, ◌<◌, ◌≤◌, nat_le, nat_lt, Bool, true, false, not, ◌&&◌, ◌||◌, cond, List, length, map, get_or, set, refl, sym, ap, ◌∙◌, subst, arith, inl, inr, mod-lt, div-add-mod', add-mul, one-mul}
-use Rattle.std.proofs.lemmas.Bool.{cases_eq, cases_lt, lt-leb, le-leb, lt-ltb, le-ltb, and_left, and_right, and_from, or_parts, not-false, cond-true, cond-false, false≢true}
+use Rattle.std.proofs.Common.{◌≡◌, ◌≢◌, ◌↔◌, ℕ, ◌+◌, ◌-◌, ◌*◌, ◌/◌, ◌%◌, ◌^◌, ◌<◌, ◌≤◌, nat_le}
+use Rattle.std.proofs.Common.{nat_lt, Bool, true, false, not, ◌&&◌, ◌||◌, cond, List, length, map}
+use Rattle.std.proofs.Common.{get_or, set, refl, sym, ap, ◌∙◌, subst, arith, inl, inr, mod-lt}
+use Rattle.std.proofs.Common.{div-add-mod', add-mul, one-mul}
+use Rattle.std.proofs.lemmas.Bool.{cases_eq, cases_lt, lt-leb, le-leb, lt-ltb, le-ltb, and_left}
+use Rattle.std.proofs.lemmas.Bool.{and_right, and_from, or_parts, not-false, cond-true, cond-false}
+use Rattle.std.proofs.lemmas.Bool.{false≢true}
 use Rattle.std.proofs.lemmas.List.{map-set, length-map, length-set, get_or-set_same}
 use Rattle.std.proofs.lemmas.List.Elements.{All-set}
 use Rattle.std.proofs.lemmas.Nat.{mul-le, le-div, div_below}
 use Rattle.vob_block.specs.Places.{place, HasPlaces}
 use Rattle.vob_block.specs.Pointwise.{differ}
 use Rattle.vob_block.specs.Packing.{need, bit_at, unpacking, IsCanonical}
+use Rattle.vob_block.proofs.BoolLemmas.{or-test, and-test, differ-test}
 use Rattle.vob_block.proofs.KernelLemmas.{differ-zero, zero-differ, or-zero, zero-or}
 use Rattle.vob_block.proofs.NeedLemmas.{need_enough}
 use Rattle.vob_block.proofs.PackingLemmas.{bit_at-in_block, bit_at-is_place, bit_at-set_same, bit_at-set_other, bit_at-is_item}
@@ -17,40 +23,22 @@ use Rattle.vob_store.proofs.CutLemmas.{unpacking_same}
 
 -- ---- a block under a mask
 
-or-mask : (b t : Bool) → (b || t) ≡ cond t true b
-or-mask true true = refl
-or-mask true false = refl
-or-mask false true = refl
-or-mask false false = refl
-
-and-mask : (b t : Bool) → (b && not t) ≡ cond t false b
-and-mask true true = refl
-and-mask true false = refl
-and-mask false true = refl
-and-mask false false = refl
-
-differ-mask : (b t : Bool) → differ b t ≡ cond t (not b) b
-differ-mask true true = refl
-differ-mask true false = refl
-differ-mask false true = refl
-differ-mask false false = refl
-
 module _ (w x m y : ℕ) where
   pub HasPlaces-set : HasPlaces w y (λ j. place j x || place j m)
       → HasPlaces w y (λ j. cond (place j m) true (place j x))
-  HasPlaces-set h = record { each = λ j k. h.each j k ∙ or-mask (place j x) (place j m) }
+  HasPlaces-set h = record { each = λ j k. h.each j k ∙ or-test (place j x) (place j m) }
 
   pub HasPlaces-unset : (z : ℕ) → HasPlaces w z (λ j. not (place j m))
       → HasPlaces w y (λ j. place j x && place j z)
       → HasPlaces w y (λ j. cond (place j m) false (place j x))
   HasPlaces-unset z negated h = record {
     each = λ j k. h.each j k ∙ ap (λ b. place j x && b) (negated.each j k)
-        ∙ and-mask (place j x) (place j m);
+        ∙ and-test (place j x) (place j m);
   }
 
   pub HasPlaces-negated : HasPlaces w y (λ j. differ (place j x) (place j m))
       → HasPlaces w y (λ j. cond (place j m) (not (place j x)) (place j x))
-  HasPlaces-negated h = record { each = λ j k. h.each j k ∙ differ-mask (place j x) (place j m) }
+  HasPlaces-negated h = record { each = λ j k. h.each j k ∙ differ-test (place j x) (place j m) }
 
 -- ---- masks
 

@@ -2,7 +2,9 @@
 -- tests it. They are items with a number each.
 use Rattle.std.specs.Prelude.{IsTrue, nat_eq, All}
 use Rattle.std.specs.Int.{div_ceil}
-use Rattle.std.proofs.Common.{◌≡◌, ◌≢◌, ◌↔◌, ℕ, ◌/◌, ◌%◌, ◌^◌, ◌<◌, Bool, true, false, ◌&&◌, List, length, map, get_or, set, ltb, refl, sym, ap, ◌∙◌, subst, eqb-true, eq-eqb}
+use Rattle.std.proofs.Common.{◌≡◌, ◌≢◌, ◌↔◌, ℕ, ◌/◌, ◌%◌, ◌^◌, ◌<◌, Bool, true, false, ◌&&◌, List}
+use Rattle.std.proofs.Common.{length, map, get_or, set, ltb, refl, sym, ap, ◌∙◌, subst, eqb-true}
+use Rattle.std.proofs.Common.{eq-eqb}
 use Rattle.std.proofs.lemmas.List.{get_or-map, map-set, length-map, get_or-set_same}
 use Rattle.std.proofs.Math.Seq.{map-set_same}
 use Rattle.vob_block.specs.Places.{place, HasPlaces}

@@ -1,5 +1,7 @@
 -- Blocks whose places are all of one bit.
-use Rattle.std.proofs.Common.{◌+◌, ◌≡◌, ℕ, ◌-◌, ◌*◌, ◌/◌, ◌%◌, ◌^◌, ◌<◌, ◌≤◌, Bool, true, false, cond, zero, suc, ◌∷◌, map, replicate, refl, sym, ap, ◌∙◌, arith, mod-lt, div-add-mod', add-one, suc-mul}
+use Rattle.std.proofs.Common.{◌+◌, ◌≡◌, ℕ, ◌-◌, ◌*◌, ◌/◌, ◌%◌, ◌^◌, ◌<◌, ◌≤◌, Bool, true, false}
+use Rattle.std.proofs.Common.{cond, zero, suc, ◌∷◌, map, replicate, refl, sym, ap, ◌∙◌, arith}
+use Rattle.std.proofs.Common.{mod-lt, div-add-mod', add-one, suc-mul}
 use Rattle.std.proofs.lemmas.List.{length-replicate, get_or-replicate, take-replicate}
 use Rattle.std.proofs.lemmas.List.Elements.{All-replicate}
 use Rattle.std.proofs.lemmas.Nat.{pow_pos, mul-le}

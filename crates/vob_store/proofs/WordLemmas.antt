@@ -1,9 +1,13 @@
 -- The bytes of words, eight for each.
 use Rattle.std.specs.Int.{w64, from_le_bytes, bytes_low_first, div_ceil}
 use Rattle.std.proofs.lemmas.Grind.{div_ceil_times}
-use Rattle.std.proofs.Common.{◌≡◌, ℕ, zero, suc, ◌+◌, ◌-◌, ◌*◌, ◌/◌, ◌%◌, ◌^◌, ◌<◌, ◌≤◌, false, List, ◌++◌, length, get_or, take, replicate, sym, ap, ◌∙◌, arith, inl, inr, mod-lt}
+use Rattle.std.proofs.Common.{◌≡◌, ℕ, zero, suc, ◌+◌, ◌-◌, ◌*◌, ◌/◌, ◌%◌, ◌^◌, ◌<◌, ◌≤◌, false}
+use Rattle.std.proofs.Common.{List, ◌++◌, length, get_or, take, replicate, sym, ap, ◌∙◌, arith, inl}
+use Rattle.std.proofs.Common.{inr, mod-lt}
 use Rattle.std.proofs.lemmas.Bool.{cases_lt}
-use Rattle.std.proofs.lemmas.List.{ext_get_or, get_or_past, get_or_append_left, get_or-append_right, get_or-take, get_or-replicate, length-append, length-replicate, length-take-le}
+use Rattle.std.proofs.lemmas.List.{ext_get_or, get_or_past, get_or_append_left, get_or-append_right}
+use Rattle.std.proofs.lemmas.List.{get_or-take, get_or-replicate, length-append, length-replicate}
+use Rattle.std.proofs.lemmas.List.{length-take-le}
 use Rattle.vob_block.specs.Places.{place, HasPlaces}
 use Rattle.vob_block.specs.Packing.{item, need, bit_at, unpacking, IsCanonical}
 use Rattle.vob_block.specs.Bytes.{bytes_list}

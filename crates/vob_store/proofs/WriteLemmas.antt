@@ -3,30 +3,21 @@ use Rattle.std.specs.Prelude.{Option, Some, IsTrue}
 use Rattle.std.specs.Bool.{beq}
 use Rattle.std.specs.Int.{w64}
 use Rattle.std.proofs.lemmas.Nat.{mul-le}
-use Rattle.std.proofs.Common.{Fits, ◌*◌, ◌≤◌, ◌≡◌, ◌≢◌, ◌↔◌, ℕ, ◌/◌, ◌%◌, ◌^◌, ◌<◌, Bool, true, false, not, ◌&&◌, ◌||◌, cond, List, length, map, get_or, set, eqb, refl, sym, ap, ◌∙◌, arith, inl, inr, mod-lt}
+use Rattle.std.proofs.Common.{Fits, ◌*◌, ◌≤◌, ◌≡◌, ◌≢◌, ◌↔◌, ℕ, ◌/◌, ◌%◌, ◌^◌, ◌<◌, Bool, true}
+use Rattle.std.proofs.Common.{false, not, ◌&&◌, ◌||◌, cond, List, length, map, get_or, set, eqb}
+use Rattle.std.proofs.Common.{refl, sym, ap, ◌∙◌, arith, inl, inr, mod-lt}
 use Rattle.std.proofs.lemmas.Bool.{cases_eq, eq-eqb, ne_eqb, cond-true, cond-false}
 use Rattle.std.proofs.lemmas.List.{get_or-map, map-set, length-map, length-set, get_or-set_same, get_or-set_other}
 use Rattle.std.proofs.lemmas.List.Elements.{All-set}
 use Rattle.vob_block.specs.Places.{place, HasPlaces}
 use Rattle.vob_block.specs.Packing.{item, bit_at, unpacking, IsCanonical, Stores}
+use Rattle.vob_block.proofs.BoolLemmas.{or-test, and-test}
 use Rattle.vob_block.proofs.NeedLemmas.{div-lt-need}
 use Rattle.vob_block.proofs.PackingLemmas.{bit_at-is_place, bit_at-set_same, bit_at-set_other, length-unpacking, bit_at-is_item, stores_from_items}
 use Rattle.vob_block.proofs.PlaceLemmas.{place-pow}
 use Rattle.vob_store.proofs.PushLemmas.{eqb-places, eqb-blocks}
 
 -- ---- a block with another value at one place
-
-or-test : (b t : Bool) → (b || t) ≡ cond t true b
-or-test true true = refl
-or-test true false = refl
-or-test false true = refl
-or-test false false = refl
-
-and-test : (b t : Bool) → (b && not t) ≡ cond t false b
-and-test true true = refl
-and-test true false = refl
-and-test false true = refl
-and-test false false = refl
 
 -- `x | m`, where m is place j alone
 pub HasPlaces-marked : (w x y m j : ℕ) (v : Bool) → v ≡ true → m ≡ 2 ^ j

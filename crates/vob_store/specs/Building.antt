@@ -1,4 +1,4 @@
--- Blocks stored one after another so that they hold wanted bits.
+-- Blocks stored one by one so that they hold wanted bits. No public contract cites this page.
 use Rattle.std.specs.Prelude.{◌≡◌, ℕ, ◌+◌, ◌-◌, ◌/◌, ◌<◌, Bool, if◌then◌else◌, nat_lt, List}
 use Rattle.vob_block.specs.Packing.{bit_at}
 

@@ -1,11 +1,7 @@
--- Two lists of blocks of one length, combined bit by bit.
-use Rattle.std.specs.Prelude.{◌≡◌, ℕ, ◌*◌, ◌/◌, ◌<◌, ◌≤◌, Bool, false, not, ◌&&◌, List, count_by}
+-- Two lists of blocks of one length, combined bit by bit. No public contract cites this page.
+use Rattle.std.specs.Prelude.{◌≡◌, ℕ, ◌*◌, ◌/◌, ◌<◌, ◌≤◌, Bool, false, List, count_by}
 use Rattle.std.specs.List.{range_with_len}
 use Rattle.vob_block.specs.Packing.{bit_at}
-
--- a bit that the first has and the other hasn't
-abbrev pub without : Bool → Bool → Bool
-without bit other = bit && not other
 
 -- bit i of both combined by f
 abbrev pub combined_bit : (Bool → Bool → Bool) → ℕ → List ℕ → List ℕ → ℕ → Bool

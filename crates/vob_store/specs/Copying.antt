@@ -1,4 +1,4 @@
--- Bits of some blocks written over those of others.
+-- Bits of some blocks written over those of others. No public contract cites this page.
 use Rattle.std.specs.Prelude.{◌≡◌, ℕ, ◌+◌, ◌<◌, ◌≤◌, List}
 use Rattle.vob_block.specs.Packing.{bit_at}
 

@@ -1,4 +1,4 @@
--- Blocks of bits joined behind the bits of others.
+-- Blocks of bits joined behind the bits of others. No public contract cites this page.
 use Rattle.std.specs.Prelude.{◌≡◌, ℕ, ◌+◌, List, ◌++◌, length}
 use Rattle.vob_block.specs.Packing.{need, unpacking, IsCanonical, Stores}
 

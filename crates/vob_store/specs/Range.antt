@@ -1,4 +1,4 @@
--- Blocks of which the bits of a range are changed.
+-- Blocks of which the bits of a range are changed. No public contract cites this page.
 use Rattle.std.specs.Prelude.{◌≡◌, ℕ, ◌^◌, ◌<◌, ◌≤◌, Bool, List, length, All}
 use Rattle.vob_block.specs.Packing.{bit_at}
 

@@ -1,4 +1,4 @@
--- Runs of blocks that are the same.
+-- Runs of blocks that are the same. No public contract cites this page.
 use Rattle.std.specs.Prelude.{◌≡◌, ℕ, ◌<◌, ◌≤◌, List, slice_index_or}
 
 -- the blocks from one index to below another are the same in both lists

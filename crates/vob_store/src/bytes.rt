@@ -1,5 +1,7 @@
 //! The blocks of some bytes, and the bytes of some blocks.
-ghost use Rattle.std.specs.Prelude.{◌≡◌, ℕ, ◌+◌, ◌-◌, ◌*◌, ◌/◌, ◌%◌, ◌^◌, ◌<◌, ◌≤◌, ◌&&◌, ◌||◌, nat_le, nat_lt, false, [], ◌++◌, length, replicate, slice_index, vec_capacity, IsOk, IfOk};
+ghost use Rattle.std.specs.Prelude.{◌≡◌, ℕ, ◌+◌, ◌-◌, ◌*◌, ◌/◌, ◌%◌, ◌^◌, ◌<◌, ◌≤◌, ◌&&◌, ◌||◌};
+ghost use Rattle.std.specs.Prelude.{nat_le, nat_lt, false, [], ◌++◌, length, replicate};
+ghost use Rattle.std.specs.Prelude.{slice_index, vec_capacity, IsOk, IfOk};
 ghost use Rattle.vob_block.specs.Places.{place, HasPlaces};
 ghost use Rattle.vob_block.specs.Packing.{item, need, bit_at, packing, unpacking, IsCanonical, Stores};
 ghost use Rattle.vob_block.specs.Bytes.{bytes_list};

@@ -1,9 +1,9 @@
 //! The blocks of two slices combined, place by place: stored, counted, or asked for a true place.
 ghost use Rattle.std.specs.Prelude.{◌≡◌, ◌↔◌, ◌+◌, ◌-◌, ◌^◌, ◌<◌, ◌≤◌, ◌&&◌, ◌||◌, Bool, map, length, IsTrue};
 ghost use Rattle.vob_block.specs.Places.{place, HasPlaces};
-ghost use Rattle.vob_block.specs.Pointwise.{differ, IsCombined};
+ghost use Rattle.vob_block.specs.Pointwise.{differ, without, IsCombined};
 ghost use Rattle.vob_block.specs.Reading.{AreReadOnce};
-ghost use Rattle.vob_store.specs.Combined.{without, ones_combined, HaveNone};
+ghost use Rattle.vob_store.specs.Combined.{ones_combined, HaveNone};
 
 use vob_block::{Block, Blocks};
 

@@ -1,5 +1,7 @@
 //! Single bits of the blocks that store some bits: read, written, and added at the end.
-ghost use Rattle.std.specs.Prelude.{◌≡◌, if◌then◌else◌, ◌+◌, ◌*◌, ◌<◌, ◌≤◌, [], ◌∷◌, ◌++◌, map, length, slice_get, Some, OnOk, OnErr, vec_capacity, ◌≢◌, ◌==◌, ◌↔◌, ◌^◌, slice_set, IsTrue};
+ghost use Rattle.std.specs.Prelude.{◌≡◌, if◌then◌else◌, ◌+◌, ◌*◌, ◌<◌, ◌≤◌, [], ◌∷◌, ◌++◌, map};
+ghost use Rattle.std.specs.Prelude.{length, slice_get, Some, OnOk, OnErr, vec_capacity, ◌≢◌, ◌==◌};
+ghost use Rattle.std.specs.Prelude.{◌↔◌, ◌^◌, slice_set, IsTrue};
 ghost use Rattle.vob_block.specs.Packing.{need, bit_at, unpacking, IsCanonical, Stores};
 ghost use Rattle.vob_block.specs.Places.{place, HasPlaces};
 

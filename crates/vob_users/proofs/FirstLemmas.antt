@@ -1,5 +1,7 @@
 -- The rows of what begins the nonterminals of a grammar, one symbol after another.
-use Rattle.std.proofs.Common.{◌≡◌, ◌≢◌, ℕ, ◌+◌, ◌*◌, ◌<◌, ◌≤◌, Bool, true, false, ◌||◌, List, [], length, get_or, set, take, replicate, Some, slice_get, sym, ap, ◌∙◌, subst, arith, inl, inr}
+use Rattle.std.proofs.Common.{◌≡◌, ◌≢◌, ℕ, ◌+◌, ◌*◌, ◌<◌, ◌≤◌, Bool, true, false, ◌||◌, List, []}
+use Rattle.std.proofs.Common.{length, get_or, set, take, replicate, Some, slice_get, sym, ap, ◌∙◌}
+use Rattle.std.proofs.Common.{subst, arith, inl, inr}
 use Rattle.std.specs.List.{All}
 use Rattle.std.proofs.lemmas.Bool.{cases_eq, cases_lt, or_cases, or_right, not-true, not-false}
 use Rattle.std.proofs.lemmas.List.{ext_get_or, get_or-set_same, get_or-set_other, get_or-take, length-replicate, length-set, length-take, set-get_or, take-take}
@@ -9,7 +11,7 @@ use Rattle.std.proofs.lemmas.Option.{get_or_from_slice_get, slice_get_within, sl
 use Rattle.vob_block.specs.Packing.{item}
 use Rattle.vob_block.specs.Pointwise.{differ}
 use Rattle.vob.specs.Bits.{count_of, IsWritten, GainsBits}
-use Rattle.vob.proofs.BitsLemmas.{differ-true}
+use Rattle.vob_block.proofs.BoolLemmas.{differ-true}
 use Rattle.vob_users.specs.Grammar.{IsNull, IsHead, HasFirst}
 use Rattle.vob_users.specs.GrammarPass.{AddsFirst, HasHeads}
 use Rattle.vob_live.specs.Live.{AreWithin}

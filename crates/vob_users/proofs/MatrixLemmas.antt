@@ -1,7 +1,8 @@
 -- Rows that are led through a node one after another, and columns that are marked.
 use Rattle.std.specs.declared.ops.Bound.TheVariants.{Unbounded}
 use Rattle.std.specs.List.{Contains}
-use Rattle.std.proofs.Common.{◌≡◌, ◌≢◌, ℕ, ◌+◌, ◌<◌, ◌≤◌, Bool, true, false, ◌||◌, ◌&&◌, List, [], ◌∷◌, length, replicate, refl, sym, ap, ◌∙◌, subst, arith, inl, inr}
+use Rattle.std.proofs.Common.{◌≡◌, ◌≢◌, ℕ, ◌+◌, ◌<◌, ◌≤◌, Bool, true, false, ◌||◌, ◌&&◌, List, []}
+use Rattle.std.proofs.Common.{◌∷◌, length, replicate, refl, sym, ap, ◌∙◌, subst, arith, inl, inr}
 use Rattle.std.proofs.lemmas.Bool.{cases_eq, cases_lt, cases_Bool, false≢true}
 use Rattle.std.proofs.lemmas.List.{get_or_past, get_or-replicate, length-replicate, length-map}
 use Rattle.std.proofs.lemmas.List.Elements.{Contains-append_right, Contains-append_cases, Contains-push_cases, Contains-get_or}
@@ -12,17 +13,9 @@ use Rattle.vob.specs.Vob.{BitVector}
 use Rattle.vob_live.specs.Live.{bits_of}
 use Rattle.vob_users.specs.Matrix.{Matrix, row_of, entry, AreLong, HaveShapeOf, IsEntryWritten, IsTransposed}
 use Rattle.vob_users.specs.MatrixRows.{IsRowCombined, IsLedThrough, IsColumnMarked, AreColumnsMarked}
+use Rattle.vob_block.proofs.BoolLemmas.{or-false, or-absorbs}
 use Rattle.vob_live.proofs.SetLemmas.{true_within, item-replicate}
 use Rattle.vob_users.proofs.ShapeLemmas.{HaveShapeOf-same, HaveShapeOf-trans, AreLong-kept, AreLong-empty, GetsRow-combined}
-
-or_none : (b : Bool) → (b || false) ≡ b
-or_none true = refl
-or_none false = refl
-
-absorbed : (a b : Bool) → (b || (a && b)) ≡ b
-absorbed a true = refl
-absorbed true false = refl
-absorbed false false = refl
 
 -- ---- rows that are led through node k
 
@@ -61,7 +54,7 @@ module _ (rows : List (List Bool)) (k n : ℕ) (before : List (List Bool))
   -- row k stays as it was
   row_stays : (j : ℕ) → entry before k j ≡ entry rows k j
   row_stays j = elim (cases_lt k n) [
-    | inl less ↦ h.done k j less ∙ absorbed (entry rows k k) (entry rows k j)
+    | inl less ↦ h.done k j less ∙ or-absorbs (entry rows k k) (entry rows k j)
     | inr past ↦ h.left k j past
   ]
 
@@ -72,7 +65,7 @@ module _ (rows : List (List Bool)) (k n : ℕ) (before : List (List Bool))
     done = λ i j less. elim (cases_eq i n) [
       | inl here ↦
           let stays = ap (λ l. entry rows l k) here ∙ sym (h.left n k (omega arith)) ∙ none in
-          h.left i j (omega (arith, here)) ∙ sym (or_none (entry rows i j))
+          h.left i j (omega (arith, here)) ∙ sym (or-false (entry rows i j))
           ∙ ap (λ b. entry rows i j || (b && entry rows k j)) (sym stays)
       | inr other ↦ h.done i j (omega (arith, less))
     ];
@@ -264,5 +257,5 @@ IsTransposed-marked matrix made empty after none rows columns marked =
           ∙ ap (λ b. entry matrix.rows i j || b)
           (ap (λ rs. entry rs j i) none
           ∙ entry-empty matrix.columns (length matrix.rows) j i)
-          ∙ or_none (entry matrix.rows i j);
+          ∙ or-false (entry matrix.rows i j);
     }

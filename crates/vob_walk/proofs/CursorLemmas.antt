@@ -3,7 +3,9 @@ use Rattle.std.specs.Bool.{⊤}
 use Rattle.std.specs.Option.{MatchOption}
 use Rattle.std.specs.Iterator.{MakesProgress, item_count}
 use Rattle.std.specs.declared.ops.Bound.{Bound}
-use Rattle.std.proofs.Common.{◌≡◌, ℕ, Bool, ◌/◌, ◌+◌, ◌-◌, ◌<◌, ◌≤◌, List, [], ◌∷◌, ◌++◌, length, Option, Some, None, refl, sym, ap, ◌∙◌, arith, inl, inr, append-nil, append_assoc}
+use Rattle.std.proofs.Common.{◌≡◌, ℕ, Bool, ◌/◌, ◌+◌, ◌-◌, ◌<◌, ◌≤◌, List, [], ◌∷◌, ◌++◌, length}
+use Rattle.std.proofs.Common.{Option, Some, None, refl, sym, ap, ◌∙◌, arith, inl, inr, append-nil}
+use Rattle.std.proofs.Common.{append_assoc}
 use Rattle.std.proofs.lemmas.Bool.{cases_lt}
 use Rattle.std.proofs.lemmas.Option.{MatchOption-at_none}
 use Rattle.std.proofs.lemmas.List.{nil_from_length, length-append}

@@ -5,7 +5,9 @@ use Rattle.std.specs.List.{range_with_len}
 use Rattle.std.specs.declared.iter.Rev.{Rev}
 use Rattle.std.specs.declared.ops.Bound.{Bound}
 use Rattle.std.specs.declared.ops.Bound.TheVariants.{Unbounded}
-use Rattle.std.proofs.Common.{◌≡◌, ◌≢◌, reverse, subst, ◌↔◌, ℕ, suc, ◌+◌, ◌<◌, ◌≤◌, Bool, true, false, not, ◌&&◌, cond, IsTrue, List, [], ◌∷◌, length, get_or, count_by, Contains, refl, sym, ap, ◌∙◌, arith, inl, inr}
+use Rattle.std.proofs.Common.{◌≡◌, ◌≢◌, reverse, subst, ◌↔◌, ℕ, suc, ◌+◌, ◌<◌, ◌≤◌, Bool, true}
+use Rattle.std.proofs.Common.{false, not, ◌&&◌, cond, IsTrue, List, [], ◌∷◌, length, get_or}
+use Rattle.std.proofs.Common.{count_by, Contains, refl, sym, ap, ◌∙◌, arith, inl, inr}
 use Rattle.std.proofs.lemmas.Iterator.{YieldsList}
 use Rattle.std.proofs.lemmas.Iterator.Consumers.{YieldsList-from_shown}
 use Rattle.std.proofs.lemmas.Bool.{cases_eq, false≢true}

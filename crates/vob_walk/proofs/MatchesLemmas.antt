@@ -1,7 +1,9 @@
 -- Each index within a range matches one of the two values, and not both.
 use Rattle.std.specs.List.{range_with_len}
 use Rattle.std.specs.declared.ops.Bound.{Bound}
-use Rattle.std.proofs.Common.{◌≡◌, ℕ, ◌+◌, ◌<◌, ◌≤◌, Bool, true, false, ◌&&◌, not, cond, IsTrue, ◌↔◌, List, [], ◌∷◌, length, filter, count_by, Contains, refl, ap, ◌∙◌, arith, inl, inr, ◌⊎◌}
+use Rattle.std.proofs.Common.{◌≡◌, ℕ, ◌+◌, ◌<◌, ◌≤◌, Bool, true, false, ◌&&◌, not, cond, IsTrue}
+use Rattle.std.proofs.Common.{◌↔◌, List, [], ◌∷◌, length, filter, count_by, Contains, refl, ap, ◌∙◌}
+use Rattle.std.proofs.Common.{arith, inl, inr, ◌⊎◌}
 use Rattle.std.proofs.lemmas.Bool.{cases_Bool, and_from, and_parts, false≢true}
 use Rattle.std.proofs.lemmas.List.Sums.{length-filter}
 use Rattle.vob_block.specs.Packing.{item}

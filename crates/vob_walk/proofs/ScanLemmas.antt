@@ -1,5 +1,8 @@
 -- Blocks that a scan reads one after another, from either end, over a plain width.
-use Rattle.std.proofs.Common.{◌≡◌, ℕ, zero, suc, ◌+◌, ◌-◌, ◌*◌, ◌^◌, ◌<◌, ◌≤◌, Bool, true, false, not, ◌&&◌, List, [], ◌++◌, append-nil, append_assoc, cond, get_or, map, Some, None, add-zero, ltb, leb, refl, sym, ap, ◌∙◌, arith, add-mul, suc-mul, zero-mul, add-one, inl, inr}
+use Rattle.std.proofs.Common.{◌≡◌, ℕ, zero, suc, ◌+◌, ◌-◌, ◌*◌, ◌^◌, ◌<◌, ◌≤◌, Bool, true, false}
+use Rattle.std.proofs.Common.{not, ◌&&◌, List, [], ◌++◌, append-nil, append_assoc, cond, get_or}
+use Rattle.std.proofs.Common.{map, Some, None, add-zero, ltb, leb, refl, sym, ap, ◌∙◌, arith}
+use Rattle.std.proofs.Common.{add-mul, suc-mul, zero-mul, add-one, inl, inr}
 use Rattle.std.proofs.Math.Bool.{and-true}
 use Rattle.std.proofs.lemmas.Bool.{cases_lt, and_left, and_right, false≢true, le-leb, lt-leb}
 use Rattle.vob_block.specs.Places.{place, HasPlaces}

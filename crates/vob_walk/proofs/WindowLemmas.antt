@@ -1,8 +1,13 @@
 -- A range cut to a window of indices: what matches there stands in the blocks that the window meets.
 use Rattle.std.specs.List.{list_any, range_with_len}
 use Rattle.std.specs.declared.ops.Bound.{Bound}
-use Rattle.std.proofs.Common.{◌≡◌, ℕ, ◌+◌, ◌-◌, ◌*◌, ◌/◌, ◌<◌, ◌≤◌, Bool, true, false, ◌&&◌, nat_le, nat_lt, ◌==◌, List, [], length, refl, sym, ap, ◌∙◌, arith, inl, inr, add-mul, suc-mul, add-one, div-add-mod', mod-lt, div-mul-le_self, mul-div_cancel}
-use Rattle.std.proofs.lemmas.Bool.{cases_lt, and_from, and_left, and_right, and_parts, ltb-true, leb-true, lt-ltb, le-leb, eqb-true, eq-eqb, false_from_ne_true, false≢true}
+use Rattle.std.proofs.Common.{◌≡◌, ℕ, ◌+◌, ◌-◌, ◌*◌, ◌/◌, ◌<◌, ◌≤◌, Bool, true, false, ◌&&◌, nat_le}
+use Rattle.std.proofs.Common.{nat_lt, ◌==◌, List, [], length, refl, sym, ap, ◌∙◌, arith, inl, inr}
+use Rattle.std.proofs.Common.{add-mul, suc-mul, add-one, div-add-mod', mod-lt, div-mul-le_self}
+use Rattle.std.proofs.Common.{mul-div_cancel}
+use Rattle.std.proofs.lemmas.Bool.{cases_lt, and_from, and_left, and_right, and_parts, ltb-true}
+use Rattle.std.proofs.lemmas.Bool.{leb-true, lt-ltb, le-leb, eqb-true, eq-eqb, false_from_ne_true}
+use Rattle.std.proofs.lemmas.Bool.{false≢true}
 use Rattle.std.proofs.lemmas.List.Sums.{length-filter}
 use Rattle.std.proofs.lemmas.Nat.{div_below, le-div, mul-le}
 use Rattle.vob_block.specs.Packing.{item, need, bit_at, unpacking}
@@ -10,7 +15,9 @@ use Rattle.vob_block.proofs.NeedLemmas.{need_enough, need_least, mul-lt_from_nee
 use Rattle.vob_block.proofs.PackingLemmas.{length-unpacking, get_or-unpacking}
 use Rattle.vob_walk.specs.Matches.{from_start, up_to_end, within, has_value, matches, blocks_met}
 use Rattle.vob_walk.specs.Cursor.{indices_where, is_hit, unread}
-use Rattle.vob_walk.proofs.WhereLemmas.{indices_where-same, indices_where-nothing, indices_where-both, length-indices_all, length-indices_below, any-indices_where, any-nothing}
+use Rattle.vob_walk.proofs.WhereLemmas.{indices_where-same, indices_where-nothing}
+use Rattle.vob_walk.proofs.WhereLemmas.{indices_where-both, length-indices_all}
+use Rattle.vob_walk.proofs.WhereLemmas.{length-indices_below, any-indices_where, any-nothing}
 
 -- the indices below len within the bounds are those from start to below stop
 pub record IsWindow (low high : Bound ℕ) (len start stop : ℕ) : Type 0 where

@@ -1,5 +1,4 @@
--- Within the crate: what a walk over indices has left, in hand at its ends and in the blocks between.
--- No public contract cites this page.
+-- What a walk has left, in hand and in unread blocks. No public contract cites this page.
 use Rattle.std.specs.Prelude.{◌≡◌, ℕ, ◌+◌, ◌-◌, ◌*◌, ◌/◌, ◌<◌, ◌≤◌, Bool, ◌&&◌, nat_le, nat_lt, List, ◌++◌, length, min, filter}
 use Rattle.std.specs.List.{range_with_len}
 use Rattle.vob_block.specs.Places.{place}

@@ -1,5 +1,4 @@
--- Within the crate: a scan over blocks, from either end, for one that isn't the block to be skipped.
--- No public contract cites this page.
+-- A scan for a block that isn't the one to be skipped. No public contract cites this page.
 use Rattle.std.specs.Prelude.{◌≡◌, ◌≢◌, ℕ, ◌+◌, ◌-◌, ◌<◌, ◌≤◌, List, ◌++◌, map, slice_index_or, Option, option_map, unwrap_or, MatchOption}
 use Rattle.vob_block.specs.Reading.{Reading}
 

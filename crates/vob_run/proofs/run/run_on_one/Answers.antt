@@ -1,7 +1,10 @@
 -- A command of which none of these functions is the call reads a Vob.
 use Rattle.std.proofs.Common.{◌≡◌, refl}
 use Rattle.vob_run.specs.declared.command.Command.{Command}
-use Rattle.vob_run.specs.declared.command.Command.TheVariants.{Push, Pop, SetBit, SetUnchecked, Truncate, Clear, SetAll, Negate, Resize, ExtendSlice, ExtendItems, Reserve, Shrink}
+use Rattle.vob_run.specs.declared.command.Command.TheVariants.{Push, Pop, SetBit, SetUnchecked}
+use Rattle.vob_run.specs.declared.command.Command.TheVariants.{Truncate, Clear, SetAll, Negate}
+use Rattle.vob_run.specs.declared.command.Command.TheVariants.{Resize, ExtendSlice, ExtendItems}
+use Rattle.vob_run.specs.declared.command.Command.TheVariants.{Reserve, Shrink}
 use Rattle.vob_run.specs.Groups.{IsOnOne, IsRead}
 use Rattle.vob_run.proofs.run.run_on_one.Goals as goal
 

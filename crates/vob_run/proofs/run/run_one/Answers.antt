@@ -1,7 +1,9 @@
 -- A command that makes no Vob, and is on no two, is on one.
 use Rattle.std.proofs.Common.{◌≡◌, refl}
 use Rattle.vob_run.specs.declared.command.Command.{Command}
-use Rattle.vob_run.specs.declared.command.Command.TheVariants.{New, FromElem, Copy, FromRaw, SplitOff, Drain, ExtendVob, And, Or, Xor, AndNew, OrNew, XorNew, Equal}
+use Rattle.vob_run.specs.declared.command.Command.TheVariants.{New, FromElem, Copy, FromRaw}
+use Rattle.vob_run.specs.declared.command.Command.TheVariants.{SplitOff, Drain, ExtendVob, And, Or}
+use Rattle.vob_run.specs.declared.command.Command.TheVariants.{Xor, AndNew, OrNew, XorNew, Equal}
 use Rattle.vob_run.specs.Groups.{IsOnOne}
 use Rattle.vob_run.proofs.run.run_one.Goals as goal
 

@@ -4,7 +4,7 @@ use Rattle.std.proofs.lemmas.List.{take_at}
 use Rattle.vob.specs.Bits.{count_of}
 use Rattle.vob.proofs.BitsLemmas.{LosesBits-by}
 use Rattle.vob.proofs.PairLemmas.{without_fewer}
-use Rattle.vob_store.specs.Combined.{without}
+use Rattle.vob_block.specs.Pointwise.{without}
 use Rattle.vob.proofs.CombineLemmas.{as_many, combined_here}
 use Rattle.vob.proofs.vob.Vob.and_not.Goals as goal
 

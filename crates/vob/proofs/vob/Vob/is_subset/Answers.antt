@@ -1,6 +1,6 @@
 -- By the lemmas on the blocks of two Vobs of one length.
 use Rattle.std.proofs.Common.{ap, refl}
-use Rattle.vob_store.specs.Combined.{without}
+use Rattle.vob_block.specs.Pointwise.{without}
 use Rattle.vob.proofs.PairLemmas.{lent_as_many, flag_of, flag_of_list, subset_is}
 use Rattle.vob.proofs.vob.Vob.is_subset.Goals as goal
 

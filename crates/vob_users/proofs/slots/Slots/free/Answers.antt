@@ -3,7 +3,7 @@ use Rattle.std.specs.Prelude.{false}
 use Rattle.std.proofs.Common.{sym, ◌∙◌, arith}
 use Rattle.std.proofs.lemmas.List.Sums.{count_by-le-length}
 use Rattle.vob_walk.specs.Matches.{has_value}
-use Rattle.vob.proofs.BitsLemmas.{differ-false}
+use Rattle.vob_block.proofs.BoolLemmas.{differ-false}
 use Rattle.vob_users.proofs.slots.Slots.free.Goals as goal
 
 pub overflow_add-self : goal.overflow_add-self
