@@ -1,5 +1,5 @@
--- The numbers of the refusals, and when the items of an iterator are refused.
-use Rattle.std.specs.Prelude.{◌≡◌, ◌≢◌, ◌↔◌, ℕ, ◌<◌, ◌-◌, ◌^◌, Bool, List, length, Result, Err}
+-- The numbers of the refusals, and what a call at an index refuses.
+use Rattle.std.specs.Prelude.{◌≡◌, ◌≢◌, ◌↔◌, ℕ, ◌<◌, Bool, List, length, Result, Err}
 use Rattle.vob.specs.declared.error.VobError.{VobError}
 use Rattle.vob.specs.declared.error.VobError.TheVariants.{TooLong, Memory, PastEnd}
 
@@ -8,12 +8,6 @@ abbrev pub refusal_number : VobError → ℕ
 refusal_number TooLong = 1
 refusal_number Memory = 2
 refusal_number PastEnd = 4
-
--- n items may be refused: for their length past the greatest one, for memory where there is one
-abbrev pub MayRefuseItems : VobError → ℕ → Type 0
-MayRefuseItems TooLong n = 2 ^ 64 - 1 < n
-MayRefuseItems Memory n = 0 < n
-MayRefuseItems PastEnd n = ⊥
 
 -- what a call at an index refuses: one past the end always, and no length as too great
 pub record RefusesPastEnd {A : Type 0} (bits : List Bool) (at : ℕ) (result : Result A VobError) : Type 0 where

@@ -69,7 +69,7 @@ impl<T: Block> Vob<T> {
 
     /// The indices of the set bits within a range, the least first. Every pair of bounds is
     /// accepted, and the range is cut at the length. No block is read before an index is asked
-    /// for, and in all there is at most one read more than blocks that hold an index of the range.
+    /// for, and in all there are at most as many reads as blocks that hold an index of the range.
     /// vob 4.0.1 adds 1 to an included end and to an excluded start unchecked, so `usize::MAX`
     /// there panics or wraps.
     ///
@@ -92,7 +92,7 @@ impl<T: Block> Vob<T> {
 
     /// The indices of the unset bits within a range, the least first. Every pair of bounds is
     /// accepted, and the range is cut at the length. No block is read before an index is asked
-    /// for, and in all there is at most one read more than blocks that hold an index of the range.
+    /// for, and in all there are at most as many reads as blocks that hold an index of the range.
     /// vob 4.0.1 adds 1 to an included end and to an excluded start unchecked, so `usize::MAX`
     /// there panics or wraps.
     pub fn iter_unset_bits<R: RangeBounds<usize>>(&self, range: R) -> IterUnsetBits<'_, T>

@@ -11,8 +11,7 @@ ghost use Rattle.std.specs.Iterator.SizeHint.{IsWithinCount};
 ghost use Rattle.vob_block.specs.Pointwise.{differ};
 ghost use Rattle.vob.specs.Bits.{IsWritten};
 ghost use Rattle.vob.specs.Extending.{GivesAll, RefusesItems, RefusesMore};
-ghost use Rattle.vob.specs.Packs.{Packs};
-ghost use Rattle.vob.specs.Refusal.{MayRefuseItems};
+ghost use Rattle.vob.specs.Packs.{MayRefuseItems, Packs};
 ghost use Rattle.vob.specs.Vob.{HasRoomFor};
 
 pub use crate::error::VobError;

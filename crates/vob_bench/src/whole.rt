@@ -65,7 +65,7 @@ pub(crate) fn set_all(alloc: Global, bytes: &[u8], rounds: usize) -> Result<u64,
     Ok(checksum(&vob, times))
 }
 
-/// All bits turned round.
+/// Negates all bits a round.
 #[inline(never)]
 pub(crate) fn negate(alloc: Global, bytes: &[u8], rounds: usize) -> Result<u64, VobError> {
     let mut times: u64 = 0;
