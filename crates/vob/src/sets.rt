@@ -67,8 +67,8 @@ impl<T: Block> Vob<T> {
         true
     }
 
-    /// The same for the indices that make whole fours, four a turn, as a turn's own steps cost as
-    /// much as a half of one index's.
+    /// The same for the indices that make whole fours. Four a turn, as a turn's own steps are a third
+    /// of those that one index takes.
     fn set_fours(&mut self, indices: &[usize]) -> bool
         ensures inside { IsTrue result
             ↔ ((k : ℕ) → k < length indices.now / 4 * 4
