@@ -1,8 +1,6 @@
 //! The vector of bits, seen by contracts as its list of bits and its capacity.
-ghost use Rattle.std.specs.Prelude.{◌≡◌, ◌↔◌, ◌+◌, ◌<◌, ◌≤◌, [], ◌∷◌, ◌++◌, map, length, slice_get};
-ghost use Rattle.std.specs.Prelude.{IsOk, IfOk, IfErr, OnOk, OnErr, Err, ◌≢◌, ◌==◌, ◌-◌, take};
-ghost use Rattle.std.specs.Prelude.{slice_set, IsTrue, Some, vec_capacity, ◌^◌, List, Bool};
-ghost use Rattle.std.specs.Prelude.{replicate, ℕ, ◌⊎◌, ◌*◌, ◌/◌, ◌%◌};
+ghost use Rattle.std.specs.Prelude.{◌≡◌, ◌↔◌, ◌+◌, ◌<◌, ◌≤◌, [], ◌∷◌, ◌++◌, map, length, slice_get, IsOk, IfOk, IfErr, OnOk, OnErr, Err, ◌≢◌, ◌==◌, ◌-◌};
+ghost use Rattle.std.specs.Prelude.{take, slice_set, IsTrue, Some, vec_capacity, ◌^◌, List, Bool, replicate, ℕ, ◌⊎◌, ◌*◌, ◌/◌, ◌%◌};
 ghost use Rattle.vob_block.specs.Packing.{item, packing, unpacking, IsCanonical, Stores};
 ghost use Rattle.vob_block.specs.Places.{place};
 ghost use Rattle.vob_block.specs.Bytes.{bytes_list};
@@ -283,8 +281,7 @@ impl<T: Block> Vob<T> {
         self.truncate(0);
     }
 
-    /// The blocks, the one with bit 0 first. vob 4.0.1 has this behind the cargo feature
-    /// `unsafe_internals`, as a safe call.
+    /// The blocks, the one with bit 0 first. vob 4.0.1 has this behind a cargo feature.
     pub fn get_storage(&self) -> &[T]
         ensures { map T.number result.now ≡ packing self.now.bits T.BITS }
     {
@@ -343,8 +340,7 @@ impl Vob<usize> {
         Vob::from_elem_with_storage_type(alloc, value, len)
     }
 
-    /// The bits of a slice. No bits take no memory; refused memory is an `AllocError`. vob 4.0.1
-    /// has no such call.
+    /// The bits of a slice, or a refusal for memory; no bits take none. vob 4.0.1 has no such call.
     ///
     /// ```
     /// let vob = Vob::from_slice(alloc, &[true, false, true])?;

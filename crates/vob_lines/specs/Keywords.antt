@@ -2,16 +2,11 @@
 use Rattle.std.specs.Prelude.{ℕ, List, [], ◌∷◌, codes, Option, find}
 use Rattle.std.specs.Str.{bytes_eq}
 use Rattle.vob_lines.specs.declared.keyword.Keyword.{Keyword}
-use Rattle.vob_lines.specs.declared.keyword.Keyword.TheVariants.{Fresh, Number, NumberNumber}
-use Rattle.vob_lines.specs.declared.keyword.Keyword.TheVariants.{BitNumber, NumberBit}
-use Rattle.vob_lines.specs.declared.keyword.Keyword.TheVariants.{NumberNumberBit, BitList}
-use Rattle.vob_lines.specs.declared.keyword.Keyword.TheVariants.{NumberBitList, Bytes, Raw, Record}
-use Rattle.vob_lines.specs.declared.keyword.Keyword.TheVariants.{Drain, Walk, Count}
+use Rattle.vob_lines.specs.declared.keyword.Keyword.TheVariants.{Fresh, Number, NumberNumber, BitNumber, NumberBit, NumberNumberBit, BitList, NumberBitList}
+use Rattle.vob_lines.specs.declared.keyword.Keyword.TheVariants.{Bytes, Raw, Record, Drain, Walk, Count}
 use Rattle.vob_lines.specs.declared.keyword.Number.TheVariants.{New, Clone, Room, Pop, Len, Empty, Clear, Negate, Shrink, Bits, Blocks}
-use Rattle.vob_lines.specs.declared.keyword.NumberNumber.TheVariants.{Get, GetUnchecked, Index}
-use Rattle.vob_lines.specs.declared.keyword.NumberNumber.TheVariants.{Truncate, Join, Split, And}
-use Rattle.vob_lines.specs.declared.keyword.NumberNumber.TheVariants.{Or, Xor, AndNew, OrNew}
-use Rattle.vob_lines.specs.declared.keyword.NumberNumber.TheVariants.{XorNew, Equal, Reserve}
+use Rattle.vob_lines.specs.declared.keyword.NumberNumber.TheVariants.{Get, GetUnchecked, Index, Truncate, Join, Split, And, Or, Xor, AndNew, OrNew, XorNew}
+use Rattle.vob_lines.specs.declared.keyword.NumberNumber.TheVariants.{Equal, Reserve}
 use Rattle.vob_lines.specs.declared.keyword.BitNumber.TheVariants.{Elem, Fill}
 use Rattle.vob_lines.specs.declared.keyword.NumberBit.TheVariants.{Push, SetAll}
 use Rattle.vob_lines.specs.declared.keyword.NumberNumberBit.TheVariants.{Set, SetUnchecked, Resize}

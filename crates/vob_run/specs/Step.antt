@@ -6,12 +6,9 @@ use Rattle.vob_block.specs.Pointwise.{differ, pointwise}
 use Rattle.vob_walk.specs.Matches.{matches}
 use Rattle.vob.specs.Same.{same_bits}
 use Rattle.vob_walk.specs.Walk.{answers}
-use Rattle.vob_run.specs.Call.{Call, New, FromElem, Copy, FromRaw, Push, Pop, GetBit, GetUnchecked}
-use Rattle.vob_run.specs.Call.{IndexBit, SetBit, SetUnchecked, Length, IsEmpty, Truncate, Clear}
-use Rattle.vob_run.specs.Call.{SetAll, Negate, Resize, ExtendSlice, ExtendItems, ExtendVob}
-use Rattle.vob_run.specs.Call.{SplitOff, Drain, And, Or, Xor, AndNew, OrNew, XorNew, Equal, Reserve}
-use Rattle.vob_run.specs.Call.{Shrink, Bits, Storage, Walk, Count, Fresh, WithCapacity, Fill}
-use Rattle.vob_run.specs.Call.{FromBytes, FromSlice, FromItems, FromRecord}
+use Rattle.vob_run.specs.Call.{Call, New, FromElem, Copy, FromRaw, Push, Pop, GetBit, GetUnchecked, IndexBit, SetBit, SetUnchecked, Length, IsEmpty, Truncate}
+use Rattle.vob_run.specs.Call.{Clear, SetAll, Negate, Resize, ExtendSlice, ExtendItems, ExtendVob, SplitOff, Drain, And, Or, Xor, AndNew, OrNew, XorNew}
+use Rattle.vob_run.specs.Call.{Equal, Reserve, Shrink, Bits, Storage, Walk, Count, Fresh, WithCapacity, Fill, FromBytes, FromSlice, FromItems, FromRecord}
 use Rattle.vob_run.specs.Answer.{done, bit, flag, number, bit_list, block_list, dealt, Outcome}
 use Rattle.vob_run.specs.Outcomes.{on, on_two, on_same_length, tells, leaves, makes, unless_long, tells_bit}
 use Rattle.vob_run.specs.Changes.{pushed, popped, written, extended, split, drained, combined}

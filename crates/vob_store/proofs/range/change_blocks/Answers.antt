@@ -1,8 +1,7 @@
 -- By the lemmas on one block, with all of its places under the mask.
 use Rattle.std.proofs.Common.{◌≡◌, ℕ, ◌+◌, ◌*◌, ◌^◌, ◌<◌, length, map, refl, sym, ap, ◌∙◌, subst, arith, add-mul, one-mul}
 use Rattle.std.proofs.lemmas.Nat.{mul-le, pow_pos}
-use Rattle.vob_store.proofs.RangeLemmas.{HasPlaces-all, IsRanged-none, IsRanged-item, IsRanged-ends}
-use Rattle.vob_store.proofs.RangeLemmas.{IsRanged-join, same_item, same_join, gathered}
+use Rattle.vob_store.proofs.RangeLemmas.{HasPlaces-all, IsRanged-none, IsRanged-item, IsRanged-ends, IsRanged-join, same_item, same_join, gathered}
 use Rattle.vob_store.proofs.RangeLemmas.{gathered_none, not_flag}
 use Rattle.vob_store.proofs.range.change_blocks.Goals as goal
 

@@ -4,9 +4,7 @@ use Rattle.std.proofs.lemmas.List.{length-map}
 use Rattle.std.proofs.lemmas.Option.{get_or_from_slice_get}
 use Rattle.vob_users.proofs.ReachLemmas.{row_added, row_length, AreAdded-skip, AreAdded-more, AreAdded-same, IsRound-whole}
 use Rattle.vob_users.proofs.reachable.reach_on.Goals as goal
-use Rattle.vob_users.proofs.reachable.reach_on.Goals.{then-get_unchecked+then-or}
-use Rattle.vob_users.proofs.reachable.reach_on.Goals.{else-get_unchecked}
-use Rattle.vob_users.proofs.reachable.reach_on.Goals.{else-get_unchecked-via-then-get_unchecked+else-or}
+use Rattle.vob_users.proofs.reachable.reach_on.Goals.{then-get_unchecked+then-or, else-get_unchecked, else-get_unchecked-via-then-get_unchecked+else-or}
 use Rattle.vob_users.proofs.reachable.reach_on.Goals.{else-get_unchecked-via-else-get_unchecked}
 
 pub loop-node-preserved : goal.loop-node-preserved
