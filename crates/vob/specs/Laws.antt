@@ -20,13 +20,13 @@ DrainFromIsSplit =
     × (bits_within (Included at) Unbounded bits ≡ drop at bits)
 
 -- a list with others pushed behind it, one after another
-abbrev pub pushed : List Bool → List Bool → List Bool
-pushed bits [] = bits
-pushed bits (value ∷ others) = pushed (bits ++ value ∷ []) others
+abbrev pub pushes : List Bool → List Bool → List Bool
+pushes bits [] = bits
+pushes bits (value ∷ others) = pushes (bits ++ value ∷ []) others
 
 -- joining a list leaves what pushing each of its bits in order leaves
 abbrev pub JoinIsPushes : Type 0
-JoinIsPushes = (bits others : List Bool) → bits ++ others ≡ pushed bits others
+JoinIsPushes = (bits others : List Bool) → bits ++ others ≡ pushes bits others
 
 -- the test of two lists is true exactly where they are equal
 abbrev pub EqualWhereListsAre : Type 0

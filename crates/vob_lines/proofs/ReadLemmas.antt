@@ -8,7 +8,7 @@ use Rattle.std.specs.declared.ops.Bound.TheVariants.{Unbounded}
 use Rattle.vob_run.specs.Call.{Call}
 use Rattle.vob_run.specs.Call as call
 use Rattle.vob_lines.specs.Arguments.{Argument, number, AllSpell}
-use Rattle.vob_lines.specs.Errors.{TakesMemory}
+use Rattle.vob_lines.specs.Errors.{HoldList}
 use Rattle.vob_lines.specs.Grammar.{form_of, Reads}
 use Rattle.vob_lines.specs.Lists.{HasList, BeginsAsList}
 use Rattle.vob_lines.specs.Kinds.{Kinds, nothing, numbers, before, kinds_of, Are, Begins, IsLine}
@@ -109,7 +109,7 @@ not_named line word words cut none c reads =
     let here = rw cut at reads in none-some (keyword_of c) (sym none ∙ named_call word words c here)
 
 -- a call that holds a list, for a keyword of such calls
-list_call : (k : Keyword) → TakesMemory (kinds_of k) →
+list_call : (k : Keyword) → HoldList (kinds_of k) →
     (c : Call) × HasList c × ((form_of c).word ≡ word_of k)
 list_call (BitList Slice) takes = (call.FromSlice [], tt, refl)
 list_call (BitList Items) takes = (call.FromItems [], tt, refl)
@@ -146,7 +146,7 @@ module _ (line : List (List ℕ)) (word : List ℕ) (words : List (List ℕ)) (k
       others (rw key (are_kinds words _ _ (belongs c).fits here.1))
 
   -- only a keyword of calls that hold a list takes memory
-  pub begins_as_list : keyword_named word ≡ Some k → TakesMemory (kinds_of k) → BeginsAsList line
+  pub begins_as_list : keyword_named word ≡ Some k → HoldList (kinds_of k) → BeginsAsList line
   begins_as_list named takes =
       let found = list_call k takes in
       record {

@@ -9,10 +9,10 @@ abbrev pub OnlyUnreadable : {T : Type 0} → Result T LineError → Type 0 → T
 OnlyUnreadable result reason = IfErr result (λ error. (error ≡ Unreadable) × reason)
 
 -- some of the words are a list, which takes memory
-abbrev pub TakesMemory : Kinds → Type 0
-TakesMemory nothing = ⊥
-TakesMemory numbers = ⊤
-TakesMemory (before some_bits kinds) = ⊤
-TakesMemory (before some_bytes kinds) = ⊤
-TakesMemory (before some_pulls kinds) = ⊤
-TakesMemory (before kind kinds) = TakesMemory kinds
+abbrev pub HoldList : Kinds → Type 0
+HoldList nothing = ⊥
+HoldList numbers = ⊤
+HoldList (before some_bits kinds) = ⊤
+HoldList (before some_bytes kinds) = ⊤
+HoldList (before some_pulls kinds) = ⊤
+HoldList (before kind kinds) = HoldList kinds

@@ -5,7 +5,7 @@ ghost use Rattle.vob_run.specs.Call.{Call};
 ghost use Rattle.vob_run.specs.Commands.{usize_call_of};
 ghost use Rattle.vob_lines.specs.Cuts.{words_of};
 ghost use Rattle.vob_lines.specs.Arguments.{number, bit, bits, bytes, range, pulls, AllSpell};
-ghost use Rattle.vob_lines.specs.Errors.{OnlyUnreadable, TakesMemory};
+ghost use Rattle.vob_lines.specs.Errors.{OnlyUnreadable, HoldList};
 ghost use Rattle.vob_lines.specs.Grammar.{Reads};
 ghost use Rattle.vob_lines.specs.Lists.{BeginsAsList};
 ghost use Rattle.vob_lines.specs.Kinds.{a_number, a_bit, some_bits, some_bytes, a_range};
@@ -298,7 +298,7 @@ impl<'a> Words<'a> {
     fn command(&mut self, alloc: Global, keyword: Keyword) -> Result<UsizeCommand, LineError>
         ensures ok { IfOk result (λ command. IsLine keyword self.old (usize_call_of command)) }
         ensures err { IsErrOf result LineError.Unreadable → Are self.old (kinds_of keyword) → ⊥ }
-        ensures memory { IsErrOf result LineError.Memory → TakesMemory (kinds_of keyword) }
+        ensures memory { IsErrOf result LineError.Memory → HoldList (kinds_of keyword) }
     {
         match keyword {
             Keyword::Fresh => self.fresh(),

@@ -4,7 +4,7 @@ use Rattle.vob_live.specs.declared.live.Flow.{Flow}
 use Rattle.vob_live.specs.declared.live.LiveError.{LiveError}
 use Rattle.vob_live.specs.declared.live.LiveError.TheVariants.{Memory, BadVariable, BadNext}
 use Rattle.vob_live.specs.FlowFaults.{NamesVariables, IsSound, IsBadVariable, IsBadNext}
-use Rattle.vob_live.specs.LivePass.{IsFault}
+use Rattle.vob_live.specs.LivePass.{IsFlowFault}
 use Rattle.vob_live.proofs.FaultLemmas.{same_at, all_at, one_first}
 
 -- ---- which refusal
@@ -25,7 +25,7 @@ module _ (vars : ℕ) (nodes : List Flow) where
       let flow = same_at nodes n m h.flow g.flow same h.is g.is in
       h.bad (subst (NamesVariables vars) (sym flow) g.good)
 
-  pub refuses_variable : {T : Type 0} (fault : LiveError) → IsFault vars nodes fault → (n : ℕ) →
+  pub refuses_variable : {T : Type 0} (fault : LiveError) → IsFlowFault vars nodes fault → (n : ℕ) →
       ◌≡◌ {A = Result T LiveError} (Err fault) (Err (BadVariable n)) ↔ IsBadVariable vars nodes n
   refuses_variable Memory is n = absurd is
   refuses_variable (BadVariable m) is n = (
@@ -35,7 +35,7 @@ module _ (vars : ℕ) (nodes : List Flow) where
   )
   refuses_variable (BadNext m) is n = ((λ e. cc), (λ h. absurd (one_fault n m h is)))
 
-  pub refuses_next : {T : Type 0} (fault : LiveError) → IsFault vars nodes fault → (n : ℕ) →
+  pub refuses_next : {T : Type 0} (fault : LiveError) → IsFlowFault vars nodes fault → (n : ℕ) →
       ◌≡◌ {A = Result T LiveError} (Err fault) (Err (BadNext n)) ↔ IsBadNext vars nodes n
   refuses_next Memory is n = absurd is
   refuses_next (BadVariable m) is n = ((λ e. cc), (λ h. absurd (one_fault m n is h)))

@@ -8,7 +8,7 @@ use Rattle.vob_block.specs.Packing.{item}
 use Rattle.vob_live.specs.declared.live.Flow.{Flow}
 use Rattle.vob_live.specs.declared.live.Live.{Live}
 use Rattle.vob_live.specs.Live.{AreSets, IsLive, IsLiveNext, IsLiveHere, IsSolution, AreWithin, bits_of}
-use Rattle.vob_live.specs.LivePass.{AreUnderway, true_places, IsPass}
+use Rattle.vob_live.specs.LivePass.{AreUnderway, total_count, IsPass}
 use Rattle.vob_live.proofs.FaultLemmas.{same_at}
 use Rattle.vob_live.proofs.SetLemmas.{Any-map}
 
@@ -35,8 +35,8 @@ module _ (vars : ℕ) (nodes : List Flow) where
   pub record IsWalked (starts before after : List (List Bool)) (k : ℕ) (changed : Bool)
       : Type 0 where
     pub underway : AreUnderway vars nodes before after
-    pub grown : true_places starts ≤ true_places after
-    pub more : changed ≡ true → true_places starts < true_places after
+    pub grown : total_count starts ≤ total_count after
+    pub more : changed ≡ true → total_count starts < total_count after
     pub none : changed ≡ false → (n : ℕ) (flow : Flow) → k ≤ n → slice_get nodes n ≡ Some flow →
         (v : ℕ) → IsLiveNext before flow v → IsLive after n v
 
@@ -176,8 +176,8 @@ module _ (vars : ℕ) (nodes : List Flow) where
   module _ (starts before after before' after' : List (List Bool)) (n : ℕ) (flow : Flow)
       (changed : Bool) (h : IsWalked starts before after (n + 1) changed)
       (s : IsStep n flow before after before' after')
-      (grown : true_places after ≤ true_places after') where
-    pub IsWalked-more : true_places after < true_places after' →
+      (grown : total_count after ≤ total_count after') where
+    pub IsWalked-more : total_count after < total_count after' →
         IsWalked starts before' after' n true
     IsWalked-more grew = record {
       underway = AreUnderway-step n flow before after before' after' h.underway s;

@@ -14,7 +14,7 @@ use Rattle.vob.specs.Vob.{BitVector}
 use Rattle.vob_live.specs.declared.live.Flow.{Flow}
 use Rattle.vob_live.specs.FlowFaults.{NamesNodes}
 use Rattle.vob_live.specs.Live.{AreSets, AreWithin, IsLive, IsLiveNext, bits_of}
-use Rattle.vob_live.specs.LivePass.{AreUnderway, true_places}
+use Rattle.vob_live.specs.LivePass.{AreUnderway, total_count}
 use Rattle.vob_live.specs.LiveSets.{IsPossible, ArePossible, IsPossibleAdded, IsNextAdded}
 use Rattle.vob_live.proofs.SetLemmas.{true_within, gained_le, AllZip-at, AllZip-length}
 use Rattle.vob_live.proofs.LiveLemmas.{IsStep, IsWalked, IsWalked-more, IsWalked-same}
@@ -53,11 +53,11 @@ module _ (vars : ℕ) (nodes : List Flow) (before after : List (List Bool)) (n :
   )
 
   -- more places are true after the node, or as many
-  pub places_le : true_places after ≤ true_places (set after n added)
+  pub places_le : total_count after ≤ total_count (set after n added)
   places_le =
       omega (arith, gained_le a.gains, sum_by-set (count_of true) after n added [] after_inside)
 
-  pub places_more : grew ≡ true → true_places after < true_places (set after n added)
+  pub places_more : grew ≡ true → total_count after < total_count (set after n added)
   places_more up =
       omega (arith, a.gains.more up, sum_by-set (count_of true) after n added [] after_inside)
 
@@ -239,7 +239,7 @@ module _ {vars : ℕ} {nodes : List Flow} {starts : List (List Bool)} {before af
     after_is : bits_of (set after n added) ≡ set (bits_of after) n added.bits
     after_is = map-set (λ v. v.bits) after n added
 
-    more_places : true_places (bits_of after) ≤ true_places (set (bits_of after) n added.bits)
+    more_places : total_count (bits_of after) ≤ total_count (set (bits_of after) n added.bits)
     more_places = places_le vars nodes (bits_of before) (bits_of after) n flow turn.is
         turn.walked.underway added.bits grew turn.adds
 

@@ -15,7 +15,7 @@ use Rattle.vob.specs.Vob.{BitVector}
 use Rattle.vob_walk.specs.Matches.{has_value}
 use Rattle.vob_live.specs.declared.live.Flow.{Flow}
 use Rattle.vob_live.specs.Live.{AreSets, IsLive, IsLiveNext, IsSolution, bits_of}
-use Rattle.vob_live.specs.LivePass.{AreUnderway, true_places}
+use Rattle.vob_live.specs.LivePass.{AreUnderway, total_count}
 use Rattle.vob_live.specs.LiveSets.{IsSetOf, AreReads}
 use Rattle.vob_live.proofs.SetLemmas.{item-replicate, AllZip-length, AllZip-at, AllZip-all}
 
@@ -118,13 +118,13 @@ IsSolution-whole vars nodes before after h none = record {
   after_is = λ n flow is v. (h.after_has n flow is v, none n flow is v);
 }
 
-pub true_places_le : (vars nodes : ℕ) (sets : List (List Bool)) → AreSets vars nodes sets →
-    true_places sets ≤ nodes * vars
-true_places_le vars nodes sets h =
+pub total_count_le : (vars nodes : ℕ) (sets : List (List Bool)) → AreSets vars nodes sets →
+    total_count sets ≤ nodes * vars
+total_count_le vars nodes sets h =
     let small : All (λ s. count_of true s ≤ vars) sets =
     λ k d less.
     omega (arith, count_by-le-length (has_value true) (get_or sets k d), h.long k d less) in
-    subst (λ m. true_places sets ≤ m * vars) h.count (sum_by-le (count_of true) vars sets small)
+    subst (λ m. total_count sets ≤ m * vars) h.count (sum_by-le (count_of true) vars sets small)
 
 -- ---- the number of passes
 

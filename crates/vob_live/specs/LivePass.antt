@@ -11,10 +11,10 @@ use Rattle.vob_live.specs.declared.live.LiveError.{LiveError}
 use Rattle.vob_live.specs.declared.live.LiveError.TheVariants.{Memory, BadVariable, BadNext}
 
 -- what is wrong with the nodes
-abbrev pub IsFault : ℕ → List Flow → LiveError → Type 0
-IsFault vars nodes Memory = ⊥
-IsFault vars nodes (BadVariable n) = IsBadVariable vars nodes n
-IsFault vars nodes (BadNext n) = IsBadNext vars nodes n
+abbrev pub IsFlowFault : ℕ → List Flow → LiveError → Type 0
+IsFlowFault vars nodes Memory = ⊥
+IsFlowFault vars nodes (BadVariable n) = IsBadVariable vars nodes n
+IsFlowFault vars nodes (BadNext n) = IsBadNext vars nodes n
 
 -- sets on the way to the least solution: they meet one equation, and half of the other
 pub record AreUnderway (vars : ℕ) (nodes : List Flow) (before after : List (List Bool))
@@ -36,15 +36,15 @@ pub record AreReady (vars : ℕ) (nodes : List Flow) (possible : List BitVector)
   pub underway : AreUnderway vars nodes (bits_of live.before.items) (bits_of live.after.items)
 
 -- how many places of some sets are true
-abbrev pub true_places : List (List Bool) → ℕ
-true_places sets = sum_by (count_of true) sets
+abbrev pub total_count : List (List Bool) → ℕ
+total_count sets = sum_by (count_of true) sets
 
 -- sets that got more after some node, or none where those after the nodes have all of them
 pub record IsPass (vars : ℕ) (nodes : List Flow) (start end : Live) (changed : Bool)
     : Type 0 where
   pub underway : AreUnderway vars nodes (bits_of end.before.items) (bits_of end.after.items)
   pub more : changed ≡ true →
-      true_places (bits_of start.after.items) < true_places (bits_of end.after.items)
+      total_count (bits_of start.after.items) < total_count (bits_of end.after.items)
   pub none : changed ≡ false → (n : ℕ) (flow : Flow) → slice_get nodes n ≡ Some flow →
       (v : ℕ) → IsLiveNext (bits_of end.before.items) flow v →
       IsLive (bits_of end.after.items) n v

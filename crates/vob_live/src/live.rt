@@ -4,7 +4,7 @@ ghost use Rattle.std.specs.Prelude.{◌≡◌, ◌≢◌, ◌↔◌, ℕ, ◌<�
 ghost use Rattle.vob.specs.Vob.{HaveSameLength};
 ghost use Rattle.vob_live.specs.FlowFaults.{IsBadNext, IsBadVariable, IsSound, NamesVariables};
 ghost use Rattle.vob_live.specs.Live.{AreLive, bits_of};
-ghost use Rattle.vob_live.specs.LivePass.{AreReady, IsFault, IsPass};
+ghost use Rattle.vob_live.specs.LivePass.{AreReady, IsFlowFault, IsPass};
 ghost use Rattle.vob_live.specs.LiveSets.{AddsMembers, ArePossible, AreReads, IsNextAdded, IsPossibleAdded, IsSetOf};
 
 use std::alloc::{AllocError, Global};
@@ -88,7 +88,7 @@ fn names_variables(vars: usize, flow: &Flow) -> bool
 /// doesn't.
 fn check_nodes(vars: usize, nodes: &[Flow]) -> Result<(), LiveError>
     ensures ok { OnOk result (All (IsSound vars nodes.now) nodes.now) }
-    ensures err { IfErr result (IsFault vars nodes.now) }
+    ensures err { IfErr result (IsFlowFault vars nodes.now) }
 {
     for node in 0..nodes.len() {
         let flow = &nodes[node];

@@ -15,7 +15,7 @@ use Rattle.vob_run.specs.Outcomes.{on, unless_long}
 use Rattle.vob_run.specs.Changes.{extended}
 use Rattle.vob_run.specs.Step.{step}
 use Rattle.vob_run.specs.Run.{lists, IsStep}
-use Rattle.vob_run.proofs.StepLemmas.{IsLent, list_at, lists-set, lists-same, MayRefuse-done}
+use Rattle.vob_run.proofs.StepLemmas.{IsLent, list_at, lists-set, lists-same, MayWantMemory-done}
 
 -- a Vob came to these bits and `done` was answered, or it was refused and has those that it had
 pub record IsAnswered (old : BitVector) (bits : List Bool) (result : Result Unit VobError)
@@ -63,7 +63,7 @@ module _ (width : ℕ) (items : List BitVector) (which : ℕ) (old : BitVector)
       let short = le-ltb (2 ^ 64 - 1) asked (omega (arith, not)) in
       let after = set (lists items) which bits in
       let made : step width (lists items) call ≡ outcome done after = is ∙ rw short refl in
-      let wants = MayRefuse-done width (lists items) after call made (takes refl) in
+      let wants = MayWantMemory-done width (lists items) after call made (takes refl) in
       inr (wants, answered.refusal, lists-same vob new answered.err)
   asked_step asked {result = Err PastEnd} answered is long takes = absurd (answered.past_end refl)
 

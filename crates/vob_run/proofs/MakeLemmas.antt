@@ -9,7 +9,7 @@ use Rattle.vob.specs.declared.error.VobError.TheVariants.{TooLong, Memory, PastE
 use Rattle.vob.specs.Vob.{BitVector}
 use Rattle.vob_run.specs.Call.{Call, SplitOff}
 use Rattle.vob_run.specs.Answer.{Answer, outcome, made, refused}
-use Rattle.vob_run.specs.Memory.{TakesMemory, MayRefuse}
+use Rattle.vob_run.specs.Memory.{TakesMemory, MayWantMemory}
 use Rattle.vob_run.specs.Outcomes.{makes, divides}
 use Rattle.vob_run.specs.Placed.{IsPlaced}
 use Rattle.vob_run.specs.Step.{step}
@@ -22,9 +22,9 @@ pub record Makes (width : ℕ) (before : List BitVector) (call : Call) (bits : L
   pub is : step width (lists before) call ≡ makes (lists before) bits
   pub takes : TakesMemory width (lists before) call
 
-MayRefuse-made : (width : ℕ) (before : List BitVector) (call : Call) (bits : List Bool)
-    → Makes width before call bits → MayRefuse width (lists before) call
-MayRefuse-made width before call bits makes =
+MayWantMemory-made : (width : ℕ) (before : List BitVector) (call : Call) (bits : List Bool)
+    → Makes width before call bits → MayWantMemory width (lists before) call
+MayWantMemory-made width before call bits makes =
     let answers : (step width (lists before) call).answer ≡ made (length (lists before)) =
     ap (λ o. o.answer) makes.is in
     (makes.takes, (λ e. cc), (λ e. cc), (λ e. cc))
@@ -38,7 +38,7 @@ module _ {width : ℕ} {before : List BitVector} {call : Call} {bits : List Bool
   placed_step vob answer after same (inl put) =
       inl (makes.is ∙ rw (put.0, put.1, map_push, length-map, same) refl)
   placed_step vob answer after same (inr full) =
-      inr (MayRefuse-made width before call bits makes, full.0, ap lists full.1)
+      inr (MayWantMemory-made width before call bits makes, full.0, ap lists full.1)
 
   pub made_step : {E : Type 0} (result : Result BitVector E) (answer : Answer)
       (after : List BitVector) → IfOk result (λ v. v.bits ≡ bits)
@@ -47,7 +47,7 @@ module _ {width : ℕ} {before : List BitVector} {call : Call} {bits : List Bool
       → IsStep width (lists before) call answer (lists after)
   made_step (Ok v) answer after same placed err = placed_step v answer after same placed
   made_step (Err e) answer after same placed err =
-      inr (MayRefuse-made width before call bits makes, err.0, ap lists err.1)
+      inr (MayWantMemory-made width before call bits makes, err.0, ap lists err.1)
 
   pub added_step : (result : Result BitVector VobError) (answer : Answer)
       (after : List BitVector) → (result ≡ Err TooLong → ⊥) × (result ≡ Err PastEnd → ⊥)
@@ -58,7 +58,7 @@ module _ {width : ℕ} {before : List BitVector} {call : Call} {bits : List Bool
   added_step (Ok v) answer after fits same placed err = placed_step v answer after same placed
   added_step (Err TooLong) answer after fits same placed err = absurd (fits.0 refl)
   added_step (Err Memory) answer after fits same placed err =
-      inr (MayRefuse-made width before call bits makes, err.0, ap lists err.1)
+      inr (MayWantMemory-made width before call bits makes, err.0, ap lists err.1)
   added_step (Err PastEnd) answer after fits same placed err = absurd (fits.1 refl)
 
 -- a Vob of which a part is put behind the others, or a refusal

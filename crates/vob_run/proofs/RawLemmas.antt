@@ -9,7 +9,7 @@ use Rattle.vob.specs.Vob.{BitVector}
 use Rattle.vob_run.specs.Call.{Call, FromRaw}
 use Rattle.vob_run.specs.Answer.{Answer, made, skipped, refused}
 use Rattle.vob_run.specs.Blocks.{taken, masked, same_blocks}
-use Rattle.vob_run.specs.Memory.{TakesMemory, MayRefuse}
+use Rattle.vob_run.specs.Memory.{TakesMemory, MayWantMemory}
 use Rattle.vob_run.specs.Outcomes.{makes, tells}
 use Rattle.vob_run.specs.Placed.{IsPlaced}
 use Rattle.vob_run.specs.Step.{step}
@@ -33,10 +33,10 @@ pub step-from_raw : (width : ℕ) (all : List (List Bool)) (len : ℕ) (mask : B
 step-from_raw width all len mask blocks enough = rw enough refl
 
 -- what is made of the blocks is told, or 3 is
-MayRefuse-taken : (width : ℕ) (before : List BitVector) (call : Call) (len : ℕ) (blocks : List ℕ)
+MayWantMemory-taken : (width : ℕ) (before : List BitVector) (call : Call) (len : ℕ) (blocks : List ℕ)
     → step width (lists before) call ≡ taken (lists before) width len blocks
-    → TakesMemory width (lists before) call → MayRefuse width (lists before) call
-MayRefuse-taken width before call len blocks is takes =
+    → TakesMemory width (lists before) call → MayWantMemory width (lists before) call
+MayWantMemory-taken width before call len blocks is takes =
     let all = lists before in
     let bits = unpacking len blocks width in
     let told : (test : Bool) (wrong : Answer) → made (length all) ≢ wrong → refused 3 ≢ wrong
@@ -76,4 +76,4 @@ module _ (width : ℕ) (wide : 0 < width) (before : List BitVector) (call : Call
 
   -- no copy of the blocks could be made
   pub no_copy_step : IsStep width (lists before) call (refused 2) (lists before)
-  no_copy_step = inr (MayRefuse-taken width before call len blocks is takes, refl, refl)
+  no_copy_step = inr (MayWantMemory-taken width before call len blocks is takes, refl, refl)

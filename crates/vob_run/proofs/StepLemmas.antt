@@ -8,7 +8,7 @@ use Rattle.vob.specs.Vob.{BitVector}
 use Rattle.vob_run.specs.Call.{Call}
 use Rattle.vob_run.specs.Answer.{Answer, outcome, done, flag, skipped, refused}
 use Rattle.vob_run.specs.Changes.{written}
-use Rattle.vob_run.specs.Memory.{TakesMemory, MayRefuse}
+use Rattle.vob_run.specs.Memory.{TakesMemory, MayWantMemory}
 use Rattle.vob_run.specs.Outcomes.{on}
 use Rattle.vob_run.specs.Step.{step}
 use Rattle.vob_run.specs.Run.{lists, IsStep}
@@ -51,10 +51,10 @@ lists-same {items} {which} {old} vob new same =
     ∙ set-get_or (lists items) which old.bits
 
 -- a call that was made wants memory where its call takes some
-pub MayRefuse-done : (width : ℕ) (all after : List (List Bool)) (call : Call)
+pub MayWantMemory-done : (width : ℕ) (all after : List (List Bool)) (call : Call)
     → step width all call ≡ outcome done after → TakesMemory width all call
-    → MayRefuse width all call
-MayRefuse-done width all after call is takes =
+    → MayWantMemory width all call
+MayWantMemory-done width all after call is takes =
     let answers : (step width all call).answer ≡ done = ap (λ o. o.answer) is in
     (takes, (λ e. cc), (λ e. cc), (λ e. cc))
 

@@ -46,8 +46,8 @@ module _ (width : ℕ) (lists : List (List Bool)) where
 
   -- memory is asked for only after a call is found not to be skipped, not to be too long, and not to
   -- cut past the end
-  abbrev pub MayRefuse : Call → Type 0
-  MayRefuse call =
+  abbrev pub MayWantMemory : Call → Type 0
+  MayWantMemory call =
       TakesMemory call × ((step width lists call).answer ≢ skipped)
       × ((step width lists call).answer ≢ refused 1)
       × ((step width lists call).answer ≢ refused 4)

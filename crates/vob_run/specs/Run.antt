@@ -3,7 +3,7 @@ use Rattle.std.specs.Prelude.{◌≡◌, ◌⊎◌, ℕ, List, [], ◌∷◌, ma
 use Rattle.vob.specs.Vob.{BitVector}
 use Rattle.vob_run.specs.Call.{Call}
 use Rattle.vob_run.specs.Answer.{Answer, refused, outcome}
-use Rattle.vob_run.specs.Memory.{MayRefuse}
+use Rattle.vob_run.specs.Memory.{MayWantMemory}
 use Rattle.vob_run.specs.Step.{step}
 
 -- the bits of each numbered Vob
@@ -15,7 +15,7 @@ module _ (width : ℕ) where
   abbrev pub IsStep : List (List Bool) → Call → Answer → List (List Bool) → Type 0
   IsStep before call answer after =
       (step width before call ≡ outcome answer after)
-      ⊎ (MayRefuse width before call × (answer ≡ refused 2) × (after ≡ before))
+      ⊎ (MayWantMemory width before call × (answer ≡ refused 2) × (after ≡ before))
 
   -- these calls lead from the lists before to the lists after, with these answers
   abbrev pub IsRun : List (List Bool) → List Call → List Answer → List (List Bool) → Type 0

@@ -15,14 +15,14 @@ use Rattle.vob_block.proofs.BoolLemmas.{differ-true}
 use Rattle.vob_users.specs.Grammar.{IsNull, IsHead, HasFirst}
 use Rattle.vob_users.specs.GrammarPass.{AddsFirst, HasHeads}
 use Rattle.vob_live.specs.Live.{AreWithin}
-use Rattle.vob_live.specs.LivePass.{true_places}
+use Rattle.vob_live.specs.LivePass.{total_count}
 use Rattle.vob_users.specs.Matrix.{row_of, entry, GetsRow, HaveShapeOf, IsEntryWritten}
 use Rattle.vob_users.specs.declared.grammar.Rule.{Rule}
 use Rattle.vob_users.specs.declared.grammar.Symbol.{Symbol}
 use Rattle.vob_users.specs.declared.grammar.Symbol.TheVariants.{Terminal, Nonterminal}
 use Rattle.vob_users.proofs.GrowthLemmas.{Adds-as, Adds-at}
 use Rattle.vob_users.proofs.ShapeLemmas.{AreLong-empty}
-use Rattle.vob_live.proofs.StartLemmas.{true_places_le}
+use Rattle.vob_live.proofs.StartLemmas.{total_count_le}
 
 -- ---- one row gains bits
 
@@ -67,18 +67,18 @@ module _ (rows after : List (List Bool)) (i : ℕ) (flag : Bool) (inside : i < l
   rows_same : flag ≡ false → after ≡ rows
   rows_same off = one_row ∙ ap (set rows i) (gains.same off) ∙ set-get_or rows i []
 
-  rows_more : flag ≡ true → true_places rows < true_places after
+  rows_more : flag ≡ true → total_count rows < total_count after
   rows_more on =
       let sum = sum_by-set (count_of true) rows i (row_of after i) [] inside in
-      omega (arith, gains.more on, sum, ap true_places one_row)
+      omega (arith, gains.more on, sum, ap total_count one_row)
 
 -- no more entries are true than there are
 pub places_fit : (n t : ℕ) (rows : List (List Bool)) →
-    HaveShapeOf (replicate n (replicate t false)) rows → true_places rows ≤ n * t
+    HaveShapeOf (replicate n (replicate t false)) rows → total_count rows ≤ n * t
 places_fit n t rows shape =
     let count = shape.count ∙ length-replicate n (replicate t false) in
     let empty = AreLong-empty n t in
-    true_places_le t n rows (record {
+    total_count_le t n rows (record {
       count = count;
       long = All-from_get_or (λ s. length s ≡ t) rows []
           (λ i less. shape.long i ∙ empty.each i (omega (arith, less, shape.count)));
@@ -209,11 +209,11 @@ module _ (nullable : List Bool) (rule : Rule) (k : ℕ) (start mid : List (List 
       let behind : (j : ℕ) (x : Symbol) → k + 1 ≤ j → slice_get right j ≡ Some x →
       ¬ All (IsNull nullable) (take j right) =
       null_behind nullable right k (get_or right k d) (slice_get-get_or right k d inside) bad in
-      Adds-as AreWithin true_places
+      Adds-as AreWithin total_count
       (λ rows. All (λ x. HasHeads rule.left x rows) (take (k + 1) right)) (HasFirst nullable rule)
       (HasFirst-from nullable rule (k + 1) before behind)
       (HasFirst-to nullable rule (k + 1) before behind)
-      (Adds-at AreWithin true_places (HasHeads rule.left) right k d start mid after grew flag inside
+      (Adds-at AreWithin total_count (HasHeads rule.left) right k d start mid after grew flag inside
       h g)
 
   -- all symbols were added, and are nullable
@@ -226,6 +226,6 @@ module _ (nullable : List Bool) (rule : Rule) (k : ℕ) (start mid : List (List 
       let behind : (j : ℕ) (x : Symbol) → k ≤ j → slice_get right j ≡ Some x →
       ¬ All (IsNull nullable) (take j right) =
       λ j x past is all. omega (arith, whole, past, slice_get_within right j x is) in
-      Adds-as AreWithin true_places
+      Adds-as AreWithin total_count
       (λ rows. All (λ x. HasHeads rule.left x rows) (take k right)) (HasFirst nullable rule)
       (HasFirst-from nullable rule k before behind) (HasFirst-to nullable rule k before behind) h

@@ -19,7 +19,7 @@ use Rattle.vob_users.proofs.ShapeLemmas.{HaveShapeOf-same, HaveShapeOf-trans, Ar
 
 -- ---- rows that are led through node k
 
--- the rows before row n have what row k has where they step to node k, and the others are as before
+-- the rows before row n have what row k has where an edge leads to node k, and the others are as before
 pub record AreLedBefore (rows : List (List Bool)) (k n : ℕ) (after : List (List Bool))
     : Type 0 where
   pub shape : HaveShapeOf rows after
@@ -58,7 +58,7 @@ module _ (rows : List (List Bool)) (k n : ℕ) (before : List (List Bool))
     | inr past ↦ h.left k j past
   ]
 
-  -- no step leads from node n to node k
+  -- no edge leads from node n to node k
   pub AreLedBefore-skip : entry before n k ≡ false → AreLedBefore rows k (n + 1) before
   AreLedBefore-skip none = record {
     shape = h.shape;
@@ -76,18 +76,18 @@ module _ (rows : List (List Bool)) (k n : ℕ) (before : List (List Bool))
   pub AreLedBefore-more : (after : List (List Bool)) (gained : Bool) → n < length before →
       entry before n k ≡ true → IsRowCombined before n k after gained →
       AreLedBefore rows k (n + 1) after
-  AreLedBefore-more after gained inside step added =
+  AreLedBefore-more after gained inside edge added =
       let gets = GetsRow-combined before n k after gained inside added in
       record {
         shape = HaveShapeOf-trans rows before after h.shape gets.shape;
         done = λ i j less. elim (cases_eq i n) [
           | inl here ↦
-              let steps = ap (λ l. entry rows l k) here ∙ sym (h.left n k (omega arith)) ∙ step in
+              let edges = ap (λ l. entry rows l k) here ∙ sym (h.left n k (omega arith)) ∙ edge in
               ap (λ l. entry after l j) here ∙ gets.there j
               ∙ ap (λ b. b || entry before k j)
               (h.left n j (omega arith) ∙ ap (λ l. entry rows l j) (sym here))
               ∙ ap (λ b. entry rows i j || b) (row_stays j)
-              ∙ ap (λ b. entry rows i j || (b && entry rows k j)) (sym steps)
+              ∙ ap (λ b. entry rows i j || (b && entry rows k j)) (sym edges)
           | inr other ↦ gets.others i j other ∙ h.done i j (omega (arith, less))
         ];
         left = λ i j past.

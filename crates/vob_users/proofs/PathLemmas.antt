@@ -3,7 +3,7 @@ use Rattle.std.proofs.Common.{◌≡◌, ◌↔◌, ◌⊎◌, ℕ, ◌+◌, ◌
 use Rattle.std.proofs.lemmas.Bool.{cases_eq, cases_lt, false≢true, or_cases, and_parts, or_left, or_right, and_from}
 use Rattle.std.proofs.lemmas.List.{get_or_past}
 use Rattle.vob_block.specs.Packing.{item}
-use Rattle.vob_users.specs.Matrix.{entry, HaveShapeOf, IsStep, IsPath, IsClosure}
+use Rattle.vob_users.specs.Matrix.{entry, HaveShapeOf, IsEdge, IsPath, IsClosure}
 use Rattle.vob_users.specs.MatrixRows.{IsLedThrough}
 use Rattle.vob_users.proofs.ShapeLemmas.{HaveShapeOf-trans}
 
@@ -16,9 +16,9 @@ AreBelow k (x ∷ xs) = (x < k) × AreBelow k xs
 abbrev pub HasPathBelow : List (List Bool) → ℕ → ℕ → ℕ → Type 0
 HasPathBelow rows k i j = (through : List ℕ) × AreBelow k through × IsPath rows i through j
 
--- a node with a step has a row
-step_row : (rows : List (List Bool)) (i j : ℕ) → IsStep rows i j → i < length rows
-step_row rows i j e = elim (cases_lt i (length rows)) [
+-- a node with an edge has a row
+edge_row : (rows : List (List Bool)) (i j : ℕ) → IsEdge rows i j → i < length rows
+edge_row rows i j e = elim (cases_lt i (length rows)) [
   | inl less ↦ less
   | inr past ↦ absurd (false≢true (sym (ap (λ r. item r j) (get_or_past rows i [] past)) ∙ e))
 ]
@@ -27,9 +27,9 @@ step_row rows i j e = elim (cases_lt i (length rows)) [
 path_below : (rows : List (List Bool)) (i : ℕ) (through : List ℕ) (j : ℕ) →
     IsPath rows i through j → AreBelow (length rows) through
 path_below rows i [] j path = tt
-path_below rows i (x ∷ []) j path = (step_row rows x j path.1, tt)
+path_below rows i (x ∷ []) j path = (edge_row rows x j path.1, tt)
 path_below rows i (x ∷ y ∷ through) j path =
-    (step_row rows x y path.1.0, path_below rows x (y ∷ through) j path.1)
+    (edge_row rows x y path.1.0, path_below rows x (y ∷ through) j path.1)
 
 below_more : (k : ℕ) (through : List ℕ) → AreBelow k through → AreBelow (k + 1) through
 below_more k [] below = tt
@@ -56,51 +56,51 @@ module _ (rows : List (List Bool)) (k j : ℕ) where
   cut i (x ∷ through) below path = elim (cut x through below.1 path.1) [
     | inl on ↦ elim (cases_eq x k) [
       | inl here ↦ inr (
-        ([], tt, subst (IsStep rows i) here path.0),
+        ([], tt, subst (IsEdge rows i) here path.0),
         subst (λ n. HasPathBelow rows k n j) here on,
       )
       | inr other ↦ inl (x ∷ on.0, (omega (arith, below.0), on.1), (path.0, on.2))
     ]
     | inr round ↦ elim (cases_eq x k) [
-      | inl here ↦ inr (([], tt, subst (IsStep rows i) here path.0), round.1)
+      | inl here ↦ inr (([], tt, subst (IsEdge rows i) here path.0), round.1)
       | inr other ↦
           let on = round.0 in
           inr ((x ∷ on.0, (omega (arith, below.0), on.1), (path.0, on.2)), round.1)
     ]
   ]
 
--- steps wherever there was a path through nodes below k
-pub record AreStepsBelow (rows : List (List Bool)) (k : ℕ) (after : List (List Bool))
+-- edges wherever there was a path through nodes below k
+pub record AreEdgesBelow (rows : List (List Bool)) (k : ℕ) (after : List (List Bool))
     : Type 0 where
   pub shape : HaveShapeOf rows after
-  pub each : (i j : ℕ) → IsStep after i j ↔ HasPathBelow rows k i j
+  pub each : (i j : ℕ) → IsEdge after i j ↔ HasPathBelow rows k i j
 
--- a path through no node is a step
+-- a path through no node is an edge
 none_below : (rows : List (List Bool)) (i : ℕ) (through : List ℕ) (j : ℕ) → AreBelow 0 through →
-    IsPath rows i through j → IsStep rows i j
+    IsPath rows i through j → IsEdge rows i j
 none_below rows i [] j below path = path
 none_below rows i (x ∷ through) j below path = absurd (omega (arith, below.0))
 
-pub AreStepsBelow-start : (rows : List (List Bool)) → AreStepsBelow rows 0 rows
-AreStepsBelow-start rows = record {
+pub AreEdgesBelow-start : (rows : List (List Bool)) → AreEdgesBelow rows 0 rows
+AreEdgesBelow-start rows = record {
   shape = record { count = refl; long = λ i. refl };
   each = λ i j. (
-    (λ step. ([], tt, step)),
+    (λ edge. ([], tt, edge)),
     (λ path. none_below rows i path.0 j path.1 path.2),
   );
 }
 
-module _ (rows steps after : List (List Bool)) (k : ℕ) (h : AreStepsBelow rows k steps)
-    (led : IsLedThrough steps k after) where
-  led_on : (i j : ℕ) → IsStep after i j → HasPathBelow rows (k + 1) i j
-  led_on i j step =
-      let which = or_cases (entry steps i j) (entry steps i k && entry steps k j)
-      (sym (led.each i j) ∙ step) in
+module _ (rows edges after : List (List Bool)) (k : ℕ) (h : AreEdgesBelow rows k edges)
+    (led : IsLedThrough edges k after) where
+  led_on : (i j : ℕ) → IsEdge after i j → HasPathBelow rows (k + 1) i j
+  led_on i j edge =
+      let which = or_cases (entry edges i j) (entry edges i k && entry edges k j)
+      (sym (led.each i j) ∙ edge) in
       elim which [
         | inl old ↦
             let path = (h.each i j).0 old in (path.0, below_more k path.0 path.1, path.2)
         | inr round ↦
-            let both = and_parts (entry steps i k) (entry steps k j) round in
+            let both = and_parts (entry edges i k) (entry edges k j) round in
             let to = (h.each i k).0 both.0 in
             let on = (h.each k j).0 both.1 in (
               to.0 ++ k ∷ on.0,
@@ -109,30 +109,30 @@ module _ (rows steps after : List (List Bool)) (k : ℕ) (h : AreStepsBelow rows
             )
       ]
 
-  led_all : (i j : ℕ) → HasPathBelow rows (k + 1) i j → IsStep after i j
+  led_all : (i j : ℕ) → HasPathBelow rows (k + 1) i j → IsEdge after i j
   led_all i j path = led.each i j ∙ elim (cut rows k j i path.0 path.1 path.2) [
     | inl old ↦
-        or_left (entry steps i j) (entry steps i k && entry steps k j) ((h.each i j).1 old)
+        or_left (entry edges i j) (entry edges i k && entry edges k j) ((h.each i j).1 old)
     | inr round ↦
-        or_right (entry steps i j) (entry steps i k && entry steps k j)
-        (and_from (entry steps i k) (entry steps k j) ((h.each i k).1 round.0)
+        or_right (entry edges i j) (entry edges i k && entry edges k j)
+        (and_from (entry edges i k) (entry edges k j) ((h.each i k).1 round.0)
         ((h.each k j).1 round.1))
   ]
 
-  -- row k was added where a step leads to node k
-  pub AreStepsBelow-more : AreStepsBelow rows (k + 1) after
-  AreStepsBelow-more = record {
-    shape = HaveShapeOf-trans rows steps after h.shape led.shape;
+  -- row k was added where an edge leads to node k
+  pub AreEdgesBelow-more : AreEdgesBelow rows (k + 1) after
+  AreEdgesBelow-more = record {
+    shape = HaveShapeOf-trans rows edges after h.shape led.shape;
     each = λ i j. (led_on i j, led_all i j);
   }
 
 -- all rows were added
 pub IsClosure-whole : (rows after : List (List Bool)) (k : ℕ) → k ≡ length rows →
-    AreStepsBelow rows k after → IsClosure rows after
+    AreEdgesBelow rows k after → IsClosure rows after
 IsClosure-whole rows after k whole h = record {
   shape = h.shape;
   each = λ i j. (
-    (λ step. let path = (h.each i j).0 step in (path.0, path.2)),
+    (λ edge. let path = (h.each i j).0 edge in (path.0, path.2)),
     (λ path. (h.each i j).1 (
       path.0,
       subst (λ n. AreBelow n path.0) (sym whole) (path_below rows i path.0 j path.1),

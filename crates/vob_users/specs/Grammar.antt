@@ -35,15 +35,15 @@ IsHead rows (Terminal u) t = u ≡ t
 IsHead rows (Nonterminal a) t = entry rows a t ≡ true
 
 -- terminal t begins a symbol at some place, and all symbols before that place are nullable
-abbrev pub Begins : List Bool → List (List Bool) → List Symbol → ℕ → Type 0
-Begins nullable rows symbols t =
+abbrev pub MayBegin : List Bool → List (List Bool) → List Symbol → ℕ → Type 0
+MayBegin nullable rows symbols t =
     (k : ℕ) × (x : Symbol) × (slice_get symbols k ≡ Some x)
     × All (IsNull nullable) (take k symbols) × IsHead rows x t
 
 -- rows in which that of the left side of a rule has what begins the right side
 abbrev pub HasFirst : List Bool → Rule → List (List Bool) → Type 0
 HasFirst nullable rule rows =
-    (t : ℕ) → Begins nullable rows rule.right.items t → entry rows rule.left t ≡ true
+    (t : ℕ) → MayBegin nullable rows rule.right.items t → entry rows rule.left t ≡ true
 
 -- rows that are closed under some rules
 abbrev pub IsFirstClosed : List Bool → List Rule → List (List Bool) → Type 0

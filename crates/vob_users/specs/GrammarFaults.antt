@@ -18,16 +18,16 @@ IsRule terminals nonterminals rule =
     (rule.left < nonterminals) × All (IsSymbol terminals nonterminals) rule.right.items
 
 -- a rule of symbols of the grammar alone
-abbrev pub IsSound : Grammar → Rule → Type 0
-IsSound grammar rule = IsRule grammar.terminals grammar.nonterminals rule
+abbrev pub IsRuleOf : Grammar → Rule → Type 0
+IsRuleOf grammar rule = IsRule grammar.terminals grammar.nonterminals rule
 
--- rule n is the first that isn't sound
+-- rule n is the first that names another symbol
 pub record IsBadRule (grammar : Grammar) (n : ℕ) : Type 0 where
   pub lower : (k : ℕ) (rule : Rule) → k < n → slice_get grammar.rules.items k ≡ Some rule →
-      IsSound grammar rule
+      IsRuleOf grammar rule
   pub rule : Rule
   pub is : slice_get grammar.rules.items n ≡ Some rule
-  pub bad : ¬ IsSound grammar rule
+  pub bad : ¬ IsRuleOf grammar rule
 
 -- what is wrong with a grammar
 abbrev pub IsFault : Grammar → GrammarError → Type 0

@@ -3,7 +3,7 @@ use Rattle.std.specs.Prelude.{◌≡◌, ℕ, ◌<◌, Bool, true, false, List}
 use Rattle.vob.specs.Bits.{count_of}
 use Rattle.vob_users.specs.Grammar.{IsHead}
 use Rattle.vob_live.specs.Live.{AreWithin, IsWithin}
-use Rattle.vob_live.specs.LivePass.{true_places}
+use Rattle.vob_live.specs.LivePass.{total_count}
 use Rattle.vob_users.specs.Matrix.{entry}
 use Rattle.vob_users.specs.declared.grammar.Symbol.{Symbol}
 
@@ -22,7 +22,7 @@ AddsNull Meets before after grew = Adds IsWithin (count_of true) Meets before af
 -- and of the rows of a matrix
 abbrev pub AddsFirst : (List (List Bool) → Type 0) → List (List Bool) → List (List Bool) → Bool →
     Type 0
-AddsFirst Meets before after grew = Adds AreWithin true_places Meets before after grew
+AddsFirst Meets before after grew = Adds AreWithin total_count Meets before after grew
 
 -- rows in which the row of a nonterminal has what begins a symbol
 abbrev pub HasHeads : ℕ → Symbol → List (List Bool) → Type 0

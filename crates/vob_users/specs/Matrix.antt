@@ -37,23 +37,23 @@ pub record GetsRow (rows : List (List Bool)) (i k : ℕ) (after : List (List Boo
   pub there : (j : ℕ) → entry after i j ≡ (entry rows i j || entry rows k j)
   pub others : (l j : ℕ) → l ≢ i → entry after l j ≡ entry rows l j
 
--- a step leads from node i to node j
-abbrev pub IsStep : List (List Bool) → ℕ → ℕ → Type 0
-IsStep rows i j = entry rows i j ≡ true
+-- an edge leads from node i to node j
+abbrev pub IsEdge : List (List Bool) → ℕ → ℕ → Type 0
+IsEdge rows i j = entry rows i j ≡ true
 
--- steps lead from node i through some nodes, one after another, to node j
+-- edges lead from node i through some nodes, one after another, to node j
 abbrev pub IsPath : List (List Bool) → ℕ → List ℕ → ℕ → Type 0
-IsPath rows i [] j = IsStep rows i j
-IsPath rows i (k ∷ through) j = IsStep rows i k × IsPath rows k through j
+IsPath rows i [] j = IsEdge rows i j
+IsPath rows i (k ∷ through) j = IsEdge rows i k × IsPath rows k through j
 
--- a path of one step or more leads from node i to node j
+-- a path of one edge or more leads from node i to node j
 abbrev pub HasPath : List (List Bool) → ℕ → ℕ → Type 0
 HasPath rows i j = (through : List ℕ) × IsPath rows i through j
 
--- a step wherever there was a path, and nowhere else
+-- an edge wherever there was a path, and nowhere else
 pub record IsClosure (rows after : List (List Bool)) : Type 0 where
   pub shape : HaveShapeOf rows after
-  pub each : (i j : ℕ) → IsStep after i j ↔ HasPath rows i j
+  pub each : (i j : ℕ) → IsEdge after i j ↔ HasPath rows i j
 
 -- rows and columns exchanged
 pub record IsTransposed (matrix after : Matrix) : Type 0 where

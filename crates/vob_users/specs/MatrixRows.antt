@@ -17,7 +17,7 @@ pub record IsRowCombined (rows : List (List Bool)) (i k : ℕ) (after : List (Li
   pub combined : AreCombined ◌||◌ (row_of rows i) (row_of rows k) row
   pub gains : GainsBits gained (row_of rows i) row
 
--- row k was added to each row with a step to node k
+-- row k was added to each row with an edge to node k
 pub record IsLedThrough (rows : List (List Bool)) (k : ℕ) (after : List (List Bool))
     : Type 0 where
   pub shape : HaveShapeOf rows after

@@ -13,7 +13,7 @@ pub record IsMatrix (nodes : ℕ) (rows : List (List Bool)) : Type 0 where
 abbrev pub IsClosed : List (List Bool) → List Bool → Type 0
 IsClosed rows bits = (i : ℕ) → item bits i ≡ true → IsWithin (slice_index_or rows i []) bits
 
--- some nodes with all that they lead to, by any number of steps: the least closed nodes with them
+-- some nodes with all that they lead to, by any number of edges: the least closed nodes with them
 pub record AreReached (rows : List (List Bool)) (starts bits : List Bool) : Type 0 where
   pub count : length bits ≡ length starts
   pub kept : IsWithin starts bits

@@ -2,7 +2,7 @@
 //! what they stand for: a user of `get`, of `set`, and of a bit matrix whose rows are or-ed.
 ghost use Rattle.std.specs.Prelude.{◌≡◌, ◌≢◌, ◌↔◌, ℕ, ◌<◌, length, All, IsTrue, IfOk, IfErr, OnOk, IsOk, Err};
 ghost use Rattle.vob_users.specs.Grammar.{AreFirst, AreNullable, HasFirst, HasNull, IsFirstClosed, IsNull, IsNullClosed};
-ghost use Rattle.vob_users.specs.GrammarFaults.{IsBadRule, IsFault, IsRule, IsSymbol, IsSound};
+ghost use Rattle.vob_users.specs.GrammarFaults.{IsBadRule, IsFault, IsRule, IsSymbol, IsRuleOf};
 ghost use Rattle.vob_users.specs.GrammarPass.{AddsFirst, AddsNull, HasHeads};
 ghost use Rattle.vob_users.specs.Matrix.{HaveShapeOf};
 
@@ -90,19 +90,19 @@ fn is_symbol(grammar: &Grammar, symbol: &Symbol) -> bool
 }
 
 /// Whether a rule names symbols of the grammar alone.
-fn is_sound(grammar: &Grammar, rule: &Rule) -> bool
-    ensures { IsTrue result ↔ IsSound grammar.now rule.now }
+fn is_rule_of(grammar: &Grammar, rule: &Rule) -> bool
+    ensures { IsTrue result ↔ IsRuleOf grammar.now rule.now }
 {
     rule.left < grammar.nonterminals && rule.right.iter().all(|symbol| is_symbol(grammar, symbol))
 }
 
 /// Whether each rule names symbols of the grammar alone, or else the first that doesn't.
 fn check_rules(grammar: &Grammar) -> Result<(), GrammarError>
-    ensures ok { OnOk result (All (IsSound grammar.now) grammar.now.rules.items) }
+    ensures ok { OnOk result (All (IsRuleOf grammar.now) grammar.now.rules.items) }
     ensures err { IfErr result (IsFault grammar.now) }
 {
     for rule in 0..grammar.rules.len() {
-        if !is_sound(grammar, &grammar.rules[rule]) {
+        if !is_rule_of(grammar, &grammar.rules[rule]) {
             return Err(GrammarError::BadSymbol { rule });
         }
     }
@@ -151,7 +151,7 @@ fn null_pass(rules: &[Rule], nullable: &mut Vob) -> bool
 
 /// The least set of nonterminals that is closed under the rules.
 fn solve_nullable(alloc: Global, grammar: &Grammar) -> Result<Vob, AllocError>
-    requires { All (IsSound grammar.now) grammar.now.rules.items }
+    requires { All (IsRuleOf grammar.now) grammar.now.rules.items }
     ensures nullable { IfOk result (λ set. AreNullable grammar.now set.bits) }
     ensures nothing { grammar.now.nonterminals ≡ 0 → IsOk result }
 {
@@ -227,7 +227,7 @@ fn first_pass(nullable: &Vob, rules: &[Rule], first: &mut BitMatrix) -> bool
 
 /// The least rows that are closed under the rules.
 fn solve_first(alloc: Global, grammar: &Grammar, nullable: &Vob) -> Result<BitMatrix, AllocError>
-    requires { All (IsSound grammar.now) grammar.now.rules.items }
+    requires { All (IsRuleOf grammar.now) grammar.now.rules.items }
     ensures first { IfOk result (AreFirst grammar.now nullable.now.bits) }
     ensures nothing { grammar.now.nonterminals ≡ 0 → IsOk result }
 {

@@ -107,8 +107,8 @@ impl BitMatrix {
         or_row(&mut self.rows, into, from)
     }
 
-    /// Makes entry (i, j) true wherever a path of one step or more leads from node i to node j, and
-    /// false elsewhere: a true entry (i, j) is a step from i to j. A node without a row leads
+    /// Makes entry (i, j) true wherever a path of one edge or more leads from node i to node j, and
+    /// false elsewhere: a true entry (i, j) is an edge from i to j. A node without a row leads
     /// nowhere. No memory is asked for.
     pub fn close(&mut self)
         ensures closure { IsClosure self.old.rows self.new.rows }
@@ -147,7 +147,7 @@ fn or_row(rows: &mut [Vob], into: usize, from: usize) -> bool
     }
 }
 
-/// Adds row `through` to each row with a step to that node.
+/// Adds row `through` to each row with an edge to that node.
 fn lead_through(rows: &mut [Vob], through: usize)
     requires through { through < length rows.old }
     requires long { HaveOneLength (bits_of rows.old) }

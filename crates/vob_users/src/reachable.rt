@@ -32,7 +32,7 @@ fn reach_on(reached: &mut Vob, rows: &[Vob]) -> bool
     changed
 }
 
-/// Adds to some nodes all that they lead to, by any number of steps. Bit `j` of row `i` says that
+/// Adds to some nodes all that they lead to, by any number of edges. Bit `j` of row `i` says that
 /// node `i` leads to node `j`.
 pub fn reach(reached: &mut Vob, rows: &[Vob])
     requires { IsMatrix (length reached.old.bits) (map (λ row. row.bits) rows.now) }

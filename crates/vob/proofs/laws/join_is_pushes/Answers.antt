@@ -1,10 +1,10 @@
--- By the bits that are pushed, one after another.
+-- By the bits that are pushes, one after another.
 use Rattle.std.proofs.Common.{◌≡◌, Bool, List, [], ◌∷◌, ◌++◌, sym, ◌∙◌}
 use Rattle.std.proofs.lemmas.List.{append-nil, append_assoc}
-use Rattle.vob.specs.Laws.{pushed}
+use Rattle.vob.specs.Laws.{pushes}
 use Rattle.vob.proofs.laws.join_is_pushes.Goals as goal
 
-joined : (bits others : List Bool) → bits ++ others ≡ pushed bits others
+joined : (bits others : List Bool) → bits ++ others ≡ pushes bits others
 joined bits [] = append-nil bits
 joined bits (value ∷ others) = sym (append_assoc bits (value ∷ []) others)
     ∙ joined (bits ++ value ∷ []) others

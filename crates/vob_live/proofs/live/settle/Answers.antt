@@ -1,6 +1,6 @@
 -- A pass that goes on made a place more true, of which there are only so many.
 use Rattle.std.proofs.Common.{length, arith}
-use Rattle.vob_live.proofs.StartLemmas.{IsSolution-whole, true_places_le, product_fits}
+use Rattle.vob_live.proofs.StartLemmas.{IsSolution-whole, total_count_le, product_fits}
 use Rattle.vob_live.proofs.live.settle.Goals as goal
 
 pub passes-init : goal.passes-init
@@ -12,7 +12,7 @@ pass-requires c = c.passes.invariant.ready
 pub overflow_add-rounds : goal.overflow_add-rounds
 overflow_add-rounds c =
     let nodes = c.args.nodes.now in
-    let places = true_places_le c.args.vars (length nodes) _ c.pass.ensures.underway.after_sets in
+    let places = total_count_le c.args.vars (length nodes) _ c.pass.ensures.underway.after_sets in
     let fits = product_fits (length nodes) c.args.vars (omega arith) (omega arith) in
     omega (
       arith,
@@ -39,14 +39,14 @@ passes-preserved c = record {
 
 pub passes-smaller : goal.passes-smaller
 passes-smaller c =
-    let places = true_places_le c.args.vars (length c.args.nodes.now) _
+    let places = total_count_le c.args.vars (length c.args.nodes.now) _
     c.pass.ensures.underway.after_sets in
     omega (arith, places, c.pass.ensures.more c.passes-test.true)
 
 pub returns : goal.returns
 returns c =
     let sets = c.passes.invariant.ready.underway.after_sets in
-    let places = true_places_le c.args.vars (length c.args.nodes.now) _ sets in
+    let places = total_count_le c.args.vars (length c.args.nodes.now) _ sets in
     record {
       solution = IsSolution-whole c.args.vars c.args.nodes.now _ _ c.pass.ensures.underway
           (c.pass.ensures.none c.passes-test.false);

@@ -5,7 +5,7 @@ use Rattle.std.proofs.lemmas.List.Elements.{All-more}
 use Rattle.vob_users.specs.Grammar.{IsNull}
 use Rattle.vob_users.specs.GrammarPass.{HasHeads}
 use Rattle.vob_live.specs.Live.{AreWithin}
-use Rattle.vob_live.specs.LivePass.{true_places}
+use Rattle.vob_live.specs.LivePass.{total_count}
 use Rattle.vob_users.proofs.FirstLemmas.{AddsFirst-stop, AddsFirst-end}
 use Rattle.vob_users.proofs.GrowthLemmas.{Adds-at}
 use Rattle.vob_users.proofs.ShapeLemmas.{HaveShapeOf-trans}
@@ -33,7 +33,7 @@ loop-symbol-preserved c =
       columns = c.add_heads-grew.ensures.columns ∙ c.loop-symbol.invariant.columns;
       null = All-more (IsNull c.args.nullable.now.bits) right k _ inside
           c.loop-symbol.invariant.null (null.0 c.if-not-is_null.false);
-      adds = Adds-at AreWithin true_places (HasHeads c.args.rule.now.left) right k _ _ _ _ _ _
+      adds = Adds-at AreWithin total_count (HasHeads c.args.rule.now.left) right k _ _ _ _ _ _
           inside c.loop-symbol.invariant.adds (rw items at c.add_heads-grew.ensures.adds);
     }
 

@@ -1,10 +1,10 @@
 -- The rules so far are sound.
 use Rattle.std.proofs.Common.{◌≡◌, ℕ, ◌<◌, Some, slice_get}
 use Rattle.vob_users.specs.declared.grammar.Rule.{Rule}
-use Rattle.vob_users.specs.GrammarFaults.{IsSound}
+use Rattle.vob_users.specs.GrammarFaults.{IsRuleOf}
 use Rattle.vob_users.proofs.grammar.check_rules.Given as goal
 
 abbrev pub invariant-loop-rule : goal.invariant-loop-rule
 invariant-loop-rule l =
     (k : ℕ) (rule : Rule) → k < l.rule → slice_get l.grammar.rules.items k ≡ Some rule →
-    IsSound l.grammar rule
+    IsRuleOf l.grammar rule

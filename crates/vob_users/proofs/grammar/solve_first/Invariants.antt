@@ -2,7 +2,7 @@
 use Rattle.std.proofs.Common.{◌≡◌, ◌-◌, ◌*◌, Bool, false, List, replicate}
 use Rattle.vob_users.specs.Grammar.{IsFirstClosed}
 use Rattle.vob_live.specs.Live.{AreWithin}
-use Rattle.vob_live.specs.LivePass.{true_places}
+use Rattle.vob_live.specs.LivePass.{total_count}
 use Rattle.vob_users.specs.Matrix.{HaveShapeOf}
 use Rattle.vob_users.proofs.grammar.solve_first.Given as goal
 
@@ -19,4 +19,4 @@ invariant-passes l =
 
 abbrev pub decreases-passes : goal.decreases-passes
 decreases-passes l =
-    l.grammar.nonterminals * l.grammar.terminals - true_places l.first.rows
+    l.grammar.nonterminals * l.grammar.terminals - total_count l.first.rows

@@ -1,15 +1,15 @@
 -- Each turn leads paths through one node more.
 use Rattle.std.proofs.Common.{arith}
 use Rattle.std.proofs.lemmas.List.{length-map}
-use Rattle.vob_users.proofs.PathLemmas.{AreStepsBelow-start, AreStepsBelow-more, IsClosure-whole}
+use Rattle.vob_users.proofs.PathLemmas.{AreEdgesBelow-start, AreEdgesBelow-more, IsClosure-whole}
 use Rattle.vob_users.proofs.matrix.close_rows.Goals as goal
 
 pub loop-through-init : goal.loop-through-init
-loop-through-init c = AreStepsBelow-start _
+loop-through-init c = AreEdgesBelow-start _
 
 pub loop-through-preserved : goal.loop-through-preserved
 loop-through-preserved c =
-    AreStepsBelow-more _ _ _ c.loop-through.through c.loop-through.invariant c.lead_through.ensures
+    AreEdgesBelow-more _ _ _ c.loop-through.through c.loop-through.invariant c.lead_through.ensures
 
 pub returns : goal.returns
 returns c =

@@ -1,7 +1,7 @@
 -- A step leads wherever a path through the nodes so far led.
 use Rattle.vob_live.specs.Live.{bits_of}
-use Rattle.vob_users.proofs.PathLemmas.{AreStepsBelow}
+use Rattle.vob_users.proofs.PathLemmas.{AreEdgesBelow}
 use Rattle.vob_users.proofs.matrix.close_rows.Given as goal
 
 abbrev pub invariant-loop-through : goal.invariant-loop-through
-invariant-loop-through l = AreStepsBelow (bits_of l.fn.rows) l.through (bits_of l.rows)
+invariant-loop-through l = AreEdgesBelow (bits_of l.fn.rows) l.through (bits_of l.rows)
