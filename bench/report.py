@@ -5,6 +5,8 @@ import pathlib
 import sys
 
 OURS = "conthiral"
+# our kernels without lanes, which are no peer
+PLAIN = "Vob<u64>"
 ORIGINAL = "vob 4.0.1"
 PEERS = ["fixedbitset", "bit-vec", "bit-set", "smallbitvec", "boost", "vector<bool>"]
 
@@ -44,7 +46,7 @@ def row_of(key, times, notes):
     name, bits, unit = key
     ours = times[OURS][2]
     cells = [name, sized(bits), unit, f"{ours:.3f}"]
-    for library in [ORIGINAL] + PEERS:
+    for library in [PLAIN, ORIGINAL] + PEERS:
         if library not in times:
             cells.append("")
             continue
@@ -70,7 +72,7 @@ def table(path):
     print(f"# {path.stem}\n")
     for line in head:
         print(f"- {line}")
-    columns = ["call", "bits", "unit", "Conthiral", ORIGINAL] + PEERS
+    columns = ["call", "bits", "unit", "Conthiral", PLAIN, ORIGINAL] + PEERS
     columns += ["to itself", "to vob", "to best peer", "to best, less work too", "to limit"]
     print("\nTimes are ns a unit. The last five columns are ratios, below 1 where Conthiral is faster; \"to")
     print("itself\" is to a second time of the same work, so that a row's noise is seen.\n")

@@ -54,7 +54,7 @@ def rows():
     yield "`count_and`", ["count_and"], None
     yield "`is_superset`, `is_disjoint` of one block", ["is_superset", "is_disjoint"], (64, 64)
     yield "`is_superset`, `is_disjoint` of 1M bits", ["is_superset", "is_disjoint"], many
-    yield "`count_or`", ["count_or"], None
+    yield "`count_or`, `count_and_not`, `count_xor`", ["count_or", "count_and_not", "count_xor"], None
     yield "`extend_from_vob` behind full blocks", ["extend_from_vob aligned"], None
     yield "`extend_from_vob` within a block", ["extend_from_vob at +13"], None
     yield "`split_off` within a block", ["split_off misaligned"], None
@@ -72,11 +72,15 @@ def rows():
     yield "`next_set`: none to half set", [f"next_set, {density} set" for density in few], None
     most = ("7 in 8", "63 in 64", "255 in 256", "4095 in 4096", "all")
     yield "`next_set`: 7 in 8 to all set", [f"next_set, {density} set" for density in most], None
-    yield "`previous_set`: half set", ["previous_set, half set"], None
+    steps = [f"{call}, half set" for call in ("previous_set", "next_unset", "previous_unset")]
+    yield "`previous_set`, `next_unset`, `previous_unset`: half set", steps, None
     yield "`runs`", [f"runs, {density} set" for density in few + most], None
+    yield "`rank`", ["rank in the middle"], None
     yield "`select`", ["select in the middle"], None
     yield "`count`", ["count of set bits"], None
     yield "`any` of no set bit, `all` of set bits alone", ["any, none set", "all, all set"], None
+    misses = ["first_set, none set", "last_set, none set", "last_unset, all set"]
+    yield "`first_set`, `last_set` of no set bit, `last_unset` of none unset", misses, None
     yield "the first unset bit, the last one of all", ["first unset bit, the last one"], None
     yield "a filter over three columns", ["filter over three columns"], None
     yield "closure of 1000 by 1000 bits, by rows", ["closure 1000 x 1000"], None

@@ -1,6 +1,8 @@
 // The libraries of C++ under the workloads of the harness: boost::dynamic_bitset and
 // std::vector<bool>. Same input, same rounds, same checksums as in the crate vob_bench.
 
+#include "calls.hpp"
+
 #include <algorithm>
 #include <boost/dynamic_bitset.hpp>
 #include <cstddef>
@@ -9,64 +11,6 @@
 #include <vector>
 
 namespace {
-
-// As the harness numbers its calls (src/rows.rs).
-enum class Call : uint32_t {
-    push,
-    from_slice,
-    extend_from_slice,
-    get,
-    set,
-    from_bytes,
-    iterate,
-    resize,
-    set_all,
-    negate,
-    clone,
-    hash,
-    split_off,
-    and_,
-    or_,
-    xor_,
-    equal,
-    extend_aligned,
-    extend_shifted,
-    closure,
-    set_bits,
-    set_bits_back,
-    unset_bits,
-    count,
-    first_free,
-    live,
-    matrix,
-    drain_aligned,
-    drain_shifted,
-    filter,
-    and_not,
-    subset,
-    count_and,
-    next_set,
-    set_range,
-    negate_range,
-    copy_range,
-    superset,
-    disjoint,
-    count_or,
-    any,
-    all,
-};
-
-struct Input {
-    const bool *bits;
-    size_t bit_count;
-    const uint8_t *bytes;
-    size_t byte_count;
-    const uint8_t *others;
-    size_t other_count;
-    const size_t *indices;
-    size_t index_count;
-    size_t row_bytes;
-};
 
 // What a library doesn't have answers this, and the harness never asks for it.
 constexpr uint64_t missing = 0;
@@ -288,6 +232,16 @@ template <class Take> uint64_t taken(const Input &in, size_t rounds, Take take) 
     return checksum(bits, 0);
 }
 
+// How many bits a copy has that takes another in.
+template <class Take> uint64_t counted(const Input &in, size_t rounds, Take take) {
+    Dynamic other = made_of<Dynamic>(in.others, in.other_count);
+    return seen<Dynamic>(in, rounds, [&](const Dynamic &bits, size_t) {
+        Dynamic both = bits;
+        take(both, other);
+        return both.count();
+    });
+}
+
 uint64_t subset(const Input &in, size_t rounds) {
     uint64_t times = 0;
     Dynamic bits = made_of<Dynamic>(in.bytes, in.byte_count);
@@ -328,12 +282,12 @@ uint64_t disjoint(const Input &in, size_t rounds) {
 }
 
 // What is counted are the rounds in which no bit is set.
-uint64_t any(const Input &in, size_t rounds) {
+template <class None> uint64_t missed(const Input &in, size_t rounds, None none) {
     uint64_t times = 0;
     Dynamic bits = made_of<Dynamic>(in.bytes, in.byte_count);
     for (size_t round = 0; round < rounds; round++) {
         clear(bits, round);
-        times += !bits.any();
+        times += none(bits);
     }
     return checksum(bits, times);
 }
@@ -400,22 +354,23 @@ uint64_t run_dynamic(Call call, const Input &in, size_t rounds) {
     case Call::negate_range:
         return changed<Dynamic>(
             in, rounds, [&](Dynamic &bits, size_t) { bits.flip(13, 8 * in.byte_count - 42); });
-    case Call::count_and: {
-        Dynamic other = made_of<Dynamic>(in.others, in.other_count);
-        return seen<Dynamic>(in, rounds,
-                             [&](const Dynamic &bits, size_t) { return (bits & other).count(); });
-    }
+    case Call::count_and:
+        return counted(in, rounds, [](Dynamic &bits, const Dynamic &other) { bits &= other; });
     case Call::superset:
         return superset(in, rounds);
     case Call::disjoint:
         return disjoint(in, rounds);
-    case Call::count_or: {
-        Dynamic other = made_of<Dynamic>(in.others, in.other_count);
-        return seen<Dynamic>(in, rounds,
-                             [&](const Dynamic &bits, size_t) { return (bits | other).count(); });
-    }
+    case Call::count_or:
+        return counted(in, rounds, [](Dynamic &bits, const Dynamic &other) { bits |= other; });
+    case Call::count_and_not:
+        return counted(in, rounds, [](Dynamic &bits, const Dynamic &other) { bits -= other; });
+    case Call::count_xor:
+        return counted(in, rounds, [](Dynamic &bits, const Dynamic &other) { bits ^= other; });
     case Call::any:
-        return any(in, rounds);
+        return missed(in, rounds, [](const Dynamic &bits) { return !bits.any(); });
+    case Call::first_set:
+        return missed(in, rounds,
+                      [](const Dynamic &bits) { return bits.find_first() == Dynamic::npos; });
     case Call::all:
         return seen<Dynamic>(in, rounds, [](const Dynamic &bits, size_t) { return bits.all(); });
     case Call::closure:

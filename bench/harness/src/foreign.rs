@@ -26,6 +26,14 @@ extern "C" {
         other_len: usize,
         rounds: usize,
     ) -> u64;
+    fn vob_bench_plain(
+        row: u32,
+        bytes: *const u8,
+        len: usize,
+        others: *const u8,
+        other_len: usize,
+        rounds: usize,
+    ) -> u64;
     fn vob_bench_closure(bytes: *const u8, len: usize, row_bytes: usize, rounds: usize) -> u64;
     fn vob_bench_matrix(steps: *const usize, count: usize, nodes: usize, rounds: usize) -> u64;
     fn vob_bench_live(numbers: *const usize, count: usize, vars: usize, rounds: usize) -> u64;
@@ -100,6 +108,14 @@ pub fn conthiral(call: Call, input: &Input, rounds: usize) -> u64 {
         Call::PreviousSet => walk(11),
         Call::Any => walk(12),
         Call::All => walk(13),
+        Call::CountAndNot => pair(14),
+        Call::CountXor => pair(15),
+        Call::Rank => walk(14),
+        Call::FirstSet => walk(15),
+        Call::LastSet => walk(16),
+        Call::LastUnset => walk(17),
+        Call::NextUnset => walk(18),
+        Call::PreviousUnset => walk(19),
         Call::Closure => unsafe {
             vob_bench_closure(bytes.as_ptr(), bytes.len(), input.row_bytes, rounds)
         },
@@ -109,6 +125,25 @@ pub fn conthiral(call: Call, input: &Input, rounds: usize) -> u64 {
         Call::Live => unsafe {
             vob_bench_live(indices.as_ptr(), indices.len(), bits.len(), rounds)
         },
+    }
+}
+
+/// Runs `and`, `or` or `xor` on Vobs of `u64`, whose kernels have no lanes.
+pub fn plain(call: Call, input: &Input, rounds: usize) -> u64 {
+    let row = match call {
+        Call::And => 0,
+        Call::Or => 1,
+        _ => 2,
+    };
+    let (bytes, others) = (&input.bytes, &input.others);
+    let (first, second) = (bytes.as_ptr(), others.as_ptr());
+    unsafe { vob_bench_plain(row, first, bytes.len(), second, others.len(), rounds) }
+}
+
+pub fn plain_offer(call: Call) -> Offer {
+    match call {
+        Call::And | Call::Or | Call::Xor => Offer::Ours,
+        _ => Offer::None,
     }
 }
 
@@ -178,11 +213,14 @@ pub fn twin_offer(library: Twin, call: Call) -> Offer {
         (Twin::VectorBool, Call::Set) => Offer::Less("no flag, no test of the index"),
         (Twin::Boost, Call::Iterate) => Offer::Less("by index, no test of it"),
         (Twin::Boost, Call::And | Call::Or | Call::Xor | Call::AndNot | Call::Closure) => NO_FLAG,
-        (Twin::Boost, Call::CountAnd | Call::CountOr) => Offer::Other("count of a new one"),
+        (Twin::Boost, Call::CountAnd | Call::CountOr | Call::CountAndNot | Call::CountXor) => {
+            Offer::Other("count of a new one")
+        }
         (Twin::Boost, Call::Superset) => Offer::Other("is_subset_of, turned round"),
         (Twin::Boost, Call::SetRange) => NO_FLAG,
         (Twin::Boost, Call::NegateRange) => Offer::Other("flip of a range"),
         (Twin::Boost, Call::NextSet) => Offer::Other("find_first, then find_next"),
+        (Twin::Boost, Call::FirstSet) => Offer::Other("find_first"),
         (Twin::Boost, Call::ExtendAligned | Call::ExtendShifted) => {
             Offer::Other("append of blocks")
         }

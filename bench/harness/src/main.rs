@@ -12,37 +12,51 @@ mod foreign;
 mod input;
 mod limits;
 mod peers;
+mod programs;
 mod rows;
+mod work;
 
-use bits::{counts_changes, Bits, Offer};
+use bits::{Bits, Offer};
 use foreign::Twin;
 use input::Input;
 use rows::{Call, Limit, Row};
 use std::process::ExitCode;
 use std::time::{Duration, Instant};
+use work::counts_changes;
 
 /// A library that works for so many rounds, and answers a checksum.
 struct Library {
     name: &'static str,
     offer: fn(Call) -> Offer,
     run: fn(Call, &Input, usize) -> u64,
+    /// Of how many bits at most.
+    most: usize,
 }
 
 fn rust<B: Bits>(name: &'static str) -> Library {
     Library {
         name,
         offer: B::offer,
-        run: bits::run::<B>,
+        run: work::run::<B>,
+        most: usize::MAX,
     }
 }
 
-/// Conthiral first, then vob 4.0.1, then the others.
+/// Conthiral first, then its kernels without lanes, vob 4.0.1, and the others.
 fn libraries() -> Vec<Library> {
     vec![
         Library {
             name: "conthiral",
             offer: |_| Offer::Same,
             run: foreign::conthiral,
+            most: usize::MAX,
+        },
+        // Built bit by bit, which would be most of the time of long ones.
+        Library {
+            name: "Vob<u64>",
+            offer: foreign::plain_offer,
+            run: foreign::plain,
+            most: 1 << 20,
         },
         rust::<vob::Vob>("vob 4.0.1"),
         rust::<fixedbitset::FixedBitSet>("fixedbitset"),
@@ -53,11 +67,13 @@ fn libraries() -> Vec<Library> {
             name: "boost",
             offer: |call| foreign::twin_offer(Twin::Boost, call),
             run: |call, input, rounds| foreign::twin(Twin::Boost, call, input, rounds),
+            most: usize::MAX,
         },
         Library {
             name: "vector<bool>",
             offer: |call| foreign::twin_offer(Twin::VectorBool, call),
             run: |call, input, rounds| foreign::twin(Twin::VectorBool, call, input, rounds),
+            most: usize::MAX,
         },
     ]
 }
@@ -78,7 +94,7 @@ fn disagreements(row: &Row, input: &Input, offered: &[&Library]) -> Vec<String> 
     let mut differing = Vec::new();
     for rounds in [1, 2, 5] {
         let rounds = rounds.min(row.most);
-        let expected = bits::run::<vob::Vob>(row.call, input, rounds);
+        let expected = work::run::<vob::Vob>(row.call, input, rounds);
         for library in offered {
             let got = (library.run)(row.call, input, rounds);
             if !agree(row, (library.offer)(row.call), expected, got) {
@@ -148,6 +164,7 @@ fn mark_of(offer: Offer) -> (&'static str, &'static str) {
         Offer::Same | Offer::None => ("same", ""),
         Offer::Less(why) => ("less", why),
         Offer::Other(how) => ("other", how),
+        Offer::Ours => ("ours", ""),
     }
 }
 
@@ -269,7 +286,7 @@ fn main() -> ExitCode {
     let offered = |row: &Row| -> Vec<&Library> {
         libraries
             .iter()
-            .filter(|library| (library.offer)(row.call) != Offer::None)
+            .filter(|library| row.bits <= library.most && (library.offer)(row.call) != Offer::None)
             .collect()
     };
     if options.names {

@@ -48,6 +48,9 @@ pub enum Call {
     CountOr,
     Any,
     All,
+    CountAndNot,
+    CountXor,
+    FirstSet,
     ToBytes,
     FromIndices,
     Runs,
@@ -56,6 +59,11 @@ pub enum Call {
     UnsetBitsBack,
     Deal,
     PreviousSet,
+    NextUnset,
+    PreviousUnset,
+    LastSet,
+    LastUnset,
+    Rank,
 }
 
 /// What the machine can do at most, measured on the row's own size.
@@ -232,6 +240,8 @@ pub fn all() -> Vec<Row> {
         ("is_superset", Call::Superset),
         ("is_disjoint", Call::Disjoint),
         ("count_or", Call::CountOr),
+        ("count_and_not", Call::CountAndNot),
+        ("count_xor", Call::CountXor),
     ] {
         for bits in [64, MILLION] {
             rows.push(Row::over(name, call, bits, Word, Limit::Copy));
@@ -295,6 +305,11 @@ pub fn all() -> Vec<Row> {
     }
     rows.extend([
         Row::walk("previous_set", Call::PreviousSet, "half set", 32768),
+        Row::walk("next_unset", Call::NextUnset, "half set", 32768),
+        Row::walk("previous_unset", Call::PreviousUnset, "half set", 32768),
+        Row::walk("first_set", Call::FirstSet, "none set", 0),
+        Row::walk("last_set", Call::LastSet, "none set", 0),
+        Row::walk("last_unset", Call::LastUnset, "all set", 65536),
         Row::walk("any", Call::Any, "none set", 0),
         Row::walk("all", Call::All, "all set", 65536),
         Row::over("deal, half set", Call::Deal, MILLION, Index, Limit::None),
@@ -305,6 +320,7 @@ pub fn all() -> Vec<Row> {
             Word,
             Limit::Count,
         ),
+        Row::over("rank in the middle", Call::Rank, MILLION, Word, Limit::None),
         Row::over(
             "select in the middle",
             Call::Select,

@@ -8,6 +8,7 @@ mod checksum;
 mod flow;
 mod matrix;
 mod pair;
+mod plain;
 mod single;
 mod slice;
 mod walk;
@@ -77,7 +78,7 @@ pub extern "C" fn vob_bench_whole(alloc: Global, row: u32, bytes: &[u8], rounds:
 /// Calls on two Vobs: 0 `and`, 1 `or`, 2 `xor`, 3 `==`, 4 `extend_from_vob` behind one whole block,
 /// 5 `extend_from_vob` behind 13 bits more, 6 a filter over these columns and a third, 7 `and_not`,
 /// 8 `is_subset`, 9 `count_and`, 10 `copy_range`, 11 `is_superset`, 12 `is_disjoint`, 13
-/// `count_or`.
+/// `count_or`, 14 `count_and_not`, 15 `count_xor`.
 #[unsafe(no_mangle)]
 pub extern "C" fn vob_bench_pair(
     alloc: Global,
@@ -96,25 +97,40 @@ pub extern "C" fn vob_bench_pair(
         6 => pair::filter(alloc, bytes, others, rounds),
         7 => pair::and_not(alloc, bytes, others, rounds),
         8 => pair::subset(alloc, bytes, others, rounds),
-        9 => pair::count_and(alloc, bytes, others, rounds),
+        9 | 13 | 14 | 15 => pair::count(alloc, row, bytes, others, rounds),
         11 => pair::superset(alloc, bytes, others, rounds),
         12 => pair::disjoint(alloc, bytes, others, rounds),
-        13 => pair::count_or(alloc, bytes, others, rounds),
         _ => pair::copy_range(alloc, bytes, others, rounds),
+    })
+}
+
+/// Calls on two Vobs of `u64`, whose kernels have no lanes: 0 `and`, 1 `or`, 2 `xor`.
+#[unsafe(no_mangle)]
+pub extern "C" fn vob_bench_plain(
+    alloc: Global,
+    row: u32,
+    bytes: &[u8],
+    others: &[u8],
+    rounds: usize,
+) -> u64 {
+    answer(match row {
+        0 => plain::and(alloc, bytes, others, rounds),
+        1 => plain::or(alloc, bytes, others, rounds),
+        _ => plain::xor(alloc, bytes, others, rounds),
     })
 }
 
 /// Calls on indices: 0 `iter_set_bits`, 1 the same from the back, 2 `iter_unset_bits`, 3 `count`, 4 the
 /// first unset bit, 5 `next_set`, 6 `runs`, 7 `select`, 8 `iter_set_bits` of a range, 9 `iter_unset_bits`
-/// from the back, 10 `deal`, 11 `previous_set`, 12 `any`, 13 `all`.
+/// from the back, 10 `deal`, 11 `previous_set`, 12 `any`, 13 `all`, 14 `rank`, 15 `first_set`, 16
+/// `last_set`, 17 `last_unset`, 18 `next_unset`, 19 `previous_unset`.
 #[unsafe(no_mangle)]
 pub extern "C" fn vob_bench_walk(alloc: Global, row: u32, bytes: &[u8], rounds: usize) -> u64 {
     answer(match row {
-        4 => walk::first_free(alloc, bytes, rounds),
+        4 | 13 | 14 | 17 => walk::look(alloc, row, bytes, rounds),
         7 => walk::select(alloc, bytes, rounds),
         10 => walk::deal_in_turn(alloc, bytes, rounds),
-        12 => walk::any(alloc, bytes, rounds),
-        13 => walk::all(alloc, bytes, rounds),
+        12 | 15 | 16 => walk::miss(alloc, row, bytes, rounds),
         _ => walk::walk(alloc, row, bytes, rounds),
     })
 }

@@ -153,10 +153,12 @@ pub(crate) fn disjoint(
     Ok(checksum(&vob, times))
 }
 
-/// `count_and` of a Vob that changes a little before each round.
+/// How many bits two Vobs have together, of which one changes a little before each round: 9
+/// `count_and`, 13 `count_or`, 14 `count_and_not`, 15 `count_xor`.
 #[inline(never)]
-pub(crate) fn count_and(
+pub(crate) fn count(
     alloc: Global,
+    row: u32,
     bytes: &[u8],
     others: &[u8],
     rounds: usize,
@@ -167,27 +169,13 @@ pub(crate) fn count_and(
     for round in 0..rounds {
         touch(&mut vob, round);
         if vob.len() == other.len() {
-            times = times.wrapping_add(vob.count_and(&other) as u64);
-        }
-    }
-    Ok(checksum(&vob, times))
-}
-
-/// `count_or` of a Vob that changes a little before each round.
-#[inline(never)]
-pub(crate) fn count_or(
-    alloc: Global,
-    bytes: &[u8],
-    others: &[u8],
-    rounds: usize,
-) -> Result<u64, VobError> {
-    let mut times: u64 = 0;
-    let mut vob = Vob::from_bytes(alloc, bytes)?;
-    let other = Vob::from_bytes(alloc, others)?;
-    for round in 0..rounds {
-        touch(&mut vob, round);
-        if vob.len() == other.len() {
-            times = times.wrapping_add(vob.count_or(&other) as u64);
+            let count = match row {
+                9 => vob.count_and(&other),
+                13 => vob.count_or(&other),
+                14 => vob.count_and_not(&other),
+                _ => vob.count_xor(&other),
+            };
+            times = times.wrapping_add(count as u64);
         }
     }
     Ok(checksum(&vob, times))

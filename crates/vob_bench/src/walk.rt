@@ -95,6 +95,43 @@ fn previous_bits(vob: &Vob) -> u64 {
     sum
 }
 
+/// The sum of the indices of the unset bits, each looked for behind the one before.
+#[inline(never)]
+fn next_unset_bits(vob: &Vob) -> u64 {
+    let mut sum: u64 = 0;
+    let mut from: usize = 0;
+    for _ in 0..vob.len() {
+        match vob.next_unset(from) {
+            Some(index) => {
+                sum = sum.wrapping_add(index as u64);
+                from = index.wrapping_add(1);
+            }
+            None => break,
+        }
+    }
+    sum
+}
+
+/// The same, the last one first, each looked for below the one before.
+#[inline(never)]
+fn previous_unset_bits(vob: &Vob) -> u64 {
+    let mut sum: u64 = 0;
+    let mut from = vob.len().saturating_sub(1);
+    for _ in 0..vob.len() {
+        match vob.previous_unset(from) {
+            Some(index) => {
+                sum = sum.wrapping_add(index as u64);
+                if index == 0 {
+                    break;
+                }
+                from = index - 1;
+            }
+            None => break,
+        }
+    }
+    sum
+}
+
 /// The sum of the lengths of the runs of set bits, and of where each begins.
 #[inline(never)]
 fn run_sum(vob: &Vob) -> u64 {
@@ -138,7 +175,7 @@ fn counted(vob: &Vob) -> u64 {
 /// A walk a round: 0 over the set bits, 1 over those from the back, 2 over the unset bits; or 3 a
 /// count; or 5 a call of `next_set` for each set bit, 6 the runs; or 8 a walk over the set bits of a
 /// range that begins and ends within a block, 9 one over the unset bits from the back, 11 a call of
-/// `previous_set` for each set bit.
+/// `previous_set` for each set bit, 18 of `next_unset` for each unset one, 19 of `previous_unset`.
 #[inline(never)]
 pub(crate) fn walk(alloc: Global, row: u32, bytes: &[u8], rounds: usize) -> Result<u64, VobError> {
     let mut times: u64 = 0;
@@ -154,6 +191,8 @@ pub(crate) fn walk(alloc: Global, row: u32, bytes: &[u8], rounds: usize) -> Resu
             8 => set_bits_between(&vob, 13, vob.len().saturating_sub(29)),
             9 => unset_bits_back(&vob),
             11 => previous_bits(&vob),
+            18 => next_unset_bits(&vob),
+            19 => previous_unset_bits(&vob),
             _ => counted(&vob),
         };
         times = times.wrapping_add(sum);
@@ -208,38 +247,40 @@ fn first_unset(vob: &Vob) -> usize {
     }
 }
 
-/// The first unset bit, once a round.
+/// A look a round where no bit is set: 12 `any`, 15 `first_set`, 16 `last_set`. It is the rounds in
+/// which none is found that are counted.
 #[inline(never)]
-pub(crate) fn first_free(alloc: Global, bytes: &[u8], rounds: usize) -> Result<u64, VobError> {
-    let mut times: u64 = 0;
-    let mut vob = Vob::from_bytes(alloc, bytes)?;
-    for round in 0..rounds {
-        touch(&mut vob, round);
-        times = times.wrapping_add(first_unset(&vob) as u64);
-    }
-    Ok(checksum(&vob, times))
-}
-
-/// `any`, once a round. It is the rounds in which no bit is set that are counted.
-#[inline(never)]
-pub(crate) fn any(alloc: Global, bytes: &[u8], rounds: usize) -> Result<u64, VobError> {
+pub(crate) fn miss(alloc: Global, row: u32, bytes: &[u8], rounds: usize) -> Result<u64, VobError> {
     let mut times: u64 = 0;
     let mut vob = Vob::from_bytes(alloc, bytes)?;
     for round in 0..rounds {
         clear(&mut vob, round);
-        times = times.wrapping_add(!vob.any() as u64);
+        let none = match row {
+            12 => !vob.any(),
+            15 => vob.first_set() == None,
+            _ => vob.last_set() == None,
+        };
+        times = times.wrapping_add(none as u64);
     }
     Ok(checksum(&vob, times))
 }
 
-/// `all`, once a round.
+/// A look a round: 4 the first unset bit, or the length, 13 `all`, 14 `rank` of an index in the
+/// middle, 17 whether there is no last unset bit.
 #[inline(never)]
-pub(crate) fn all(alloc: Global, bytes: &[u8], rounds: usize) -> Result<u64, VobError> {
+pub(crate) fn look(alloc: Global, row: u32, bytes: &[u8], rounds: usize) -> Result<u64, VobError> {
     let mut times: u64 = 0;
     let mut vob = Vob::from_bytes(alloc, bytes)?;
+    let middle = (vob.len() / 2).saturating_add(13);
     for round in 0..rounds {
         touch(&mut vob, round);
-        times = times.wrapping_add(vob.all() as u64);
+        let found = match row {
+            4 => first_unset(&vob) as u64,
+            13 => vob.all() as u64,
+            14 => vob.rank(middle) as u64,
+            _ => (vob.last_unset() == None) as u64,
+        };
+        times = times.wrapping_add(found);
     }
     Ok(checksum(&vob, times))
 }

@@ -1,0 +1,144 @@
+//! The workloads that are programs: a closure by rows, a filter, a bit matrix, liveness.
+
+use crate::bits::Bits;
+use crate::input::Input;
+use crate::work::{checksum, checksum_all, sample, touch};
+
+fn close<B: Bits>(rows: &mut [B]) -> u64 {
+    let mut times = 0;
+    for k in 0..rows.len() {
+        let through = rows[k].copied();
+        for row in rows.iter_mut() {
+            if row.get(k) && row.or(&through) {
+                times += 1;
+            }
+        }
+    }
+    times
+}
+
+pub fn closure<B: Bits>(input: &Input, rounds: usize) -> u64 {
+    let mut times = 0;
+    let mut last = Vec::new();
+    let rows: Vec<B> = input
+        .bytes
+        .chunks(input.row_bytes)
+        .map(B::from_bytes)
+        .collect();
+    for _ in 0..rounds {
+        let mut closed: Vec<B> = rows.iter().map(B::copied).collect();
+        times += close(&mut closed);
+        last = closed;
+    }
+    checksum_all(&last, times)
+}
+
+/// The rows that two columns keep and a third doesn't, as `vob_users::rows` selects and counts them.
+pub fn filter<B: Bits>(input: &Input, rounds: usize) -> u64 {
+    let mut times = 0;
+    let mut first = B::from_bytes(&input.bytes);
+    let second = B::from_bytes(&input.others);
+    let mut without = second.copied();
+    without.xor(&first);
+    for round in 0..rounds {
+        touch(&mut first, round);
+        times += B::kept(&first, &second, &without).counted();
+    }
+    checksum(&first, times)
+}
+
+/// Adds row `from` to row `into`, as `vob_users::matrix` does.
+fn or_row<B: Bits>(rows: &mut [B], into: usize, from: usize) {
+    if into < from {
+        let (low, high) = rows.split_at_mut(from);
+        low[into].or(&high[0]);
+    } else if from < into {
+        let (low, high) = rows.split_at_mut(into);
+        high[0].or(&low[from]);
+    }
+}
+
+pub fn matrix<B: Bits>(input: &Input, rounds: usize) -> u64 {
+    let nodes = input.bits.len();
+    let mut times = 0;
+    let mut last = Vec::new();
+    for round in 0..rounds {
+        let none = B::from_bytes(&vec![0; nodes / 8]);
+        let mut rows: Vec<B> = (0..nodes).map(|_| none.copied()).collect();
+        for step in input.indices.chunks(2) {
+            rows[step[0]].set(step[1], true);
+        }
+        for through in 0..nodes {
+            for row in 0..nodes {
+                if rows[row].get(through) {
+                    or_row(&mut rows, row, through);
+                }
+            }
+        }
+        times += sample(&rows[round % nodes], round);
+        last = rows;
+    }
+    checksum_all(&last, times)
+}
+
+/// A node of a flow graph, in lists of its own as `vob_live::live` takes it.
+struct Flow {
+    reads: Vec<usize>,
+    writes: Vec<usize>,
+    next: Vec<usize>,
+}
+
+/// One pass over the nodes of a flow graph, the last one first, as `vob_live::live` makes it.
+fn pass<B: Bits>(nodes: &[Flow], possible: &[B], before: &mut [B], after: &mut [B]) -> bool {
+    let mut changed = false;
+    for node in (0..nodes.len()).rev() {
+        let mut grew = false;
+        for next in &nodes[node].next {
+            grew |= after[node].or_grows(&before[*next]);
+        }
+        if grew {
+            changed |= before[node].or_grows(&after[node]);
+            before[node].and(&possible[node]);
+        }
+    }
+    changed
+}
+
+pub fn live<B: Bits>(input: &Input, rounds: usize) -> u64 {
+    let flow_of = |numbers: &[usize]| Flow {
+        reads: numbers[..1].to_vec(),
+        writes: numbers[1..2].to_vec(),
+        next: numbers[2..].to_vec(),
+    };
+    let nodes: Vec<Flow> = input.indices.chunks(4).map(flow_of).collect();
+    let vars = input.bits.len();
+    let mut times = 0;
+    let mut last = Vec::new();
+    for _ in 0..rounds {
+        let none = B::from_bytes(&vec![0; vars / 8]);
+        let set_of = |variables: &[usize]| {
+            let mut set = none.copied();
+            for variable in variables {
+                set.set(*variable, true);
+            }
+            set
+        };
+        let possible_at = |node: &Flow| {
+            let mut set = set_of(&node.writes);
+            set.negate();
+            for variable in &node.reads {
+                set.set(*variable, true);
+            }
+            set
+        };
+        let possible: Vec<B> = nodes.iter().map(possible_at).collect();
+        let mut before: Vec<B> = nodes.iter().map(|node| set_of(&node.reads)).collect();
+        let mut after: Vec<B> = nodes.iter().map(|_| none.copied()).collect();
+        times += 1;
+        while pass(&nodes, &possible, &mut before, &mut after) {
+            times += 1;
+        }
+        last = before;
+    }
+    checksum_all(&last, times)
+}
