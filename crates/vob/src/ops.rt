@@ -15,6 +15,7 @@ use std::alloc::AllocError;
 use std::hash::{Hash, Hasher};
 use std::ops::{BitAnd, BitAndAssign, BitOr, BitOrAssign, BitXor, BitXorAssign};
 use vob_block::Block;
+use vob_store::combined::{And, CombineInto, Or, Xor};
 use vob_store::fill::fill;
 use vob_store::mask::negate;
 use vob_store::same::same_blocks;
@@ -66,7 +67,7 @@ impl<T: Block> Vob<T> {
         ensures fewer { LosesBits result self.old.bits self.new.bits }
         ensures capacity { self.new.capacity ≡ self.old.capacity }
     {
-        T::and_into(self.vec.as_mut_slice(), &mut other.blocks())
+        self.combine::<And>(other)
     }
 
     /// Gets the bits that either has, and answers whether a bit changed. The lengths have to be
@@ -85,7 +86,7 @@ impl<T: Block> Vob<T> {
         ensures more { GainsBits result self.old.bits self.new.bits }
         ensures capacity { self.new.capacity ≡ self.old.capacity }
     {
-        T::or_into(self.vec.as_mut_slice(), &mut other.blocks())
+        self.combine::<Or>(other)
     }
 
     /// Gets the bits that one has and the other hasn't, and answers whether a bit changed. The
@@ -98,7 +99,21 @@ impl<T: Block> Vob<T> {
         ensures same { result ≡ false → self.new.bits ≡ self.old.bits }
         ensures capacity { self.new.capacity ≡ self.old.capacity }
     {
-        T::xor_into(self.vec.as_mut_slice(), &mut other.blocks())
+        self.combine::<Xor>(other)
+    }
+
+    /// Combines the other's bits into these, and answers whether a bit changed. Each block of the
+    /// other is read once.
+    #[inline(always)]
+    pub(crate) fn combine<C: CombineInto>(&mut self, other: &Vob<T>) -> bool
+        requires same { HaveSameLength self.old other.now }
+        requires none { C.of_bits false false ≡ false }
+        ensures bits { self.new.bits ≡ pointwise C.of_bits self.old.bits other.now.bits }
+        ensures each { AreCombined C.of_bits self.old.bits other.now.bits self.new.bits }
+        ensures changed { IsTrue result ↔ (self.new.bits ≢ self.old.bits) }
+        ensures capacity { self.new.capacity ≡ self.old.capacity }
+    {
+        C::combine_into(self.vec.as_mut_slice(), &mut other.blocks())
     }
 }
 

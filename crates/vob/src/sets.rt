@@ -14,7 +14,7 @@ use crate::error::IndicesError;
 use crate::vob::Vob;
 use std::alloc::Global;
 use vob_block::Block;
-use vob_store::combined::{And, Combine, Or, Without, Xor, combine_into, count_combined, has_none};
+use vob_store::combined::{And, Combine, Or, Without, Xor, count_combined, has_none};
 use vob_walk::{count_ones_in, index_of_rank, next_index, previous_index};
 
 impl<T: Block> Vob<T> {
@@ -216,7 +216,7 @@ impl<T: Block> Vob<T> {
         ensures fewer { LosesBits result self.old.bits self.new.bits }
         ensures capacity { self.new.capacity ≡ self.old.capacity }
     {
-        combine_into::<Without, T>(self.vec.as_mut_slice(), &mut other.blocks())
+        self.combine::<Without>(other)
     }
 
     /// Whether the other has each set bit too. The lengths have to be equal.

@@ -70,9 +70,48 @@ impl Combine for Without {
     }
 }
 
-/// Stores in `own` both combined, and answers whether a block changed. Each block of `other` is
-/// read once.
-pub fn combine_into<C: Combine, T: Block>(own: &mut [T], other: &mut Blocks<'_, T>) -> bool
+/// A way to combine blocks that is stored in the first ones.
+pub trait CombineInto: Combine {
+    /// Stores in `own` both combined, and answers whether a block changed. Each block of `other` is
+    /// read once.
+    fn combine_into<T: Block>(own: &mut [T], other: &mut Blocks<'_, T>) -> bool
+        requires { length own.old ≡ length other.old.items }
+        ensures combined { IsCombined T.BITS Self.of_bits (map T.number own.old)
+            (map T.number other.old.items) (map T.number own.new) result }
+        ensures read { AreReadOnce other.old other.new };
+}
+
+impl CombineInto for And {
+    #[inline(always)]
+    fn combine_into<T: Block>(own: &mut [T], other: &mut Blocks<'_, T>) -> bool {
+        T::and_into(own, other)
+    }
+}
+
+impl CombineInto for Or {
+    #[inline(always)]
+    fn combine_into<T: Block>(own: &mut [T], other: &mut Blocks<'_, T>) -> bool {
+        T::or_into(own, other)
+    }
+}
+
+impl CombineInto for Xor {
+    #[inline(always)]
+    fn combine_into<T: Block>(own: &mut [T], other: &mut Blocks<'_, T>) -> bool {
+        T::xor_into(own, other)
+    }
+}
+
+impl CombineInto for Without {
+    #[inline(always)]
+    fn combine_into<T: Block>(own: &mut [T], other: &mut Blocks<'_, T>) -> bool {
+        combine_blocks::<Without, T>(own, other)
+    }
+}
+
+/// Stores in `own` both combined, block by block, and answers whether a block changed. Each block of
+/// `other` is read once.
+fn combine_blocks<C: Combine, T: Block>(own: &mut [T], other: &mut Blocks<'_, T>) -> bool
     requires { length own.old ≡ length other.old.items }
     ensures combined { IsCombined T.BITS C.of_bits (map T.number own.old)
         (map T.number other.old.items) (map T.number own.new) result }

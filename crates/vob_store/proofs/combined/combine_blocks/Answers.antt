@@ -3,7 +3,7 @@ use Rattle.std.proofs.Common.{◌≡◌, ℕ, ◌^◌, ◌<◌, ap, map, length,
 use Rattle.std.proofs.lemmas.List.{length-map}
 use Rattle.std.proofs.lemmas.Nat.{pow_pos}
 use Rattle.vob_block.proofs.KernelLemmas.{AreTaken-none, item-more, IsCombined-taken}
-use Rattle.vob_store.proofs.combined.combine_into.Goals as goal
+use Rattle.vob_store.proofs.combined.combine_blocks.Goals as goal
 
 pub loop-k-init : goal.loop-k-init
 loop-k-init g c =

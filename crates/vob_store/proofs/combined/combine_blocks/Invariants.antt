@@ -1,7 +1,7 @@
 -- The blocks so far are combined, and each block of the other was read once.
 use Rattle.std.proofs.Common.{◌≡◌, ◌+◌, ◌^◌, ◌<◌, map}
 use Rattle.vob_block.specs.Kernel.{AreTaken}
-use Rattle.vob_store.proofs.combined.combine_into.Given as goal
+use Rattle.vob_store.proofs.combined.combine_blocks.Given as goal
 
 abbrev pub invariant-loop-k : goal.invariant-loop-k
 invariant-loop-k g l = record {
