@@ -12,12 +12,17 @@ set -euo pipefail
 cd "$(dirname "$0")/.."
 cpu=${1:-x86-64-v2}
 filter=${2:-}
+place=${PLACE:-0}
 source=$(realpath -m "${VOB_SOURCE:-../shared/crate/lib.rs.txt}")
 registry=${DEBIAN_REGISTRY:-/usr/share/cargo/registry}
 
 case $cpu in
 x86-64-v2 | x86-64-v3) ;;
 *) echo "no such CPU here: $cpu (x86-64-v2 or x86-64-v3)" >&2; exit 2 ;;
+esac
+case $place in
+0 | 16) ;;
+*) echo "no such place here: $place (0 or 16)" >&2; exit 2 ;;
 esac
 [ -r "$source" ] || { echo "no source of vob 4.0.1 at $source: set VOB_SOURCE" >&2; exit 2; }
 [ -d "$registry" ] || { echo "no crates at $registry: install Debian's packages" >&2; exit 2; }
@@ -35,6 +40,17 @@ for made in vob_bench vob_limits; do
     # half of its time, and a change elsewhere would move it.
     objcopy --set-section-alignment '.text.*=64' "../crates/$made/out/lib$made.a" "$libs/lib$made.a"
 done
+link=()
+if [ "$place" != 0 ]; then
+    objcopy --set-section-alignment ".text.*=$place" "$libs/libvob_bench.a"
+    {
+        echo 'SECTIONS { .text.placed : {'
+        readelf -SW "$libs/libvob_bench.a" | sed -n 's/^ *\[ *[0-9]*\] \(\.text\..*[^ ]\)  *PROGBITS .*$/\1/p' |
+            while IFS= read -r name; do printf '. = ALIGN(64) + %d; *("%s")\n' "$place" "$name"; done
+        echo '} } INSERT AFTER .text;'
+    } >"$libs/place.ld"
+    link=(-C "link-arg=-Wl,-T,$libs/place.ld")
+fi
 gcc -O2 -march="$cpu" -c heap/heap.c -o "$libs/heap.o"
 ar rs "$libs/libvob_bench.a" "$libs/heap.o"
 
@@ -72,14 +88,14 @@ replace-with = "debian"
 directory = "$registry"
 TOML
 rm -f harness/Cargo.lock
-RUSTFLAGS="-C target-cpu=$cpu -C llvm-args=-align-all-functions=6 -L native=$libs" \
+RUSTFLAGS="-C target-cpu=$cpu -C llvm-args=-align-all-functions=6 -L native=$libs ${link[*]}" \
     cargo build --quiet --offline --release --config "$out/cargo/config.toml" \
     --manifest-path harness/Cargo.toml --target-dir "$libs/target"
 
 turns=${TURNS:-21}
 words=(--turns "$turns")
 if [ -n "${CHECK:-}" ]; then words+=(--check); fi
-if [ -z "${CHECK:-}" ] && [ -z "$filter" ]; then table=results/$cpu.tsv; else table=out/$cpu.tsv; fi
+if [ -z "${CHECK:-}$filter" ] && [ "$place" = 0 ]; then table=results/$cpu.tsv; else table=out/$cpu.tsv; fi
 {
     echo "# date $(date -u +%F)"
     echo "# machine $(sed -n 's/^model name[^:]*: //p' /proc/cpuinfo | head -n 1)"
@@ -87,6 +103,7 @@ if [ -z "${CHECK:-}" ] && [ -z "$filter" ]; then table=results/$cpu.tsv; else ta
     echo "# kit $(rt version)"
     echo "# rustc $(rustc --version)"
     echo "# least of $turns turns"
+    if [ "$place" != 0 ]; then echo "# our functions at byte $place of a cache line"; fi
     "$libs/target/release/harness" "${words[@]}" "$filter"
 } >"$out/new.tsv"
 if [ -n "${CHECK:-}" ]; then exit 0; fi
