@@ -1,10 +1,12 @@
 #!/usr/bin/env python3
-"""Prints the table of README.md: bench/summary.py V2 V3, two results files, by default those of bench/results."""
+"""Prints the two tables of README.md: bench/summary.py [FOLDER ..], each with one reading of all rows, of one CPU or of both. By
+default they are bench/results and the folders `second` and `third` in it. A row's part is the middle one of its readings."""
 
 import pathlib
+import statistics
 import sys
 
-from report import ORIGINAL, OURS, best, read
+from report import ORIGINAL, OURS, PLAIN, best, read, sized
 
 DENSITIES = {
     "no index or few": ("none", "1 in 4096"),
@@ -88,48 +90,97 @@ def rows():
     yield "liveness of 10,000 nodes, 1,000 variables", ["liveness, 10000 nodes"], None
 
 
-def cell(found, taken):
-    """The least and the greatest ratio of some rows, with a star where one isn't within a tenth of itself."""
-    ratios, noisy = [], False
-    for times in found:
-        ours, other, again = times[OURS][2], taken(times), times[f"{OURS} again"][2]
-        if other is not None and other > 0:
-            ratios.append(ours / other)
-            noisy = noisy or not 0.9 <= ours / again <= 1.1
-    if not ratios:
+def parts(readings, taken):
+    """Of each reading of a row, what part of another's time it takes."""
+    of = [(times[OURS][2], taken(times)) for times in readings]
+    return sorted(ours / other for ours, other in of if other is not None and other > 0)
+
+
+def unsure(readings, found):
+    """Whether the middle part of a row is more than a tenth off the nearest other one, or where there is one reading, its time is
+    off that of the same work."""
+    if len(found) < 3:
+        return any(not 0.9 <= times[OURS][2] / times[f"{OURS} again"][2] <= 1.1 for times in readings)
+    middle = len(found) // 2
+    return min(found[middle] / found[middle - 1], found[middle + 1] / found[middle]) > 1.1
+
+
+def cell(rows, taken):
+    """The least and the greatest part of some rows, with a star where one is unsure."""
+    middles, starred = [], False
+    for readings in rows:
+        found = parts(readings, taken)
+        if found:
+            middles.append(statistics.median(found))
+            starred = starred or unsure(readings, found)
+    if not middles:
         return ""
-    least, most = min(ratios), max(ratios)
+    least, most = min(middles), max(middles)
     if most < 0.005:
         text = "< 0.01"
     elif f"{least:.2f}" == f"{most:.2f}":
         text = f"{most:.2f}"
     else:
         text = f"{least:.2f} to {most:.2f}"
-    return text + ("*" if noisy else "")
+    return text + ("*" if starred else "")
+
+
+def readings_of(folders, cpu):
+    """The readings of each row, by its name and its bits."""
+    found = {}
+    for folder in folders:
+        path = folder / f"x86-64-{cpu}.tsv"
+        if path.exists():
+            for (name, bits, _), times in read(path)[1].items():
+                if OURS in times:
+                    found.setdefault((name, bits), []).append(times)
+    return found
+
+
+def of_library(library):
+    """The time of a library in a reading of a row, if it has one."""
+    return lambda times: times.get(library, (None, None, None))[2]
+
+
+def found_in(table, names, sizes):
+    """The rows of some names, and of some bits where those are given."""
+    return [
+        readings
+        for (name, bits), readings in table.items()
+        if name in names and (sizes is None or sizes[0] <= bits <= sizes[1])
+    ]
+
+
+def print_lanes(tables):
+    """The kernels with lanes as parts of those without."""
+    print("| Bits | `and`, v2 | `or`, v2 | `xor`, v2 | `and`, v3 | `or`, v3 | `xor`, v3 |\n|---|---|---|---|---|---|---|")
+    for bits in (64, 1024, 1 << 16, 1 << 20):
+        cells = [sized(bits)]
+        for table in tables:
+            for name in ("and", "or", "xor"):
+                cells.append(cell(found_in(table, [name], (bits, bits)), of_library(PLAIN)))
+        print("| " + " | ".join(cells) + " |")
 
 
 def main():
-    folder = pathlib.Path(__file__).parent / "results"
-    words = sys.argv[1:] or [folder / f"x86-64-{cpu}.tsv" for cpu in ("v2", "v3")]
-    tables = [read(pathlib.Path(word))[1] for word in words]
-    taken = (lambda times: times.get(ORIGINAL, (None, None, None))[2], lambda times: best(times, ("same", "other")))
+    results = pathlib.Path(__file__).parent / "results"
+    folders = [pathlib.Path(word) for word in sys.argv[1:]] or [results, results / "second", results / "third"]
+    tables = [readings_of(folders, cpu) for cpu in ("v2", "v3")]
+    taken = (of_library(ORIGINAL), lambda times: best(times, ("same", "other")))
     named = set()
     print("| Call | v2 | v3 | v2, best peer | v3, best peer |\n|---|---|---|---|---|")
-    for label, names, bits in rows():
+    for label, names, sizes in rows():
         named.update(names)
         cells = [label]
         for other in taken:
             for table in tables:
-                found = [
-                    times
-                    for (name, size, _), times in table.items()
-                    if name in names and OURS in times and (bits is None or bits[0] <= size <= bits[1])
-                ]
-                cells.append(cell(found, other))
+                cells.append(cell(found_in(table, names, sizes), other))
         print("| " + " | ".join(cells) + " |")
-    left = {name for table in tables for name, _, _ in table} - named
+    left = {name for table in tables for name, _ in table} - named
     if left:
         print("not in the table: " + ", ".join(sorted(left)), file=sys.stderr)
+    print()
+    print_lanes(tables)
 
 
 if __name__ == "__main__":
