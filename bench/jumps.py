@@ -11,7 +11,7 @@ import sys
 LINE = re.compile(r"\s*([0-9a-f]+):\t(\S+)\s*([0-9a-f]*)")
 # what a jump behind it is one instruction with
 FUSED = ("cmp", "test", "add", "sub", "and", "inc", "dec")
-SHORT = 160
+SHORT = 320
 
 
 def jumps(harness, function):
