@@ -3,7 +3,7 @@
 # default) or x86-64-v3; FILTER is a part of the names of the rows. Builds everything, compares all
 # checksums, times, writes bench/results/CPU.tsv and its table CPU.md (with a FILTER, both into
 # bench/out), and prints the table. TURNS (21) is of how many turns the least time is taken; CHECK=1
-# stops behind the checksums.
+# stops behind the checksums; JUMPS=anywhere leaves jumps to the compilers (apart).
 #
 # Wants rt, cargo, g++ and Debian's packages librust-fixedbitset-dev librust-bit-vec-dev
 # librust-bit-set-dev librust-smallbitvec-dev librust-num-traits-dev libboost-dev. Nothing is
@@ -12,7 +12,7 @@ set -euo pipefail
 cd "$(dirname "$0")/.."
 cpu=${1:-x86-64-v2}
 filter=${2:-}
-place=${PLACE:-0}
+jumps=${JUMPS:-apart}
 source=$(realpath -m "${VOB_SOURCE:-../shared/crate/lib.rs.txt}")
 registry=${DEBIAN_REGISTRY:-/usr/share/cargo/registry}
 
@@ -20,9 +20,14 @@ case $cpu in
 x86-64-v2 | x86-64-v3) ;;
 *) echo "no such CPU here: $cpu (x86-64-v2 or x86-64-v3)" >&2; exit 2 ;;
 esac
-case $place in
-0 | 16) ;;
-*) echo "no such place here: $place (0 or 16)" >&2; exit 2 ;;
+case $jumps in
+apart)
+    by_clang=-mbranches-within-32B-boundaries
+    by_gcc=(-Wa,-mbranches-within-32B-boundaries)
+    by_rustc='-C llvm-args=-x86-branches-within-32B-boundaries'
+    ;;
+anywhere) by_clang='' by_gcc=() by_rustc='' ;;
+*) echo "no such word for jumps here: $jumps (apart or anywhere)" >&2; exit 2 ;;
 esac
 [ -r "$source" ] || { echo "no source of vob 4.0.1 at $source: set VOB_SOURCE" >&2; exit 2; }
 [ -d "$registry" ] || { echo "no crates at $registry: install Debian's packages" >&2; exit 2; }
@@ -32,30 +37,44 @@ out=$PWD/out
 libs=$out/$cpu
 mkdir -p "$libs" "$out/vob/src" results
 
-# Ours: proved, then built by the toolchain's own compiler for this CPU.
+# The toolchain's compiler, which is told to keep jumps off 32-byte boundaries: on processors with Intel's jump
+# conditional code erratum a loop isn't kept decoded where one lies across. All libraries are built so, or with
+# JUMPS=anywhere none.
+kit=$(dirname "$(dirname "$(readlink -f "$(command -v rt)")")")
+toolchain=$out/toolchain-$jumps
+mkdir -p "$toolchain/bin"
+ln -sfn "$kit/toolchain/lib" "$toolchain/lib"
+ln -sf "$kit"/toolchain/bin/* "$toolchain/bin"
+rm "$toolchain/bin/clang"
+printf '#!/bin/sh\nexec "%s" "$@" %s\n' "$kit/toolchain/bin/clang" "$by_clang" >"$toolchain/bin/clang"
+chmod +x "$toolchain/bin/clang"
+
+# Ours: proved, then built by that compiler for this CPU.
 if [ "$cpu" = x86-64-v2 ]; then flag=(); else flag=("--cpu=$cpu"); fi
 for made in vob_bench vob_limits; do
-    (cd "../crates/$made" && rt lib "${flag[@]}") | tail -n 1
+    words=(--extern "std=$kit/rlibs/std.rlib" -L "dependency=$kit/rlibs")
+    for library in $(sed -n "s/^$made staticlib://p" ../crates.txt); do
+        words+=(--extern "$library=../$library/out/rlib/$library.rlib")
+    done
+    for library in $(../tools/below "$made"); do
+        words+=(-L "dependency=../$library/out/rlib")
+    done
+    (
+        cd "../crates/$made"
+        rt lib "${flag[@]}"
+        "$kit/bin/rattle" build --crate-name "$made" src/lib.rt "${words[@]}" "${flag[@]}" --crate-type staticlib \
+            --antt-project "$kit/rattle/logic/antt-project.json" --logic-built "$kit/logic_built" \
+            --incremental out/incremental --toolchain "$toolchain" -o "$libs/proved.a"
+    ) | tail -n 1
     # Each function of each library starts at a cache line: where a short loop lies among them can take
     # half of its time, and a change elsewhere would move it.
-    objcopy --set-section-alignment '.text.*=64' "../crates/$made/out/lib$made.a" "$libs/lib$made.a"
+    objcopy --set-section-alignment '.text.*=64' "$libs/proved.a" "$libs/lib$made.a"
 done
-link=()
-if [ "$place" != 0 ]; then
-    objcopy --set-section-alignment ".text.*=$place" "$libs/libvob_bench.a"
-    {
-        echo 'SECTIONS { .text.placed : {'
-        readelf -SW "$libs/libvob_bench.a" | sed -n 's/^ *\[ *[0-9]*\] \(\.text\..*[^ ]\)  *PROGBITS .*$/\1/p' |
-            while IFS= read -r name; do printf '. = ALIGN(64) + %d; *("%s")\n' "$place" "$name"; done
-        echo '} } INSERT AFTER .text;'
-    } >"$libs/place.ld"
-    link=(-C "link-arg=-Wl,-T,$libs/place.ld")
-fi
-gcc -O2 -march="$cpu" -c heap/heap.c -o "$libs/heap.o"
+gcc -O2 -fno-builtin-malloc -march="$cpu" -c heap/heap.c -o "$libs/heap.o"
 ar rs "$libs/libvob_bench.a" "$libs/heap.o"
 
 # The twin.
-g++ -std=c++17 -O3 -DNDEBUG -falign-functions=64 -march="$cpu" -c twin/twin.cpp -o "$libs/twin.o"
+g++ -std=c++17 -O3 -DNDEBUG -falign-functions=64 -march="$cpu" "${by_gcc[@]}" -c twin/twin.cpp -o "$libs/twin.o"
 rm -f "$libs/libtwin.a"
 ar rcs "$libs/libtwin.a" "$libs/twin.o"
 
@@ -88,14 +107,14 @@ replace-with = "debian"
 directory = "$registry"
 TOML
 rm -f harness/Cargo.lock
-RUSTFLAGS="-C target-cpu=$cpu -C llvm-args=-align-all-functions=6 -L native=$libs ${link[*]}" \
+RUSTFLAGS="-C target-cpu=$cpu -C llvm-args=-align-all-functions=6 $by_rustc -L native=$libs" \
     cargo build --quiet --offline --release --config "$out/cargo/config.toml" \
     --manifest-path harness/Cargo.toml --target-dir "$libs/target"
 
 turns=${TURNS:-21}
 words=(--turns "$turns")
 if [ -n "${CHECK:-}" ]; then words+=(--check); fi
-if [ -z "${CHECK:-}$filter" ] && [ "$place" = 0 ]; then table=results/$cpu.tsv; else table=out/$cpu.tsv; fi
+if [ -z "${CHECK:-}$filter" ] && [ "$jumps" = apart ]; then table=results/$cpu.tsv; else table=out/$cpu.tsv; fi
 {
     echo "# date $(date -u +%F)"
     echo "# machine $(sed -n 's/^model name[^:]*: //p' /proc/cpuinfo | head -n 1)"
@@ -103,7 +122,7 @@ if [ -z "${CHECK:-}$filter" ] && [ "$place" = 0 ]; then table=results/$cpu.tsv; 
     echo "# kit $(rt version)"
     echo "# rustc $(rustc --version)"
     echo "# least of $turns turns"
-    if [ "$place" != 0 ]; then echo "# our functions at byte $place of a cache line"; fi
+    echo "# jumps $jumps"
     "$libs/target/release/harness" "${words[@]}" "$filter"
 } >"$out/new.tsv"
 if [ -n "${CHECK:-}" ]; then exit 0; fi

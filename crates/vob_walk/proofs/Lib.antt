@@ -2,6 +2,7 @@ pub mod BackBitsLemmas
 pub mod BlockBitsLemmas
 pub mod CountLemmas
 pub mod CursorLemmas
+pub mod FrontBitsLemmas
 pub mod IndexLemmas
 pub mod MatchesLemmas
 pub mod NextLemmas

@@ -1,5 +1,5 @@
 -- Within the crate: a block in hand at an end of a walk. No public contract cites this page.
-use Rattle.std.specs.Prelude.{◌≡◌, ℕ, ◌+◌, ◌-◌, ◌^◌, ◌<◌, ◌≤◌, true, ◌==◌, if◌then◌else◌, length}
+use Rattle.std.specs.Prelude.{◌≡◌, ℕ, ◌+◌, ◌-◌, ◌^◌, ◌<◌, ◌≤◌, true, ◌==◌, if◌then◌else◌, List, [], length}
 use Rattle.vob_block.specs.Places.{place, HasZerosLow}
 use Rattle.vob_walk.specs.Cursor.{block_indices}
 
@@ -13,6 +13,13 @@ pub record IsReady (width at block left ready : ℕ) : Type 0 where
   pub bits : IsBlockBits width at block
   pub count : left ≡ length (block_indices width at block)
   pub first : 0 < left → (n : ℕ) × HasZerosLow width block n × (ready ≡ at + n)
+
+-- a block in hand at the front: some places, or a run of indices; beside a run there are none
+pub record IsFrontBits (width : ℕ) (some : List ℕ) (first run : ℕ) : Type 0 where
+  pub within : run ≤ width
+  pub begins : 0 < run → width ≤ first + run
+  pub fits : first + run < 2 ^ 64
+  pub alone : 0 < run → some ≡ []
 
 -- the block in hand at the back: the lowest places of a run, or else the word
 abbrev pub held : ℕ → ℕ → ℕ

@@ -6,7 +6,7 @@ ghost use Rattle.vob_block.specs.Packing.{need, unpacking};
 ghost use Rattle.vob_walk.specs.Walk.{Walk, IsFresh, IsPulled, end_item, without_end};
 
 use crate::back_bits::BackBits;
-use crate::block_bits::BlockBits;
+use crate::front_bits::FrontBits;
 use crate::scan::Unread;
 use crate::walk::End;
 use std::marker::Model;
@@ -18,7 +18,7 @@ use vob_block::{Block, Blocks};
 #[derive(Drop)]
 pub(crate) struct Cursor<'a, T: Block> {
     unread: Unread<'a, T>,
-    front: BlockBits<T>,
+    front: FrontBits<T>,
     back: BackBits<T>,
 }
 
@@ -40,7 +40,7 @@ impl<'a, T: Block> Model for Cursor<'a, T> {
 #[inline(always)]
 fn fill_front<T: Block>(
     unread: &mut Unread<'_, T>,
-    front: &mut BlockBits<T>,
+    front: &mut FrontBits<T>,
     back: &mut BackBits<T>,
 )
     ensures rest { front.new ++ (unread.new.rest ++ back.new) ≡ front.old ++ (unread.old.rest ++ back.old) }
@@ -55,7 +55,7 @@ fn fill_front<T: Block>(
     *front = unread.next_bits();
     if front.is_empty() {
         let (word, at) = back.block();
-        *front = BlockBits::of(word, at);
+        *front = FrontBits::of(word, at);
         *back = BackBits::none();
     }
 }
@@ -63,7 +63,7 @@ fn fill_front<T: Block>(
 /// Where the back has no index in hand, it gets those of the last block that has some, or else what
 /// the front has. So it has none afterwards only where none is left at all.
 #[inline(always)]
-fn fill_back<T: Block>(unread: &mut Unread<'_, T>, front: &mut BlockBits<T>, back: &mut BackBits<T>)
+fn fill_back<T: Block>(unread: &mut Unread<'_, T>, front: &mut FrontBits<T>, back: &mut BackBits<T>)
     ensures rest { front.new ++ (unread.new.rest ++ back.new) ≡ front.old ++ (unread.old.rest ++ back.old) }
     ensures empty { back.new ≡ [] → front.new ++ unread.new.rest ≡ [] }
     ensures fewer { length front.new ≤ length front.old }
@@ -77,7 +77,7 @@ fn fill_back<T: Block>(unread: &mut Unread<'_, T>, front: &mut BlockBits<T>, bac
     if back.is_empty() {
         let (word, at) = front.block();
         *back = BackBits::of(word, at);
-        *front = BlockBits::none();
+        *front = FrontBits::none();
     }
 }
 
@@ -97,7 +97,7 @@ impl<'a, T: Block> Cursor<'a, T> {
     {
         Cursor {
             unread: Unread::over(blocks, value, len, range),
-            front: BlockBits::none(),
+            front: FrontBits::none(),
             back: BackBits::none(),
         }
     }
@@ -110,6 +110,13 @@ impl<'a, T: Block> Cursor<'a, T> {
             self.old result self.new }
         ensures reads { IsPulled self.old (result ∷ []) self.new }
     {
+        // Asked apart, so that a loop over places asks for no run, and one over a run for no block.
+        if self.front.has_places() {
+            return self.front.next();
+        }
+        if self.front.is_run() {
+            return self.front.next();
+        }
         fill_front(&mut self.unread, &mut self.front, &mut self.back);
         self.front.next()
     }

@@ -6,6 +6,7 @@ mod back_bits;
 mod block_bits;
 mod count;
 mod cursor;
+mod front_bits;
 mod index;
 mod next;
 pub mod range;

@@ -7,8 +7,8 @@ ghost use Rattle.vob_walk.specs.Cursor.{indices_in, unread};
 ghost use Rattle.vob_walk.specs.Skip.{ReadsUp, ReadsDown};
 
 use crate::back_bits::BackBits;
-use crate::block_bits::BlockBits;
 use crate::count::count_between;
+use crate::front_bits::FrontBits;
 use crate::range::{blocks_of, first_index, past_last_index};
 use crate::skip::{first_other, last_other};
 use crate::window::{Window, block_without, masked};
@@ -18,12 +18,12 @@ use vob_block::{Block, Blocks};
 
 /// The indices that the window looks for in block `k`.
 #[inline(always)]
-fn bits_in<T: Block>(block: T, k: usize, window: Window) -> BlockBits<T>
+fn bits_in<T: Block>(block: T, k: usize, window: Window) -> FrontBits<T>
     requires { k * T.BITS < window.stop }
     ensures { result ≡ indices_in T.BITS (T.number block) (k * T.BITS) window.value window.start
         window.stop }
 {
-    BlockBits::of(masked(block, k, window), k * T::BITS)
+    FrontBits::of(masked(block, k, window), k * T::BITS)
 }
 
 /// The same, to be given from the last one on.
@@ -44,7 +44,7 @@ fn find_front<T: Block>(
     window: Window,
     next: &mut usize,
     end: usize,
-) -> BlockBits<T>
+) -> FrontBits<T>
     requires order { next.old ≤ end }
     requires count { end ≤ length blocks.old.items }
     requires below { (k : ℕ) → k < end → k * T.BITS < window.stop }
@@ -63,7 +63,7 @@ fn find_front<T: Block>(
         }
     }
     *next = end;
-    BlockBits::none()
+    FrontBits::none()
 }
 
 /// Reads blocks from below `end` down until one has an index to give, and answers that one's. Where
@@ -154,7 +154,7 @@ impl<'a, T: Block> Unread<'a, T> {
 
     /// The indices of the first block that has some, which is read.
     #[inline(always)]
-    pub(crate) fn next_bits(&mut self) -> BlockBits<T>
+    pub(crate) fn next_bits(&mut self) -> FrontBits<T>
         ensures rest { result ++ self.new.rest ≡ self.old.rest }
         ensures none { result ≡ [] → self.new.rest ≡ [] }
         ensures falls { self.new.left ≤ self.old.left }
