@@ -102,6 +102,22 @@ fn change_blocks<C: Change, T: Block>(blocks: &mut [T], from: usize, to: usize) 
     changed != T::ZERO
 }
 
+/// The same in two parts. The second begins at a multiple of eight blocks, so that vectors of 64-bit
+/// blocks lie across no lines of the cache there, where the memory begins at one.
+fn change_lines<C: Change, T: Block>(blocks: &mut [T], from: usize, to: usize) -> bool
+    requires order { from ≤ to }
+    requires inside { to ≤ length blocks.old }
+    ensures ranged { IsRanged T.BITS C.of_bit (from * T.BITS) (to * T.BITS)
+        (map T.number blocks.old) (map T.number blocks.new) }
+    ensures changed { (result ≡ false)
+        ↔ HaveSameBits T.BITS (map T.number blocks.old) (map T.number blocks.new) }
+{
+    let line = from + (8 - from % 8).min(to - from);
+    let first = change_blocks::<C, T>(blocks, from, line);
+    let rest = change_blocks::<C, T>(blocks, line, to);
+    first | rest
+}
+
 /// Changes the bits from index `start` to below `stop`, and answers whether one changed.
 fn change_some<C: Change, T: Block>(blocks: &mut [T], start: usize, stop: usize) -> bool
     requires some { start < stop }
@@ -120,7 +136,7 @@ fn change_some<C: Change, T: Block>(blocks: &mut [T], start: usize, stop: usize)
         return change_places::<C, T>(blocks, first, from, to);
     }
     let head = change_places::<C, T>(blocks, first, from, width);
-    let middle = change_blocks::<C, T>(blocks, first + 1, last);
+    let middle = change_lines::<C, T>(blocks, first + 1, last);
     let tail = change_places::<C, T>(blocks, last, 0, to);
     head | middle | tail
 }

@@ -14,7 +14,7 @@ returns-clause-ranged g c =
     c.BITS-width.ensures c.args.start c.args.stop c.requires.some
     (blocks_rise g.T.Block.BITS g.met.T.Block.wide_law c.BITS-width.result
     c.BITS-width.ensures c.args.start c.args.stop c.requires.some c.if-first-last.false)
-    c.change_places-head.ensures.ranged c.change_blocks-middle.ensures.ranged
+    c.change_places-head.ensures.ranged c.change_lines-middle.ensures.ranged
     c.change_places-tail.ensures.ranged
 
 pub returns-clause-changed : goal.returns-clause-changed
@@ -23,8 +23,8 @@ returns-clause-changed g c =
     c.BITS-width.ensures c.args.start c.args.stop c.requires.some
     (blocks_rise g.T.Block.BITS g.met.T.Block.wide_law c.BITS-width.result
     c.BITS-width.ensures c.args.start c.args.stop c.requires.some c.if-first-last.false)
-    c.change_places-head.ensures.ranged c.change_blocks-middle.ensures.ranged
+    c.change_places-head.ensures.ranged c.change_lines-middle.ensures.ranged
     c.change_places-tail.ensures.ranged c.change_places-head.result
-    c.change_blocks-middle.result c.change_places-tail.result
-    c.change_places-head.ensures.changed c.change_blocks-middle.ensures.changed
+    c.change_lines-middle.result c.change_places-tail.result
+    c.change_places-head.ensures.changed c.change_lines-middle.ensures.changed
     c.change_places-tail.ensures.changed
