@@ -1,6 +1,7 @@
 #!/usr/bin/env python3
 """Prints the two tables of README.md: bench/summary.py [FOLDER ..], each with one reading of all rows, of one CPU or of both. By
-default they are bench/results and the folders `second` and `third` in it. A row's part is the middle one of its readings."""
+default they are bench/results and the folders `second` and `third` in it, and rows in the folders of `later`, of later code, take the
+place of theirs. A row's part is the middle one of its readings."""
 
 import pathlib
 import statistics
@@ -125,8 +126,10 @@ def cell(rows, taken):
     return text + ("*" if starred else "")
 
 
-def readings_of(folders, cpu):
+def readings_of(folders, later, cpu):
     """The readings of each row, by its name and its bits."""
+    if later:
+        return readings_of(folders, [], cpu) | readings_of(later, [], cpu)
     found = {}
     for folder in folders:
         path = folder / f"x86-64-{cpu}.tsv"
@@ -164,8 +167,11 @@ def print_lanes(tables):
 
 def main():
     results = pathlib.Path(__file__).parent / "results"
-    folders = [pathlib.Path(word) for word in sys.argv[1:]] or [results, results / "second", results / "third"]
-    tables = [readings_of(folders, cpu) for cpu in ("v2", "v3")]
+    folders, later = [pathlib.Path(word) for word in sys.argv[1:]], []
+    if not folders:
+        folders = [results, results / "second", results / "third"]
+        later = sorted((results / "later").iterdir())
+    tables = [readings_of(folders, later, cpu) for cpu in ("v2", "v3")]
     taken = (of_library(ORIGINAL), lambda times: best(times, ("same", "other")))
     named = set()
     print("| Call | v2 | v3 | v2, best peer | v3, best peer |\n|---|---|---|---|---|")
