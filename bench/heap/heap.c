@@ -1,6 +1,7 @@
-// The memory of this process: that which a static library of Rattle asks for, over the malloc, realloc and free
-// that the Rust and C++ libraries use too, and those, so that what is as long as a cache line begins at one. Else
-// a vector of 32 bytes lies across two lines in one library's bits and not in another's, as malloc has it.
+// The memory of this process. A static library of Rattle asks for its own by three functions, here over malloc,
+// realloc and free, which the Rust and C++ libraries call too. Those are glibc's, but that what is as long as a
+// line of the cache begins at one: else a vector of 32 bytes lies across two lines in one library's bits and not
+// in another's.
 
 #include <stdbool.h>
 #include <stddef.h>
