@@ -8,7 +8,7 @@ use Rattle.std.proofs.lemmas.List.Sums.{length-filter}
 use Rattle.std.proofs.lemmas.Nat.{pow_pos}
 use Rattle.vob_block.specs.Places.{place, HasPlaces, HasZerosLow, HasZerosHigh, true_places}
 use Rattle.vob_block.specs.Pointwise.{differ}
-use Rattle.vob_block.proofs.PlaceLemmas.{place-pow, place-zero, same_from_places}
+use Rattle.vob_block.proofs.PlaceLemmas.{place-ones, place-pow, place-zero, same_from_places}
 use Rattle.vob_walk.specs.Cursor.{indices_where, block_indices}
 use Rattle.vob_walk.specs.InHand.{IsBlockBits}
 use Rattle.vob_walk.proofs.WhereLemmas.{indices_where-split, indices_where-same, indices_where-nothing, nothing_there}
@@ -118,6 +118,12 @@ zero_block_indices w at x within e = same_from_places w x 0 within (pow_pos w) (
     let back : at + j - at ≡ j = omega arith in
     ap (λ i. place i x) (sym back) ∙ nothing_there (λ i. place (i - at) x) at w e (at + j)
     (omega arith) (omega arith) ∙ sym (place-zero j))
+
+-- behind a block whose places are all true there is a length still
+pub full-below : {w at x : ℕ} → 0 < w → x ≡ 2 ^ w - 1 → IsBlockBits w at x → at + w < 2 ^ 64
+full-below {w} {at} {x} wide full h =
+    let last : w - 1 < w = omega (arith, wide) in
+    omega (arith, wide, h.fits (w - 1) last (ap (place (w - 1)) full ∙ place-ones w (w - 1) last))
 
 pub IsBlockBits-zero : (w at x : ℕ) → x ≡ 0 → IsBlockBits w at x
 IsBlockBits-zero w at x e = record {

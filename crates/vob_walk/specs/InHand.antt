@@ -3,10 +3,10 @@ use Rattle.std.specs.Prelude.{◌≡◌, ℕ, ◌+◌, ◌-◌, ◌^◌, ◌<◌
 use Rattle.vob_block.specs.Places.{place, HasZerosLow}
 use Rattle.vob_walk.specs.Cursor.{block_indices}
 
--- a block in hand: within the width, and its indices fit the type of lengths
+-- a block in hand: within the width, and its indices are below a length
 pub record IsBlockBits (width at block : ℕ) : Type 0 where
   pub within : block < 2 ^ width
-  pub fits : (j : ℕ) → j < width → place j block ≡ true → at + j < 2 ^ 64
+  pub fits : (j : ℕ) → j < width → place j block ≡ true → at + j + 1 < 2 ^ 64
 
 -- a block in hand with how many indices are left and the first of them, if there is one
 pub record IsReady (width at block left ready : ℕ) : Type 0 where

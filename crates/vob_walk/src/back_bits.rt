@@ -62,8 +62,7 @@ impl<T: Block> BackBits<T> {
         requires { IsBlockBits T.BITS at (T.number word) }
         ensures { result ≡ block_indices T.BITS at (T.number word) }
     {
-        // The last block of 2^64 bits is none, since no index is behind it.
-        if word == T::ONES && at <= usize::MAX - T::BITS {
+        if word == T::ONES {
             BackBits {
                 word: T::ZERO,
                 at,
