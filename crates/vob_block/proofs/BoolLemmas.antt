@@ -78,3 +78,8 @@ has_too false b e h = absurd (false≢true h)
 pub without-none : (a b : Bool) → (a ≡ true → b ≡ true) → without a b ≡ false
 without-none true b h = ap not (h refl)
 without-none false b h = refl
+
+-- what differs from what both have is what the first has alone
+pub differ-both : (a b : Bool) → differ a (a && b) ≡ without a b
+differ-both true b = refl
+differ-both false b = refl

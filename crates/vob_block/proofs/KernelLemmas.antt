@@ -1,7 +1,7 @@
 -- A loop that combines blocks with others, one after another, and collects whether one changed.
 use Rattle.std.specs.Prelude.{Some, slice_get, ◌↔◌}
 use Rattle.std.proofs.lemmas.Option.{get_or_from_slice_get, slice_get-map}
-use Rattle.std.proofs.Common.{◌≡◌, ◌≢◌, ℕ, ◌+◌, ◌^◌, ◌<◌, ◌≤◌, Bool, true, false, not, ◌||◌, List}
+use Rattle.std.proofs.Common.{◌≡◌, ◌≢◌, ℕ, ◌+◌, ◌^◌, ◌<◌, ◌≤◌, Bool, true, false, not, ◌&&◌, ◌||◌, List}
 use Rattle.std.proofs.Common.{length, map, get_or, set, refl, sym, ap, ◌∙◌, subst, arith, inl, inr}
 use Rattle.std.proofs.lemmas.Bool.{cases_lt, or_parts, false≢true}
 use Rattle.std.proofs.lemmas.List.{ext_get_or, get_or-set_same, get_or-set_other, get_or-map, map-set, length-map, length-set}
@@ -9,9 +9,17 @@ use Rattle.std.proofs.lemmas.List.Elements.{All-from_get_or}
 use Rattle.std.proofs.lemmas.Nat.{pow_pos}
 use Rattle.vob_block.specs.Places.{place, HasPlaces}
 use Rattle.vob_block.specs.Kernel.{AreTaken}
-use Rattle.vob_block.specs.Pointwise.{IsCombined, differ}
+use Rattle.vob_block.specs.Pointwise.{IsCombined, differ, without}
 use Rattle.vob_block.proofs.BoolLemmas.{same_from_differ, differ-same}
 use Rattle.vob_block.proofs.PlaceLemmas.{same_from_places, place-zero}
+
+-- what a block has where another, negated, has it too
+pub HasPlaces-without : (w own other negated both : ℕ)
+    → HasPlaces w negated (λ j. not (place j other))
+    → HasPlaces w both (λ j. place j own && place j negated)
+    → HasPlaces w both (λ j. without (place j own) (place j other))
+HasPlaces-without w own other negated both h g =
+    record { each = λ j less. g.each j less ∙ ap (λ b. place j own && b) (h.each j less) }
 
 -- a number with the places where two others differ is 0 exactly where these are the same
 pub differ-zero : (w a b x : ℕ) → a < 2 ^ w → b < 2 ^ w

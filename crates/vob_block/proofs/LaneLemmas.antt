@@ -1,5 +1,5 @@
 -- Eight blocks combined at once, over the connective.
-use Rattle.std.proofs.Common.{◌≡◌, ℕ, ◌+◌, ◌-◌, ◌^◌, ◌<◌, ◌≤◌, ◌↔◌, List, [], ◌∷◌, length, get_or, set, bit_or, bit_xor, refl, sym, ap, ◌∙◌, subst, arith}
+use Rattle.std.proofs.Common.{◌≡◌, ℕ, ◌+◌, ◌-◌, ◌^◌, ◌<◌, ◌≤◌, ◌↔◌, List, [], ◌∷◌, length, get_or, set, bit_and, bit_or, bit_xor, refl, sym, ap, ◌∙◌, subst, arith}
 use Rattle.std.specs.Int.Bits.{xor_self, xor_add_and, or_add_and}
 use Rattle.std.proofs.lemmas.Nat.{and_le_l, and_le_r, or_lt, xor_lt}
 use Rattle.std.specs.Prelude.{Some, slice_get}
@@ -10,7 +10,10 @@ use Rattle.std.proofs.lemmas.Simd.{get_or-zip2, get_or-put_chunk_below, get_or-p
 use Rattle.std.proofs.lemmas.Simd.{get_or-put_chunk_above, Each1-get_or}
 use lib.Lanes.{zip2, chunk, put_chunk, fold_l, Each1}
 use Rattle.vob_block.specs.Places.{place, HasPlaces}
-use Rattle.vob_block.specs.Kernel.{Connective, conjunction, disjunction, difference, on_bits, on_numbers}
+use Rattle.vob_block.specs.Kernel.{Connective, conjunction, disjunction, difference, exclusion}
+use Rattle.vob_block.specs.Kernel.{on_bits, on_numbers}
+use Rattle.vob_block.specs.Pointwise.{differ}
+use Rattle.vob_block.proofs.BoolLemmas.{differ-both}
 use Rattle.vob_block.proofs.PlaceLemmas.{place-and, place-or, place-xor}
 use Rattle.vob_block.proofs.KernelLemmas.{Takes, Takes-one}
 
@@ -19,6 +22,16 @@ pub place-on_numbers : (o : Connective) (a b j : ℕ)
 place-on_numbers conjunction a b j = place-and a b j
 place-on_numbers disjunction a b j = place-or a b j
 place-on_numbers difference a b j = place-xor a b j
+place-on_numbers exclusion a b j = place-xor a (bit_and a b) j
+    ∙ ap (differ (place j a)) (place-and a b j) ∙ differ-both (place j a) (place j b)
+
+-- "and not" in lanes, by "and" and then "xor"
+pub zip-exclusion : (xs ys : List ℕ)
+    → zip2 bit_xor xs (zip2 bit_and xs ys) ≡ zip2 (on_numbers exclusion) xs ys
+zip-exclusion [] ys = refl
+zip-exclusion (x ∷ xs) [] = refl
+zip-exclusion (x ∷ xs) (y ∷ ys) =
+    ap (λ zs. bit_xor x (bit_and x y) ∷ zs) (zip-exclusion xs ys)
 
 -- ---- the flag: the lanes of what changed, taken together
 

@@ -1,25 +1,28 @@
 -- How blocks are combined, and how far a kernel has come. No public contract cites this page.
 use Rattle.std.specs.Prelude.{◌≡◌, ◌↔◌, ℕ, ◌^◌, ◌<◌, ◌≤◌, Bool, ◌&&◌, ◌||◌, List, length, slice_index_or, bit_and, bit_or, bit_xor}
 use Rattle.vob_block.specs.Places.{place, HasPlaces}
-use Rattle.vob_block.specs.Pointwise.{differ}
+use Rattle.vob_block.specs.Pointwise.{differ, without}
 
--- "and", "or" and "xor"
+-- "and", "or", "xor" and "and not"
 pub data Connective : Type 0 where
   conjunction : Connective
   disjunction : Connective
   difference : Connective
+  exclusion : Connective
 
 -- what it makes of two bits
 abbrev pub on_bits : Connective → Bool → Bool → Bool
 on_bits conjunction = ◌&&◌
 on_bits disjunction = ◌||◌
 on_bits difference = differ
+on_bits exclusion = without
 
 -- what it makes of the numbers of two blocks
 abbrev pub on_numbers : Connective → ℕ → ℕ → ℕ
 on_numbers conjunction = bit_and
 on_numbers disjunction = bit_or
 on_numbers difference = bit_xor
+on_numbers exclusion = λ own other. bit_xor own (bit_and own other)
 
 -- the first k blocks are combined with the others, the rest are as they were, and changed is 0
 -- exactly where none of the first k changed

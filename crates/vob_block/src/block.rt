@@ -3,7 +3,7 @@ ghost use Rattle.std.specs.Prelude.{◌≡◌, ◌≢◌, ◌==◌, ℕ, ◌+◌
 ghost use Rattle.std.specs.Prelude.{◌&&◌, ◌||◌, ◌↔◌, not, nat_le, nat_lt, IsTrue, length, All, map};
 ghost use Rattle.std.specs.Prelude.{true, false};
 ghost use Rattle.vob_block.specs.Places.{place, HasPlaces, HasZerosLow, HasZerosHigh, true_places};
-ghost use Rattle.vob_block.specs.Pointwise.{IsCombined, differ};
+ghost use Rattle.vob_block.specs.Pointwise.{IsCombined, differ, without};
 ghost use Rattle.vob_block.specs.Reading.{AreReadOnce};
 
 use crate::blocks::Blocks;
@@ -193,6 +193,25 @@ pub trait Block: Copy + Eq + Hash + Debug {
             let old = own[k];
             old.in_range();
             let new = old.bxor(other.block(k));
+            own[k] = new;
+            changed = changed.bor(old.bxor(new));
+        }
+        changed != Self::ZERO
+    }
+
+    /// Keeps in `own` the places that the other hasn't, and answers whether a block changed. Each block
+    /// of `other` is read once.
+    fn and_not_into(own: &mut [Self], other: &mut Blocks<'_, Self>) -> bool
+        requires { length own.old ≡ length other.old.items }
+        ensures combined { IsCombined BITS without (map number own.old) (map number other.old.items)
+            (map number own.new) result }
+        ensures read { AreReadOnce other.old other.new }
+    {
+        let mut changed = Self::ZERO;
+        for k in 0..own.len() {
+            let old = own[k];
+            old.in_range();
+            let new = old.band(other.block(k).bnot());
             own[k] = new;
             changed = changed.bor(old.bxor(new));
         }

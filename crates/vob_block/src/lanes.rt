@@ -1,7 +1,7 @@
 //! The kernels at `usize`, eight blocks at a time.
 ghost use Rattle.std.specs.Prelude.{◌≡◌, ◌+◌, ◌*◌, ◌/◌, ◌^◌, ◌<◌, length};
 ghost use Rattle.std.specs.Simd.Lanes.{Each1, zip2};
-ghost use Rattle.vob_block.specs.Kernel.{Connective, conjunction, disjunction, difference};
+ghost use Rattle.vob_block.specs.Kernel.{Connective, conjunction, disjunction, difference, exclusion};
 ghost use Rattle.vob_block.specs.Kernel.{on_bits, on_numbers, AreTaken};
 ghost use Rattle.vob_block.specs.Pointwise.{IsCombined};
 ghost use Rattle.vob_block.specs.Reading.{AreReadOnce};
@@ -65,6 +65,23 @@ impl Combine for Xor {
     #[inline(always)]
     fn lanes(own: usizex8, others: usizex8) -> usizex8 {
         own ^ others
+    }
+}
+
+pub(crate) struct AndNot;
+
+// By "xor" and "and", which the compiler takes for one instruction.
+impl Combine for AndNot {
+    ghost connective = { exclusion };
+
+    #[inline(always)]
+    fn block(own: usize, other: usize) -> usize {
+        own ^ (own & other)
+    }
+
+    #[inline(always)]
+    fn lanes(own: usizex8, others: usizex8) -> usizex8 {
+        own ^ (own & others)
     }
 }
 

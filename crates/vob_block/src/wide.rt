@@ -4,7 +4,7 @@ ghost use Rattle.std.proofs.Common.{refl, ap, arith, eq-eqb, eqb-true, lit<};
 
 use crate::block::Block;
 use crate::blocks::Blocks;
-use crate::lanes::{And, Or, Xor, combine_blocks};
+use crate::lanes::{And, AndNot, Or, Xor, combine_blocks};
 use crate::prim::PrimBlock;
 use crate::word::Word;
 use std::hash::Hash;
@@ -377,6 +377,10 @@ impl Block for usize {
 
     fn xor_into(own: &mut [Self], other: &mut Blocks<'_, Self>) -> bool {
         combine_blocks::<Xor>(own, other)
+    }
+
+    fn and_not_into(own: &mut [Self], other: &mut Blocks<'_, Self>) -> bool {
+        combine_blocks::<AndNot>(own, other)
     }
 
     ghost equal_law = { λ x y. (eqb-true x y, eq-eqb x y) };

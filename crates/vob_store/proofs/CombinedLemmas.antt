@@ -1,7 +1,7 @@
 -- Blocks combined one after another: how many places are true so far, and whether one is.
 use Rattle.std.specs.List.{range_with_len}
 use Rattle.std.proofs.Common.{◌≡◌, ◌↔◌, ℕ, zero, suc, ◌+◌, ◌-◌, ◌*◌, ◌/◌, ◌%◌, ◌^◌, ◌<◌, ◌≤◌, Bool}
-use Rattle.std.proofs.Common.{not, ◌&&◌, ◌||◌, cond, List, get_or, count_by, refl, sym, ap, ◌∙◌}
+use Rattle.std.proofs.Common.{◌||◌, cond, List, get_or, count_by, refl, sym, ap, ◌∙◌}
 use Rattle.std.proofs.Common.{subst, arith, inl, inr, add-mul, mod-lt}
 use Rattle.std.proofs.lemmas.Bool.{cases_eq}
 use Rattle.std.proofs.lemmas.List.Sums.{sum_by-cons}
@@ -11,16 +11,7 @@ use Rattle.vob_block.specs.Packing.{bit_at}
 use Rattle.vob_block.proofs.KernelLemmas.{or-zero, zero-or}
 use Rattle.vob_block.proofs.PackingLemmas.{bit_at-in_block, bit_at-is_place}
 use Rattle.vob_block.proofs.PlaceLemmas.{same_from_places, place-zero}
-use Rattle.vob_block.specs.Pointwise.{without}
 use Rattle.vob_store.specs.Combined.{combined_bit, ones_combined, HaveNone}
-
--- what a block has where another, negated, has it too
-pub HasPlaces-without : (w own other negated both : ℕ)
-    → HasPlaces w negated (λ j. not (place j other))
-    → HasPlaces w both (λ j. place j own && place j negated)
-    → HasPlaces w both (λ j. without (place j own) (place j other))
-HasPlaces-without w own other negated both h g =
-    record { each = λ j less. g.each j less ∙ ap (λ b. place j own && b) (h.each j less) }
 
 -- ---- how many numbers of a stretch a test holds of
 

@@ -105,27 +105,8 @@ impl CombineInto for Xor {
 impl CombineInto for Without {
     #[inline(always)]
     fn combine_into<T: Block>(own: &mut [T], other: &mut Blocks<'_, T>) -> bool {
-        combine_blocks::<Without, T>(own, other)
+        T::and_not_into(own, other)
     }
-}
-
-/// Stores in `own` both combined, block by block, and answers whether a block changed. Each block of
-/// `other` is read once.
-fn combine_blocks<C: Combine, T: Block>(own: &mut [T], other: &mut Blocks<'_, T>) -> bool
-    requires { length own.old ≡ length other.old.items }
-    ensures combined { IsCombined T.BITS C.of_bits (map T.number own.old)
-        (map T.number other.old.items) (map T.number own.new) result }
-    ensures read { AreReadOnce other.old other.new }
-{
-    let mut changed = T::ZERO;
-    for k in 0..own.len() {
-        let old = own[k];
-        old.in_range();
-        let new = C::block(old, other.block(k));
-        own[k] = new;
-        changed = changed.bor(old.bxor(new));
-    }
-    changed != T::ZERO
 }
 
 /// How many places are true in both combined. Each block of `other` is read once.

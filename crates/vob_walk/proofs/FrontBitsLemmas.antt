@@ -33,17 +33,17 @@ range-full w at x full =
     ∙ ap (range_with_len (at + 0)) whole ∙ ap (λ i. range_with_len i w) first)
 
 -- what is left of a run, and the block of its places
-module _ {w first run : ℕ} {some : List ℕ} (h : IsFrontBits w some first run) (left : 0 < run) where
-  pub run-alone : some ++ range_with_len first run ≡ range_with_len first run
+module _ {w first run : ℕ} {places : List ℕ} (h : IsFrontBits w places first run) (left : 0 < run) where
+  pub run-alone : places ++ range_with_len first run ≡ range_with_len first run
   run-alone = ap (λ xs. xs ++ range_with_len first run) (h.alone left)
 
-  pub length-run : run ≡ length (some ++ range_with_len first run)
+  pub length-run : run ≡ length (places ++ range_with_len first run)
   length-run = sym (ap length run-alone ∙ length-range_with_len first run)
 
   -- (u is the width as the code read it)
   pub run-indices : (u ones m : ℕ) → u ≡ w → ones ≡ 2 ^ w - 1
       → HasPlaces w m (λ j. leb (u - run) j && place (j - (u - run)) ones)
-      → block_indices w (first - (u - run)) m ≡ some ++ range_with_len first run
+      → block_indices w (first - (u - run)) m ≡ places ++ range_with_len first run
   run-indices u ones m e full up =
       let gone = u - run in
       let start : first - gone + gone ≡ first = omega (arith, e, h.begins left, h.within) in

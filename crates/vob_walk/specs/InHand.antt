@@ -15,11 +15,11 @@ pub record IsReady (width at block left ready : ℕ) : Type 0 where
   pub first : 0 < left → (n : ℕ) × HasZerosLow width block n × (ready ≡ at + n)
 
 -- a block in hand at the front: some places, or a run of indices; beside a run there are none
-pub record IsFrontBits (width : ℕ) (some : List ℕ) (first run : ℕ) : Type 0 where
+pub record IsFrontBits (width : ℕ) (places : List ℕ) (first run : ℕ) : Type 0 where
   pub within : run ≤ width
   pub begins : 0 < run → width ≤ first + run
   pub fits : first + run < 2 ^ 64
-  pub alone : 0 < run → some ≡ []
+  pub alone : 0 < run → places ≡ []
 
 -- the block in hand at the back: the lowest places of a run, or else the word
 abbrev pub held : ℕ → ℕ → ℕ

@@ -12,7 +12,7 @@ use vob_block::Block;
 #[derive(Drop)]
 pub(crate) struct FrontBits<T: Block> {
     // Those of true places. Beside a run there are none.
-    some: BlockBits<T>,
+    places: BlockBits<T>,
     // Of a block whose places were all true, those that are left: the first one, and how many. So the
     // next one is known before, and a loop waits for no place to be looked for.
     first: usize,
@@ -26,9 +26,9 @@ impl<T: Block> Model for FrontBits<T> {
 
     ghost Value = { List ℕ };
 
-    ghost view = { λ bits. bits.some ++ range_with_len bits.first bits.run };
+    ghost view = { λ bits. bits.places ++ range_with_len bits.first bits.run };
 
-    ghost invariant = { λ bits. IsFrontBits T.BITS bits.some bits.first bits.run };
+    ghost invariant = { λ bits. IsFrontBits T.BITS bits.places bits.first bits.run };
 }
 
 impl<T: Block> FrontBits<T> {
@@ -37,7 +37,7 @@ impl<T: Block> FrontBits<T> {
         ensures { result ≡ [] }
     {
         FrontBits {
-            some: BlockBits::none(),
+            places: BlockBits::none(),
             first: 0,
             run: 0,
         }
@@ -51,13 +51,13 @@ impl<T: Block> FrontBits<T> {
     {
         if word == T::ONES {
             FrontBits {
-                some: BlockBits::none(),
+                places: BlockBits::none(),
                 first: at,
                 run: T::BITS,
             }
         } else {
             FrontBits {
-                some: BlockBits::of(word, at),
+                places: BlockBits::of(word, at),
                 first: 0,
                 run: 0,
             }
@@ -69,7 +69,7 @@ impl<T: Block> FrontBits<T> {
     pub(crate) fn has_places(&self) -> bool
         ensures { IsTrue result → self.now ≢ [] }
     {
-        !self.some.is_empty()
+        !self.places.is_empty()
     }
 
     /// Whether the indices that are left follow one another, in a block whose places were all true.
@@ -85,7 +85,7 @@ impl<T: Block> FrontBits<T> {
     pub(crate) fn is_empty(&self) -> bool
         ensures { IsTrue result ↔ (self.now ≡ []) }
     {
-        self.some.is_empty() && self.run == 0
+        self.places.is_empty() && self.run == 0
     }
 
     /// The block whose true places are the indices that are left, and the index of its place 0.
@@ -95,7 +95,7 @@ impl<T: Block> FrontBits<T> {
         ensures same { block_indices T.BITS result.1 (T.number result.0) ≡ self.now }
     {
         if self.run == 0 {
-            return self.some.block();
+            return self.places.block();
         }
         let gone = T::BITS - self.run;
         (T::ONES.up(gone), self.first - gone)
@@ -106,7 +106,7 @@ impl<T: Block> FrontBits<T> {
         ensures { result ≡ length self.now }
     {
         if self.run == 0 {
-            self.some.count()
+            self.places.count()
         } else {
             self.run
         }
@@ -117,8 +117,8 @@ impl<T: Block> FrontBits<T> {
     pub(crate) fn next(&mut self) -> Option<usize>
         ensures { YieldsFirst (λ rest. rest) self.old result self.new }
     {
-        if !self.some.is_empty() {
-            return self.some.next();
+        if !self.places.is_empty() {
+            return self.places.next();
         }
         if self.run == 0 {
             return None;

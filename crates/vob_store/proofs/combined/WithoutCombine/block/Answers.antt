@@ -1,5 +1,5 @@
 -- The other's places, negated, and those that both then have.
-use Rattle.vob_store.proofs.CombinedLemmas.{HasPlaces-without}
+use Rattle.vob_block.proofs.KernelLemmas.{HasPlaces-without}
 use Rattle.vob_store.proofs.combined.WithoutCombine.block.Goals as goal
 
 pub returns-clause-places : goal.returns-clause-places
