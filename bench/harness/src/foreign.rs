@@ -110,6 +110,8 @@ pub fn conthiral(call: Call, input: &Input, rounds: usize) -> u64 {
         Call::All => walk(13),
         Call::CountAndNot => pair(14),
         Call::CountXor => pair(15),
+        Call::OrDropped => pair(16),
+        Call::AndNotDropped => pair(17),
         Call::Rank => walk(14),
         Call::FirstSet => walk(15),
         Call::LastSet => walk(16),
@@ -194,6 +196,12 @@ pub fn twin(library: Twin, call: Call, input: &Input, rounds: usize) -> u64 {
         index_count: input.indices.len(),
         row_bytes: input.row_bytes,
     };
+    // The twin's calls answer nothing.
+    let call = match call {
+        Call::OrDropped => Call::Or,
+        Call::AndNotDropped => Call::AndNot,
+        call => call,
+    };
     unsafe { twin_run(library as u32, call as u32, &given, rounds) }
 }
 
@@ -232,6 +240,8 @@ pub fn twin_offer(library: Twin, call: Call) -> Offer {
             | Call::Negate
             | Call::Clone
             | Call::Equal
+            | Call::OrDropped
+            | Call::AndNotDropped
             | Call::Subset
             | Call::Disjoint
             | Call::Any

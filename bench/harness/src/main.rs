@@ -150,6 +150,8 @@ impl Timed<'_> {
     }
 
     fn take_turn(&mut self) {
+        // Both times follow this library's own work: what is built behind another's takes longer.
+        self.time(0);
         self.once = self.once.min(self.time(self.rounds));
         self.twice = self.twice.min(self.time(2 * self.rounds));
     }

@@ -64,6 +64,8 @@ pub enum Call {
     LastSet,
     LastUnset,
     Rank,
+    OrDropped,
+    AndNotDropped,
 }
 
 /// What the machine can do at most, measured on the row's own size.
@@ -233,6 +235,14 @@ pub fn all() -> Vec<Row> {
         ("count_and", Call::CountAnd),
     ] {
         for bits in SIZES {
+            rows.push(Row::over(name, call, bits, Word, Limit::Copy));
+        }
+    }
+    for (name, call) in [
+        ("or, its answer dropped", Call::OrDropped),
+        ("and_not, its answer dropped", Call::AndNotDropped),
+    ] {
+        for bits in [1024, 1 << 16, MILLION] {
             rows.push(Row::over(name, call, bits, Word, Limit::Copy));
         }
     }

@@ -107,6 +107,16 @@ fn taken<B: Bits>(input: &Input, rounds: usize, take: impl Fn(&mut B, &B) -> boo
     checksum(&bits, times)
 }
 
+/// The same, with no look at the answer.
+fn dropped<B: Bits>(input: &Input, rounds: usize, take: impl Fn(&mut B, &B) -> bool) -> u64 {
+    let mut bits = B::from_bytes(&input.bytes);
+    let other = B::from_bytes(&input.others);
+    for _ in 0..rounds {
+        take(&mut bits, &other);
+    }
+    checksum(&bits, 0)
+}
+
 fn joined<B: Bits>(input: &Input, at: usize, rounds: usize) -> u64 {
     let other = B::from_bytes(&input.others);
     changed(input, rounds, |bits: &mut B, _| {
@@ -340,6 +350,8 @@ pub fn run<B: Bits>(call: Call, input: &Input, rounds: usize) -> u64 {
         Call::Or => taken(input, rounds, B::or),
         Call::Xor => taken(input, rounds, B::xor),
         Call::AndNot => taken(input, rounds, B::and_not),
+        Call::OrDropped => dropped(input, rounds, B::or),
+        Call::AndNotDropped => dropped(input, rounds, B::and_not),
         Call::Subset => subset::<B>(input, rounds),
         Call::Superset => superset::<B>(input, rounds),
         Call::Disjoint => disjoint::<B>(input, rounds),

@@ -78,7 +78,7 @@ pub extern "C" fn vob_bench_whole(alloc: Global, row: u32, bytes: &[u8], rounds:
 /// Calls on two Vobs: 0 `and`, 1 `or`, 2 `xor`, 3 `==`, 4 `extend_from_vob` behind one whole block,
 /// 5 `extend_from_vob` behind 13 bits more, 6 a filter over these columns and a third, 7 `and_not`,
 /// 8 `is_subset`, 9 `count_and`, 10 `copy_range`, 11 `is_superset`, 12 `is_disjoint`, 13
-/// `count_or`, 14 `count_and_not`, 15 `count_xor`.
+/// `count_or`, 14 `count_and_not`, 15 `count_xor`, 16 `or` and 17 `and_not` with no look at the answer.
 #[unsafe(no_mangle)]
 pub extern "C" fn vob_bench_pair(
     alloc: Global,
@@ -100,6 +100,8 @@ pub extern "C" fn vob_bench_pair(
         9 | 13 | 14 | 15 => pair::count(alloc, row, bytes, others, rounds),
         11 => pair::superset(alloc, bytes, others, rounds),
         12 => pair::disjoint(alloc, bytes, others, rounds),
+        16 => pair::or_dropped(alloc, bytes, others, rounds),
+        17 => pair::and_not_dropped(alloc, bytes, others, rounds),
         _ => pair::copy_range(alloc, bytes, others, rounds),
     })
 }

@@ -81,6 +81,42 @@ pub(crate) fn and_not(
     Ok(checksum(&vob, times))
 }
 
+/// `or` with a Vob that is as long, whose answer nobody looks at.
+#[inline(never)]
+pub(crate) fn or_dropped(
+    alloc: Global,
+    bytes: &[u8],
+    others: &[u8],
+    rounds: usize,
+) -> Result<u64, VobError> {
+    let mut vob = Vob::from_bytes(alloc, bytes)?;
+    let other = Vob::from_bytes(alloc, others)?;
+    for _ in 0..rounds {
+        if vob.len() == other.len() {
+            vob.or(&other);
+        }
+    }
+    Ok(checksum(&vob, 0))
+}
+
+/// `and_not` with a Vob that is as long, whose answer nobody looks at.
+#[inline(never)]
+pub(crate) fn and_not_dropped(
+    alloc: Global,
+    bytes: &[u8],
+    others: &[u8],
+    rounds: usize,
+) -> Result<u64, VobError> {
+    let mut vob = Vob::from_bytes(alloc, bytes)?;
+    let other = Vob::from_bytes(alloc, others)?;
+    for _ in 0..rounds {
+        if vob.len() == other.len() {
+            vob.and_not(&other);
+        }
+    }
+    Ok(checksum(&vob, 0))
+}
+
 /// `is_subset` of a Vob whose bits another has in each round.
 #[inline(never)]
 pub(crate) fn subset(

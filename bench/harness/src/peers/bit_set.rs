@@ -16,6 +16,8 @@ impl Bits for BitSet {
             Call::FirstSet => Offer::Other("next of iter"),
             Call::Set => Offer::Other("insert or remove"),
             Call::Get
+            | Call::OrDropped
+            | Call::AndNotDropped
             | Call::Matrix
             | Call::Clone
             | Call::Hash

@@ -26,6 +26,8 @@ impl Bits for FixedBitSet {
             Call::Live => Offer::Other("is_subset, then union_with"),
             Call::Filter => NO_FLAG,
             Call::Get
+            | Call::OrDropped
+            | Call::AndNotDropped
             | Call::Matrix
             | Call::Clone
             | Call::Hash

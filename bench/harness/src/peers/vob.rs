@@ -10,7 +10,7 @@ impl Bits for Vob {
         match call {
             Call::FromSlice => COLLECT,
             Call::DrainAligned | Call::DrainShifted => CUTS,
-            Call::AndNot => Offer::Other("and with a negated copy"),
+            Call::AndNot | Call::AndNotDropped => Offer::Other("and with a negated copy"),
             Call::Subset | Call::Superset => Offer::Other("and of a copy, then =="),
             Call::Disjoint => Offer::Other("and of a copy, then next of iter_set_bits"),
             Call::CountAnd => Offer::Other("and of a copy, then count"),
