@@ -104,10 +104,8 @@ fn combine_chunks<C: Combine>(own: &mut [usize], other: &mut Blocks<'_, usize>) 
     let mut changed = usizex8::splat(0);
     for i in 0..own.len() / 8 {
         let at = 8 * i;
-        // The other's first: so the result takes their registers, and the loop is shorter.
-        let others = usizex8::from_array(other.chunk(at));
         let old = usizex8::from_slice(&own[at..]);
-        let new = C::lanes(old, others);
+        let new = C::lanes(old, usizex8::from_array(other.chunk(at)));
         in_range(new);
         new.copy_to_slice(&mut own[at..]);
         changed |= old ^ new;

@@ -26,7 +26,7 @@ loop-i-preserved g c =
     let new = c.lanes-new.result in
     let is : new ≡ zip2 (on_numbers o) (chunk at 8 own) (chunk at 8 others) =
     c.lanes-new.ensures ∙ ap (zip2 (on_numbers o) (chunk at 8 own))
-    (c.chunk-others.ensures.blocks ∙ ap (chunk at 8) so_far.items) in
+    (c.chunk.ensures.blocks ∙ ap (chunk at 8) so_far.items) in
     let room : at + 8 ≤ length own = omega (arith, c.loop-i.auto.own) in
     let later = fold_l bit_or 0 (zip2 bit_or changed (zip2 bit_xor (chunk at 8 own) new)) in
     record {
@@ -35,8 +35,8 @@ loop-i-preserved g c =
           (fold_l bit_or 0 changed) later so_far.taken
           (Takes-lanes o others own changed new at room (omega (arith, c.loop-i.auto.own))
           c.loop-i.auto.changed.0 is c.in_range.ensures));
-      items = c.chunk-others.ensures.items ∙ so_far.items;
-      reads = omega (arith, c.chunk-others.ensures.reads, so_far.reads);
+      items = c.chunk.ensures.items ∙ so_far.items;
+      reads = omega (arith, c.chunk.ensures.reads, so_far.reads);
     }
 
 pub returns : goal.returns
