@@ -52,6 +52,7 @@ def rows():
     yield "the same of 1024 bits to 1M", ["and", "or", "xor"], many
     yield "the same of 64M bits", ["and", "or", "xor"], (1 << 26, 1 << 26)
     yield "`and_not`", ["and_not"], None
+    yield "`or`, `and_not`, whose answer nobody looks at", ["or, its answer dropped", "and_not, its answer dropped"], None
     yield "`is_subset` of one block", ["is_subset"], (64, 64)
     yield "`is_subset` of 1024 bits to 64M", ["is_subset"], (1024, 1 << 26)
     yield "`count_and`", ["count_and"], None

@@ -1,5 +1,5 @@
 //! The kernels at `usize`, eight blocks at a time.
-ghost use Rattle.std.specs.Prelude.{◌≡◌, ◌+◌, ◌*◌, ◌/◌, ◌^◌, ◌<◌, length};
+ghost use Rattle.std.specs.Prelude.{◌≡◌, ◌+◌, ◌*◌, ◌^◌, ◌<◌, ◌≤◌, length};
 ghost use Rattle.std.specs.Simd.Lanes.{Each1, zip2};
 ghost use Rattle.vob_block.specs.Kernel.{Connective, conjunction, disjunction, difference, exclusion};
 ghost use Rattle.vob_block.specs.Kernel.{on_bits, on_numbers, AreTaken};
@@ -8,6 +8,9 @@ ghost use Rattle.vob_block.specs.Reading.{AreReadOnce};
 
 use crate::blocks::Blocks;
 use std::simd::prelude::*;
+
+// Two lists of so many blocks are 32 KB, which a first cache holds.
+const FIRST_CACHE: usize = 2048;
 
 /// A way to combine two blocks, or two in each of eight lanes.
 pub(crate) trait Combine {
@@ -91,18 +94,23 @@ fn in_range(lanes: usizex8)
     ensures { Each1 (λ x. x < 2 ^ 64) lanes }
 {}
 
-/// Combines the blocks in whole chunks of eight, and leaves the rest. The number is 0 exactly where
-/// none of them changed.
+/// Combines so many chunks of eight blocks, and leaves the rest. The number is 0 exactly where none of
+/// them changed.
 #[inline(always)]
-fn combine_chunks<C: Combine>(own: &mut [usize], other: &mut Blocks<'_, usize>) -> usize
-    requires { length own.old ≡ length other.old.items }
-    ensures taken { AreTaken 64 (on_bits C.connective) own.old other.old.items own.new
-        (length own.old / 8 * 8) result }
+fn combine_chunks<C: Combine>(
+    own: &mut [usize],
+    other: &mut Blocks<'_, usize>,
+    chunks: usize,
+) -> usize
+    requires same { length own.old ≡ length other.old.items }
+    requires inside { 8 * chunks ≤ length own.old }
+    ensures taken { AreTaken 64 (on_bits C.connective) own.old other.old.items own.new (8 * chunks)
+        result }
     ensures items { other.new.items ≡ other.old.items }
-    ensures reads { other.new.reads ≡ other.old.reads + length own.old / 8 * 8 }
+    ensures reads { other.new.reads ≡ other.old.reads + 8 * chunks }
 {
     let mut changed = usizex8::splat(0);
-    for i in 0..own.len() / 8 {
+    for i in 0..chunks {
         let at = 8 * i;
         let old = usizex8::from_slice(&own[at..]);
         let new = C::lanes(old, usizex8::from_array(other.chunk(at)));
@@ -127,6 +135,15 @@ fn combine_one<C: Combine>(own: &mut [usize], other: &mut Blocks<'_, usize>) -> 
     old ^ new != 0
 }
 
+/// How many chunks of eight there are in so many blocks. Of more than the first cache holds it is none:
+/// there a loop of single blocks, of which a compiler takes four a turn, is as quick or quicker.
+#[inline(always)]
+fn chunks_in(blocks: usize) -> usize
+    ensures { 8 * result ≤ blocks }
+{
+    if blocks <= FIRST_CACHE { blocks / 8 } else { 0 }
+}
+
 /// Combines the blocks, eight at a time and the last ones alone, and answers whether one changed.
 #[inline(always)]
 pub(crate) fn combine_blocks<C: Combine>(own: &mut [usize], other: &mut Blocks<'_, usize>) -> bool
@@ -137,9 +154,9 @@ pub(crate) fn combine_blocks<C: Combine>(own: &mut [usize], other: &mut Blocks<'
     if own.len() == 1 {
         return combine_one::<C>(own, other);
     }
-    let chunked = own.len() / 8 * 8;
-    let mut changed = combine_chunks::<C>(own, other);
-    for k in chunked..own.len() {
+    let chunks = chunks_in(own.len());
+    let mut changed = combine_chunks::<C>(own, other, chunks);
+    for k in 8 * chunks..own.len() {
         let old = own[k];
         let new = C::block(old, other.block(k));
         own[k] = new;
