@@ -171,7 +171,7 @@ def main():
     folders, later = [pathlib.Path(word) for word in sys.argv[1:]], []
     if not folders:
         folders = [results, results / "second", results / "third"]
-        later = sorted((results / "later").iterdir())
+        later = sorted((results / "later").glob("*"))
     tables = [readings_of(folders, later, cpu) for cpu in ("v2", "v3")]
     taken = (of_library(ORIGINAL), lambda times: best(times, ("same", "other")))
     named = set()
