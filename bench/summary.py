@@ -182,7 +182,8 @@ def main():
         for other in taken:
             for table in tables:
                 cells.append(cell(found_in(table, names, sizes), other))
-        print("| " + " | ".join(cells) + " |")
+        if any(cells[1:]):
+            print("| " + " | ".join(cells) + " |")
     left = {name for table in tables for name, _ in table} - named
     if left:
         print("not in the table: " + ", ".join(sorted(left)), file=sys.stderr)
