@@ -13,12 +13,14 @@ mod input;
 mod limits;
 mod peers;
 mod programs;
+mod quiet;
 mod rows;
 mod work;
 
 use bits::{Bits, Offer};
 use foreign::Twin;
 use input::Input;
+use quiet::Probe;
 use rows::{Call, Limit, Row};
 use std::process::ExitCode;
 use std::time::{Duration, Instant};
@@ -109,6 +111,9 @@ fn disagreements(row: &Row, input: &Input, offered: &[&Library]) -> Vec<String> 
     differing
 }
 
+/// How often a turn is tried on a quiet processor.
+const TRIES: usize = 20;
+
 /// One thing that is timed, with its least times so far.
 struct Timed<'a> {
     name: String,
@@ -149,11 +154,23 @@ impl Timed<'_> {
         }
     }
 
-    fn take_turn(&mut self) {
-        // Both times follow this library's own work: what is built behind another's takes longer.
-        self.time(0);
-        self.once = self.once.min(self.time(self.rounds));
-        self.twice = self.twice.min(self.time(2 * self.rounds));
+    /// Takes both times on a processor that is quiet before and behind them, or where none stays so for
+    /// so long, on any.
+    fn take_turn(&mut self, probe: &mut Probe) {
+        for tries in 1..=TRIES {
+            let found = probe.find();
+            // Both times follow this library's own work: what is built behind another's takes longer.
+            self.time(0);
+            let once = self.time(self.rounds);
+            let twice = self.time(2 * self.rounds);
+            let quiet = found && probe.is_quiet();
+            if quiet || tries == TRIES {
+                self.once = self.once.min(once);
+                self.twice = self.twice.min(twice);
+                probe.loud += !quiet as usize;
+                return;
+            }
+        }
     }
 
     fn ns_per_round(&self) -> f64 {
@@ -205,14 +222,14 @@ fn timed<'a>(row: &'a Row, input: &'a Input, offered: &[&'a Library]) -> Vec<Tim
     all
 }
 
-fn measure(row: &Row, input: &Input, offered: &[&Library], turns: usize) {
+fn measure(row: &Row, input: &Input, offered: &[&Library], turns: usize, probe: &mut Probe) {
     let mut all = timed(row, input, offered);
     for one in &mut all {
         one.settle(row.most, Duration::from_millis(4));
     }
     for _ in 0..turns {
         for one in &mut all {
-            one.take_turn();
+            one.take_turn(probe);
         }
     }
     for one in &all {
@@ -331,9 +348,17 @@ fn main() -> ExitCode {
         return ExitCode::SUCCESS;
     }
     println!("# g++ {}", foreign::twin_compiler_name());
+    let mut probe = Probe::new();
     for row in &rows {
         eprintln!("{} {}", row.name, row.bits);
-        measure(row, &row.input(), &offered(row), options.turns.max(1));
+        measure(
+            row,
+            &row.input(),
+            &offered(row),
+            options.turns.max(1),
+            &mut probe,
+        );
     }
+    println!("# turns on no quiet processor: {}", probe.loud);
     ExitCode::SUCCESS
 }
