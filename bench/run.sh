@@ -2,8 +2,9 @@
 # Times Conthiral beside vob 4.0.1 and its peers: bench/run.sh [CPU] [FILTER]. CPU is x86-64-v2 (the
 # default) or x86-64-v3; FILTER is a part of the names of the rows. Builds everything, compares all
 # checksums, times, writes bench/results/CPU.tsv and its table CPU.md (with a FILTER, both into
-# bench/out), and prints the table. TURNS (21) is of how many turns the least time is taken; CHECK=1
-# stops behind the checksums; JUMPS=anywhere leaves jumps to the compilers (apart).
+# bench/out), and prints the table. TURNS (21) is of how many turns the least time is taken, or of up
+# to four times as many where a row isn't settled; CHECK=1 stops behind the checksums; JUMPS=anywhere
+# leaves jumps to the compilers (apart).
 #
 # Wants rt, cargo, g++ and Debian's packages librust-fixedbitset-dev librust-bit-vec-dev
 # librust-bit-set-dev librust-smallbitvec-dev librust-num-traits-dev libboost-dev. Nothing is

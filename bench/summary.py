@@ -1,7 +1,6 @@
 #!/usr/bin/env python3
 """Prints the two tables of README.md: bench/summary.py [FOLDER ..], each with one reading of all rows, of one CPU or of both. By
-default they are bench/results and the folders `second` and `third` in it, and rows in the folders of `later`, of later code, take the
-place of theirs. A row's part is the middle one of its readings."""
+default they are bench/results and the folders `second` and `third` in it. A row's part is the middle one of its readings."""
 
 import pathlib
 import statistics
@@ -127,10 +126,8 @@ def cell(rows, taken):
     return text + ("*" if starred else "")
 
 
-def readings_of(folders, later, cpu):
+def readings_of(folders, cpu):
     """The readings of each row, by its name and its bits."""
-    if later:
-        return readings_of(folders, [], cpu) | readings_of(later, [], cpu)
     found = {}
     for folder in folders:
         path = folder / f"x86-64-{cpu}.tsv"
@@ -168,11 +165,8 @@ def print_lanes(tables):
 
 def main():
     results = pathlib.Path(__file__).parent / "results"
-    folders, later = [pathlib.Path(word) for word in sys.argv[1:]], []
-    if not folders:
-        folders = [results, results / "second", results / "third"]
-        later = sorted((results / "later").glob("*"))
-    tables = [readings_of(folders, later, cpu) for cpu in ("v2", "v3")]
+    folders = [pathlib.Path(word) for word in sys.argv[1:]] or [results, results / "second", results / "third"]
+    tables = [readings_of(folders, cpu) for cpu in ("v2", "v3")]
     taken = (of_library(ORIGINAL), lambda times: best(times, ("same", "other")))
     named = set()
     print("| Call | v2 | v3 | v2, best peer | v3, best peer |\n|---|---|---|---|---|")

@@ -111,8 +111,8 @@ fn disagreements(row: &Row, input: &Input, offered: &[&Library]) -> Vec<String> 
     differing
 }
 
-/// How often a turn is tried on a quiet processor.
-const TRIES: usize = 20;
+/// For how long a turn is taken anew where its processor didn't stay quiet.
+const PATIENCE: Duration = Duration::from_millis(500);
 
 /// One thing that is timed, with its least times so far.
 struct Timed<'a> {
@@ -157,14 +157,15 @@ impl Timed<'_> {
     /// Takes both times on a processor that is quiet before and behind them, or where none stays so for
     /// so long, on any.
     fn take_turn(&mut self, probe: &mut Probe) {
-        for tries in 1..=TRIES {
+        let start = Instant::now();
+        loop {
             let found = probe.find();
             // Both times follow this library's own work: what is built behind another's takes longer.
             self.time(0);
             let once = self.time(self.rounds);
             let twice = self.time(2 * self.rounds);
             let quiet = found && probe.is_quiet();
-            if quiet || tries == TRIES {
+            if quiet || start.elapsed() > PATIENCE {
                 self.once = self.once.min(once);
                 self.twice = self.twice.min(twice);
                 probe.loud += !quiet as usize;
@@ -222,12 +223,24 @@ fn timed<'a>(row: &'a Row, input: &'a Input, offered: &[&'a Library]) -> Vec<Tim
     all
 }
 
+/// Whether the two times of our own work are alike, so that the row needs no more turns.
+fn is_settled(all: &[Timed]) -> bool {
+    let again = all.iter().find(|one| one.kind == "again");
+    again.is_none_or(|again| {
+        let part = all[0].ns_per_round() / again.ns_per_round();
+        (0.97..1.03).contains(&part)
+    })
+}
+
 fn measure(row: &Row, input: &Input, offered: &[&Library], turns: usize, probe: &mut Probe) {
     let mut all = timed(row, input, offered);
     for one in &mut all {
         one.settle(row.most, Duration::from_millis(4));
     }
-    for _ in 0..turns {
+    for turn in 0..4 * turns {
+        if turn >= turns && is_settled(&all) {
+            break;
+        }
         for one in &mut all {
             one.take_turn(probe);
         }

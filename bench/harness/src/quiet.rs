@@ -9,7 +9,7 @@ use std::time::{Duration, Instant};
 /// What part of its least time the fixed work takes at most on a quiet processor.
 const QUIET: f64 = 1.05;
 /// For how long the least time is learned first.
-const LEARNING: Duration = Duration::from_secs(5);
+const LEARNING: Duration = Duration::from_secs(20);
 /// For how long a quiet processor is looked for.
 const PATIENCE: Duration = Duration::from_millis(500);
 /// By what part the least time grows where none was found: all processors have become slower.
@@ -69,11 +69,9 @@ impl Probe {
         probe
     }
 
-    /// Does the fixed work, in the first cache, and answers whether it took as long as on a quiet
-    /// processor.
-    pub fn is_quiet(&mut self) -> bool {
-        let start = Instant::now();
-        for _ in 0..200 {
+    /// Does the fixed work so many times, in the first cache.
+    fn work(&mut self, times: usize) {
+        for _ in 0..times {
             let mut differing = 0;
             for (own, other) in self.own.iter_mut().zip(&self.other) {
                 let new = *own ^ other;
@@ -82,6 +80,14 @@ impl Probe {
             }
             black_box((&mut self.own, differing));
         }
+    }
+
+    /// Does the fixed work, and answers whether it took as long as on a quiet processor.
+    pub fn is_quiet(&mut self) -> bool {
+        // What a turn left in the first cache has to go first, and wide vectors take a while to wake up.
+        self.work(400);
+        let start = Instant::now();
+        self.work(400);
         let spent = start.elapsed().as_nanos() as f64;
         self.least = self.least.min(spent);
         spent <= QUIET * self.least
@@ -97,8 +103,6 @@ impl Probe {
         let start = Instant::now();
         while start.elapsed() < PATIENCE {
             for _ in 0..self.processors.len() {
-                // (what is read first is the cache's work as well)
-                self.is_quiet();
                 if self.is_quiet() {
                     return true;
                 }
