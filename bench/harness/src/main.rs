@@ -20,7 +20,7 @@ mod work;
 use bits::{Bits, Offer};
 use foreign::Twin;
 use input::Input;
-use quiet::Probe;
+use quiet::{Probe, PATIENCE};
 use rows::{Call, Limit, Row};
 use std::process::ExitCode;
 use std::time::{Duration, Instant};
@@ -110,9 +110,6 @@ fn disagreements(row: &Row, input: &Input, offered: &[&Library]) -> Vec<String> 
     }
     differing
 }
-
-/// For how long a turn is taken anew where its processor didn't stay quiet.
-const PATIENCE: Duration = Duration::from_millis(500);
 
 /// One thing that is timed, with its least times so far.
 struct Timed<'a> {

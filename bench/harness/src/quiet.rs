@@ -1,7 +1,7 @@
-//! Whether a processor is this process's alone. Those of a machine with other tenants are threads of
-//! cores, and what stands on the other thread of one takes up to half of what its core can do, for seconds
-//! on end. So a turn is taken on a processor that does a fixed work as quickly as any did, before it and
-//! behind it.
+//! Whether a processor is this process's alone. On a machine with other tenants one takes up to twice as
+//! long and more, for seconds on end, most likely since it is a thread of a core whose other one works for
+//! them. So a turn is taken on a processor that does a fixed work as quickly as any did, before it and behind
+//! it.
 
 use std::hint::black_box;
 use std::time::{Duration, Instant};
@@ -10,8 +10,8 @@ use std::time::{Duration, Instant};
 const QUIET: f64 = 1.05;
 /// For how long the least time is learned first.
 const LEARNING: Duration = Duration::from_secs(20);
-/// For how long a quiet processor is looked for.
-const PATIENCE: Duration = Duration::from_millis(500);
+/// For how long a quiet processor is looked for, and a turn taken anew where its processor didn't stay so.
+pub const PATIENCE: Duration = Duration::from_millis(500);
 /// By what part the least time grows where none was found: all processors have become slower.
 const SLOWER: f64 = 1.02;
 
