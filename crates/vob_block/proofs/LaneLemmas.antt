@@ -1,6 +1,6 @@
 -- Eight blocks combined at once, over the connective.
 use Rattle.std.proofs.Common.{◌≡◌, ℕ, ◌+◌, ◌-◌, ◌^◌, ◌<◌, ◌≤◌, ◌↔◌, List, [], ◌∷◌, length, get_or, set, bit_and, bit_or, bit_xor, refl, sym, ap, ◌∙◌, subst, arith}
-use Rattle.std.specs.Int.Bits.{xor_self, xor_add_and, or_add_and}
+use Rattle.std.specs.Int.Bits.{xor_self, xor_assoc, xor_add_and, or_add_and}
 use Rattle.std.proofs.lemmas.Nat.{and_le_l, and_le_r, or_lt, xor_lt}
 use Rattle.std.specs.Prelude.{Some, slice_get}
 use Rattle.std.proofs.lemmas.Option.{get_or_from_slice_get}
@@ -24,6 +24,26 @@ place-on_numbers disjunction a b j = place-or a b j
 place-on_numbers difference a b j = place-xor a b j
 place-on_numbers exclusion a b j = place-xor a (bit_and a b) j
     ∙ ap (differ (place j a)) (place-and a b j) ∙ differ-both (place j a) (place j b)
+
+on_numbers-in : (o : Connective) (a b : ℕ) → a < 2 ^ 64 → b < 2 ^ 64 → on_numbers o a b < 2 ^ 64
+on_numbers-in conjunction a b a-in b-in = omega (arith, and_le_l a b)
+on_numbers-in disjunction a b a-in b-in = or_lt 64 a b a-in b-in
+on_numbers-in difference a b a-in b-in = xor_lt 64 a b a-in b-in
+on_numbers-in exclusion a b a-in b-in =
+    xor_lt 64 a (bit_and a b) a-in (omega (arith, and_le_l a b))
+
+-- "xor" twice with one number
+pub xor-undone : (x y : ℕ) → bit_xor x (bit_xor x y) ≡ y
+xor-undone x y = sym (xor_assoc x x y) ∙ ap (λ z. bit_xor z y) (xor_self x)
+
+-- what both have is where "and not" differs
+pub zip-undone : (xs ys : List ℕ)
+    → zip2 bit_and xs ys ≡ zip2 bit_xor xs (zip2 bit_xor xs (zip2 bit_and xs ys))
+zip-undone [] ys = refl
+zip-undone (x ∷ xs) [] = refl
+zip-undone (x ∷ xs) (y ∷ ys) =
+    let one = sym (xor-undone x (bit_and x y)) in
+    let more = zip-undone xs ys in cc
 
 -- "and not" in lanes, by "and" and then "xor"
 pub zip-exclusion : (xs ys : List ℕ)
@@ -114,15 +134,17 @@ flag_zero changed old new long same =
 -- ---- one block
 
 -- as the code reads and writes it
-module _ (o : Connective) (others before : List ℕ) (k changed old their new : ℕ)
+module _ (o : Connective) (others before : List ℕ) (k changed old their new diff : ℕ)
     (inside : k < length before) (is : old ≡ get_or before k 0)
     (its : slice_get others k ≡ Some their) (result : new ≡ on_numbers o old their)
-    (changed-in : changed < 2 ^ 64) (old-in : old < 2 ^ 64) (new-in : new < 2 ^ 64) where
+    (differs : diff ≡ bit_xor old new) (changed-in : changed < 2 ^ 64) (old-in : old < 2 ^ 64)
+    (their-in : their < 2 ^ 64) where
   pub Takes-block : Takes 64 (on_bits o) others before (set before k new) k 1 changed
-      (bit_or changed (bit_xor old new))
+      (bit_or changed diff)
   Takes-block =
-      let diff = bit_xor old new in
-      let diff-in = xor_lt 64 old new old-in new-in in
+      let fits : ℕ → Type 0 = λ x. x < 2 ^ 64 in
+      let new-in = subst fits (sym result) (on_numbers-in o old their old-in their-in) in
+      let diff-in = subst fits (sym differs) (xor_lt 64 old new old-in new-in) in
       let at = get_or_from_slice_get others k their 0 its in
       Takes-one 64 (on_bits o) others before k changed inside changed-in old new diff
       (bit_or changed diff) is old-in new-in diff-in (or_lt 64 changed diff changed-in diff-in)
@@ -130,7 +152,7 @@ module _ (o : Connective) (others before : List ℕ) (k changed old their new : 
         each = λ j h. ap (place j) (result ∙ ap (on_numbers o old) (sym at))
             ∙ place-on_numbers o old (get_or others k 0) j;
       })
-      (record { each = λ j h. place-xor old new j })
+      (record { each = λ j h. ap (place j) differs ∙ place-xor old new j })
       (record { each = λ j h. place-or changed diff j })
 
 -- ---- the eight blocks from k on
@@ -157,16 +179,19 @@ module _ (o : Connective) (others before changed new : List ℕ) (k : ℕ)
   by_lane : (P : ℕ → Type 0) → ((j : ℕ) → j < 8 → P (k + j)) → (i : ℕ) → k ≤ i → i < k + 8 → P i
   by_lane P each i from less = subst P (omega arith) (each (i - k) (omega arith))
 
-  pub Takes-lanes : Each1 (λ x. x < 2 ^ 64) new → Takes 64 (on_bits o) others before
+  pub Takes-lanes : (diff : List ℕ) → diff ≡ zip2 bit_xor (chunk k 8 before) new
+      → Each1 (λ x. x < 2 ^ 64) new → Takes 64 (on_bits o) others before
       (put_chunk k before new) k 8 (fold_l bit_or 0 changed)
-      (fold_l bit_or 0 (zip2 bit_or changed (zip2 bit_xor (chunk k 8 before) new)))
-  Takes-lanes fit =
+      (fold_l bit_or 0 (zip2 bit_or changed diff))
+  Takes-lanes diff differs fit =
       let after = put_chunk k before new in
       let at : (j : ℕ) → j < 8 → get_or after (k + j) 0 ≡ get_or new j 0 =
       λ j less. get_or-put_chunk_at k before new j 0 (omega (arith, long-new))
       (omega (arith, long-new)) in
       let old = chunk k 8 before in
-      let flag = flag_zero changed old new (lanes ∙ sym long-old) (long-old ∙ sym long-new) in
+      let flag = subst (λ (ds : List ℕ). (fold_l bit_or 0 (zip2 bit_or changed ds) ≡ 0)
+      ↔ ((fold_l bit_or 0 changed ≡ 0) × (new ≡ old))) (sym differs)
+      (flag_zero changed old new (lanes ∙ sym long-old) (long-old ∙ sym long-new)) in
       record {
         count = length-put_chunk k before new;
         done = by_lane (λ i. HasPlaces 64 (get_or after i 0)

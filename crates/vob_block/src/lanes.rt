@@ -1,5 +1,5 @@
 //! The kernels at `usize`, eight blocks at a time.
-ghost use Rattle.std.specs.Prelude.{◌≡◌, ◌+◌, ◌*◌, ◌^◌, ◌<◌, ◌≤◌, length};
+ghost use Rattle.std.specs.Prelude.{◌≡◌, ◌+◌, ◌*◌, ◌^◌, ◌<◌, ◌≤◌, length, bit_xor};
 ghost use Rattle.std.specs.Simd.Lanes.{Each1, zip2};
 ghost use Rattle.vob_block.specs.Kernel.{Connective, conjunction, disjunction, difference, exclusion};
 ghost use Rattle.vob_block.specs.Kernel.{on_bits, on_numbers, AreTaken};
@@ -12,15 +12,18 @@ use std::simd::prelude::*;
 // Two lists of so many blocks are 32 KB, which a first cache holds.
 const FIRST_CACHE: usize = 2048;
 
-/// A way to combine two blocks, or two in each of eight lanes.
+/// A way to combine two blocks, or two in each of eight lanes: what becomes of the own one, and where it
+/// differs from what it was. Both are answered, since one may be had from the other with less work.
 pub(crate) trait Combine {
     ghost connective: { Connective };
 
-    fn block(own: usize, other: usize) -> usize
-        ensures { result ≡ on_numbers connective own other };
+    fn block(own: usize, other: usize) -> (usize, usize)
+        ensures combined { result.0 ≡ on_numbers connective own other }
+        ensures differs { result.1 ≡ bit_xor own result.0 };
 
-    fn lanes(own: usizex8, others: usizex8) -> usizex8
-        ensures { result ≡ zip2 (on_numbers connective) own others };
+    fn lanes(own: usizex8, others: usizex8) -> (usizex8, usizex8)
+        ensures combined { result.0 ≡ zip2 (on_numbers connective) own others }
+        ensures differs { result.1 ≡ zip2 bit_xor own result.0 };
 }
 
 pub(crate) struct And;
@@ -29,13 +32,15 @@ impl Combine for And {
     ghost connective = { conjunction };
 
     #[inline(always)]
-    fn block(own: usize, other: usize) -> usize {
-        own & other
+    fn block(own: usize, other: usize) -> (usize, usize) {
+        let new = own & other;
+        (new, own ^ new)
     }
 
     #[inline(always)]
-    fn lanes(own: usizex8, others: usizex8) -> usizex8 {
-        own & others
+    fn lanes(own: usizex8, others: usizex8) -> (usizex8, usizex8) {
+        let new = own & others;
+        (new, own ^ new)
     }
 }
 
@@ -45,13 +50,15 @@ impl Combine for Or {
     ghost connective = { disjunction };
 
     #[inline(always)]
-    fn block(own: usize, other: usize) -> usize {
-        own | other
+    fn block(own: usize, other: usize) -> (usize, usize) {
+        let new = own | other;
+        (new, own ^ new)
     }
 
     #[inline(always)]
-    fn lanes(own: usizex8, others: usizex8) -> usizex8 {
-        own | others
+    fn lanes(own: usizex8, others: usizex8) -> (usizex8, usizex8) {
+        let new = own | others;
+        (new, own ^ new)
     }
 }
 
@@ -61,30 +68,34 @@ impl Combine for Xor {
     ghost connective = { difference };
 
     #[inline(always)]
-    fn block(own: usize, other: usize) -> usize {
-        own ^ other
+    fn block(own: usize, other: usize) -> (usize, usize) {
+        let new = own ^ other;
+        (new, own ^ new)
     }
 
     #[inline(always)]
-    fn lanes(own: usizex8, others: usizex8) -> usizex8 {
-        own ^ others
+    fn lanes(own: usizex8, others: usizex8) -> (usizex8, usizex8) {
+        let new = own ^ others;
+        (new, own ^ new)
     }
 }
 
 pub(crate) struct AndNot;
 
-// By "xor" and "and", which the compiler takes for one instruction.
+// What both have is where it differs.
 impl Combine for AndNot {
     ghost connective = { exclusion };
 
     #[inline(always)]
-    fn block(own: usize, other: usize) -> usize {
-        own ^ (own & other)
+    fn block(own: usize, other: usize) -> (usize, usize) {
+        let both = own & other;
+        (own ^ both, both)
     }
 
     #[inline(always)]
-    fn lanes(own: usizex8, others: usizex8) -> usizex8 {
-        own ^ (own & others)
+    fn lanes(own: usizex8, others: usizex8) -> (usizex8, usizex8) {
+        let both = own & others;
+        (own ^ both, both)
     }
 }
 
@@ -113,10 +124,10 @@ fn combine_chunks<C: Combine>(
     for i in 0..chunks {
         let at = 8 * i;
         let old = usizex8::from_slice(&own[at..]);
-        let new = C::lanes(old, usizex8::from_array(other.chunk(at)));
+        let (new, differing) = C::lanes(old, usizex8::from_array(other.chunk(at)));
         in_range(new);
         new.copy_to_slice(&mut own[at..]);
-        changed |= old ^ new;
+        changed |= differing;
     }
     changed.reduce_or()
 }
@@ -129,10 +140,9 @@ fn combine_one<C: Combine>(own: &mut [usize], other: &mut Blocks<'_, usize>) -> 
     ensures combined { IsCombined 64 (on_bits C.connective) own.old other.old.items own.new result }
     ensures read { AreReadOnce other.old other.new }
 {
-    let old = own[0];
-    let new = C::block(old, other.block(0));
+    let (new, differing) = C::block(own[0], other.block(0));
     own[0] = new;
-    old ^ new != 0
+    differing != 0
 }
 
 /// How many chunks of eight there are in so many blocks. Of more than the first cache holds it is none:
@@ -157,10 +167,9 @@ pub(crate) fn combine_blocks<C: Combine>(own: &mut [usize], other: &mut Blocks<'
     let chunks = chunks_in(own.len());
     let mut changed = combine_chunks::<C>(own, other, chunks);
     for k in 8 * chunks..own.len() {
-        let old = own[k];
-        let new = C::block(old, other.block(k));
+        let (new, differing) = C::block(own[k], other.block(k));
         own[k] = new;
-        changed |= old ^ new;
+        changed |= differing;
     }
     changed != 0
 }

@@ -1,5 +1,5 @@
 -- By the lemmas on lanes, eight blocks at a time.
-use Rattle.std.proofs.Common.{◌≡◌, ℕ, ◌*◌, ◌+◌, ◌≤◌, length, subst, arith, ap, refl, ◌∙◌, bit_or, bit_xor}
+use Rattle.std.proofs.Common.{◌≡◌, ℕ, ◌*◌, ◌+◌, ◌≤◌, length, subst, arith, ap, refl, ◌∙◌, bit_or}
 use lib.Lanes.{fold_l, zip2, chunk, put_chunk}
 use Rattle.vob_block.specs.Kernel.{on_bits, on_numbers, AreTaken}
 use Rattle.vob_block.proofs.KernelLemmas.{AreTaken-none, AreTaken-more}
@@ -23,18 +23,19 @@ loop-i-preserved g c =
     let own = c.loop-i.own in
     let at = 8 * c.loop-i.i in
     let changed = c.loop-i.changed in
-    let new = c.lanes-new.result in
+    let new = c.lanes.result.0 in
+    let diff = c.lanes.result.1 in
     let is : new ≡ zip2 (on_numbers o) (chunk at 8 own) (chunk at 8 others) =
-    c.lanes-new.ensures ∙ ap (zip2 (on_numbers o) (chunk at 8 own))
+    c.lanes.ensures.combined ∙ ap (zip2 (on_numbers o) (chunk at 8 own))
     (c.chunk.ensures.blocks ∙ ap (chunk at 8) so_far.items) in
     let room : at + 8 ≤ length own = omega (arith, c.loop-i.auto.own) in
-    let later = fold_l bit_or 0 (zip2 bit_or changed (zip2 bit_xor (chunk at 8 own) new)) in
+    let later = fold_l bit_or 0 (zip2 bit_or changed diff) in
     record {
       taken = subst (λ (k : ℕ). AreTaken 64 (on_bits o) olds others (put_chunk at own new) k later)
           (omega arith) (AreTaken-more 64 (on_bits o) olds others own (put_chunk at own new) at 8
           (fold_l bit_or 0 changed) later so_far.taken
           (Takes-lanes o others own changed new at room (omega (arith, c.loop-i.auto.own))
-          c.loop-i.auto.changed.0 is c.in_range.ensures));
+          c.loop-i.auto.changed.0 is diff c.lanes.ensures.differs c.in_range.ensures));
       items = c.chunk.ensures.items ∙ so_far.items;
       reads = omega (arith, c.chunk.ensures.reads, so_far.reads);
     }
