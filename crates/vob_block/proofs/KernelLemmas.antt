@@ -8,7 +8,7 @@ use Rattle.std.proofs.lemmas.List.{ext_get_or, get_or-set_same, get_or-set_other
 use Rattle.std.proofs.lemmas.List.Elements.{All-from_get_or}
 use Rattle.std.proofs.lemmas.Nat.{pow_pos}
 use Rattle.vob_block.specs.Places.{place, HasPlaces}
-use Rattle.vob_block.specs.Kernel.{AreTaken}
+use Rattle.vob_block.specs.Kernel.{Takes, AreTaken}
 use Rattle.vob_block.specs.Pointwise.{IsCombined, differ, without}
 use Rattle.vob_block.proofs.BoolLemmas.{same_from_differ, differ-same}
 use Rattle.vob_block.proofs.PlaceLemmas.{same_from_places, place-zero}
@@ -52,17 +52,6 @@ zero-or w a b x p h e f =
     ∙ ap (λ c. place j 0 || place j c) f ∙ ap (λ c. c || c) (place-zero j) ∙ sym (place-zero j))
 
 module _ (w : ℕ) (f : Bool → Bool → Bool) (others : List ℕ) where
-  -- from the blocks before to those after, the m blocks from k on are combined, and no others
-  pub record Takes (before after : List ℕ) (k m changed later : ℕ) : Type 0 where
-    pub count : length after ≡ length before
-    pub done : (i : ℕ) → k ≤ i → i < k + m → HasPlaces w (get_or after i 0)
-        (λ j. f (place j (get_or before i 0)) (place j (get_or others i 0)))
-    pub within : (i : ℕ) → k ≤ i → i < k + m → get_or after i 0 < 2 ^ w
-    pub below : (i : ℕ) → i < k → get_or after i 0 ≡ get_or before i 0
-    pub above : (i : ℕ) → k + m ≤ i → get_or after i 0 ≡ get_or before i 0
-    pub flag : (later ≡ 0) ↔ ((changed ≡ 0)
-        × ((i : ℕ) → k ≤ i → i < k + m → get_or after i 0 ≡ get_or before i 0))
-
   -- one block, in the place of the k-th
   module _ (before : List ℕ) (k changed : ℕ) (inside : k < length before) (small : changed < 2 ^ w)
       (old new diff later : ℕ) (is : old ≡ get_or before k 0) (old-in : old < 2 ^ w)
@@ -80,7 +69,7 @@ module _ (w : ℕ) (f : Bool → Bool → Bool) (others : List ℕ) where
     at_place : (P : ℕ → Type 0) → P k → (i : ℕ) → k ≤ i → i < k + 1 → P i
     at_place P this i from less = subst P (omega arith) this
 
-    pub Takes-one : Takes before (set before k new) k 1 changed later
+    pub Takes-one : Takes w f others before (set before k new) k 1 changed later
     Takes-one = record {
       count = length-set before k new;
       done = at_place (λ i. HasPlaces w (get_or (set before k new) i 0)

@@ -11,11 +11,11 @@ use Rattle.std.proofs.lemmas.Simd.{get_or-put_chunk_above, Each1-get_or}
 use lib.Lanes.{zip2, chunk, put_chunk, fold_l, Each1}
 use Rattle.vob_block.specs.Places.{place, HasPlaces}
 use Rattle.vob_block.specs.Kernel.{Connective, conjunction, disjunction, difference, exclusion}
-use Rattle.vob_block.specs.Kernel.{on_bits, on_numbers}
+use Rattle.vob_block.specs.Kernel.{on_bits, on_numbers, Takes}
 use Rattle.vob_block.specs.Pointwise.{differ}
 use Rattle.vob_block.proofs.BoolLemmas.{differ-both}
 use Rattle.vob_block.proofs.PlaceLemmas.{place-and, place-or, place-xor}
-use Rattle.vob_block.proofs.KernelLemmas.{Takes, Takes-one}
+use Rattle.vob_block.proofs.KernelLemmas.{Takes-one}
 
 pub place-on_numbers : (o : Connective) (a b j : ℕ)
     → place j (on_numbers o a b) ≡ on_bits o (place j a) (place j b)

@@ -1,16 +1,19 @@
 //! The kernels at `usize`, eight blocks at a time.
-ghost use Rattle.std.specs.Prelude.{◌≡◌, ◌+◌, ◌*◌, ◌^◌, ◌<◌, ◌≤◌, length, bit_xor};
-ghost use Rattle.std.specs.Simd.Lanes.{Each1, zip2};
+ghost use Rattle.std.specs.Prelude.{◌≡◌, ◌+◌, ◌*◌, ◌^◌, ◌<◌, ◌≤◌, length, bit_or, bit_xor};
+ghost use Rattle.std.specs.Simd.Lanes.{Each1, zip2, fold_l};
 ghost use Rattle.vob_block.specs.Kernel.{Connective, conjunction, disjunction, difference, exclusion};
-ghost use Rattle.vob_block.specs.Kernel.{on_bits, on_numbers, AreTaken};
+ghost use Rattle.vob_block.specs.Kernel.{on_bits, on_numbers, Takes, AreTaken};
 ghost use Rattle.vob_block.specs.Pointwise.{IsCombined};
 ghost use Rattle.vob_block.specs.Reading.{AreReadOnce};
 
 use crate::blocks::Blocks;
 use std::simd::prelude::*;
 
-// Two lists of so many blocks are 32 KB, which a first cache holds.
-const FIRST_CACHE: usize = 2048;
+// How many blocks a turn takes, as two chunks of eight.
+const TURN: usize = 16;
+
+// In so many blocks a loop more, for the rest, takes less than lanes save.
+const MANY: usize = 512;
 
 /// A way to combine two blocks, or two in each of eight lanes: what becomes of the own one, and where it
 /// differs from what it was. Both are answered, since one may be had from the other with less work.
@@ -105,29 +108,49 @@ fn in_range(lanes: usizex8)
     ensures { Each1 (λ x. x < 2 ^ 64) lanes }
 {}
 
-/// Combines so many chunks of eight blocks, and leaves the rest. The number is 0 exactly where none of
-/// them changed.
+/// Combines the eight blocks from `at` on, and answers `changed` with where they differ from what they
+/// were.
 #[inline(always)]
-fn combine_chunks<C: Combine>(
+fn combine_chunk<C: Combine>(
     own: &mut [usize],
     other: &mut Blocks<'_, usize>,
-    chunks: usize,
+    at: usize,
+    changed: usizex8,
+) -> usizex8
+    requires own { at + 8 ≤ length own.old }
+    requires other { at + 8 ≤ length other.old.items }
+    ensures taken { Takes 64 (on_bits C.connective) other.old.items own.old own.new at 8
+        (fold_l bit_or 0 changed) (fold_l bit_or 0 result) }
+    ensures items { other.new.items ≡ other.old.items }
+    ensures reads { other.new.reads ≡ other.old.reads + 8 }
+{
+    let old = usizex8::from_slice(&own[at..]);
+    let (new, differing) = C::lanes(old, usizex8::from_array(other.chunk(at)));
+    in_range(new);
+    new.copy_to_slice(&mut own[at..]);
+    changed | differing
+}
+
+/// Combines the blocks of so many turns, and leaves the rest. The number is 0 exactly where none of
+/// them changed.
+#[inline(always)]
+fn combine_turns<C: Combine>(
+    own: &mut [usize],
+    other: &mut Blocks<'_, usize>,
+    turns: usize,
 ) -> usize
     requires same { length own.old ≡ length other.old.items }
-    requires inside { 8 * chunks ≤ length own.old }
-    ensures taken { AreTaken 64 (on_bits C.connective) own.old other.old.items own.new (8 * chunks)
+    requires inside { 16 * turns ≤ length own.old }
+    ensures taken { AreTaken 64 (on_bits C.connective) own.old other.old.items own.new (16 * turns)
         result }
     ensures items { other.new.items ≡ other.old.items }
-    ensures reads { other.new.reads ≡ other.old.reads + 8 * chunks }
+    ensures reads { other.new.reads ≡ other.old.reads + 16 * turns }
 {
     let mut changed = usizex8::splat(0);
-    for i in 0..chunks {
-        let at = 8 * i;
-        let old = usizex8::from_slice(&own[at..]);
-        let (new, differing) = C::lanes(old, usizex8::from_array(other.chunk(at)));
-        in_range(new);
-        new.copy_to_slice(&mut own[at..]);
-        changed |= differing;
+    for i in 0..turns {
+        let at = TURN * i;
+        changed = combine_chunk::<C>(own, other, at, changed);
+        changed = combine_chunk::<C>(own, other, at + 8, changed);
     }
     changed.reduce_or()
 }
@@ -145,16 +168,25 @@ fn combine_one<C: Combine>(own: &mut [usize], other: &mut Blocks<'_, usize>) -> 
     differing != 0
 }
 
-/// How many chunks of eight there are in so many blocks. Of more than the first cache holds it is none:
-/// there a loop of single blocks, of which a compiler takes four a turn, is as quick or quicker.
+/// Combines the blocks of so many turns, and the rest one at a time.
 #[inline(always)]
-fn chunks_in(blocks: usize) -> usize
-    ensures { 8 * result ≤ blocks }
+fn combine_rest<C: Combine>(own: &mut [usize], other: &mut Blocks<'_, usize>, turns: usize) -> bool
+    requires same { length own.old ≡ length other.old.items }
+    requires inside { 16 * turns ≤ length own.old }
+    ensures combined { IsCombined 64 (on_bits C.connective) own.old other.old.items own.new result }
+    ensures read { AreReadOnce other.old other.new }
 {
-    if blocks <= FIRST_CACHE { blocks / 8 } else { 0 }
+    let mut changed = combine_turns::<C>(own, other, turns);
+    for k in TURN * turns..own.len() {
+        let (new, differing) = C::block(own[k], other.block(k));
+        own[k] = new;
+        changed |= differing;
+    }
+    changed != 0
 }
 
-/// Combines the blocks, eight at a time and the last ones alone, and answers whether one changed.
+/// Combines the blocks, and answers whether one changed: by turns where there is no rest, or they are
+/// many, and else one at a time, of which a compiler takes four or more at once.
 #[inline(always)]
 pub(crate) fn combine_blocks<C: Combine>(own: &mut [usize], other: &mut Blocks<'_, usize>) -> bool
     requires { length own.old ≡ length other.old.items }
@@ -164,12 +196,12 @@ pub(crate) fn combine_blocks<C: Combine>(own: &mut [usize], other: &mut Blocks<'
     if own.len() == 1 {
         return combine_one::<C>(own, other);
     }
-    let chunks = chunks_in(own.len());
-    let mut changed = combine_chunks::<C>(own, other, chunks);
-    for k in 8 * chunks..own.len() {
-        let (new, differing) = C::block(own[k], other.block(k));
-        own[k] = new;
-        changed |= differing;
+    let turns = own.len() / TURN;
+    if TURN * turns == own.len() {
+        return combine_turns::<C>(own, other, turns) != 0;
     }
-    changed != 0
+    if own.len() < MANY {
+        return combine_rest::<C>(own, other, 0);
+    }
+    combine_rest::<C>(own, other, turns)
 }
