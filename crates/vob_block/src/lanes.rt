@@ -131,18 +131,18 @@ fn combine_chunk<C: Combine>(
     changed | differing
 }
 
-/// Combines the blocks of so many turns, and leaves the rest. The number is 0 exactly where none of
+/// Combines the blocks of so many turns, and leaves the rest. The lanes are all 0 exactly where none of
 /// them changed.
 #[inline(always)]
 fn combine_turns<C: Combine>(
     own: &mut [usize],
     other: &mut Blocks<'_, usize>,
     turns: usize,
-) -> usize
+) -> usizex8
     requires same { length own.old ≡ length other.old.items }
     requires inside { 16 * turns ≤ length own.old }
     ensures taken { AreTaken 64 (on_bits C.connective) own.old other.old.items own.new (16 * turns)
-        result }
+        (fold_l bit_or 0 result) }
     ensures items { other.new.items ≡ other.old.items }
     ensures reads { other.new.reads ≡ other.old.reads + 16 * turns }
 {
@@ -152,7 +152,7 @@ fn combine_turns<C: Combine>(
         changed = combine_chunk::<C>(own, other, at, changed);
         changed = combine_chunk::<C>(own, other, at + 8, changed);
     }
-    changed.reduce_or()
+    changed
 }
 
 /// Combines the one block that there is, with no loop.
@@ -168,23 +168,6 @@ fn combine_one<C: Combine>(own: &mut [usize], other: &mut Blocks<'_, usize>) -> 
     differing != 0
 }
 
-/// Combines the blocks of so many turns, and the rest one at a time.
-#[inline(always)]
-fn combine_rest<C: Combine>(own: &mut [usize], other: &mut Blocks<'_, usize>, turns: usize) -> bool
-    requires same { length own.old ≡ length other.old.items }
-    requires inside { 16 * turns ≤ length own.old }
-    ensures combined { IsCombined 64 (on_bits C.connective) own.old other.old.items own.new result }
-    ensures read { AreReadOnce other.old other.new }
-{
-    let mut changed = combine_turns::<C>(own, other, turns);
-    for k in TURN * turns..own.len() {
-        let (new, differing) = C::block(own[k], other.block(k));
-        own[k] = new;
-        changed |= differing;
-    }
-    changed != 0
-}
-
 /// Combines the blocks, and answers whether one changed: by turns where there is no rest, or they are
 /// many, and else one at a time, of which a compiler takes four or more at once.
 #[inline(always)]
@@ -197,11 +180,20 @@ pub(crate) fn combine_blocks<C: Combine>(own: &mut [usize], other: &mut Blocks<'
         return combine_one::<C>(own, other);
     }
     let turns = own.len() / TURN;
-    if TURN * turns == own.len() {
-        return combine_turns::<C>(own, other, turns) != 0;
+    let mut from = 0;
+    let mut changed = 0;
+    if TURN * turns == own.len() || own.len() >= MANY {
+        let lanes = combine_turns::<C>(own, other, turns);
+        from = TURN * turns;
+        if from == own.len() {
+            return lanes.reduce_or() != 0;
+        }
+        changed = lanes.reduce_or();
     }
-    if own.len() < MANY {
-        return combine_rest::<C>(own, other, 0);
+    for k in from..own.len() {
+        let (new, differing) = C::block(own[k], other.block(k));
+        own[k] = new;
+        changed |= differing;
     }
-    combine_rest::<C>(own, other, turns)
+    changed != 0
 }

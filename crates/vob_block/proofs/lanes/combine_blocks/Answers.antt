@@ -1,18 +1,79 @@
--- Whole turns are all the blocks.
-use Rattle.std.proofs.Common.{◌*◌, ◌/◌, length, arith, eqb, eqb-true, eq-eqb}
+-- By the lemmas on a loop that takes blocks together, from where the turns end.
+use Rattle.std.specs.Prelude.{slice_get}
+use Rattle.std.proofs.Common.{◌≡◌, ◌*◌, ◌/◌, ◌≤◌, length, get_or, set, eqb, bit_or, refl, sym, ap, ◌∙◌, arith, eqb-true, eq-eqb}
+use lib.Lanes.{fold_l}
 use Rattle.vob_block.specs.Kernel.{on_bits}
-use Rattle.vob_block.proofs.KernelLemmas.{IsCombined-taken}
+use Rattle.vob_block.proofs.KernelLemmas.{AreTaken-none, AreTaken-more, IsCombined-taken}
+use Rattle.vob_block.proofs.LaneLemmas.{Takes-block}
+use Rattle.vob_block.proofs.lanes.combine_blocks.Goals.{then-turns-own+else-from-own, else-turns-own+else-own-ge-MANY}
 use Rattle.vob_block.proofs.lanes.combine_blocks.Goals as goal
 
-pub returns-then-turns-own : goal.returns-then-turns-own
-returns-then-turns-own g c = record {
-  combined = IsCombined-taken 64 (on_bits g.C.Combine.connective) c.args.own.now
-      c.args.other.now.items c.combine_turns.new.own (16 * (length c.args.own.now / 16))
-      c.combine_turns.result c.combine_turns.ensures.taken (omega arith)
-      (eqb c.combine_turns.result 0)
-      (eqb-true c.combine_turns.result 0, eq-eqb c.combine_turns.result 0);
-  read = record {
-    items = c.combine_turns.ensures.items;
-    reads = omega (arith, c.combine_turns.ensures.reads, c.requires);
-  };
-}
+pub loop-k-init : goal.loop-k-init
+loop-k-init g c = elim c.if-turns-own.branch [
+  | then-turns-own+else-from-own w ↦ rw (w.own-is, w.other-is, w.from-is, w.changed-is) (record {
+    taken = w.combine_turns-lanes.ensures.taken;
+    items = w.combine_turns-lanes.ensures.items;
+    reads = w.combine_turns-lanes.ensures.reads;
+  })
+  | else-turns-own+else-own-ge-MANY w ↦ rw (w.own-is, w.other-is, w.from-is, w.changed-is) (record {
+    taken = AreTaken-none 64 (on_bits g.C.Combine.connective) c.args.own.now c.args.other.now.items
+        0 refl;
+    items = refl;
+    reads = omega arith;
+  })
+]
+
+pub loop-k-preserved : goal.loop-k-preserved
+loop-k-preserved g c =
+    let o = g.C.Combine.connective in
+    let h = c.loop-k in
+    let others = c.args.other.now.items in
+    let old = get_or h.own h.k 0 in
+    let new = c.block-new.result.0 in
+    let diff = c.block-new.result.1 in
+    record {
+      taken = AreTaken-more 64 (on_bits o) c.args.own.now others h.own (set h.own h.k new) h.k 1
+          h.changed (bit_or h.changed diff) h.invariant.taken
+          (Takes-block o others h.own h.k h.changed old c.block.result new diff (omega arith) refl
+          (ap (λ xs. slice_get xs h.k) (sym h.invariant.items) ∙ c.block.ensures.block)
+          c.block-new.ensures.combined c.block-new.ensures.differs h.auto.changed-fits.fits
+          (omega arith) c.block.type_inv);
+      items = c.block.ensures.items ∙ h.invariant.items;
+      reads = omega (arith, c.block.ensures.reads, h.invariant.reads);
+    }
+
+pub returns : goal.returns
+returns g c =
+    let h = c.loop-k in
+    let inside : c.if-turns-own.from ≤ length c.if-turns-own.own = elim c.if-turns-own.branch [
+      | then-turns-own+else-from-own w ↦ rw (w.own-is, w.from-is)
+          (omega (arith, w.combine_turns-lanes.auto.own))
+      | else-turns-own+else-own-ge-MANY w ↦ rw (w.own-is, w.from-is) (omega arith)
+    ] in
+    let whole : h.k ≡ length c.args.own.now =
+    omega (arith, inside, h.auto.own, h.auto.k-end, h.invariant.taken.count) in
+    record {
+      combined = IsCombined-taken 64 (on_bits g.C.Combine.connective) c.args.own.now
+          c.args.other.now.items h.own h.k h.changed h.invariant.taken whole (eqb h.changed 0)
+          (eqb-true h.changed 0, eq-eqb h.changed 0);
+      read = record {
+        items = h.invariant.items;
+        reads = omega (arith, h.invariant.reads, c.requires, whole);
+      };
+    }
+
+-- behind the turns there is no rest
+pub returns-then-from-own : goal.returns-then-from-own
+returns-then-from-own g c =
+    let turns = c.combine_turns-lanes in
+    let changed = fold_l bit_or 0 turns.result in
+    record {
+      combined = IsCombined-taken 64 (on_bits g.C.Combine.connective) c.args.own.now
+          c.args.other.now.items turns.new.own (16 * (length c.args.own.now / 16)) changed
+          turns.ensures.taken (omega (arith, turns.auto.own)) (eqb changed 0)
+          (eqb-true changed 0, eq-eqb changed 0);
+      read = record {
+        items = turns.ensures.items;
+        reads = omega (arith, turns.ensures.reads, c.requires, turns.auto.own);
+      };
+    }
