@@ -131,18 +131,18 @@ fn combine_chunk<C: Combine>(
     changed | differing
 }
 
-/// Combines the blocks of so many turns, and leaves the rest. The lanes are all 0 exactly where none of
+/// Combines the blocks of so many turns, and leaves the rest. The number is 0 exactly where none of
 /// them changed.
 #[inline(always)]
 fn combine_turns<C: Combine>(
     own: &mut [usize],
     other: &mut Blocks<'_, usize>,
     turns: usize,
-) -> usizex8
+) -> usize
     requires same { length own.old ≡ length other.old.items }
     requires inside { 16 * turns ≤ length own.old }
     ensures taken { AreTaken 64 (on_bits C.connective) own.old other.old.items own.new (16 * turns)
-        (fold_l bit_or 0 result) }
+        result }
     ensures items { other.new.items ≡ other.old.items }
     ensures reads { other.new.reads ≡ other.old.reads + 16 * turns }
 {
@@ -152,7 +152,7 @@ fn combine_turns<C: Combine>(
         changed = combine_chunk::<C>(own, other, at, changed);
         changed = combine_chunk::<C>(own, other, at + 8, changed);
     }
-    changed
+    changed.reduce_or()
 }
 
 /// Combines the one block that there is, with no loop.
@@ -180,15 +180,14 @@ pub(crate) fn combine_blocks<C: Combine>(own: &mut [usize], other: &mut Blocks<'
         return combine_one::<C>(own, other);
     }
     let turns = own.len() / TURN;
+    if TURN * turns == own.len() {
+        return combine_turns::<C>(own, other, turns) != 0;
+    }
     let mut from = 0;
     let mut changed = 0;
-    if TURN * turns == own.len() || own.len() >= MANY {
-        let lanes = combine_turns::<C>(own, other, turns);
+    if own.len() >= MANY {
         from = TURN * turns;
-        if from == own.len() {
-            return lanes.reduce_or() != 0;
-        }
-        changed = lanes.reduce_or();
+        changed = combine_turns::<C>(own, other, turns);
     }
     for k in from..own.len() {
         let (new, differing) = C::block(own[k], other.block(k));

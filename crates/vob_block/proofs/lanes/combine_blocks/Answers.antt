@@ -1,21 +1,20 @@
 -- By the lemmas on a loop that takes blocks together, from where the turns end.
 use Rattle.std.specs.Prelude.{slice_get}
 use Rattle.std.proofs.Common.{◌≡◌, ◌*◌, ◌/◌, ◌≤◌, length, get_or, set, eqb, bit_or, refl, sym, ap, ◌∙◌, arith, eqb-true, eq-eqb}
-use lib.Lanes.{fold_l}
 use Rattle.vob_block.specs.Kernel.{on_bits}
 use Rattle.vob_block.proofs.KernelLemmas.{AreTaken-none, AreTaken-more, IsCombined-taken}
 use Rattle.vob_block.proofs.LaneLemmas.{Takes-block}
-use Rattle.vob_block.proofs.lanes.combine_blocks.Goals.{then-turns-own+else-from-own, else-turns-own+else-own-ge-MANY}
+use Rattle.vob_block.proofs.lanes.combine_blocks.Goals.{then-own-ge-MANY, else-own-ge-MANY}
 use Rattle.vob_block.proofs.lanes.combine_blocks.Goals as goal
 
 pub loop-k-init : goal.loop-k-init
-loop-k-init g c = elim c.if-turns-own.branch [
-  | then-turns-own+else-from-own w ↦ rw (w.own-is, w.other-is, w.from-is, w.changed-is) (record {
-    taken = w.combine_turns-lanes.ensures.taken;
-    items = w.combine_turns-lanes.ensures.items;
-    reads = w.combine_turns-lanes.ensures.reads;
+loop-k-init g c = elim c.if-own-ge-MANY.branch [
+  | then-own-ge-MANY w ↦ rw (w.own-is, w.other-is, w.from-is, w.changed-is) (record {
+    taken = w.combine_turns-changed.ensures.taken;
+    items = w.combine_turns-changed.ensures.items;
+    reads = w.combine_turns-changed.ensures.reads;
   })
-  | else-turns-own+else-own-ge-MANY w ↦ rw (w.own-is, w.other-is, w.from-is, w.changed-is) (record {
+  | else-own-ge-MANY w ↦ rw (w.own-is, w.other-is, w.from-is, w.changed-is) (record {
     taken = AreTaken-none 64 (on_bits g.C.Combine.connective) c.args.own.now c.args.other.now.items
         0 refl;
     items = refl;
@@ -45,10 +44,10 @@ loop-k-preserved g c =
 pub returns : goal.returns
 returns g c =
     let h = c.loop-k in
-    let inside : c.if-turns-own.from ≤ length c.if-turns-own.own = elim c.if-turns-own.branch [
-      | then-turns-own+else-from-own w ↦ rw (w.own-is, w.from-is)
-          (omega (arith, w.combine_turns-lanes.auto.own))
-      | else-turns-own+else-own-ge-MANY w ↦ rw (w.own-is, w.from-is) (omega arith)
+    let inside : c.if-own-ge-MANY.from ≤ length c.if-own-ge-MANY.own = elim c.if-own-ge-MANY.branch [
+      | then-own-ge-MANY w ↦ rw (w.own-is, w.from-is)
+          (omega (arith, w.combine_turns-changed.auto.own))
+      | else-own-ge-MANY w ↦ rw (w.own-is, w.from-is) (omega arith)
     ] in
     let whole : h.k ≡ length c.args.own.now =
     omega (arith, inside, h.auto.own, h.auto.k-end, h.invariant.taken.count) in
@@ -63,10 +62,10 @@ returns g c =
     }
 
 -- behind the turns there is no rest
-pub returns-then-from-own : goal.returns-then-from-own
-returns-then-from-own g c =
-    let turns = c.combine_turns-lanes in
-    let changed = fold_l bit_or 0 turns.result in
+pub returns-then-turns-own : goal.returns-then-turns-own
+returns-then-turns-own g c =
+    let turns = c.combine_turns in
+    let changed = turns.result in
     record {
       combined = IsCombined-taken 64 (on_bits g.C.Combine.connective) c.args.own.now
           c.args.other.now.items turns.new.own (16 * (length c.args.own.now / 16)) changed
