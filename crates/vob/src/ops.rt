@@ -59,6 +59,7 @@ impl<T: Block> Vob<T> {
     /// assert!(rt; vob.and(&vob::vob!(alloc; true, false)?));
     /// assert!(rt; vob == vob::vob!(alloc; true, false)?);
     /// ```
+    #[inline]
     pub fn and(&mut self, other: &Vob<T>) -> bool
         requires { HaveSameLength self.old other.now }
         ensures bits { self.new.bits ≡ pointwise ◌&&◌ self.old.bits other.now.bits }
@@ -78,6 +79,7 @@ impl<T: Block> Vob<T> {
     /// assert!(rt; vob.or(&vob::vob!(alloc; true, true)?));
     /// assert!(rt; vob == vob::vob!(alloc; true, true)?);
     /// ```
+    #[inline]
     pub fn or(&mut self, other: &Vob<T>) -> bool
         requires { HaveSameLength self.old other.now }
         ensures bits { self.new.bits ≡ pointwise ◌||◌ self.old.bits other.now.bits }
@@ -91,6 +93,7 @@ impl<T: Block> Vob<T> {
 
     /// Gets the bits that one has and the other hasn't, and answers whether a bit changed. The
     /// lengths have to be equal; vob 4.0.1 panics where they aren't.
+    #[inline]
     pub fn xor(&mut self, other: &Vob<T>) -> bool
         requires { HaveSameLength self.old other.now }
         ensures bits { self.new.bits ≡ pointwise differ self.old.bits other.now.bits }

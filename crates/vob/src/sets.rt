@@ -208,6 +208,7 @@ impl<T: Block> Vob<T> {
 
     /// Keeps the bits that the other hasn't, and answers whether a bit changed. The lengths have to
     /// be equal. Each block of the other is read once.
+    #[inline]
     pub fn and_not(&mut self, other: &Vob<T>) -> bool
         requires { HaveSameLength self.old other.now }
         ensures bits { self.new.bits ≡ pointwise without self.old.bits other.now.bits }
