@@ -168,8 +168,30 @@ fn combine_one<C: Combine>(own: &mut [usize], other: &mut Blocks<'_, usize>) -> 
     differing != 0
 }
 
-/// Combines the blocks, and answers whether one changed: by turns where there is no rest, or they are
-/// many, and else one at a time, of which a compiler takes four or more at once.
+/// Combines blocks of which turns leave a rest, and answers whether one changed: where they are many by
+/// turns and then the rest, and else all one at a time, of which a compiler takes four or more at once.
+#[inline(always)]
+fn combine_with_rest<C: Combine>(own: &mut [usize], other: &mut Blocks<'_, usize>) -> bool
+    requires { length own.old ≡ length other.old.items }
+    ensures combined { IsCombined 64 (on_bits C.connective) own.old other.old.items own.new result }
+    ensures read { AreReadOnce other.old other.new }
+{
+    let mut from = 0;
+    let mut changed = 0;
+    if own.len() >= MANY {
+        let turns = own.len() / TURN;
+        from = TURN * turns;
+        changed = combine_turns::<C>(own, other, turns);
+    }
+    for k in from..own.len() {
+        let (new, differing) = C::block(own[k], other.block(k));
+        own[k] = new;
+        changed |= differing;
+    }
+    changed != 0
+}
+
+/// Combines the blocks, and answers whether one changed. Whole turns have a loop of their own.
 #[inline(always)]
 pub(crate) fn combine_blocks<C: Combine>(own: &mut [usize], other: &mut Blocks<'_, usize>) -> bool
     requires { length own.old ≡ length other.old.items }
@@ -183,16 +205,5 @@ pub(crate) fn combine_blocks<C: Combine>(own: &mut [usize], other: &mut Blocks<'
     if TURN * turns == own.len() {
         return combine_turns::<C>(own, other, turns) != 0;
     }
-    let mut from = 0;
-    let mut changed = 0;
-    if own.len() >= MANY {
-        from = TURN * turns;
-        changed = combine_turns::<C>(own, other, turns);
-    }
-    for k in from..own.len() {
-        let (new, differing) = C::block(own[k], other.block(k));
-        own[k] = new;
-        changed |= differing;
-    }
-    changed != 0
+    combine_with_rest::<C>(own, other)
 }

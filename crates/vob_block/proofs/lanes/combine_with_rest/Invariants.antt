@@ -1,7 +1,7 @@
 -- The blocks so far are combined, and each of them was read once.
 use Rattle.std.proofs.Common.{◌≡◌, ◌+◌}
 use Rattle.vob_block.specs.Kernel.{on_bits, AreTaken}
-use Rattle.vob_block.proofs.lanes.combine_blocks.Given as goal
+use Rattle.vob_block.proofs.lanes.combine_with_rest.Given as goal
 
 abbrev pub invariant-loop-k : goal.invariant-loop-k
 invariant-loop-k g l = record {
