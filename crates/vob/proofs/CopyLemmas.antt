@@ -13,10 +13,9 @@ use Rattle.vob_block.specs.Packing.{item, need, packing, unpacking, IsCanonical}
 use Rattle.vob_block.proofs.NeedLemmas.{need_enough}
 use Rattle.vob_block.proofs.PackingLemmas.{bit_at-is_item, length-unpacking, packing_is}
 use Rattle.vob_store.specs.Copying.{AreCopied}
-use Rattle.vob_walk.specs.Matches.{from_start, up_to_end}
-use Rattle.vob.specs.Copy.{start_of, written_over, IsCopied, FitsFrom, IsRangeCopied}
+use Rattle.vob_walk.specs.Matches.{from_start, up_to_end, IsRangeOf}
+use Rattle.vob.specs.Copy.{start_of, written_over, IsCopied, FitsFrom, FitsRange, IsRangeCopied}
 use Rattle.vob.specs.Drain.{bits_within}
-use Rattle.vob.specs.Ranges.{IsRangeOf}
 use Rattle.vob.proofs.BitsLemmas.{bits_within-cut}
 
 -- ---- where a range begins
@@ -147,6 +146,13 @@ module _ (low high : Bound ℕ) (others : List Bool) {from to m : ℕ} (len : m 
   pub count_is : length (bits_within low high others) ≡ to - from
   count_is = ap length taken_is ∙ length-take-le (to - from) (drop from others)
       (omega (arith, length-drop from others, range.inside, len))
+
+  pub FitsFrom-range : (known : Type 0) (at : ℕ) (bits : List Bool)
+      → FitsRange known at low high others bits → FitsFrom at low high others bits
+  FitsFrom-range known at bits fits = elim fits [
+    | inl stated ↦ stated.1
+    | inr all ↦ omega (arith, all, count_is, range.inside, len)
+  ]
 
   module _ {at : ℕ} {bits after : List Bool} (h : IsCopied at from (to - from) bits others after)
     where

@@ -1,12 +1,14 @@
 -- What a range takes out of the bits that some blocks store, and what it leaves.
 use Rattle.std.specs.declared.ops.Bound.{Bound}
-use Rattle.std.proofs.Common.{◌≡◌, ℕ, ◌+◌, ◌-◌, Bool, List, [], ◌++◌, length, take, drop, sym, ap, ◌∙◌, arith}
+use Rattle.std.specs.declared.ops.Bound.TheVariants.{Included, Excluded}
+use Rattle.std.proofs.Common.{◌≡◌, ℕ, ◌+◌, ◌-◌, ◌≤◌, Bool, List, [], ◌++◌, length, take, drop, sym, ap, ◌∙◌, arith}
 use Rattle.std.proofs.lemmas.List.{drop-take, take-append-drop, length-take-le, length-drop}
 use Rattle.vob_block.specs.Packing.{unpacking}
 use Rattle.vob_block.proofs.PackingLemmas.{length-unpacking}
 use Rattle.vob_store.proofs.CutLemmas.{take-unpacking}
+use Rattle.vob_walk.specs.Matches.{ForSomeRange, IsRangeOf}
 use Rattle.vob.specs.Drain.{bits_within, bits_outside, IsDrained}
-use Rattle.vob.specs.Ranges.{IsRangeOf}
+use Rattle.vob_walk.proofs.WindowLemmas.{IsRangeOf-own}
 use Rattle.vob.proofs.BitsLemmas.{bits_within-cut, bits_outside-cut}
 
 -- the indices of the range are those from one index to below another
@@ -33,6 +35,15 @@ module _ (low high : Bound ℕ) (bits : List Bool) (w n : ℕ) (xs : List ℕ)
             (λ i below. range.each i (omega (arith, long, below)))),
       )
 
+  pub IsDrained-blocks : {ys : List ℕ} {taken rest : List Bool} → ys ≡ xs
+      → taken ≡ drop from (unpacking to ys w)
+      → rest ≡ take from (unpacking n xs w) ++ drop to (unpacking n xs w)
+      → IsDrained low high bits taken rest
+  IsDrained-blocks same given left = record {
+    given = given ∙ ap (λ zs. drop from (unpacking to zs w)) same ∙ is_cut.0;
+    left = left ∙ is_cut.1;
+  }
+
   -- where there is none of them, nothing is taken out
   pub IsDrained-nothing : from ≡ to → IsDrained low high bits [] bits
   IsDrained-nothing empty =
@@ -50,3 +61,16 @@ module _ (low high : Bound ℕ) (bits : List Bool) (w n : ℕ) (xs : List ℕ)
       let few = length-take-le (to - from) (drop from bits)
       (omega (arith, length-drop from bits, long, range.inside)) in
       omega (arith, few, ap length (sym within-cut ∙ none), range.order)
+
+-- where nothing is taken out at all
+pub some_nothing : (bits : List Bool) (w n : ℕ) (xs : List ℕ) → unpacking n xs w ≡ bits
+    → (from to : ℕ) → from ≤ to → to ≤ n → from ≡ to
+    → ForSomeRange (length bits) (λ low high. IsDrained low high bits [] bits)
+some_nothing bits w n xs view from to order inside empty = (
+  from,
+  to,
+  order,
+  omega (arith, inside, ap length (sym view) ∙ length-unpacking n xs w),
+  IsDrained-nothing (Included from) (Excluded to) bits w n xs view
+      (IsRangeOf-own from to n order inside) empty,
+)

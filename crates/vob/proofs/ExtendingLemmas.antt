@@ -1,13 +1,17 @@
 -- Why an `extend` is refused, by what its calls say.
-use Rattle.std.specs.Prelude.{Ok, Err, Result, ⊤, Option, Bool, List, IsOk, is_ok, OnOk, IfErr}
-use Rattle.std.proofs.Common.{◌≡◌, ℕ, ◌+◌, ◌-◌, ◌^◌, ◌<◌, ◌≤◌, ◌++◌, inr, length, zero, suc, refl, sym, ap, ◌∙◌, arith}
+use Rattle.std.specs.Iterator.{Count, Yields, YieldsThen}
+use Rattle.std.specs.Iterator.SizeHint.{IsWithinCount}
+use Rattle.std.proofs.iter.Next.{Yields-more}
+use Rattle.std.proofs.lemmas.List.{length_push}
+use Rattle.std.specs.Prelude.{Ok, Err, Result, ⊤, Option, Some, Bool, List, [], ◌∷◌, IsOk, is_ok, OnOk, IfErr}
+use Rattle.std.proofs.Common.{◌≡◌, ℕ, ◌+◌, ◌-◌, ◌^◌, ◌<◌, ◌≤◌, ◌++◌, inr, length, zero, suc, refl, sym, ap, ◌∙◌, subst, arith, append_assoc}
 use Rattle.std.proofs.lemmas.Bool.{false≢true}
 use Rattle.vob_block.specs.Packing.{need}
 use Rattle.vob.specs.declared.error.VobError.{VobError}
 use Rattle.vob.specs.declared.error.VobError.TheVariants.{TooLong, Memory, PastEnd}
 use Rattle.vob.specs.Refusal.{RefusesPastEnd}
 use Rattle.vob.specs.Vob.{BitVector, IsTooLong, NeedsMemory}
-use Rattle.vob.specs.Extending.{AddsAll, IsExtended, MayRefuse, RefusesItem, RefusesMore}
+use Rattle.vob.specs.Extending.{AddsAll, GivesMoreThan, IsExtended, MayRefuse, RefusesItem, RefusesItems, RefusesMore}
 
 -- the three answers of a call for n bits more
 module _ (w : ℕ) (vob : BitVector) (n : ℕ) where
@@ -123,3 +127,52 @@ module _ {S : Type 0} (steps : S → Option Bool → S → Type 0) (it : S) (hin
     err = inr (after_reserve r err);
     too_long = λ far. absurd (omega (arith, far, fits));
   }
+
+-- more calls after some give their items after those
+pub Yields-append : {S : Type 0} (steps : S → Option Bool → S → Type 0) (s : S) (xs : List Bool)
+    (t : S) (ys : List Bool) (u : S) → Yields steps s xs t → Yields steps t ys u
+    → Yields steps s (xs ++ ys) u
+Yields-append steps s [] t ys u first next = subst (λ k. Yields steps k ys u) (sym first) next
+Yields-append steps s (x ∷ xs) t ys u first next =
+    (first.0, first.1, Yields-append steps first.0 xs t ys u first.2 next)
+
+-- bits, one more, and others
+pub pushed_and_filled : (before added bits : List Bool) (bit : Bool)
+    → ((before ++ added) ++ bit ∷ []) ++ bits ≡ before ++ (added ++ bit ∷ bits)
+pushed_and_filled before added bits bit =
+    append_assoc (before ++ added) (bit ∷ []) bits ∙ append_assoc before added (bit ∷ bits)
+
+-- an iterator gives more than n items, which are some and one more
+more_than : {S : Type 0} (steps : S → Option Bool → S → Type 0) (it : S) (n : ℕ)
+    (added : List Bool) (bit : Bool) (rest : S) → YieldsThen steps it added (Some bit) rest
+    → n < length added + 1 → GivesMoreThan steps it n
+more_than steps it n added bit rest gave more = (
+  added ++ bit ∷ [],
+  rest,
+  Yields-more steps it added gave.0 bit rest gave.1 gave.2,
+  omega (arith, more, length_push added bit),
+)
+
+-- where an item is refused, behind no bits, so is the Vob that was to hold all
+module _ {X S A : Type 0} (makes : X → S → Type 0) (steps : S → Option Bool → S → Type 0)
+    (remaining : S → Count) (source : X) (it : S) (made : makes source it) (hint : ℕ)
+    (within : IsWithinCount hint (remaining it)) (before after : BitVector)
+    (none : before.bits ≡ []) where
+  pub items_refused : (r : VobError) → RefusesItem steps it before after 0 r
+      → RefusesItems {A = A} makes steps remaining source (Err r)
+  items_refused TooLong h = record {
+    too_long = λ _. (
+      it,
+      made,
+      more_than steps it (2 ^ 64 - 1) h.0 h.1 h.2 h.3
+          (omega (arith, h.5, ap length none)),
+    );
+    memory = λ e. cc;
+    past_end = λ e. cc;
+  }
+  items_refused Memory h = record {
+    too_long = λ e. cc;
+    memory = λ _. (it, hint, made, within, inr (more_than steps it 0 h.0 h.1 h.2 h.3 (omega arith)));
+    past_end = λ e. cc;
+  }
+  items_refused PastEnd h = absurd h.5

@@ -7,12 +7,13 @@ pub mod DrainLemmas
 pub mod ExtendingLemmas
 pub mod HashLemmas
 pub mod IndicesLemmas
-pub mod ItemLemmas
 pub mod PairLemmas
 pub mod RangeLemmas
 pub mod RestLemmas
+pub mod RunListLemmas
 pub mod RunsLemmas
 pub mod SameLemmas
 pub mod SelectLemmas
 pub mod SetsLemmas
 pub mod TextLemmas
+pub mod VobsLemmas

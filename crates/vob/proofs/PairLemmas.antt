@@ -1,9 +1,9 @@
 -- Two Vobs of one length as sets: what their blocks say of their bits.
 use Rattle.std.specs.Prelude.{replicate}
-use Rattle.std.proofs.Common.{◌≡◌, ◌↔◌, ℕ, ◌+◌, ◌*◌, ◌/◌, ◌<◌, ◌≤◌, Bool, true, false, not, ◌&&◌}
+use Rattle.std.proofs.Common.{◌≡◌, ◌↔◌, ℕ, zero, suc, ◌+◌, ◌*◌, ◌/◌, ◌<◌, ◌≤◌, Bool, true, false, not, ◌&&◌}
 use Rattle.std.proofs.Common.{◌⊎◌, List, [], ◌∷◌, length, map, refl, sym, ap, ◌∙◌, subst, arith}
 use Rattle.std.proofs.Common.{inl, inr}
-use Rattle.std.proofs.lemmas.Bool.{cases_lt, false≢true}
+use Rattle.std.proofs.lemmas.Bool.{and_parts, cases_lt, cases_Bool, false≢true, not-true}
 use Rattle.std.proofs.lemmas.List.Sums.{count_by-le-length}
 use Rattle.std.proofs.lemmas.List.{ext_get_or, get_or-replicate, get_or_past, length-map, length-replicate}
 use Rattle.vob_block.specs.Packing.{item, bit_at, packing, unpacking, need, IsCanonical}
@@ -15,8 +15,8 @@ use Rattle.vob_block.proofs.PointwiseLemmas.{item-pointwise, length-pointwise, s
 use Rattle.vob_walk.specs.Matches.{has_value}
 use Rattle.vob_store.specs.Combined.{combined_bit, ones_combined, HaveNone}
 use Rattle.vob.specs.Bits.{count_of}
-use Rattle.vob.specs.Sets.{IsSubset, AreDisjoint}
-use Rattle.vob.proofs.BitsLemmas.{and_fewer}
+use Rattle.vob.specs.Sets.{IsSubset, AreDisjoint, HasOther, HasShared}
+use Rattle.vob.proofs.BitsLemmas.{and_fewer, true_inside}
 use Rattle.vob.proofs.SetsLemmas.{counted}
 
 -- ---- lists
@@ -61,6 +61,48 @@ module _ (bits others : List Bool) where
     (λ h i. hasnt (item bits i) (item others i) (h i)),
     (λ h i. and-none (item bits i) (item others i) (h i)),
   )
+
+-- a test fails at each number below n, or passes at one of them
+pub none_or_some : (p : ℕ → Bool) (n : ℕ) → ((i : ℕ) → i < n → p i ≡ false)
+    ⊎ ((i : ℕ) × (i < n) × (p i ≡ true))
+none_or_some p zero = inl (λ i less. absurd (omega arith))
+none_or_some p (suc n) = elim (none_or_some p n) [
+  | inr (i, less, passes) ↦ inr (i, omega arith, passes)
+  | inl none ↦ elim (cases_Bool (p n)) [
+    | inl passes ↦ inr (n, omega arith, passes)
+    | inr fails ↦ inl (λ i less. elim (cases_lt i n) [
+      | inl lower ↦ none i lower
+      | inr past ↦ let at : i ≡ n = omega arith in ap p at ∙ fails
+    ])
+  ]
+]
+
+module _ (bits others : List Bool) (r : Bool) where
+  pub HasOther-missed : ((r ≡ true) ↔ IsSubset bits others) → r ≡ false → HasOther bits others
+  HasOther-missed flag unset =
+      elim (none_or_some (λ i. without (item bits i) (item others i)) (length bits)) [
+        | inl none ↦ absurd (false≢true (sym unset ∙ flag.1 (λ i here.
+            has_too (item bits i) (item others i) (none i (true_inside bits i here)) here)))
+        | inr (i, less, passes) ↦ (
+          i,
+          less,
+          (and_parts (item bits i) (not (item others i)) passes).0,
+          not-true (item others i) (and_parts (item bits i) (not (item others i)) passes).1,
+        )
+      ]
+
+  pub HasShared-missed : ((r ≡ true) ↔ AreDisjoint bits others) → r ≡ false → HasShared bits others
+  HasShared-missed flag unset =
+      elim (none_or_some (λ i. item bits i && item others i) (length bits)) [
+        | inl none ↦ absurd (false≢true (sym unset ∙ flag.1 (λ i here.
+            hasnt (item bits i) (item others i) (none i (true_inside bits i here)) here)))
+        | inr (i, less, passes) ↦ (
+          i,
+          less,
+          (and_parts (item bits i) (item others i) passes).0,
+          (and_parts (item bits i) (item others i) passes).1,
+        )
+      ]
 
 -- what is left without the bits of another is what the other, negated, has too
 pub without-and : (bits others : List Bool)

@@ -1,5 +1,6 @@
 -- What becomes of a list of bits whose blocks are changed from one index to below another.
 use Rattle.std.specs.declared.ops.Bound.{Bound}
+use Rattle.std.specs.declared.ops.Bound.TheVariants.{Included, Excluded}
 use Rattle.std.proofs.Common.{◌≡◌, ℕ, ◌+◌, ◌-◌, ◌<◌, ◌≤◌, nat_le, nat_lt, Bool, true, false, List}
 use Rattle.std.proofs.Common.{[], ◌∷◌, ◌++◌, length, map, take, drop, replicate, refl, sym, ap, ◌∙◌}
 use Rattle.std.proofs.Common.{subst, arith, inl, inr, length-append}
@@ -9,8 +10,8 @@ use Rattle.std.proofs.lemmas.List.{get_or-drop, get_or-map, get_or_append_left, 
 use Rattle.vob_block.specs.Packing.{item, unpacking, IsCanonical}
 use Rattle.vob_block.proofs.PackingLemmas.{length-unpacking, bit_at-is_item}
 use Rattle.vob_store.specs.Range.{IsRanged}
-use Rattle.vob_walk.specs.Matches.{within}
-use Rattle.vob.specs.Ranges.{replaced, IsChangedWithin, IsRangeOf}
+use Rattle.vob_walk.specs.Matches.{within, ForSomeRange, IsRangeOf}
+use Rattle.vob.specs.Ranges.{replaced, IsChangedWithin}
 
 module _ {low high : Bound ℕ} {len start stop : ℕ} (range : IsRangeOf low high len start stop)
     (i : ℕ) (less : i < len) where
@@ -143,3 +144,10 @@ module _ {X : Type 0} (number : X → ℕ) (w : ℕ) (wide : 0 < w) {low high : 
       view
       (subst (λ (xs : List X). IsChangedWithin f low high (unpacking n (map number items) w)
       (unpacking n (map number xs) w)) (sym left_is) whole)
+
+-- a change of the bits from one index to below another is one of some range, and keeps the length
+module _ {f : Bool → Bool} (start stop n : ℕ) {bits after : List Bool} (order : start ≤ stop)
+    (inside : stop ≤ n) (len : length bits ≡ n)
+    (h : IsChangedWithin f (Included start) (Excluded stop) bits after) where
+  pub some_changed : ForSomeRange (length bits) (λ low high. IsChangedWithin f low high bits after)
+  some_changed = (start, stop, order, omega (arith, inside, len), h)

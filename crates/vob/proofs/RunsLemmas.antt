@@ -1,16 +1,12 @@
 -- The first run from an index on, by two searches over the blocks.
-use Rattle.std.specs.Prelude.{◌==◌, Some, None, All, Any}
-use Rattle.std.specs.List.{AllPairs}
-use Rattle.std.specs.Iterator.{Drains}
+use Rattle.std.specs.Prelude.{◌==◌, Some, None}
+use Rattle.std.specs.Iterator.Runs.{YieldsInOrder}
 use Rattle.std.specs.declared.ops.Range.{Range}
-use Rattle.std.proofs.Common.{◌≡◌, ◌≢◌, ℕ, suc, ◌+◌, ◌-◌, ◌/◌, ◌<◌, ◌≤◌, min, Bool, true, false}
-use Rattle.std.proofs.Common.{cond, List, [], ◌∷◌, length, map, refl, sym, ap, ◌∙◌, arith, inl, inr}
-use Rattle.std.proofs.Common.{div-add-mod'}
-use Rattle.std.proofs.lemmas.Bool.{cases_eq, cases_lt, eq-eqb, ne_eqb, false≢true}
-use Rattle.std.proofs.lemmas.List.{get_or_past}
+use Rattle.std.proofs.Common.{◌≡◌, ◌≢◌, ℕ, ◌+◌, ◌-◌, ◌/◌, ◌<◌, ◌≤◌, min, true, false, cond, List}
+use Rattle.std.proofs.Common.{Bool, ◌∷◌, length, map, refl, sym, ap, ◌∙◌, arith, inl, inr, div-add-mod'}
+use Rattle.std.proofs.iter.runs.Sources.{from_front, as_is}
+use Rattle.std.proofs.lemmas.Bool.{cases_eq, cases_lt, eq-eqb, ne_eqb}
 use Rattle.std.proofs.lemmas.Nat.{div_below, le-div}
-use Rattle.std.proofs.lemmas.List.Elements.{All-nil, All-cons}
-use Rattle.std.proofs.lemmas.List.Kept.{AllPairs-cons}
 use Rattle.vob_block.specs.Packing.{item, need, bit_at, unpacking}
 use Rattle.vob_block.specs.Reading.{Reading}
 use Rattle.vob_block.proofs.NeedLemmas.{div-lt-need}
@@ -18,53 +14,8 @@ use Rattle.vob_block.proofs.PackingLemmas.{get_or-unpacking, length-unpacking}
 use Rattle.vob_walk.specs.Next.{FindsUp}
 use Rattle.vob_walk.proofs.NextLemmas.{need_most}
 use Rattle.vob.specs.Sets.{IsFirstFrom}
-use Rattle.vob.specs.Runs.{AreRuns, IsMaximalRun, IsFirstRun, RunWalk, GivesRun, IsOnRuns, unread_from}
-use Rattle.vob.proofs.SelectLemmas.{inside}
-
-set_from : (b : Bool) → b ≢ false → b ≡ true
-set_from true h = refl
-set_from false h = absurd (h refl)
-
-unset_from : (b : Bool) → b ≢ true → b ≡ false
-unset_from true h = absurd (h refl)
-unset_from false h = refl
-
--- ---- one run: from the first set bit from an index on to the first unset one, or to the end
-
-module _ (bits : List Bool) (from a b : ℕ) (first : IsFirstFrom true bits from a)
-    (ended : 0 < from → from < length bits → item bits from ≡ false) (above : a ≤ b)
-    (within : b ≤ length bits) (set : (i : ℕ) → a ≤ i → i < b → item bits i ≢ false)
-    (there : b < length bits → item bits b ≡ false) where
-  -- the bit below the first set one is unset: it was passed, or ended what was given before
-  below_first : (i : ℕ) → i + 1 ≡ a → item bits i ≡ false
-  below_first i next = elim (cases_lt i from) [
-    | inl less ↦
-        let here : from ≡ a = omega (arith, first.above) in
-        absurd (false≢true (sym (ended (omega arith) (omega (arith, here, first.inside)))
-        ∙ ap (item bits) here ∙ first.there))
-    | inr above ↦ unset_from (item bits i) (first.between i above (omega arith))
-  ]
-
-  IsFirstRun-between : IsFirstRun bits from a b
-  IsFirstRun-between = record {
-    first = first;
-    run = record {
-      some = elim (cases_lt a b) [
-        | inl less ↦ less
-        | inr past ↦
-            let here : b ≡ a = omega arith in
-            absurd (false≢true (sym (there (omega (arith, here, first.inside)))
-            ∙ ap (item bits) here ∙ first.there))
-      ];
-      inside = within;
-      set = λ i from below. set_from (item bits i) (set i from below);
-      before = below_first;
-      behind = elim (cases_lt b (length bits)) [
-        | inl below ↦ there below
-        | inr past ↦ get_or_past bits b false past
-      ];
-    };
-  }
+use Rattle.vob.specs.Runs.{IsFirstRun, RunWalk, GivesRun, IsOnRuns, runs_from, unread_from}
+use Rattle.vob.proofs.RunListLemmas.{IsFirstRun-between, runs_from-none, runs_from-first}
 
 -- ---- among blocks
 
@@ -114,6 +65,7 @@ module _ {X : Type 0} (w : ℕ) (wide : 0 < w) (number : X → ℕ) (n : ℕ) (x
   -- the walk whose blocks are these
   abbrev walk_of : Reading X → ℕ → ℕ → RunWalk
   walk_of r at from = record {
+    rest = runs_from (bits_in r) at;
     bits = bits_in r;
     at = at;
     reads = r.reads;
@@ -146,12 +98,15 @@ module _ {X : Type 0} (w : ℕ) (wide : 0 < w) (number : X → ℕ) (n : ℕ) (x
 
     -- nothing is looked at where all is passed
     pub GivesRun-end : from ≡ n → GivesRun (walk_of x at from) None (walk_of x at from)
-    GivesRun-end end = record {
-      bits = refl;
-      run = ((λ i above inside. passed_there i above (omega (arith, inside, long, end))), refl);
-      reads = omega arith;
-      rises = omega arith;
-    }
+    GivesRun-end end =
+        let none : (i : ℕ) → at ≤ i → i < length bits → item bits i ≢ true =
+        λ i above inside. passed_there i above (omega (arith, inside, long, end)) in record {
+          gives = (runs_from-none bits at none, runs_from-none bits at none);
+          bits = refl;
+          run = (none, refl);
+          reads = omega arith;
+          rises = omega arith;
+        }
 
     module _ (more : from ≢ n) {y z : Reading X} (held : y.items ≡ x.items)
         (counted : y.reads ≡ x.reads + cond (from == 0) 1 0) {start : ℕ × X}
@@ -189,13 +144,17 @@ module _ {X : Type 0} (w : ℕ) (wide : 0 < w) (number : X → ℕ) (n : ℕ) (x
 
       -- no set bit is left
       module _ (none : start.0 ≡ n) where
+        none_left : (i : ℕ) → at ≤ i → i < length bits → item bits i ≢ true
+        none_left i above inside = unset_below i above (omega (arith, none, inside, long))
+
         pub GivesRun-none : GivesRun (walk_of x at from) None (walk_of z at n)
         GivesRun-none = record {
-          bits = same_bits z after_start;
-          run = (
-            (λ i above inside. unset_below i above (omega (arith, none, inside, long))),
-            refl,
+          gives = (
+            runs_from-none bits at none_left,
+            ap (λ l. runs_from l at) (same_bits z after_start) ∙ runs_from-none bits at none_left,
           );
+          bits = same_bits z after_start;
+          run = (none_left, refl);
           reads = omega (
             arith,
             reads_so_far,
@@ -229,6 +188,9 @@ module _ {X : Type 0} (w : ℕ) (wide : 0 < w) (number : X → ℕ) (n : ℕ) (x
         pub GivesRun-next : GivesRun (walk_of x at from)
             (Some record { start = start.0; end = stop.0 }) (walk_of u stop.0 stop.0)
         GivesRun-next = record {
+          gives = runs_from-first bits at record { start = start.0; end = stop.0 } run_there
+              ∙ ap (λ l. record { start = start.0; end = stop.0 } ∷ runs_from l stop.0)
+              (sym (same_bits u (behind.items ∙ after_start)));
           bits = same_bits u (behind.items ∙ after_start);
           run = (run_there, refl);
           reads = omega (
@@ -247,84 +209,12 @@ module _ {X : Type 0} (w : ℕ) (wide : 0 < w) (number : X → ℕ) (n : ℕ) (x
           );
         }
 
-        pub fewer_left : length (bits_in u) - stop.0 < length bits - at
-        fewer_left = omega (
-          arith,
-          run_there.first.above,
-          run_there.run.some,
-          run_there.run.inside,
-          ap length (same_bits u (behind.items ∙ after_start)),
-        )
+-- what is still to come grows fewer by each run that is given
+pub fewer_left : (walk after : RunWalk) (run : Range ℕ) → GivesRun walk (Some run) after
+    → length after.rest < length walk.rest
+fewer_left walk after run gives = omega (arith, ap length gives.gives)
 
--- ---- a whole walk
-
--- a run that begins at or above an index
-abbrev IsAbove : List Bool → ℕ → Range ℕ → Type 0
-IsAbove bits from run = IsMaximalRun bits run.start run.end × (from ≤ run.start)
-
--- a list has the runs from an index on
-record AreRunsFrom (bits : List Bool) (from : ℕ) (runs : List (Range ℕ)) : Type 0 where
-  each : All (IsAbove bits from) runs
-  order : AllPairs (λ run next. run.end < next.start) runs
-  all : (i : ℕ) → from ≤ i → item bits i ≡ true
-      → Any (λ run. (run.start ≤ i) × (i < run.end)) runs
-
-none_from : (bits : List Bool) (from : ℕ)
-    → ((i : ℕ) → from ≤ i → i < length bits → item bits i ≢ true) → AreRunsFrom bits from []
-none_from bits from none = record {
-  each = All-nil (IsAbove bits from);
-  order = λ i j d less inside. absurd (omega arith);
-  all = λ i above there. absurd (none i above (inside bits i there) there);
-}
-
--- one run before those that begin above its end
-module _ (bits : List Bool) (from : ℕ) (run : Range ℕ) (runs : List (Range ℕ))
-    (first : IsFirstRun bits from run.start run.end)
-    (rest : AreRunsFrom bits run.end runs) where
-  -- no other run begins at its end, whose bit is unset
-  above_end : (next : Range ℕ) → IsAbove bits run.end next → run.end < next.start
-  above_end next h = elim (cases_lt run.end next.start) [
-    | inl less ↦ less
-    | inr past ↦
-        let here : run.end ≡ next.start = omega (arith, h.1) in
-        absurd (false≢true (sym first.run.behind ∙ ap (item bits) here
-        ∙ h.0.set next.start (omega arith) h.0.some))
-  ]
-
-  one_more : AreRunsFrom bits from (run ∷ runs)
-  one_more = record {
-    each = All-cons (IsAbove bits from) run runs (first.run, first.first.above) (λ k d below.
-        let h = rest.each k d below in
-        (h.0, omega (arith, h.1, first.run.some, first.first.above)));
-    order = AllPairs-cons (λ run next. run.end < next.start) run runs
-        (λ k d below. above_end _ (rest.each k d below)) rest.order;
-    all = λ i above there. elim (cases_lt i run.end) [
-      | inl within ↦ elim (cases_lt i run.start) [
-        | inl before ↦ absurd (first.first.between i above before there)
-        | inr after ↦ (0, run, omega arith, refl, (after, within))
-      ]
-      | inr past ↦
-          let found = rest.all i past there in
-          (suc found.0, found.1, omega (arith, found.2), found.3, found.4)
-    ];
-  }
-
-walk_from : (runs : List (Range ℕ)) (walk : RunWalk) → Drains GivesRun walk runs
-    → AreRunsFrom walk.bits walk.at runs
-walk_from [] walk h =
-    let last = h.1.2.run.0 in
-    let same = h.1.1 in none_from walk.bits walk.at (rw (← same) at last)
-walk_from (run ∷ runs) walk h =
-    let step = h.1.1.1 in
-    let after = h.1.1.0 in
-    let rest = walk_from runs after (h.0, (h.1.0, h.1.1.2, h.1.2)) in
-    one_more walk.bits walk.at run runs step.run.0 (rw (step.bits, step.run.1) at rest)
-
-pub AreRuns-walk : (walk : RunWalk) (runs : List (Range ℕ)) → walk.at ≡ 0
-    → Drains GivesRun walk runs → AreRuns walk.bits runs
-AreRuns-walk walk runs start h =
-    let all = walk_from runs walk h in record {
-      each = λ k d below. (all.each k d below).0;
-      order = all.order;
-      all = λ i there. all.all i (omega (arith, start)) there;
-    }
+-- a run over a walk gives the runs still to come, in order
+pub runs_in_order : YieldsInOrder GivesRun (λ walk. walk.rest)
+runs_in_order p s = as_is p p.from.rest (from_front GivesRun (λ run. run) (λ walk. walk.rest)
+    (λ walk after h. ap length h.gives.0) (λ walk run after h. h.gives) p s)

@@ -1,5 +1,5 @@
 -- The index that is next to another, by the blocks, and how many bits are set below one.
-use Rattle.std.specs.Prelude.{Option, Some, None, MatchOption, replicate}
+use Rattle.std.specs.Prelude.{Option, Some, None, MatchOption, IfSome, replicate}
 use Rattle.std.specs.List.{range_with_len}
 use Rattle.std.specs.Option.{is_some}
 use Rattle.std.proofs.Common.{◌≡◌, ◌≢◌, ◌↔◌, ℕ, zero, suc, ◌+◌, ◌-◌, ◌<◌, ◌≤◌, min, Bool, true}
@@ -13,7 +13,8 @@ use Rattle.vob_block.proofs.PackingLemmas.{bit_at-packing, length-packing}
 use Rattle.vob_walk.specs.Count.{ones_between}
 use Rattle.vob_walk.specs.Next.{HasNoBit, IsFirstBit, IsLastBit}
 use Rattle.vob.specs.Bits.{count_of}
-use Rattle.vob.specs.Sets.{HasBit, HasOnly, IsFirstFrom, IsLastUpTo, IsNext, IsPrevious}
+use Rattle.vob.specs.Sets.{HasBit, HasOnly, IsBit, IsFirstFrom, IsIndexOfRank, IsLastUpTo, IsNext, IsPrevious}
+use Rattle.vob.proofs.BitsLemmas.{true_inside}
 
 -- ---- answers
 
@@ -191,6 +192,9 @@ module _ (value : Bool) (bits : List Bool) (answer : Option ℕ) (next : IsNext 
           (λ other. flag ∙ is_true (is_some answer) (λ none. other (list.0 (only.0 none)))),
         )
 
+    pub HasOnly-missed : r ≡ false → HasOnly (not value) bits
+    HasOnly-missed unset = (is_only value bits answer next).0 (sym flag ∙ unset)
+
   -- and one that is true where none was
   module _ (flag : is_some answer ≡ not r) where
     pub HasOnly-none : (r ≡ true) ↔ HasOnly (not value) bits
@@ -202,6 +206,9 @@ module _ (value : Bool) (bits : List Bool) (answer : Option ℕ) (next : IsNext 
     replicate-none =
         let list = only_is_list (not value) bits in
         ((λ e. list.0 (HasOnly-none.0 e)), (λ e. HasOnly-none.1 (list.1 e)))
+
+    pub HasBit-missed : r ≡ false → HasBit value bits
+    HasBit-missed unset = (is_found value bits answer next).0 (flag ∙ ap not unset)
 
 -- ---- how many bits are set below an index
 
@@ -242,3 +249,35 @@ rank_is w wide bits index stop r xs e blocks ones =
     let same : 0 + i ≡ i = omega arith in
     ap (bit_at xs w) same ∙ ap (λ ys. bit_at ys w i) blocks ∙ bit_at-packing w wide bits i
     ∙ sym (get_or-take index bits i false (omega (arith, inside, long, e))))
+
+-- ---- an index that is found is that of a bit
+
+pub IsNext-inside : (value : Bool) (bits : List Bool) (from : ℕ) (answer : Option ℕ)
+    → IsNext value bits from answer → IfSome answer (λ i. IsBit value bits i)
+IsNext-inside value bits from None h = tt
+IsNext-inside value bits from (Some i) h =
+    let found = (h.some i).0 refl in (found.inside, found.there)
+
+pub IsNext-above : (value : Bool) (bits : List Bool) (from top : ℕ) (answer : Option ℕ)
+    → IsNext value bits from answer → length bits ≤ top
+    → IfSome answer (λ i. (from ≤ i) × (i < top))
+IsNext-above value bits from top None h fits = tt
+IsNext-above value bits from top (Some i) h fits =
+    let found = (h.some i).0 refl in (found.above, omega (arith, found.inside))
+
+pub IsPrevious-below : (value : Bool) (bits : List Bool) (upto : ℕ) (answer : Option ℕ)
+    → IsPrevious value bits upto answer → IfSome answer (λ i. i ≤ upto)
+IsPrevious-below value bits upto None h = tt
+IsPrevious-below value bits upto (Some i) h = ((h.some i).0 refl).below
+
+pub IsPrevious-inside : (value : Bool) (bits : List Bool) (upto : ℕ) (answer : Option ℕ)
+    → IsPrevious value bits upto answer → IfSome answer (λ i. IsBit value bits i)
+IsPrevious-inside value bits upto None h = tt
+IsPrevious-inside value bits upto (Some i) h =
+    let found = (h.some i).0 refl in (found.inside, found.there)
+
+pub IsIndexOfRank-inside : (bits : List Bool) (k : ℕ) (answer : Option ℕ)
+    → IsIndexOfRank bits k answer → IfSome answer (λ i. IsBit true bits i)
+IsIndexOfRank-inside bits k None h = tt
+IsIndexOfRank-inside bits k (Some i) h =
+    let found = (h.some i).0 refl in (true_inside bits i found.there, found.there)

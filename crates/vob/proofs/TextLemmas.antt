@@ -3,7 +3,7 @@ use Rattle.std.proofs.Common.{◌≡◌, ℕ, ◌<◌, List, [], length, All, ta
 use Rattle.std.proofs.lemmas.Bool.{cases_order}
 use Rattle.std.proofs.lemmas.List.{get_or-take, length-take-le}
 use Rattle.std.proofs.lemmas.Option.{get_or_from_slice_get, slice_get_within}
-use Rattle.vob.specs.Text.{IsDigit, IsFirstBad}
+use Rattle.vob_block.specs.Digits.{IsDigit, IsFirstBad}
 
 -- where each byte is a digit, a byte is
 pub digit_there : (text : List ℕ) (at byte : ℕ) → All IsDigit text →

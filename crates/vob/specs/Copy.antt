@@ -1,5 +1,5 @@
 -- Bits of one list written over those of another.
-use Rattle.std.specs.Prelude.{◌≡◌, ℕ, ◌+◌, ◌<◌, ◌≤◌, Bool, List, length}
+use Rattle.std.specs.Prelude.{◌≡◌, ◌⊎◌, ℕ, ◌+◌, ◌<◌, ◌≤◌, Bool, List, length}
 use Rattle.std.specs.declared.ops.Bound.{Bound}
 use Rattle.std.specs.declared.ops.Bound.TheVariants.{Included, Excluded, Unbounded}
 use Rattle.vob_block.specs.Packing.{item}
@@ -27,6 +27,11 @@ pub record IsCopied (at start count : ℕ) (bits others after : List Bool) : Typ
 -- what a range holds of others fits in place of as many bits from an index on
 abbrev pub FitsFrom : ℕ → Bound ℕ → Bound ℕ → List Bool → List Bool → Type 0
 FitsFrom at low high others bits = at + length (bits_within low high others) ≤ length bits
+
+-- and so does a range's share; all of others, if the range's bounds aren't known
+abbrev pub FitsRange : Type 0 → ℕ → Bound ℕ → Bound ℕ → List Bool → List Bool → Type 0
+FitsRange known at low high others bits =
+    (known × FitsFrom at low high others bits) ⊎ (at + length others ≤ length bits)
 
 -- what a range holds of others stands there, and each other bit is as it was
 abbrev pub IsRangeCopied : ℕ → Bound ℕ → Bound ℕ → List Bool → List Bool → List Bool → Type 0

@@ -3,6 +3,7 @@ use Rattle.std.specs.Prelude.{◌≡◌, ◌≢◌, ◌↔◌, ℕ, ◌<◌, ◌
 use Rattle.std.specs.Prelude.{◌∷◌, ◌++◌, length, map, take, drop, replicate, slice_get, slice_set}
 use Rattle.std.specs.Prelude.{Some, IsTrue}
 use Rattle.std.specs.declared.ops.Bound.TheVariants.{Included, Unbounded}
+use Rattle.vob_block.specs.Digits.{digit, IsFirstBad}
 use Rattle.vob_block.specs.Packing.{item, packing}
 use Rattle.vob_block.specs.Pointwise.{differ, pointwise}
 use Rattle.vob.specs.Drain.{bits_within, bits_outside}
@@ -71,3 +72,10 @@ XorOfEqual = (bits others : List Bool) → bits ≡ others → pointwise differ 
 abbrev pub NegatedAnd : Type 0
 NegatedAnd =
     (bits others : List Bool) → map not (pointwise ◌&&◌ bits others) ≡ pointwise ◌||◌ (map not bits) (map not others)
+
+-- digits are those of one list alone, and none of them is bad
+abbrev pub DigitsGiveBits : Type 0
+DigitsGiveBits =
+    (bits : List Bool)
+    → ((others : List Bool) → map digit others ≡ map digit bits → others ≡ bits)
+    × ((at : ℕ) → ¬ IsFirstBad (map digit bits) at)

@@ -5,7 +5,7 @@ pub mod Extending
 pub mod Fed
 pub mod Indices
 pub mod Laws
-pub mod Packs
+pub mod PackingLaws
 pub mod Ranges
 pub mod Raw
 pub mod RawLends
@@ -13,7 +13,9 @@ pub mod Refusal
 pub mod Rest
 pub mod Runs
 pub mod Same
+pub mod Serialized
 pub mod SetLaws
 pub mod Sets
-pub mod Text
+pub mod Texts
 pub mod Vob
+pub mod Vobs

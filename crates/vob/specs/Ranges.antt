@@ -1,5 +1,5 @@
 -- What calls do to the bits of a range.
-use Rattle.std.specs.Prelude.{◌≡◌, ℕ, ◌<◌, ◌≤◌, ◌&&◌, nat_le, nat_lt, Bool, false, IsTrue, List, ◌++◌, length, take, drop}
+use Rattle.std.specs.Prelude.{◌≡◌, ℕ, ◌<◌, Bool, false, IsTrue, List, ◌++◌, length, take, drop}
 use Rattle.std.specs.declared.ops.Bound.{Bound}
 use Rattle.vob_block.specs.Packing.{item}
 use Rattle.vob_walk.specs.Matches.{within}
@@ -11,12 +11,6 @@ pub record IsChangedWithin (f : Bool → Bool) (low high : Bound ℕ) (bits afte
   pub inside : (i : ℕ) → i < length bits → IsTrue (within low high i)
       → item after i ≡ f (item bits i)
   pub outside : (i : ℕ) → within low high i ≡ false → item after i ≡ item bits i
-
--- of the indices below len a range has those from start to below stop
-pub record IsRangeOf (low high : Bound ℕ) (len start stop : ℕ) : Type 0 where
-  pub order : start ≤ stop
-  pub inside : stop ≤ len
-  pub each : (i : ℕ) → i < len → within low high i ≡ (nat_le start i && nat_lt i stop)
 
 -- a list with others in place of the bits from one index to below another
 abbrev pub replaced : ℕ → ℕ → List Bool → List Bool → List Bool

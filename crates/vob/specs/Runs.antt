@@ -1,11 +1,30 @@
 -- The runs of a list of bits: its longest stretches of set bits.
 use Rattle.std.specs.Prelude.{◌≡◌, ◌≢◌, ◌==◌, if◌then◌else◌, ℕ, ◌+◌, ◌-◌, ◌/◌, ◌<◌, ◌≤◌, Bool, true}
-use Rattle.std.specs.Prelude.{false, List, length, slice_index_or, Option, MatchOption, All, Any}
-use Rattle.std.specs.Prelude.{AllPairs}
+use Rattle.std.specs.Prelude.{false, ◌&&◌, not, List, ◌∷◌, length, slice_index_or, drop, filter, map}
+use Rattle.std.specs.Prelude.{Option, MatchOption, All, Any, AllPairs}
+use Rattle.std.specs.List.{position_or_len, range_with_len}
+use Rattle.std.specs.Iterator.{YieldsFirst}
 use Rattle.std.specs.declared.ops.Range.{Range}
 use Rattle.vob_block.specs.Packing.{item, need, bit_at}
 use Rattle.vob_walk.specs.Next.{HasNoBit}
 use Rattle.vob.specs.Sets.{IsFirstFrom}
+
+-- a run starts at each set bit whose predecessor is unset or missing
+abbrev pub starts_run : List Bool → ℕ → Bool
+starts_run bits i = item bits i && not (item (false ∷ bits) i)
+
+-- and ends at the next unset bit, or at the length
+abbrev pub run_end : List Bool → ℕ → ℕ
+run_end bits i = i + position_or_len not (drop i bits)
+
+-- the runs that start at an index or after it, in order, and all runs
+unfoldable pub runs_from : List Bool → ℕ → List (Range ℕ)
+runs_from bits from =
+    map (λ i. record { start = i; end = run_end bits i })
+    (filter (starts_run bits) (range_with_len from (length bits - from)))
+
+abbrev pub runs_of : List Bool → List (Range ℕ)
+runs_of bits = runs_from bits 0
 
 -- the bits from index a to below b are set, and the ones beside them are not or are not there
 pub record IsMaximalRun (bits : List Bool) (a b : ℕ) : Type 0 where
@@ -20,17 +39,19 @@ pub record IsFirstRun (bits : List Bool) (from a b : ℕ) : Type 0 where
   pub first : IsFirstFrom true bits from a
   pub run : IsMaximalRun bits a b
 
--- a walk over runs: the bits, the index below which each run was given, how many blocks were read,
--- and how many are unread
+-- a walk over runs: the runs still to give, the bits, the index below which each run was given, how
+-- many blocks were read, and how many are unread
 pub record RunWalk : Type 0 where
+  pub rest : List (Range ℕ)
   pub bits : List Bool
   pub at : ℕ
   pub reads : ℕ
   pub left : ℕ
 
--- what a call of `next` does: the first run from there on is given, and the walk goes on at its
--- end; where no set bit is left nothing is given. No block is read again
+-- what a call of `next` does: the first of the runs still to give, if any. It is the first run from
+-- index `at` on, and the walk goes on at its end. No block is read again
 pub record GivesRun (walk : RunWalk) (answer : Option (Range ℕ)) (after : RunWalk) : Type 0 where
+  pub gives : YieldsFirst (λ (w : RunWalk). w.rest) walk answer after
   pub bits : after.bits ≡ walk.bits
   pub run : MatchOption answer
       (((i : ℕ) → walk.at ≤ i → i < length walk.bits → item walk.bits i ≢ true)

@@ -1,11 +1,10 @@
 -- What Vobs as sets of indices obey, and their runs.
 use Rattle.std.specs.Prelude.{◌≡◌, ◌↔◌, ℕ, Bool, true, false, not, ◌&&◌, List, length, map, take, replicate, Option, Some, IsTrue}
-use Rattle.std.specs.Iterator.{Drains}
 use Rattle.std.specs.declared.ops.Range.{Range}
 use Rattle.vob_block.specs.Packing.{item}
 use Rattle.vob_block.specs.Pointwise.{pointwise, without}
 use Rattle.vob.specs.Bits.{count_of}
-use Rattle.vob.specs.Runs.{AreRuns, GivesRun, RunWalk}
+use Rattle.vob.specs.Runs.{AreRuns, runs_of}
 use Rattle.vob.specs.Sets.{IsIndexOfRank}
 
 -- what a list has and another hasn't is what both the first and the other negated have
@@ -30,8 +29,8 @@ SelectUndoesRank =
     (bits : List Bool) (i : ℕ) (answer : Option ℕ) → IsTrue (item bits i)
     → IsIndexOfRank bits (count_of true (take i bits)) answer → answer ≡ Some i
 
--- a walk over runs from the first bit on, up to `None`, gives all of them
-abbrev pub WalkGivesRuns : Type 0
-WalkGivesRuns =
-    (walk : RunWalk) (runs : List (Range ℕ)) → walk.at ≡ 0 → Drains GivesRun walk runs
-    → AreRuns walk.bits runs
+-- a list is that of the runs of some bits exactly where it has each of them in order, as long as it
+-- can be
+abbrev pub RunsAreMaximal : Type 0
+RunsAreMaximal =
+    (bits : List Bool) (runs : List (Range ℕ)) → (runs ≡ runs_of bits) ↔ AreRuns bits runs

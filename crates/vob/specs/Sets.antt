@@ -3,6 +3,10 @@ use Rattle.std.specs.Prelude.{◌≡◌, ◌≢◌, ◌↔◌, ℕ, ◌<◌, ◌
 use Rattle.vob_block.specs.Packing.{item}
 use Rattle.vob.specs.Bits.{count_of}
 
+-- an index is that of a bit that has a value
+abbrev pub IsBit : Bool → List Bool → ℕ → Type 0
+IsBit value bits i = (i < length bits) × (item bits i ≡ value)
+
 -- some bit of a list has a value
 abbrev pub HasBit : Bool → List Bool → Type 0
 HasBit value bits = (i : ℕ) × (i < length bits) × (item bits i ≡ value)
@@ -55,3 +59,13 @@ IsSubset bits others = (i : ℕ) → IsTrue (item bits i) → IsTrue (item other
 -- no index is in both
 abbrev pub AreDisjoint : List Bool → List Bool → Type 0
 AreDisjoint bits others = (i : ℕ) → IsTrue (item bits i) → item others i ≡ false
+
+-- some index is in one set and not in another
+abbrev pub HasOther : List Bool → List Bool → Type 0
+HasOther bits others =
+    (i : ℕ) × (i < length bits) × (item bits i ≡ true) × (item others i ≡ false)
+
+-- some index is in both
+abbrev pub HasShared : List Bool → List Bool → Type 0
+HasShared bits others =
+    (i : ℕ) × (i < length bits) × (item bits i ≡ true) × (item others i ≡ true)

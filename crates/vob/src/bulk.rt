@@ -1,12 +1,14 @@
 //! Calls on many bits at once: growing, joining and cutting.
-ghost use Rattle.std.specs.Prelude.{◌≡◌, ◌≢◌, ◌↔◌, ℕ, ◌+◌, ◌-◌, ◌<◌, ◌≤◌, [], ◌++◌, map, length, take, drop, replicate, IsOk, IfOk, IfErr, OnOk, OnErr, Err};
+ghost use Rattle.std.specs.Prelude.{Bool, List, ◌≡◌, ◌≢◌, ◌↔◌, ℕ, ◌+◌, ◌-◌, ◌<◌, ◌≤◌, [], ◌++◌, map, length, take, drop, replicate, IsOk, IfOk, IfErr, OnOk, OnErr, Err, MatchResult};
+ghost use Rattle.std.specs.Bool.{OnFalse};
 ghost use Rattle.std.specs.Iterator.{IsFinite};
 ghost use Rattle.std.specs.Iterator.SizeHint.{IsWithinCount};
 ghost use Rattle.vob_block.specs.Packing.{need, unpacking, IsCanonical};
 ghost use Rattle.vob_block.specs.Reading.{AreReadOnce};
+ghost use Rattle.vob_store.specs.Gathering.{Gives, GoesOn};
+ghost use Rattle.vob_walk.specs.Matches.{ForSomeRange};
 ghost use Rattle.vob.specs.Drain.{bits_within, IsDrained};
 ghost use Rattle.vob.specs.Extending.{AddsAll, IsExtended, RefusesItem, RefusesMore};
-ghost use Rattle.vob.specs.Ranges.{IsRangeOf};
 ghost use Rattle.vob.specs.Refusal.{RefusesPastEnd};
 ghost use Rattle.vob.specs.Vob.{HasRoomFor};
 
@@ -18,16 +20,18 @@ use std::ops::RangeBounds;
 use vob_block::{Block, Blocks};
 use vob_store::drain::remove_bits;
 use vob_store::fill::append_fill;
+use vob_store::gather::fill_last;
 use vob_store::join::{join, join_slice};
 use vob_store::mask::truncate_to;
 use vob_store::pack::append_slice;
 use vob_store::room::reserve_bits;
 use vob_store::split::split_blocks;
-use vob_walk::range::{first_index, past_last_index};
+use vob_walk::range::cut_range;
 
 impl<T: Block> Vob<T> {
-    /// Cuts the bits to `new_len`, or adds bits of `value` up to `new_len`. vob 4.0.1 ends the process
-    /// where memory is refused, and panics where it adds true bits behind whole blocks.
+    /// Cuts the bits to `new_len`, or appends bits of `value` up to `new_len`. Fails if memory
+    /// runs out, where vob 4.0.1 ends the process. That panics if it appends set bits after whole
+    /// blocks.
     ///
     /// ```
     /// let mut vob = vob::vob!(alloc; false)?;
@@ -54,8 +58,9 @@ impl<T: Block> Vob<T> {
         Ok(())
     }
 
-    /// Appends the bits of a slice. vob 4.0.1 ends the process where memory is refused, and panics
-    /// where the length would pass `usize::MAX`, after it added what fits.
+    /// Appends the bits of a slice. Fails if the length would exceed `usize::MAX`, where vob
+    /// 4.0.1 panics after it appended what fits. Fails if memory runs out, where it ends the
+    /// process. A failed call changes no bit.
     pub fn extend_from_slice(&mut self, other: &[bool]) -> Result<(), VobError>
         ensures ok { OnOk result (self.new.bits ≡ self.old.bits ++ other.now) }
         ensures err { OnErr result (self.new.bits ≡ self.old.bits) }
@@ -73,10 +78,9 @@ impl<T: Block> Vob<T> {
         Ok(())
     }
 
-    /// Appends the items of an iterator that ends. The lower bound of its size hint is reserved
-    /// first; where that is refused nothing is added, and where an item is refused those before it
-    /// stay. vob 4.0.1 ends the process where memory is refused, and panics where the length would
-    /// pass `usize::MAX`.
+    /// Appends the items of an iterator that ends. Reserves the lower bound of its size hint
+    /// first; if that fails, nothing is appended. If an item fails, those before it stay. Fails
+    /// as `push` does, where vob 4.0.1 panics or ends the process.
     pub fn extend<I: IntoIterator<Item = bool>>(&mut self, iter: I) -> Result<(), VobError>
         requires { (it : I.IntoIter) → I.into_iter_gives iter it
             → I.IntoIter.can_next it × IsFinite (I.IntoIter.remaining it) }
@@ -91,21 +95,43 @@ impl<T: Block> Vob<T> {
         self.push_all(items)
     }
 
-    /// Pushes the items one after another. Where one is refused, those before it stay.
-    fn push_all<I: Iterator<Item = bool>>(&mut self, items: I) -> Result<(), VobError>
+    /// Takes items for the places that the last block has left. Returns whether the iterator ended.
+    fn fill_last<I: Iterator<Item = bool>>(&mut self, items: &mut I) -> bool
+        requires can { I.can_next items.old }
+        requires ends { IsFinite (I.remaining items.old) }
+        ensures added { (bits : List Bool) × Gives I.next_gives items.old bits items.new result
+            × (self.new.bits ≡ self.old.bits ++ bits) }
+        ensures goes_on { OnFalse result (GoesOn I.can_next I.remaining items.old items.new) }
+        ensures capacity { self.new.capacity ≡ self.old.capacity }
+    {
+        let taken = fill_last(&mut self.vec, self.len, items);
+        self.len += taken.count;
+        taken.ended
+    }
+
+    /// Pushes the items one after another. If one is refused, those before it stay.
+    pub(crate) fn push_all<I: Iterator<Item = bool>>(
+        &mut self,
+        mut items: I,
+    ) -> Result<(), VobError>
         requires ends { I.can_next items × IsFinite (I.remaining items) }
         ensures ok { OnOk result (AddsAll I.next_gives items self.old self.new) }
         ensures err { IfErr result (RefusesItem I.next_gives items self.old self.new 0) }
         ensures capacity { self.old.capacity ≤ self.new.capacity }
     {
-        for bit in items {
+        // An item at a time is pushed where a block may be wanted for it; those behind it are
+        // gathered in a register up to the end of the block.
+        'turns: while let Some(bit) = items.next() {
             self.push(bit)?;
+            if self.fill_last(&mut items) {
+                return Ok(());
+            }
         }
         Ok(())
     }
 
-    /// Appends the `more` bits that `other` holds, in the room that there is. Each block of `other`
-    /// is read once. vob 4.0.1 has a private call like it.
+    /// Appends the `more` bits that `other` holds, in the room that there is. Reads each block of
+    /// `other` once. vob 4.0.1 has a private call like it.
     pub fn append_blocks(&mut self, other: &mut Blocks<'_, T>, more: usize)
         requires other { IsCanonical more (map T.number other.old.items) T.BITS }
         requires room { HasRoomFor self.old more }
@@ -117,8 +143,9 @@ impl<T: Block> Vob<T> {
         self.len += more;
     }
 
-    /// Appends the bits of `other`. vob 4.0.1 ends the process where memory is refused, and panics
-    /// where the length would pass `usize::MAX`.
+    /// Appends the bits of `other`. Fails if the length would exceed `usize::MAX`, where vob
+    /// 4.0.1 panics. Fails if memory runs out, where it ends the process. A failed call changes
+    /// no bit.
     ///
     /// ```
     /// let mut vob = vob::vob!(alloc; true, false)?;
@@ -142,9 +169,9 @@ impl<T: Block> Vob<T> {
         Ok(())
     }
 
-    /// Keeps the bits below `at`, and gives the others: none where `at` is the length. An `at` past
-    /// the end is refused, and the bits stay; vob 4.0.1 gives an empty Vob there, and ends the
-    /// process where memory is refused.
+    /// Keeps the bits below `at`, and returns the others. Fails if `at` is above the length,
+    /// where vob 4.0.1 returns an empty Vob. Fails if memory runs out, where it ends the process;
+    /// if one part is empty, none is asked for. A failed call changes nothing.
     ///
     /// ```
     /// let mut vob = vob::vob!(alloc; true, false, true)?;
@@ -159,9 +186,13 @@ impl<T: Block> Vob<T> {
         // An index past the end is refused first, and memory is the only other refusal.
         ensures refused { RefusesPastEnd self.old.bits at result }
 
-        // Where one part is empty, no memory is asked for.
+        // If one part is empty, no memory is asked for.
         ensures whole { at ≡ 0 → IsOk result }
         ensures nothing { at ≡ length self.old.bits → IsOk result }
+
+        // A cut at 0 gives the storage away.
+        ensures capacity { 0 < at → self.new.capacity ≡ self.old.capacity }
+        ensures err_capacity { OnErr result (self.new.capacity ≡ self.old.capacity) }
     {
         if at > self.len {
             return Err(VobError::PastEnd);
@@ -189,9 +220,10 @@ impl<T: Block> Vob<T> {
         Ok(Vob { len, vec })
     }
 
-    /// Takes the bits of a range out, and gives them; the others close up in order. Every pair of
-    /// bounds is accepted, and an index belongs to the range where it is below the length and meets
-    /// both as whole numbers. Where none does, no memory is asked for. vob 4.0.1 hasn't this call.
+    /// Removes the bits of a range and returns them; the others close up in order. Every pair of
+    /// bounds is accepted. An index belongs to the range if it is below the length and meets both
+    /// bounds as whole numbers. Fails if memory runs out, and then changes nothing; if the range
+    /// holds no bit, none is asked for. vob 4.0.1 has no such call.
     ///
     /// ```
     /// let mut vob = vob::vob!(alloc; true, false, true)?;
@@ -203,10 +235,13 @@ impl<T: Block> Vob<T> {
             IsDrained (R.start_bound range) (R.end_bound range) self.old.bits vob.bits self.new.bits) }
         ensures err { OnErr result (self.new.bits ≡ self.old.bits) }
 
-        // Where the range holds no bit, no memory is asked for.
+        // If the range holds no bit, no memory is asked for.
         ensures nothing { R.has_bounds range
             → bits_within (R.start_bound range) (R.end_bound range) self.old.bits ≡ [] → IsOk result }
-        ensures capacity { self.old.capacity ≤ self.new.capacity }
+        ensures some { ForSomeRange (length self.old.bits) (λ low high. MatchResult result
+            (λ vob. IsDrained low high self.old.bits vob.bits self.new.bits)
+            (λ _. bits_within low high self.old.bits ≢ [])) }
+        ensures capacity { self.new.capacity ≡ self.old.capacity }
     {
         let (from, to) = cut_range(&range, self.len);
         let alloc = *self.vec.allocator();
@@ -222,15 +257,4 @@ impl<T: Block> Vob<T> {
         self.len -= len;
         Ok(Vob { len, vec })
     }
-}
-
-/// Where the indices below `len` that belong to a range begin, and where they end.
-pub(crate) fn cut_range<R: RangeBounds<usize>>(range: &R, len: usize) -> (usize, usize)
-    ensures ordered { result.0 ≤ result.1 }
-    ensures inside { result.1 ≤ len }
-    ensures window { R.has_bounds range.now
-        → IsRangeOf (R.start_bound range.now) (R.end_bound range.now) len result.0 result.1 }
-{
-    let to = past_last_index(range, len);
-    (first_index(range, to), to)
 }

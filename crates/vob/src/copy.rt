@@ -1,27 +1,30 @@
 //! Bits of another Vob copied over some of one's own. vob 4.0.1 has no such call.
 ghost use Rattle.std.specs.Prelude.{◌≡◌, ◌+◌, ◌-◌, ◌≤◌, length};
-ghost use Rattle.vob.specs.Copy.{written_over, FitsFrom, IsCopied, IsRangeCopied};
+ghost use Rattle.vob_walk.specs.Matches.{ForSomeRange};
+ghost use Rattle.vob.specs.Copy.{written_over, FitsRange, IsCopied, IsRangeCopied};
 ghost use Rattle.vob.specs.Drain.{bits_within};
 
-use crate::bulk::cut_range;
 use crate::vob::Vob;
 use std::ops::RangeBounds;
 use vob_block::Block;
 use vob_store::copy::{Stretch, copy_bits};
+use vob_walk::range::cut_range;
 
 impl<T: Block> Vob<T> {
     /// Writes the other's bits of the range over those from `at` on. Every pair of bounds is
-    /// accepted: the range is cut at the other's length, and holds no bit where its end is before
-    /// its start. What it holds has to fit from `at` on. The other bits stay, and no memory is
-    /// asked for.
+    /// accepted: the range is cut at the other's length, and is empty if it ends before it
+    /// starts. What it holds must fit from `at` on. If the range's type doesn't state its bounds,
+    /// all of the other's bits must fit. Takes no memory.
     pub fn copy_range<R: RangeBounds<usize>>(&mut self, at: usize, other: &Vob<T>, range: R)
-        requires bounds { R.has_bounds range }
-        requires fits { FitsFrom at (R.start_bound range) (R.end_bound range) other.now.bits
-            self.old.bits }
-        ensures bits { self.new.bits ≡ written_over at
+        requires fits { FitsRange (R.has_bounds range) at (R.start_bound range)
+            (R.end_bound range) other.now.bits self.old.bits }
+        ensures bits { R.has_bounds range → self.new.bits ≡ written_over at
             (bits_within (R.start_bound range) (R.end_bound range) other.now.bits) self.old.bits }
-        ensures each { IsRangeCopied at (R.start_bound range) (R.end_bound range) self.old.bits
-            other.now.bits self.new.bits }
+        ensures each { R.has_bounds range → IsRangeCopied at (R.start_bound range)
+            (R.end_bound range) self.old.bits other.now.bits self.new.bits }
+        ensures some { ForSomeRange (length other.now.bits) (λ low high.
+            IsRangeCopied at low high self.old.bits other.now.bits self.new.bits) }
+        ensures len { length self.new.bits ≡ length self.old.bits }
         ensures capacity { self.new.capacity ≡ self.old.capacity }
     {
         let (start, end) = cut_range(&range, other.len());

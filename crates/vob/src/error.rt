@@ -2,29 +2,44 @@
 ghost use Rattle.vob.specs.declared.error.VobError.TheVariants.{Memory};
 
 use std::alloc::AllocError;
-use thiserror::Error;
+use std::error::Error;
+use std::fmt;
 
 /// Why a call was refused. vob 4.0.1 panics in place of `TooLong`, ends the process in place of
 /// `Memory`, and gives an empty Vob in place of `PastEnd`.
-#[derive(Clone, Copy, Debug, PartialEq, Eq, Error)]
+#[derive(Clone, Copy, Debug, PartialEq, Eq)]
 pub enum VobError {
-    /// The new length would pass the greatest one, `usize::MAX`.
-    #[error("the length would pass usize::MAX")]
+    /// The new length would exceed `usize::MAX`.
     TooLong,
-    /// There was no memory for the blocks.
-    #[error("out of memory")]
+    /// Memory ran out.
     Memory,
-    /// An index was past the end: above the length. `split_off` alone answers it.
-    #[error("the index is past the end")]
+    /// An index was above the length. Only `split_off` fails so.
     PastEnd,
 }
+
+impl fmt::Display for VobError {
+    ghost use Rattle.std.specs.Prelude.{Some};
+    ghost use Rattle.vob.specs.Texts.{vob_error_text};
+
+    ghost output = { λ error. Some (vob_error_text error) };
+
+    fn fmt<W: fmt::Write>(&self, f: &mut fmt::Formatter<W>) -> fmt::Result {
+        f.write_str(match self {
+            VobError::TooLong => "the length would pass usize::MAX",
+            VobError::Memory => "out of memory",
+            VobError::PastEnd => "the index is past the end",
+        })
+    }
+}
+
+impl Error for VobError {}
 
 impl VobError {
     ghost use Rattle.std.specs.Prelude.{◌≡◌};
     ghost use Rattle.vob.specs.Refusal.{refusal_number};
 
-    /// The number of the refusal: 1 for `TooLong`, 2 for `Memory`, 4 for `PastEnd`. 3 is that of
-    /// storage that isn't canonical, which is handed back as it came.
+    /// Returns the number of the refusal: 1 for `TooLong`, 2 for `Memory`, 4 for `PastEnd`. 3 is
+    /// that of storage that isn't canonical, which is returned as it came.
     pub fn number(self) -> u8
         ensures { result ≡ refusal_number self }
     {
@@ -47,18 +62,37 @@ impl From<AllocError> for VobError {
 }
 
 /// Why no Vob was made of indices.
-#[derive(Clone, Copy, Debug, PartialEq, Eq, Error)]
+#[derive(Clone, Copy, Debug, PartialEq, Eq)]
 pub enum IndicesError {
-    /// There was no memory for the blocks.
-    #[error("out of memory")]
+    /// Memory ran out.
     Memory,
     /// An index was at or past the length.
-    #[error("the index at position {position} is at or past the length")]
     OutOfRange {
         /// Where the first such index stands among those given, counted from 0.
         position: usize,
     },
 }
+
+impl fmt::Display for IndicesError {
+    ghost use Rattle.std.specs.Prelude.{Some};
+    ghost use Rattle.vob.specs.Texts.{indices_error_text};
+
+    ghost output = { λ error. Some (indices_error_text error) };
+
+    fn fmt<W: fmt::Write>(&self, f: &mut fmt::Formatter<W>) -> fmt::Result {
+        match self {
+            IndicesError::Memory => f.write_str("out of memory"),
+            IndicesError::OutOfRange { position } => {
+                write!(
+                    f,
+                    "the index at position {position} is at or past the length"
+                )
+            }
+        }
+    }
+}
+
+impl Error for IndicesError {}
 
 impl From<AllocError> for IndicesError {
     ghost use Rattle.std.specs.Prelude.{◌≡◌};

@@ -4,6 +4,7 @@ ghost use Rattle.std.specs.Iterator.{YieldsFirst, YieldsLast, item_count, at_mos
 ghost use Rattle.std.specs.Iterator.SizeHint.{IsWithinCount};
 ghost use Rattle.std.specs.Iterator.Runs.{YieldsInOrder, YieldsInReverse};
 ghost use Rattle.vob_block.specs.Packing.{packing};
+ghost use Rattle.vob_walk.specs.Matches.{ForSomeRange};
 ghost use Rattle.vob_walk.specs.Walk.{IsFresh, GivesFirst, GivesLast};
 
 use crate::vob::Vob;
@@ -14,7 +15,7 @@ use vob_block::Block;
 use vob_store::single::block_bit;
 pub use vob_walk::{End, IndexWalk, IterSetBits, IterUnsetBits, count_ones_in, deal};
 
-/// The bits of a Vob in order, seen as the list of those that are left.
+/// A walk over the bits of a Vob, seen as the list of those that are left.
 #[derive(Drop)]
 pub struct Iter<'a, T: Block> {
     pub(crate) blocks: &'a [T],
@@ -36,7 +37,7 @@ impl<'a, T: Block> Model for Iter<'a, T> {
 }
 
 impl<T: Block> Vob<T> {
-    /// A walk over the bits, index 0 first.
+    /// Returns a walk over the bits, index 0 first.
     ///
     /// ```
     /// let vob = vob::vob!(alloc; true, false)?;
@@ -58,7 +59,7 @@ impl<T: Block> Vob<T> {
         }
     }
 
-    /// A walk over the blocks, the one with bit 0 first.
+    /// Returns a walk over the blocks, the one with bit 0 first.
     pub fn iter_storage(&self) -> StorageIter<'_, T>
         ensures { map T.number result ≡ packing self.now.bits T.BITS }
     {
@@ -67,11 +68,11 @@ impl<T: Block> Vob<T> {
         }
     }
 
-    /// The indices of the set bits within a range, the least first. Every pair of bounds is
-    /// accepted, and the range is cut at the length. No block is read before an index is asked
-    /// for, and in all there are at most as many reads as blocks that hold an index of the range.
-    /// vob 4.0.1 adds 1 to an included end and to an excluded start unchecked, so `usize::MAX`
-    /// there panics or wraps.
+    /// Returns a walk over the indices of the set bits within a range, in rising order. Every
+    /// pair of bounds is accepted, and the range is cut at the length. It reads no block before
+    /// an index is asked for, and at most as many blocks as hold an index of the range. vob 4.0.1
+    /// adds 1 to an included end and to an excluded start unchecked, so `usize::MAX` there panics
+    /// or wraps.
     ///
     /// ```
     /// let vob = vob::vob!(alloc; true, false, true)?;
@@ -82,7 +83,10 @@ impl<T: Block> Vob<T> {
     pub fn iter_set_bits<R: RangeBounds<usize>>(&self, range: R) -> IterSetBits<'_, T>
         ensures fresh { R.has_bounds range
             → IsFresh result self.now.bits true (R.start_bound range) (R.end_bound range) T.BITS }
-        ensures longest { R.has_bounds range → length result.rest ≤ usize.MAX }
+        ensures some { ForSomeRange (length self.now.bits) (λ low high.
+            IsFresh result self.now.bits true low high T.BITS) }
+        ensures longest { length result.rest ≤ usize.MAX }
+        ensures greatest { length self.now.bits ≤ usize.MAX }
         ensures reads { result.reads ≡ 0 }
         ensures runs { YieldsInOrder GivesFirst (λ walk. walk.rest) }
         ensures runs_back { YieldsInReverse GivesLast (λ walk. walk.rest) }
@@ -90,15 +94,18 @@ impl<T: Block> Vob<T> {
         IterSetBits::over(self.blocks(), self.len(), range)
     }
 
-    /// The indices of the unset bits within a range, the least first. Every pair of bounds is
-    /// accepted, and the range is cut at the length. No block is read before an index is asked
-    /// for, and in all there are at most as many reads as blocks that hold an index of the range.
-    /// vob 4.0.1 adds 1 to an included end and to an excluded start unchecked, so `usize::MAX`
-    /// there panics or wraps.
+    /// Returns a walk over the indices of the unset bits within a range, in rising order. Every
+    /// pair of bounds is accepted, and the range is cut at the length. It reads no block before
+    /// an index is asked for, and at most as many blocks as hold an index of the range. vob 4.0.1
+    /// adds 1 to an included end and to an excluded start unchecked, so `usize::MAX` there panics
+    /// or wraps.
     pub fn iter_unset_bits<R: RangeBounds<usize>>(&self, range: R) -> IterUnsetBits<'_, T>
         ensures fresh { R.has_bounds range
             → IsFresh result self.now.bits false (R.start_bound range) (R.end_bound range) T.BITS }
-        ensures longest { R.has_bounds range → length result.rest ≤ usize.MAX }
+        ensures some { ForSomeRange (length self.now.bits) (λ low high.
+            IsFresh result self.now.bits false low high T.BITS) }
+        ensures longest { length result.rest ≤ usize.MAX }
+        ensures greatest { length self.now.bits ≤ usize.MAX }
         ensures reads { result.reads ≡ 0 }
         ensures runs { YieldsInOrder GivesFirst (λ walk. walk.rest) }
         ensures runs_back { YieldsInReverse GivesLast (λ walk. walk.rest) }
@@ -123,8 +130,8 @@ impl<'a, T: Block> IntoIterator for &'a Vob<T> {
 }
 
 impl<'a, T: Block> Iter<'a, T> {
-    /// A second walk over the bits that are left. It takes no memory, so it is no method of the trait
-    /// `Clone`, whose answer is a `Result`.
+    /// Returns a second walk over the bits that are left. It takes no memory, so it is no method
+    /// of `Clone`, which returns a `Result`.
     pub fn clone(&self) -> Iter<'a, T>
         ensures { result ≡ self.now }
     {
@@ -135,7 +142,7 @@ impl<'a, T: Block> Iter<'a, T> {
         }
     }
 
-    /// How many bits are still to come. vob 4.0.1 overrides `Iterator::count` by this number.
+    /// Counts the bits that are left. vob 4.0.1 overrides `Iterator::count` by this number.
     pub fn count(self) -> usize
         ensures { result ≡ length self.entry }
     {
@@ -159,7 +166,7 @@ impl<'a, T: Block> Iterator for Iter<'a, T> {
         Some(block_bit(self.blocks, index))
     }
 
-    /// The number of bits that are left, as both bounds.
+    /// Returns the number of bits that are left, as both bounds.
     fn size_hint(&self) -> (usize, Option<usize>)
         ensures lower { IsWithinCount result.0 (at_most (length self.now)) }
         ensures upper { IfSome result.1 (UpTo (at_most (length self.now))) }
@@ -191,7 +198,7 @@ impl<'a, T: Block> ExactSizeIterator for Iter<'a, T> {
 
 impl<'a, T: Block> FusedIterator for Iter<'a, T> {}
 
-/// The blocks of a Vob in order, seen as the list of those that are left.
+/// A walk over the blocks of a Vob, seen as the list of those that are left.
 #[derive(Drop)]
 pub struct StorageIter<'a, T: Block> {
     pub(crate) rest: &'a [T],
@@ -206,15 +213,15 @@ impl<'a, T: Block> Model for StorageIter<'a, T> {
 }
 
 impl<'a, T: Block> StorageIter<'a, T> {
-    /// A second walk over the blocks that are left. It takes no memory, so it is no method of the
-    /// trait `Clone`, whose answer is a `Result`.
+    /// Returns a second walk over the blocks that are left. It takes no memory, so it is no
+    /// method of `Clone`, which returns a `Result`.
     pub fn clone(&self) -> StorageIter<'a, T>
         ensures { result ≡ self.now }
     {
         StorageIter { rest: self.rest }
     }
 
-    /// How many blocks are still to come. vob 4.0.1 overrides `Iterator::count` by this number.
+    /// Counts the blocks that are left. vob 4.0.1 overrides `Iterator::count` by this number.
     pub fn count(self) -> usize
         ensures { result ≡ length self.entry }
     {
@@ -235,7 +242,7 @@ impl<'a, T: Block> Iterator for StorageIter<'a, T> {
         Some(*first)
     }
 
-    /// The number of blocks that are left, as both bounds.
+    /// Returns the number of blocks that are left, as both bounds.
     fn size_hint(&self) -> (usize, Option<usize>)
         ensures lower { IsWithinCount result.0 (at_most (length self.now)) }
         ensures upper { IfSome result.1 (UpTo (at_most (length self.now))) }

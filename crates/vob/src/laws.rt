@@ -2,12 +2,14 @@
 ghost use Rattle.vob.specs.Laws.{JoinUndoesCut, DrainFromIsSplit, JoinIsPushes, EqualWhereListsAre};
 ghost use Rattle.vob.specs.Laws.{EqualWhereStorageIs, UnequalWherePlacesDiffer};
 ghost use Rattle.vob.specs.Laws.{PointwiseChangesBits, SetChangesBit, NegateTwice, XorOfEqual};
-ghost use Rattle.vob.specs.Laws.{NegatedAnd};
-ghost use Rattle.vob.specs.SetLaws.{DifferenceIsAndNot, NoneIsCounted, RankUndoesSelect, SelectUndoesRank, WalkGivesRuns};
+ghost use Rattle.vob.specs.Laws.{DigitsGiveBits, NegatedAnd};
+ghost use Rattle.vob.specs.PackingLaws.{NeedIsLeast, CanonicalIsPacked};
+ghost use Rattle.vob.specs.SetLaws.{DifferenceIsAndNot, NoneIsCounted, RankUndoesSelect, SelectUndoesRank, RunsAreMaximal};
 ghost use Rattle.vob_walk.specs.Laws.{MatchesShareNoIndex, MatchesFillTheRange, MatchesAddUp};
 ghost use Rattle.vob_walk.specs.Laws.{MatchesExactly, MatchesRise, FirstMatchIsLeast};
 ghost use Rattle.vob_walk.specs.Laws.{NoMatchIsNone, MatchesAreCounted, MatchesAreFew};
 ghost use Rattle.vob_walk.specs.Laws.{NoneIsForGood};
+ghost use Rattle.vob_walk.specs.Once.{EachIsGivenOnce, MatchesAreGivenOnce, NoneComesLast};
 
 /// Cutting a list and joining the parts gives it back, so a `split_off` and an `extend_from_vob` of
 /// the part that both succeed leave the old bits.
@@ -35,6 +37,17 @@ pub fn equal_where_lists_are()
 /// are equal exactly where `len` and `get_storage` are.
 pub fn equal_where_storage_is()
     ensures { EqualWhereStorageIs }
+{}
+
+/// The blocks that `n` bits need hold them, and no fewer blocks do.
+pub fn need_is_least()
+    ensures { NeedIsLeast }
+{}
+
+/// Storage is canonical exactly if its blocks are as many as its bits need, and are the packing of
+/// the bits that they hold.
+pub fn canonical_is_packed()
+    ensures { CanonicalIsPacked }
 {}
 
 /// Lists of one length are unequal exactly where they differ at some place.
@@ -71,6 +84,12 @@ pub fn negated_and()
     ensures { NegatedAnd }
 {}
 
+/// The digits that `{}` writes are those of one list alone, and none of them is bad. So `from_digits`
+/// gives the bits back, unless memory is refused.
+pub fn digits_give_bits()
+    ensures { DigitsGiveBits }
+{}
+
 /// The rank of an index that `select` gave is the number that it was given for.
 pub fn rank_undoes_select()
     ensures { RankUndoesSelect }
@@ -93,10 +112,10 @@ pub fn none_is_counted()
     ensures { NoneIsCounted }
 {}
 
-/// All that a walk over runs gives, from `runs()` up to `None`, is each run in order, so the set
-/// bits are those of the ranges that it gave.
-pub fn walk_gives_runs()
-    ensures { WalkGivesRuns }
+/// The list that `runs()` gives has each run once, in order and as long as it can be, and no other
+/// list has. So the set bits are those of its ranges.
+pub fn runs_are_maximal()
+    ensures { RunsAreMaximal }
 {}
 
 /// No index matches both values, so walks over the set and the unset bits of one range give no index
@@ -150,4 +169,20 @@ pub fn matches_are_few()
 /// an index after one that gave none.
 pub fn none_is_for_good()
     ensures { NoneIsForGood }
+{}
+
+/// What the front gave, what is left, and what the back gave, from its last index on, are the list
+/// that a walk is pulled at: each index is given once.
+pub fn each_is_given_once()
+    ensures { EachIsGivenOnce }
+{}
+
+/// So at a walk that has given no index yet, they are the indices that match.
+pub fn matches_are_given_once()
+    ensures { MatchesAreGivenOnce }
+{}
+
+/// After a pull that gave `None` no index is left, and both ends together gave every index.
+pub fn none_comes_last()
+    ensures { NoneComesLast }
 {}

@@ -1,31 +1,32 @@
 //! A packed vector of bits: `Vec<bool>` at one bit an item, rounded up to whole blocks.
 //!
 //! ```
-//! ghost use Rattle.std.specs.Prelude.{◌≡◌, ◌≢◌, ◌+◌, ◌<◌, ◌++◌, length, IfOk, IfErr};
-//! ghost use Rattle.vob.specs.declared.error.VobError.TheVariants.{Memory};
+//! ghost use Rattle.std.specs.Prelude.{◌≡◌, ◌+◌, true, false, slice_set, MatchOption, IfSome};
+//! ghost use Rattle.vob.specs.Bits.{count_of};
+//! ghost use Rattle.vob.specs.Sets.{IsNext};
 //!
-//! use std::alloc::Global;
-//! use vob::{Vob, VobError};
+//! use vob::Vob;
 //!
-//! /// The bits of both slices, one behind the other. Refused for want of memory, or where no length
-//! /// counts them.
-//! pub fn joined(alloc: Global, first: &[bool], second: &[bool]) -> Result<Vob, VobError>
-//!     ensures bits { IfOk result (λ vob. vob.bits ≡ first.now ++ second.now) }
-//!     ensures refused { IfErr result (λ refusal. refusal ≢ Memory
-//!         → usize.MAX < length first.now + length second.now) }
+//! /// Takes the first free slot and returns it, or `None` if none is free. A set bit is a taken slot.
+//! pub fn take_slot(slots: &mut Vob) -> Option<usize>
+//!     ensures first { IsNext false slots.old.bits 0 result }
+//!     ensures taken { MatchOption result (slots.new.bits ≡ slots.old.bits)
+//!         (λ slot. slots.new.bits ≡ slice_set slots.old.bits slot true) }
+//!     ensures fewer { IfSome result (λ _.
+//!         count_of false slots.old.bits ≡ count_of false slots.new.bits + 1) }
 //! {
-//!     let mut vob = Vob::from_slice(alloc, first)?;
-//!     vob.extend_from_vob(&Vob::from_slice(alloc, second)?)?;
-//!     Ok(vob)
+//!     let slot = slots.first_unset()?;
+//!     slots.set(slot, true);
+//!     Some(slot)
 //! }
 //! ```
 //!
 //! 1. Bit `i` stands in block `i / T::BITS`, at the place of weight `2^(i % T::BITS)`.
 //! 2. The unused bits of the last block are 0 after every call.
-//! 3. What fits within the capacity is never refused, and a refused call leaves all bits as they
-//!    were; `extend` alone may keep a first part of its items.
+//! 3. A call that fits within the capacity never fails. A call that fails leaves all bits as they
+//!    were; only `extend` may keep a prefix of its items.
 //!
-//! In the examples of the calls `alloc` is the allocator, and `rt` what a test stops by.
+//! In the examples of the calls `alloc` is the allocator, and a test stops by `rt`.
 #![tactic(auto)]
 
 pub mod bulk;
@@ -35,6 +36,7 @@ pub mod iter;
 pub mod laws;
 mod macros;
 pub mod ops;
+pub mod prelude;
 pub mod ranges;
 pub mod raw;
 pub mod runs;

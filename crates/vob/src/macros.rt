@@ -1,4 +1,4 @@
-//! The macro that makes a Vob of written bits.
+//! The macro that makes a Vob of written bits, under two names.
 
 /// A `Result<Vob<usize>, AllocError>`: of listed bits, as `vob!(alloc; true, false)`, of `n` times
 /// `v`, as `vob!(alloc; v; n)`, or of none, as `vob!(alloc;)`. The values come first, then memory.
@@ -12,5 +12,13 @@ macro_rules! vob {
     };
     ($alloc:expr; $($bit:expr),+ $(,)?) => {
         $crate::Vob::from_slice($alloc, &[$($bit),+])
+    };
+}
+
+/// `vob!` under a name that no module has. The [`prelude`](crate::prelude) exports it as `vob`.
+#[macro_export]
+macro_rules! bits {
+    ($($tokens:tt)*) => {
+        $crate::vob!($($tokens)*)
     };
 }

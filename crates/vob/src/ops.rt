@@ -21,7 +21,7 @@ use vob_store::mask::negate;
 use vob_store::same::same_blocks;
 
 impl<T: Block> Vob<T> {
-    /// Makes every bit `value`.
+    /// Sets every bit to `value`.
     ///
     /// ```
     /// let mut vob = vob::vob!(alloc; true, false)?;
@@ -51,8 +51,8 @@ impl<T: Block> Vob<T> {
         negate(&mut self.vec, self.len);
     }
 
-    /// Keeps the bits that both have, and answers whether a bit changed. The lengths have to be
-    /// equal; vob 4.0.1 panics where they aren't.
+    /// Keeps the bits that both have, and returns whether a bit changed. The lengths must be
+    /// equal; vob 4.0.1 panics if they aren't.
     ///
     /// ```
     /// let mut vob = vob::vob!(alloc; true, true)?;
@@ -71,8 +71,8 @@ impl<T: Block> Vob<T> {
         self.combine::<And>(other)
     }
 
-    /// Gets the bits that either has, and answers whether a bit changed. The lengths have to be
-    /// equal; vob 4.0.1 panics where they aren't.
+    /// Adds the bits that the other has, and returns whether a bit changed. The lengths must be
+    /// equal; vob 4.0.1 panics if they aren't.
     ///
     /// ```
     /// let mut vob = vob::vob!(alloc; true, false)?;
@@ -91,8 +91,8 @@ impl<T: Block> Vob<T> {
         self.combine::<Or>(other)
     }
 
-    /// Gets the bits that one has and the other hasn't, and answers whether a bit changed. The
-    /// lengths have to be equal; vob 4.0.1 panics where they aren't.
+    /// Keeps the bits that exactly one has, and returns whether a bit changed. The lengths must
+    /// be equal; vob 4.0.1 panics if they aren't.
     #[inline]
     pub fn xor(&mut self, other: &Vob<T>) -> bool
         requires { HaveSameLength self.old other.now }
@@ -105,8 +105,8 @@ impl<T: Block> Vob<T> {
         self.combine::<Xor>(other)
     }
 
-    /// Combines the other's bits into these, and answers whether a bit changed. Each block of the
-    /// other is read once.
+    /// Combines the other's bits into these, and returns whether a bit changed. Reads each block
+    /// of the other once.
     #[inline(always)]
     pub(crate) fn combine<C: CombineInto>(&mut self, other: &Vob<T>) -> bool
         requires same { HaveSameLength self.old other.now }
@@ -128,8 +128,8 @@ impl<'a, 'b, T: Block> BitAnd<&'b Vob<T>> for &'a Vob<T> {
     ghost bitand_gives = { λ vob other result. IfOk result
         (λ made. made.bits ≡ pointwise ◌&&◌ vob.now.bits other.now.bits) };
 
-    /// The bits that both have, in a new Vob, or a refusal for its memory. The lengths have to be
-    /// equal; vob 4.0.1 panics where they aren't, and ends the process where memory is refused.
+    /// Returns the bits that both have, in a new Vob. Fails if memory runs out, where vob 4.0.1
+    /// ends the process. The lengths must be equal; vob 4.0.1 panics if they aren't.
     fn bitand(self, other: &'b Vob<T>) -> Result<Vob<T>, AllocError> {
         let mut made = self.clone()?;
         made.and(other);
@@ -145,8 +145,8 @@ impl<'a, 'b, T: Block> BitOr<&'b Vob<T>> for &'a Vob<T> {
     ghost bitor_gives = { λ vob other result. IfOk result
         (λ made. made.bits ≡ pointwise ◌||◌ vob.now.bits other.now.bits) };
 
-    /// The bits that either has, in a new Vob, or a refusal for its memory. The lengths have to be
-    /// equal; vob 4.0.1 panics where they aren't, and ends the process where memory is refused.
+    /// Returns the bits that either has, in a new Vob. Fails if memory runs out, where vob 4.0.1
+    /// ends the process. The lengths must be equal; vob 4.0.1 panics if they aren't.
     fn bitor(self, other: &'b Vob<T>) -> Result<Vob<T>, AllocError> {
         let mut made = self.clone()?;
         made.or(other);
@@ -162,9 +162,8 @@ impl<'a, 'b, T: Block> BitXor<&'b Vob<T>> for &'a Vob<T> {
     ghost bitxor_gives = { λ vob other result. IfOk result
         (λ made. made.bits ≡ pointwise differ vob.now.bits other.now.bits) };
 
-    /// The bits that one has and the other hasn't, in a new Vob, or a refusal for its memory. The
-    /// lengths have to be equal; vob 4.0.1 panics where they aren't, and ends the process where
-    /// memory is refused.
+    /// Returns the bits that exactly one has, in a new Vob. Fails if memory runs out, where vob
+    /// 4.0.1 ends the process. The lengths must be equal; vob 4.0.1 panics if they aren't.
     fn bitxor(self, other: &'b Vob<T>) -> Result<Vob<T>, AllocError> {
         let mut made = self.clone()?;
         made.xor(other);
@@ -179,8 +178,8 @@ impl<'a, T: Block> BitAnd<&'a Vob<T>> for Vob<T> {
 
     ghost bitand_gives = { λ vob other result. BecomesPointwise ◌&&◌ vob other.now result };
 
-    /// The bits that both have, in the blocks of the left one. The lengths have to be equal; vob
-    /// 4.0.1 panics where they aren't.
+    /// Returns the bits that both have, in the blocks of the left one. The lengths must be equal;
+    /// vob 4.0.1 panics if they aren't.
     fn bitand(mut self, other: &'a Vob<T>) -> Vob<T> {
         self.and(other);
         self
@@ -192,7 +191,7 @@ impl<'a, T: Block> BitAndAssign<&'a Vob<T>> for Vob<T> {
 
     ghost bitand_assign_gives = { λ vob other after. BecomesPointwise ◌&&◌ vob other.now after };
 
-    /// As `and`, on equal lengths too, without its answer.
+    /// Does what `and` does, and returns nothing. The lengths must be equal.
     fn bitand_assign(&mut self, other: &'a Vob<T>) {
         self.and(other);
     }
@@ -205,8 +204,8 @@ impl<'a, T: Block> BitOr<&'a Vob<T>> for Vob<T> {
 
     ghost bitor_gives = { λ vob other result. BecomesPointwise ◌||◌ vob other.now result };
 
-    /// The bits that either has, in the blocks of the left one. The lengths have to be equal; vob
-    /// 4.0.1 panics where they aren't.
+    /// Returns the bits that either has, in the blocks of the left one. The lengths must be
+    /// equal; vob 4.0.1 panics if they aren't.
     fn bitor(mut self, other: &'a Vob<T>) -> Vob<T> {
         self.or(other);
         self
@@ -218,7 +217,7 @@ impl<'a, T: Block> BitOrAssign<&'a Vob<T>> for Vob<T> {
 
     ghost bitor_assign_gives = { λ vob other after. BecomesPointwise ◌||◌ vob other.now after };
 
-    /// As `or`, on equal lengths too, without its answer.
+    /// Does what `or` does, and returns nothing. The lengths must be equal.
     fn bitor_assign(&mut self, other: &'a Vob<T>) {
         self.or(other);
     }
@@ -231,8 +230,8 @@ impl<'a, T: Block> BitXor<&'a Vob<T>> for Vob<T> {
 
     ghost bitxor_gives = { λ vob other result. BecomesPointwise differ vob other.now result };
 
-    /// The bits that one has and the other hasn't, in the blocks of the left one. The lengths have
-    /// to be equal; vob 4.0.1 panics where they aren't.
+    /// Returns the bits that exactly one has, in the blocks of the left one. The lengths must be
+    /// equal; vob 4.0.1 panics if they aren't.
     fn bitxor(mut self, other: &'a Vob<T>) -> Vob<T> {
         self.xor(other);
         self
@@ -244,7 +243,7 @@ impl<'a, T: Block> BitXorAssign<&'a Vob<T>> for Vob<T> {
 
     ghost bitxor_assign_gives = { λ vob other after. BecomesPointwise differ vob other.now after };
 
-    /// As `xor`, on equal lengths too, without its answer.
+    /// Does what `xor` does, and returns nothing. The lengths must be equal.
     fn bitxor_assign(&mut self, other: &'a Vob<T>) {
         self.xor(other);
     }
@@ -255,7 +254,8 @@ impl<T: Block> PartialEq for Vob<T> {
 
     ghost laws = { Prim.search (comparing, rules) };
 
-    /// Whether both have the same bits, and so the same length. The capacities don't matter.
+    /// Returns whether both have the same bits, and so the same length. The capacities don't
+    /// matter.
     fn eq(&self, other: &Vob<T>) -> bool
         ensures answer { result ≡ same_bits self.now.bits other.now.bits }
         ensures lists { IsTrue result ↔ (self.now.bits ≡ other.now.bits) }
@@ -270,9 +270,9 @@ impl<T: Block> Eq for Vob<T> {
 }
 
 impl<T: Block> Hash for Vob<T> {
-    ghost hash_input = { λ vob. hash_words T.hash_input T.of_bits T.BITS vob.bits };
+    ghost hash_input = { λ vob. hash_words T.hash_input T.BitBlock.of_bits T.BITS vob.bits };
 
-    ghost respects_eq = { λ vob other same. ap (hash_words T.hash_input T.of_bits T.BITS)
+    ghost respects_eq = { λ vob other same. ap (hash_words T.hash_input T.BitBlock.of_bits T.BITS)
         ((pointwise_decides booleans_Decides vob.bits other.bits).0 same) };
 
     /// Feeds the blocks in order, and not the length: `0` and `00` feed a hasher the same.

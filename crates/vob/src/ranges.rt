@@ -1,16 +1,17 @@
 //! The bits of a range made one value, or negated, in place. vob 4.0.1 has none of these calls.
-ghost use Rattle.std.specs.Prelude.{◌≡◌, ◌≢◌, ◌↔◌, ℕ, ◌-◌, not, map, take, drop, length, replicate, IsTrue};
-ghost use Rattle.vob.specs.Ranges.{replaced, IsChangedWithin, IsRangeOf};
+ghost use Rattle.std.specs.Prelude.{◌≡◌, ◌≢◌, ◌↔◌, ℕ, ◌-◌, false, not, map, take, drop, length, replicate, IsTrue};
+ghost use Rattle.vob_walk.specs.Matches.{ForSomeRange, IsRangeOf};
+ghost use Rattle.vob.specs.Ranges.{replaced, IsChangedWithin};
 
-use crate::bulk::cut_range;
 use crate::vob::Vob;
 use std::ops::RangeBounds;
 use vob_block::Block;
 use vob_store::range::{Negate, Set, Unset, change_range};
+use vob_walk::range::cut_range;
 
 impl<T: Block> Vob<T> {
-    /// Makes each bit of the range `value`, and answers whether a bit changed. The range is cut at
-    /// the length, and one whose end is before its start is empty.
+    /// Sets each bit of the range to `value`, and returns whether a bit changed. The range is cut
+    /// at the length. A range that ends before it starts is empty.
     ///
     /// ```
     /// let mut vob = vob::vob!(alloc; false, false, false)?;
@@ -24,7 +25,11 @@ impl<T: Block> Vob<T> {
         ensures bits { R.has_bounds range → (start stop : ℕ)
             → IsRangeOf (R.start_bound range) (R.end_bound range) (length self.old.bits) start stop
             → self.new.bits ≡ replaced start stop (replicate (stop - start) value) self.old.bits }
+        ensures some { ForSomeRange (length self.old.bits) (λ low high.
+            IsChangedWithin (λ _. value) low high self.old.bits self.new.bits) }
+        ensures len { length self.new.bits ≡ length self.old.bits }
         ensures changed { IsTrue result ↔ (self.new.bits ≢ self.old.bits) }
+        ensures same { result ≡ false → self.new.bits ≡ self.old.bits }
         ensures capacity { self.new.capacity ≡ self.old.capacity }
     {
         let (start, stop) = cut_range(&range, self.len);
@@ -35,8 +40,8 @@ impl<T: Block> Vob<T> {
         }
     }
 
-    /// Negates each bit of the range. The range is cut at the length, and one whose end is before
-    /// its start is empty.
+    /// Negates each bit of the range. The range is cut at the length. A range that ends before it
+    /// starts is empty.
     ///
     /// ```
     /// let mut vob = vob::vob!(alloc; true, false, true)?;
@@ -50,6 +55,9 @@ impl<T: Block> Vob<T> {
             → IsRangeOf (R.start_bound range) (R.end_bound range) (length self.old.bits) start stop
             → self.new.bits ≡ replaced start stop
             (map not (take (stop - start) (drop start self.old.bits))) self.old.bits }
+        ensures some { ForSomeRange (length self.old.bits) (λ low high.
+            IsChangedWithin not low high self.old.bits self.new.bits) }
+        ensures len { length self.new.bits ≡ length self.old.bits }
         ensures capacity { self.new.capacity ≡ self.old.capacity }
     {
         let (start, stop) = cut_range(&range, self.len);

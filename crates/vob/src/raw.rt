@@ -1,6 +1,7 @@
 //! Raw storage: a length and blocks without a promise, and the tested way back to a Vob.
 ghost use Rattle.std.specs.Prelude.{◌≡◌, ◌↔◌, map, length, IsTrue, IsOk, IfOk, IfErr};
 ghost use Rattle.vob_block.specs.Packing.{need, packing, unpacking, IsCanonical};
+ghost use Rattle.vob.specs.Serialized.{WritesBits};
 
 use crate::vob::Vob;
 use serde::{Described, Deserialize, Deserializer, Format, Serialize, Serializer};
@@ -21,8 +22,8 @@ fn vob_of_parts<T: Block>(len: usize, vec: Vec<T>) -> Result<Vob<T>, Vec<T>>
     Ok(Vob { len, vec })
 }
 
-/// A length in bits and some blocks, which needn't fit one another. vob 4.0.1 changes these in the
-/// Vob itself, and tests nothing.
+/// A length in bits and some blocks, which needn't fit one another. vob 4.0.1 changes these in
+/// the Vob itself, and tests nothing.
 #[derive(Debug, Drop)]
 pub struct RawVob<T> {
     len: usize,
@@ -42,7 +43,7 @@ impl<T: Block> RawVob<T> {
     ghost use Rattle.vob.specs.contracts.raw.RawVob.{the_row};
     ghost use Rattle.vob.specs.RawLends.{blocks_row};
 
-    /// A length and some blocks, as they are.
+    /// Takes a length and some blocks as they are.
     pub fn from_parts(len: usize, vec: Vec<T>) -> RawVob<T>
         ensures len { result.len ≡ len }
         ensures blocks { result.blocks ≡ vec.items }
@@ -50,21 +51,22 @@ impl<T: Block> RawVob<T> {
         RawVob { len, vec }
     }
 
-    /// The length in bits.
+    /// Returns the length in bits.
     pub fn len(&self) -> usize
         ensures { result ≡ self.now.len }
     {
         self.len
     }
 
-    /// The blocks.
+    /// Returns the blocks.
     pub fn get_storage(&self) -> &[T]
         ensures { result.now ≡ self.now.blocks }
     {
         self.vec.as_slice()
     }
 
-    /// The blocks, to be changed. The length stays. vob 4.0.1 has this as an unsafe call on the Vob.
+    /// Returns the blocks, to be changed. The length stays. vob 4.0.1 has this as an unsafe call
+    /// on the Vob.
     pub fn get_storage_mut(&mut self) -> &mut Vec<T>
         ensures blocks { result.now.items ≡ self.old.blocks }
         ensures* lends { sem 𝓛 (Lends (the_row T.row) (blocks_row T.row) self.entry result
@@ -81,15 +83,15 @@ impl<T: Block> RawVob<T> {
         self.len = len;
     }
 
-    /// Whether there are as many blocks as the length needs.
+    /// Returns whether there are as many blocks as the length needs.
     pub fn fits(&self) -> bool
         ensures { IsTrue result ↔ (length self.now.blocks ≡ need self.now.len T.BITS) }
     {
         self.vec.len() == self.len.div_ceil(T::BITS)
     }
 
-    /// Makes the unused bits of the last block 0. vob 4.0.1 panics where the blocks don't fit, or
-    /// masks another one.
+    /// Clears the unused bits of the last block. The blocks must fit the length; vob 4.0.1 panics
+    /// if they don't, or masks another block.
     pub fn mask_last_block(&mut self)
         requires fits { length self.old.blocks ≡ need self.old.len T.BITS }
         ensures len { self.new.len ≡ self.old.len }
@@ -99,8 +101,8 @@ impl<T: Block> RawVob<T> {
         mask(&mut self.vec, self.len);
     }
 
-    /// The Vob with these bits, where the blocks fit and their unused bits are 0; otherwise this
-    /// value again. Looks at the last block alone, and takes no memory.
+    /// Returns the Vob with these bits if the blocks fit and their unused bits are 0, and else
+    /// this value again. Looks at the last block alone, and takes no memory.
     pub fn into_vob(self) -> Result<Vob<T>, RawVob<T>>
         ensures taken { IsOk result ↔ IsCanonical self.len (map T.number self.blocks) T.BITS }
         ensures bits { IfOk result (λ vob.
@@ -115,7 +117,7 @@ impl<T: Block> RawVob<T> {
 }
 
 impl<T: Block> Vob<T> {
-    /// The length and the blocks, without a promise from here on. Takes no memory.
+    /// Returns the length and the blocks, with no promise from here on. Takes no memory.
     pub fn into_raw(self) -> RawVob<T>
         ensures len { result.len ≡ length self.bits }
         ensures blocks { map T.number result.blocks ≡ packing self.bits T.BITS }
@@ -127,10 +129,10 @@ impl<T: Block> Vob<T> {
     }
 }
 
-/// A length in bits and some blocks, in the form in which a Vob is written and read too. It is for
-/// a program that wants refused storage back: `into_vob` hands that back, where reading a Vob drops
-/// it with an error. A record that was read promises nothing; vob 4.0.1 reads a Vob with any length
-/// and any blocks.
+/// A length in bits and some blocks, in the form in which serde writes a Vob. It is for a program
+/// that wants refused storage back: `into_vob` returns it, and reading a Vob drops it with an
+/// error. A record that was read promises nothing. vob 4.0.1 reads a Vob with any length and any
+/// blocks.
 #[derive(Debug, Drop, Serialize, Deserialize)]
 pub struct VobRecord<T = usize> {
     /// The length in bits.
@@ -140,8 +142,8 @@ pub struct VobRecord<T = usize> {
 }
 
 impl VobRecord {
-    /// The Vob with these bits, where the blocks fit and their unused bits are 0; otherwise this
-    /// record again. Looks at the last block alone, and takes no memory.
+    /// Returns the Vob with these bits if the blocks fit and their unused bits are 0, and else
+    /// this record again. Looks at the last block alone, and takes no memory.
     pub fn into_vob(self) -> Result<Vob<usize>, VobRecord>
         ensures taken { IsOk result ↔ IsCanonical self.len self.vec.items 64 }
         ensures bits { IfOk result (λ vob. vob.bits ≡ unpacking self.len self.vec.items 64) }
@@ -155,7 +157,7 @@ impl VobRecord {
 }
 
 impl Vob<usize> {
-    /// The length and the blocks, to be written. Takes no memory.
+    /// Returns the length and the blocks, to be written. Takes no memory.
     pub fn into_record(self) -> VobRecord
         ensures len { result.len ≡ length self.bits }
         ensures blocks { result.vec.items ≡ packing self.bits 64 }
@@ -167,29 +169,26 @@ impl Vob<usize> {
     }
 }
 
-/// What is written of a Vob that stays.
-#[derive(Drop, Serialize)]
-struct Lent<'a, T> {
-    len: usize,
-    vec: &'a [T],
+impl<T: Block + Described> Described for Vob<T> {
+    ghost writes = { λ vob. WritesBits T.writes T.number T.BITS vob.bits };
 }
-
-impl<T: Block> Described for Vob<T> {}
 
 impl<T: Block + Serialize> Serialize for Vob<T> {
     /// Writes the length in bits and the blocks, as a `VobRecord` is written.
     fn serialize<S: Serializer>(&self, out: &mut S) -> Result<(), S::Error> {
-        Lent {
-            len: self.len,
-            vec: self.vec.as_slice(),
-        }
-        .serialize(out)
+        out.begin_map(Some(2))?;
+        out.key("len")?;
+        self.len.serialize(out)?;
+        out.key("vec")?;
+        self.vec.serialize(out)?;
+        out.end_map()?;
+        Ok(())
     }
 }
 
 impl<'de, T: Block + Deserialize<'de>> Deserialize<'de> for Vob<T> {
-    /// Reads what `serialize` writes. Where the blocks don't fit the length, or an unused bit is 1,
-    /// it is an error of the format.
+    /// Reads what `serialize` writes. It is an error of the format if the blocks don't fit the
+    /// length, or an unused bit is 1.
     fn deserialize<F: Format>(
         alloc: Global,
         from: &mut Deserializer<'de, '_, F>,

@@ -1,8 +1,9 @@
 //! The runs of a Vob, which are its longest stretches of set bits. vob 4.0.1 has no call like it.
-ghost use Rattle.std.specs.Prelude.{◌≡◌, ◌-◌, length};
-ghost use Rattle.std.specs.Iterator.{at_most};
+ghost use Rattle.std.specs.Prelude.{◌≡◌, ◌≤◌, length};
+ghost use Rattle.std.specs.Iterator.{item_count};
+ghost use Rattle.std.specs.Iterator.Runs.{YieldsInOrder};
 ghost use Rattle.vob_block.specs.Packing.{need};
-ghost use Rattle.vob.specs.Runs.{GivesRun};
+ghost use Rattle.vob.specs.Runs.{GivesRun, runs_of};
 
 use crate::vob::Vob;
 use std::iter::FusedIterator;
@@ -11,8 +12,8 @@ use std::ops::Range;
 use vob_block::{Block, Blocks};
 use vob_walk::{block_in_hand, next_in_hand};
 
-/// The runs of a Vob in order, seen as its bits, the index below which each run was given, and how
-/// many blocks were read and how many are unread.
+/// The runs of a Vob in order, seen as the list of those still to come, the bits, the index below
+/// which each run was given, and how many blocks were read and how many are unread.
 #[derive(Drop)]
 pub struct Runs<'a, T: Block> {
     blocks: Blocks<'a, T>,
@@ -28,11 +29,12 @@ pub struct Runs<'a, T: Block> {
 impl<'a, T: Block> Model for Runs<'a, T> {
     ghost use Rattle.std.specs.Prelude.{map};
     ghost use Rattle.vob_block.specs.Packing.{unpacking};
-    ghost use Rattle.vob.specs.Runs.{RunWalk, IsOnRuns, unread_from};
+    ghost use Rattle.vob.specs.Runs.{RunWalk, IsOnRuns, runs_from, unread_from};
 
     ghost Value = { RunWalk };
 
     ghost view = { λ runs. record {
+      rest = runs_from (unpacking runs.len (map T.number runs.blocks.items) T.BITS) runs.at;
       bits = unpacking runs.len (map T.number runs.blocks.items) T.BITS;
       at = runs.at;
       reads = runs.blocks.reads;
@@ -44,8 +46,8 @@ impl<'a, T: Block> Model for Runs<'a, T> {
 }
 
 impl<T: Block> Vob<T> {
-    /// The runs of set bits, the first one first: each as the range of its indices, and as long as
-    /// it can be. Where no bit is set there is none.
+    /// Returns a walk over the runs of set bits, in order: each as the range of its indices, as
+    /// long as it can be.
     ///
     /// ```
     /// let vob = vob::vob!(alloc; true, false, true, true)?;
@@ -55,6 +57,9 @@ impl<T: Block> Vob<T> {
     /// assert_eq!(rt; runs.next(), None);
     /// ```
     pub fn runs(&self) -> Runs<'_, T>
+        ensures rest { result.rest ≡ runs_of self.now.bits }
+        ensures longest { length result.rest ≤ usize.MAX }
+        ensures runs { YieldsInOrder GivesRun (λ walk. walk.rest) }
         ensures bits { result.bits ≡ self.now.bits }
         ensures start { result.at ≡ 0 }
         ensures reads { result.reads ≡ 0 }
@@ -75,8 +80,7 @@ impl<'a, T: Block> Iterator for Runs<'a, T> {
 
     ghost next_gives = { GivesRun };
 
-    // Each run has an index of its own, so there are no more than indices are left.
-    ghost remaining = { λ walk. at_most (length walk.bits - walk.at) };
+    ghost remaining = { item_count (λ walk. walk.rest) };
 
     #[inline(always)]
     fn next(&mut self) -> Option<Range<usize>> {

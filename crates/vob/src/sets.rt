@@ -1,13 +1,13 @@
 //! A Vob as a set of indices, those of its set bits: whether there are some, the one that is next
 //! to another, how many stand below one, the one below which so many stand, and two sets of one
 //! length. vob 4.0.1 has none of these calls.
-ghost use Rattle.std.specs.Prelude.{◌≡◌, ◌≢◌, ◌↔◌, ℕ, ◌<◌, ◌/◌, ◌*◌, ◌&&◌, ◌||◌, true, false, take};
-ghost use Rattle.std.specs.Prelude.{length, replicate, slice_index_or, All, Err, IfOk, IsTrue};
+ghost use Rattle.std.specs.Prelude.{◌≡◌, ◌≢◌, ◌↔◌, ℕ, ◌<◌, ◌≤◌, ◌/◌, ◌*◌, ◌&&◌, ◌||◌, true, false, take};
+ghost use Rattle.std.specs.Prelude.{length, replicate, slice_index_or, All, Err, IfOk, IfSome, IsTrue};
 ghost use Rattle.std.specs.Prelude.{MatchOption, None};
 ghost use Rattle.vob_block.specs.Pointwise.{differ, pointwise, without};
 ghost use Rattle.vob.specs.Bits.{AreCombined, IsWritten, LosesBits, count_of};
 ghost use Rattle.vob.specs.Indices.{HasSet, IsFirstOutside, IsMadeOf};
-ghost use Rattle.vob.specs.Sets.{AreDisjoint, HasBit, HasOnly, IsIndexOfRank, IsNext, IsPrevious, IsSubset};
+ghost use Rattle.vob.specs.Sets.{AreDisjoint, HasBit, HasOnly, HasOther, HasShared, IsBit, IsIndexOfRank, IsNext, IsPrevious, IsSubset};
 ghost use Rattle.vob.specs.Vob.{HaveSameLength};
 
 use crate::error::IndicesError;
@@ -18,9 +18,9 @@ use vob_store::combined::{And, Combine, Or, Without, Xor, count_combined, has_no
 use vob_walk::{count_ones_in, index_of_rank, next_index, previous_index};
 
 impl<T: Block> Vob<T> {
-    /// The Vob of `len` bits of which those at the given indices are set. An index may stand among
-    /// them more than once. The first one that is at or past `len` is refused, whether or not there
-    /// is memory for the bits, which is asked for first. Length 0 takes no memory.
+    /// Makes the Vob of `len` bits of which those at the given indices are set. An index may
+    /// stand among them more than once. Fails if an index is at or past `len`, and names the
+    /// first one, whether or not there is memory. Fails if memory runs out; length 0 takes none.
     ///
     /// ```
     /// let vob = vob::Vob::<u8>::from_indices(alloc, 3, &[2, 0, 2])?;
@@ -103,111 +103,127 @@ impl<T: Block> Vob<T> {
         inside
     }
 
-    /// Whether some bit is set. Where there are no bits, none is.
+    /// Returns whether some bit is set; false if there are no bits.
     pub fn any(&self) -> bool
         ensures answer { IsTrue result ↔ HasBit true self.now.bits }
         ensures list { IsTrue result ↔ (self.now.bits ≢ replicate (length self.now.bits) false) }
+        ensures unset { result ≡ false → HasOnly false self.now.bits }
     {
         self.first_set().is_some()
     }
 
-    /// Whether every bit is set. Where there are no bits, every one is.
+    /// Returns whether every bit is set; true if there are no bits.
     pub fn all(&self) -> bool
         ensures answer { IsTrue result ↔ HasOnly true self.now.bits }
         ensures list { IsTrue result ↔ (self.now.bits ≡ replicate (length self.now.bits) true) }
+        ensures unset { result ≡ false → HasBit false self.now.bits }
     {
         self.first_unset().is_none()
     }
 
-    /// Whether no bit is set.
+    /// Returns whether no bit is set.
     pub fn none(&self) -> bool
         ensures answer { IsTrue result ↔ HasOnly false self.now.bits }
         ensures list { IsTrue result ↔ (self.now.bits ≡ replicate (length self.now.bits) false) }
+        ensures set { result ≡ false → HasBit true self.now.bits }
     {
         self.first_set().is_none()
     }
 
-    /// The least index of a set bit, or `None` where no bit is set.
+    /// Returns the index of the first set bit, or `None` if no bit is set.
     pub fn first_set(&self) -> Option<usize>
-        ensures { IsNext true self.now.bits 0 result }
+        ensures next { IsNext true self.now.bits 0 result }
+        ensures inside { IfSome result (λ i. IsBit true self.now.bits i) }
     {
         self.next_set(0)
     }
 
-    /// The greatest index of a set bit, or `None` where no bit is set.
+    /// Returns the index of the last set bit, or `None` if no bit is set.
     pub fn last_set(&self) -> Option<usize>
-        ensures { IsPrevious true self.now.bits (length self.now.bits) result }
+        ensures previous { IsPrevious true self.now.bits (length self.now.bits) result }
+        ensures inside { IfSome result (λ i. IsBit true self.now.bits i) }
     {
         self.previous_set(self.len())
     }
 
-    /// The least index of an unset bit, or `None` where every bit is set.
+    /// Returns the index of the first unset bit, or `None` if every bit is set.
     pub fn first_unset(&self) -> Option<usize>
-        ensures { IsNext false self.now.bits 0 result }
+        ensures next { IsNext false self.now.bits 0 result }
+        ensures inside { IfSome result (λ i. IsBit false self.now.bits i) }
     {
         self.next_unset(0)
     }
 
-    /// The greatest index of an unset bit, or `None` where every bit is set.
+    /// Returns the index of the last unset bit, or `None` if every bit is set.
     pub fn last_unset(&self) -> Option<usize>
-        ensures { IsPrevious false self.now.bits (length self.now.bits) result }
+        ensures previous { IsPrevious false self.now.bits (length self.now.bits) result }
+        ensures inside { IfSome result (λ i. IsBit false self.now.bits i) }
     {
         self.previous_unset(self.len())
     }
 
-    /// The least index of a set bit that is at or above `from`, which may be past the end.
+    /// Returns the index of the first set bit at or above `from`, which may be past the end.
     #[inline(always)]
     pub fn next_set(&self, from: usize) -> Option<usize>
-        ensures { IsNext true self.now.bits from result }
+        ensures next { IsNext true self.now.bits from result }
+        ensures inside { IfSome result (λ i. IsBit true self.now.bits i) }
+        ensures above { IfSome result (λ i. (from ≤ i) × (i < usize.MAX)) }
     {
         next_index(&mut self.blocks(), true, self.len(), from)
     }
 
-    /// The least index of an unset bit that is at or above `from`. From the length on there is
+    /// Returns the index of the first unset bit at or above `from`. From the length on there is
     /// none.
     #[inline(always)]
     pub fn next_unset(&self, from: usize) -> Option<usize>
-        ensures { IsNext false self.now.bits from result }
+        ensures next { IsNext false self.now.bits from result }
+        ensures inside { IfSome result (λ i. IsBit false self.now.bits i) }
+        ensures above { IfSome result (λ i. (from ≤ i) × (i < usize.MAX)) }
     {
         next_index(&mut self.blocks(), false, self.len(), from)
     }
 
-    /// The greatest index of a set bit that is at or below `from`, which may be past the end.
+    /// Returns the index of the last set bit at or below `from`, which may be past the end.
     #[inline(always)]
     pub fn previous_set(&self, from: usize) -> Option<usize>
-        ensures { IsPrevious true self.now.bits from result }
+        ensures previous { IsPrevious true self.now.bits from result }
+        ensures inside { IfSome result (λ i. IsBit true self.now.bits i) }
+        ensures below { IfSome result (λ i. i ≤ from) }
     {
         previous_index(&mut self.blocks(), true, self.len(), from)
     }
 
-    /// The greatest index of an unset bit that is at or below `from`. From the length on there is
+    /// Returns the index of the last unset bit at or below `from`. From the length on there is
     /// none.
     #[inline(always)]
     pub fn previous_unset(&self, from: usize) -> Option<usize>
-        ensures { IsPrevious false self.now.bits from result }
+        ensures previous { IsPrevious false self.now.bits from result }
+        ensures inside { IfSome result (λ i. IsBit false self.now.bits i) }
+        ensures below { IfSome result (λ i. i ≤ from) }
     {
         previous_index(&mut self.blocks(), false, self.len(), from)
     }
 
-    /// How many set bits stand below `index`: all of them where it is past the end.
+    /// Counts the set bits below `index`: all of them if it is past the end.
     pub fn rank(&self, index: usize) -> usize
         ensures { result ≡ count_of true (take index self.now.bits) }
     {
         count_ones_in(&mut self.blocks(), 0, index.min(self.len()))
     }
 
-    /// The index of the set bit below which `k` set bits stand: of the first one where `k` is 0.
-    /// `None` where there are at most `k` set bits.
+    /// Returns the index of the `k`-th set bit, counting from 0, or `None` if there are at most
+    /// `k` set bits.
     pub fn select(&self, k: usize) -> Option<usize>
-        ensures { IsIndexOfRank self.now.bits k result }
+        ensures rank { IsIndexOfRank self.now.bits k result }
+        ensures inside { IfSome result (λ i. IsBit true self.now.bits i) }
     {
         // The length is in the range of its type: a proof knows it from this read.
         let _len = self.len;
         index_of_rank(&mut self.blocks(), k)
     }
 
-    /// Keeps the bits that the other hasn't, and answers whether a bit changed. The lengths have to
-    /// be equal. Each block of the other is read once.
+    /// Removes the bits that the other has, and returns whether a bit changed. The lengths must
+    /// be equal. Reads each block of the other once.
     #[inline]
     pub fn and_not(&mut self, other: &Vob<T>) -> bool
         requires { HaveSameLength self.old other.now }
@@ -220,37 +236,40 @@ impl<T: Block> Vob<T> {
         self.combine::<Without>(other)
     }
 
-    /// Whether the other has each set bit too. The lengths have to be equal.
+    /// Returns whether the other has each set bit too. The lengths must be equal.
     pub fn is_subset(&self, other: &Vob<T>) -> bool
         requires { HaveSameLength self.now other.now }
         ensures answer { IsTrue result ↔ IsSubset self.now.bits other.now.bits }
         ensures list { IsTrue result ↔ (pointwise without self.now.bits other.now.bits
             ≡ replicate (length self.now.bits) false) }
+        ensures outside { result ≡ false → HasOther self.now.bits other.now.bits }
     {
         has_none::<Without, T>(self.vec.as_slice(), &mut other.blocks())
     }
 
-    /// Whether each set bit of the other is set here too. The lengths have to be equal.
+    /// Returns whether each set bit of the other is set here too. The lengths must be equal.
     pub fn is_superset(&self, other: &Vob<T>) -> bool
         requires { HaveSameLength self.now other.now }
         ensures answer { IsTrue result ↔ IsSubset other.now.bits self.now.bits }
         ensures list { IsTrue result ↔ (pointwise without other.now.bits self.now.bits
             ≡ replicate (length other.now.bits) false) }
+        ensures outside { result ≡ false → HasOther other.now.bits self.now.bits }
     {
         other.is_subset(self)
     }
 
-    /// Whether no bit is set in both. The lengths have to be equal.
+    /// Returns whether no bit is set in both. The lengths must be equal.
     pub fn is_disjoint(&self, other: &Vob<T>) -> bool
         requires { HaveSameLength self.now other.now }
         ensures answer { IsTrue result ↔ AreDisjoint self.now.bits other.now.bits }
         ensures list { IsTrue result ↔ (pointwise ◌&&◌ self.now.bits other.now.bits
             ≡ replicate (length self.now.bits) false) }
+        ensures shared { result ≡ false → HasShared self.now.bits other.now.bits }
     {
         has_none::<And, T>(self.vec.as_slice(), &mut other.blocks())
     }
 
-    /// How many bits are set in both. The lengths have to be equal.
+    /// Counts the bits that are set in both. The lengths must be equal.
     pub fn count_and(&self, other: &Vob<T>) -> usize
         requires { HaveSameLength self.now other.now }
         ensures { result ≡ count_of true (pointwise ◌&&◌ self.now.bits other.now.bits) }
@@ -258,7 +277,7 @@ impl<T: Block> Vob<T> {
         self.combined_count::<And>(other)
     }
 
-    /// How many bits are set in either. The lengths have to be equal.
+    /// Counts the bits that are set in either. The lengths must be equal.
     pub fn count_or(&self, other: &Vob<T>) -> usize
         requires { HaveSameLength self.now other.now }
         ensures { result ≡ count_of true (pointwise ◌||◌ self.now.bits other.now.bits) }
@@ -266,7 +285,7 @@ impl<T: Block> Vob<T> {
         self.combined_count::<Or>(other)
     }
 
-    /// How many bits are set here and not in the other. The lengths have to be equal.
+    /// Counts the bits that are set here and not in the other. The lengths must be equal.
     pub fn count_and_not(&self, other: &Vob<T>) -> usize
         requires { HaveSameLength self.now other.now }
         ensures { result ≡ count_of true (pointwise without self.now.bits other.now.bits) }
@@ -274,7 +293,7 @@ impl<T: Block> Vob<T> {
         self.combined_count::<Without>(other)
     }
 
-    /// How many bits are set in one of them alone. The lengths have to be equal.
+    /// Counts the bits that are set in exactly one. The lengths must be equal.
     pub fn count_xor(&self, other: &Vob<T>) -> usize
         requires { HaveSameLength self.now other.now }
         ensures { result ≡ count_of true (pointwise differ self.now.bits other.now.bits) }
@@ -282,7 +301,7 @@ impl<T: Block> Vob<T> {
         self.combined_count::<Xor>(other)
     }
 
-    /// How many bits are set in both, combined.
+    /// Counts the set bits of the combination.
     fn combined_count<C: Combine>(&self, other: &Vob<T>) -> usize
         requires same { HaveSameLength self.now other.now }
         requires none { C.of_bits false false ≡ false }

@@ -3,26 +3,39 @@
 ghost use Rattle.std.specs.Prelude.{◌≡◌, ◌≤◌, ◌↔◌, ℕ, ◌-◌, ◌*◌, ◌++◌, [], map, length, replicate, false, All, Some, None, Err, IsTrue, IsOk, IfOk};
 ghost use Rattle.vob_block.specs.Bytes.{bytes_list};
 ghost use Rattle.vob_block.specs.Packing.{need};
-ghost use Rattle.vob.specs.Text.{digit, IsDigit, IsFirstBad};
+ghost use Rattle.vob_block.specs.Digits.{digit, IsDigit, IsFirstBad};
+ghost use Rattle.vob.specs.Texts.{debug_text, digits_error_text};
 ghost use Rattle.vob.specs.declared.text.DigitsError.TheVariants.{BadDigit, Memory};
 
 use crate::vob::Vob;
 use std::alloc::{AllocError, Global};
+use std::error::Error;
 use std::fmt;
-use thiserror::Error;
 use vob_block::Block;
 use vob_store::bytes::block_bytes;
+use vob_store::text::write_digits;
 
 /// Why a text wasn't read as bits.
-#[derive(Clone, Copy, Debug, PartialEq, Eq, Error)]
+#[derive(Clone, Copy, Debug, PartialEq, Eq)]
 pub enum DigitsError {
     /// The byte at this index is neither `0` nor `1`, and all before it are.
-    #[error("neither 0 nor 1 at index {0}")]
     BadDigit(usize),
-    /// There was no memory for the blocks.
-    #[error("out of memory")]
+    /// Memory ran out.
     Memory,
 }
+
+impl fmt::Display for DigitsError {
+    ghost output = { λ error. Some (digits_error_text error) };
+
+    fn fmt<W: fmt::Write>(&self, f: &mut fmt::Formatter<W>) -> fmt::Result {
+        match self {
+            DigitsError::BadDigit(index) => write!(f, "neither 0 nor 1 at index {index}"),
+            DigitsError::Memory => f.write_str("out of memory"),
+        }
+    }
+}
+
+impl Error for DigitsError {}
 
 impl From<AllocError> for DigitsError {
     ghost from_gives = { λ _ refusal. refusal ≡ Memory };
@@ -33,12 +46,23 @@ impl From<AllocError> for DigitsError {
 }
 
 impl<T: Block> fmt::Display for Vob<T> {
-    /// A digit for each bit, and nothing else: `from_digits` reads it back.
+    ghost output = { λ vob. Some (map digit vob.bits) };
+
+    /// Writes a digit for each bit, that of index 0 first, and nothing else. `from_digits` reads
+    /// it back.
     fn fmt<W: fmt::Write>(&self, f: &mut fmt::Formatter<W>) -> fmt::Result {
-        for bit in self {
-            f.write_str(if bit { "1" } else { "0" })?;
-        }
-        Ok(())
+        write_digits(self.vec.as_slice(), self.len, f)
+    }
+}
+
+impl<T: Block> fmt::Debug for Vob<T> {
+    ghost debug_output = { λ vob. Some (debug_text vob.bits) };
+
+    /// Writes `Vob[`, a digit for each bit, that of index 0 first, and `]`, as vob 4.0.1 does.
+    fn fmt<W: fmt::Write>(&self, f: &mut fmt::Formatter<W>) -> fmt::Result {
+        f.write_str("Vob[")?;
+        write_digits(self.vec.as_slice(), self.len, f)?;
+        f.write_str("]")
     }
 }
 
@@ -76,8 +100,9 @@ fn push_digits<T: Block>(vob: &mut Vob<T>, digits: &[u8])
 }
 
 impl<T: Block> Vob<T> {
-    /// The bits of some digits, that of index 0 first. Any other byte is refused by its index. No
-    /// digits take no memory.
+    /// Makes a Vob of the bits of some digits, that of index 0 first. Fails at the first byte
+    /// that is neither `0` nor `1`, and names its index. Fails if memory runs out; no digits take
+    /// none.
     ///
     /// ```
     /// let vob: Vob = Vob::from_digits(alloc, "101")?;
@@ -99,9 +124,9 @@ impl<T: Block> Vob<T> {
 }
 
 impl Vob<usize> {
-    /// The bytes of the bits, the most significant bit of each byte first: as many as the bits need,
-    /// the unused bits of the last one 0. `from_bytes` gives the bits back, and those behind them. No
-    /// bits take no memory.
+    /// Returns the bytes of the bits, the most significant bit of each byte first, with the
+    /// unused bits of the last byte 0. `from_bytes` reads them back, unused bits too. Fails if
+    /// memory runs out; no bits take none.
     ///
     /// ```
     /// let vob = vob::vob!(alloc; true, false, true)?;

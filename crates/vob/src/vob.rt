@@ -1,6 +1,6 @@
 //! The vector of bits, seen by contracts as its list of bits and its capacity.
-ghost use Rattle.std.specs.Prelude.{◌≡◌, ◌↔◌, ◌+◌, ◌<◌, ◌≤◌, [], ◌∷◌, ◌++◌, map, length, slice_get, IsOk, IfOk, IfErr, OnOk, OnErr, Err, ◌≢◌, ◌==◌, ◌-◌};
-ghost use Rattle.std.specs.Prelude.{take, slice_set, IsTrue, Some, vec_capacity, ◌^◌, List, Bool, replicate, ℕ, ◌⊎◌, ◌*◌, ◌/◌, ◌%◌};
+ghost use Rattle.std.specs.Prelude.{◌≡◌, ◌↔◌, ◌+◌, ◌<◌, ◌≤◌, [], ◌∷◌, ◌++◌, map, length, slice_get, IsOk, IsSome, IfOk, IfSome, IfErr, OnOk, OnErr, Err, ◌≢◌, ◌==◌, ◌-◌};
+ghost use Rattle.std.specs.Prelude.{take, slice_set, false, IsTrue, Some, vec_capacity, ◌^◌, List, Bool, replicate, ℕ, ◌⊎◌, ◌*◌, ◌/◌, ◌%◌};
 ghost use Rattle.vob_block.specs.Packing.{item, packing, unpacking, IsCanonical, Stores};
 ghost use Rattle.vob_block.specs.Places.{place};
 ghost use Rattle.vob_block.specs.Bytes.{bytes_list};
@@ -9,13 +9,11 @@ ghost use Rattle.std.specs.Iterator.SizeHint.{IsWithinCount};
 ghost use Rattle.vob_block.specs.Pointwise.{differ};
 ghost use Rattle.vob.specs.Bits.{IsWritten};
 ghost use Rattle.vob.specs.Extending.{GivesAll, RefusesItems, RefusesMore};
-ghost use Rattle.vob.specs.Packs.{MayRefuseItems, Packs};
 ghost use Rattle.vob.specs.Vob.{HasRoomFor};
 
 pub use crate::error::VobError;
 use crate::iter::StorageIter;
 use std::alloc::{AllocError, Global};
-use std::fmt;
 use std::marker::Model;
 use std::ops::Index;
 use vob_block::{Block, Blocks};
@@ -51,8 +49,8 @@ impl<T: Block> Model for Vob<T> {
 }
 
 impl<T: Block> Vob<T> {
-    /// An empty Vob with room for `capacity` bits. Capacity 0 takes no memory; refused memory is an
-    /// `AllocError`, where vob 4.0.1 ends the process.
+    /// Makes an empty Vob with room for `capacity` bits. Fails if memory runs out; capacity 0
+    /// takes none. vob 4.0.1 ends the process there.
     pub fn new_with_storage_type(alloc: Global, capacity: usize) -> Result<Vob<T>, AllocError>
         ensures empty { IfOk result (λ vob. vob.bits ≡ []) }
         ensures room { IfOk result (λ vob. capacity ≤ vob.capacity) }
@@ -62,14 +60,16 @@ impl<T: Block> Vob<T> {
         Ok(Vob { len: 0, vec })
     }
 
-    /// `len` times `value`. Length 0 takes no memory; refused memory is an `AllocError`, where vob
-    /// 4.0.1 ends the process.
+    /// Makes a Vob of `len` times `value`. Fails if memory runs out; length 0 takes none. vob
+    /// 4.0.1 ends the process there.
     pub fn from_elem_with_storage_type(
         alloc: Global,
         value: bool,
         len: usize,
     ) -> Result<Vob<T>, AllocError>
         ensures bits { IfOk result (λ vob. vob.bits ≡ replicate len value) }
+        ensures len { IfOk result (λ vob. length vob.bits ≡ len) }
+        ensures each { IfOk result (λ vob. (i : ℕ) → i < len → item vob.bits i ≡ value) }
         ensures room { IfOk result (λ vob. len ≤ vob.capacity) }
         ensures nothing { len ≡ 0 → IsOk result }
     {
@@ -77,8 +77,8 @@ impl<T: Block> Vob<T> {
         Ok(Vob { len, vec })
     }
 
-    /// A Vob with the same bits. The copy of an empty Vob takes no memory; refused memory is an
-    /// `AllocError`. In vob 4.0.1 this is a trait's method, and ends the process there.
+    /// Makes a Vob with the same bits. Fails if memory runs out; an empty Vob takes none. In vob
+    /// 4.0.1 this is a method of `Clone`, and ends the process there.
     ///
     /// ```
     /// let vob = vob::vob!(alloc; true, false)?;
@@ -93,7 +93,7 @@ impl<T: Block> Vob<T> {
         Ok(Vob { len: self.len, vec })
     }
 
-    /// The number of bits.
+    /// Returns the number of bits.
     ///
     /// ```
     /// let vob = vob::vob!(alloc; true, false)?;
@@ -107,15 +107,15 @@ impl<T: Block> Vob<T> {
         self.len
     }
 
-    /// Whether there are no bits.
+    /// Returns whether there are no bits.
     pub fn is_empty(&self) -> bool
         ensures { result ≡ (length self.now.bits == 0) }
     {
         self.len == 0
     }
 
-    /// How many bits there is room for without memory: the places of all blocks that there is room
-    /// for, at most `usize::MAX`. vob 4.0.1 multiplies unchecked.
+    /// Returns how many bits there is room for without memory: the places of all blocks that
+    /// there is room for, at most `usize::MAX`. vob 4.0.1 multiplies unchecked.
     pub fn capacity(&self) -> usize
         ensures capacity { result ≡ self.now.capacity }
         ensures within { length self.now.bits ≤ result }
@@ -125,10 +125,10 @@ impl<T: Block> Vob<T> {
         self.vec.capacity().saturating_mul(T::BITS)
     }
 
-    /// Makes room for `additional` bits more than there are. Where there is that room already,
-    /// nothing changes. A length past `usize::MAX` is refused first, where vob 4.0.1 panics, and
-    /// then memory, where it ends the process. It counts the missing blocks from the capacity, and
-    /// so may make too little room.
+    /// Makes room for `additional` bits more than there are. If there is that room already,
+    /// nothing changes. Fails if the length would exceed `usize::MAX`, where vob 4.0.1 panics.
+    /// Fails if memory runs out, where it ends the process. vob 4.0.1 counts the missing blocks
+    /// from the capacity, and so may make too little room.
     pub fn reserve(&mut self, additional: usize) -> Result<(), VobError>
         ensures ok { OnOk result (length self.old.bits + additional ≤ self.new.capacity) }
         ensures bits { self.new.bits ≡ self.old.bits }
@@ -146,8 +146,8 @@ impl<T: Block> Vob<T> {
         Ok(())
     }
 
-    /// Gives room back that isn't used, as far as memory allows. The bits stay. vob 4.0.1 ends the
-    /// process where memory for the smaller room is refused.
+    /// Gives unused room back, as far as memory allows. The bits stay. vob 4.0.1 ends the process
+    /// if memory for the smaller room runs out.
     pub fn shrink_to_fit(&mut self)
         ensures bits { self.new.bits ≡ self.old.bits }
         ensures capacity { self.new.capacity ≤ self.old.capacity }
@@ -155,7 +155,7 @@ impl<T: Block> Vob<T> {
         self.vec.shrink_to_fit();
     }
 
-    /// Bit `index`, or `None` from the length on.
+    /// Returns bit `index`, or `None` from the length on.
     ///
     /// ```
     /// let vob = vob::vob!(alloc; true, false)?;
@@ -163,7 +163,9 @@ impl<T: Block> Vob<T> {
     /// assert_eq!(rt; vob.get(2), None);
     /// ```
     pub fn get(&self, index: usize) -> Option<bool>
-        ensures { result ≡ slice_get self.now.bits index }
+        ensures bit { result ≡ slice_get self.now.bits index }
+        ensures inside { IsSome result ↔ (index < length self.now.bits) }
+        ensures item { IfSome result (λ bit. bit ≡ item self.now.bits index) }
     {
         if index < self.len {
             Some(stored_bit(self.vec.as_slice(), self.len, index))
@@ -172,15 +174,18 @@ impl<T: Block> Vob<T> {
         }
     }
 
-    /// Bit `index`, with no test of the index. vob 4.0.1 has this as an unsafe call.
+    /// Returns bit `index`, which must be below the length. The index isn't tested. vob 4.0.1 has
+    /// this as an unsafe call.
     pub fn get_unchecked(&self, index: usize) -> bool
         requires in_range { index < length self.now.bits }
-        ensures { slice_get self.now.bits index ≡ Some result }
+        ensures bit { slice_get self.now.bits index ≡ Some result }
+        ensures item { result ≡ item self.now.bits index }
     {
         stored_bit(self.vec.as_slice(), self.len, index)
     }
 
-    /// Writes bit `index`, and answers whether it changed. vob 4.0.1 panics from the length on.
+    /// Sets bit `index` to `value`, and returns whether it changed. The index must be below the
+    /// length; vob 4.0.1 panics from there on.
     ///
     /// ```
     /// let mut vob = vob::vob!(alloc; true, false)?;
@@ -193,26 +198,28 @@ impl<T: Block> Vob<T> {
         ensures written { IsWritten self.old.bits index value self.new.bits }
         ensures changed { IsTrue result ↔ (slice_get self.old.bits index ≢ Some value) }
         ensures differs { result ≡ differ (item self.old.bits index) value }
+        ensures same { result ≡ false → self.new.bits ≡ self.old.bits }
         ensures capacity { self.new.capacity ≡ self.old.capacity }
     {
         write_bit(&mut self.vec, self.len, index, value)
     }
 
-    /// The same as `set`, which has no test of the index either. vob 4.0.1 has this as an unsafe
-    /// call.
+    /// Does the same as `set`, which doesn't test the index either. vob 4.0.1 has this as an
+    /// unsafe call.
     pub fn set_unchecked(&mut self, index: usize, value: bool) -> bool
         requires in_range { index < length self.old.bits }
         ensures bits { self.new.bits ≡ slice_set self.old.bits index value }
         ensures written { IsWritten self.old.bits index value self.new.bits }
         ensures changed { IsTrue result ↔ (slice_get self.old.bits index ≢ Some value) }
         ensures differs { result ≡ differ (item self.old.bits index) value }
+        ensures same { result ≡ false → self.new.bits ≡ self.old.bits }
         ensures capacity { self.new.capacity ≡ self.old.capacity }
     {
         self.set(index, value)
     }
 
-    /// Adds `value` behind the last bit. vob 4.0.1 ends the process where memory is refused, and
-    /// panics at the greatest length.
+    /// Appends `value`. Fails if the length is `usize::MAX`, where vob 4.0.1 panics. Fails if
+    /// memory runs out, where it ends the process.
     ///
     /// ```
     /// let mut vob = Vob::new(alloc);
@@ -235,7 +242,7 @@ impl<T: Block> Vob<T> {
         Ok(())
     }
 
-    /// Takes off the last bit and answers it, or answers `None` where there are no bits.
+    /// Removes the last bit and returns it, or returns `None` if there are no bits.
     ///
     /// ```
     /// let mut vob = vob::vob!(alloc; true, false)?;
@@ -256,7 +263,7 @@ impl<T: Block> Vob<T> {
         Some(value)
     }
 
-    /// Takes off the bits from `len` on. Where there are none, nothing changes.
+    /// Removes the bits from `len` on. If there are none, nothing changes.
     ///
     /// ```
     /// let mut vob = vob::vob!(alloc; true, false, true)?;
@@ -273,7 +280,7 @@ impl<T: Block> Vob<T> {
         }
     }
 
-    /// Takes off all bits. The room stays.
+    /// Removes all bits. The room stays.
     pub fn clear(&mut self)
         ensures bits { self.new.bits ≡ [] }
         ensures capacity { self.new.capacity ≡ self.old.capacity }
@@ -281,15 +288,15 @@ impl<T: Block> Vob<T> {
         self.truncate(0);
     }
 
-    /// The blocks, the one with bit 0 first. vob 4.0.1 has this behind a cargo feature.
+    /// Returns the blocks, the one with bit 0 first. vob 4.0.1 has this behind a cargo feature.
     pub fn get_storage(&self) -> &[T]
         ensures { map T.number result.now ≡ packing self.now.bits T.BITS }
     {
         self.vec.as_slice()
     }
 
-    /// The blocks, the one with bit 0 first, to be read with a count that contracts see. vob 4.0.1
-    /// has no such call.
+    /// Returns the blocks, the one with bit 0 first, as `Blocks`, whose reads contracts count.
+    /// vob 4.0.1 has no such call.
     pub fn blocks(&self) -> Blocks<'_, T>
         ensures blocks { map T.number result.items ≡ packing self.now.bits T.BITS }
         ensures canonical { IsCanonical (length self.now.bits) (map T.number result.items) T.BITS }
@@ -300,7 +307,7 @@ impl<T: Block> Vob<T> {
 }
 
 impl Vob<usize> {
-    /// An empty Vob of the default block type. Takes no memory.
+    /// Makes an empty Vob of the default block type. Takes no memory.
     ///
     /// ```
     /// let vob = Vob::new(alloc);
@@ -315,8 +322,8 @@ impl Vob<usize> {
         }
     }
 
-    /// An empty Vob with room for `capacity` bits. Capacity 0 takes no memory; refused memory is an
-    /// `AllocError`, where vob 4.0.1 ends the process.
+    /// Makes an empty Vob with room for `capacity` bits. Fails if memory runs out; capacity 0
+    /// takes none. vob 4.0.1 ends the process there.
     pub fn with_capacity(alloc: Global, capacity: usize) -> Result<Vob<usize>, AllocError>
         ensures empty { IfOk result (λ vob. vob.bits ≡ []) }
         ensures room { IfOk result (λ vob. capacity ≤ vob.capacity) }
@@ -325,8 +332,8 @@ impl Vob<usize> {
         Vob::new_with_storage_type(alloc, capacity)
     }
 
-    /// `len` times `value`. Length 0 takes no memory; refused memory is an `AllocError`, where vob
-    /// 4.0.1 ends the process.
+    /// Makes a Vob of `len` times `value`. Fails if memory runs out; length 0 takes none. vob
+    /// 4.0.1 ends the process there.
     ///
     /// ```
     /// let vob = Vob::from_elem(alloc, true, 129)?;
@@ -334,13 +341,16 @@ impl Vob<usize> {
     /// ```
     pub fn from_elem(alloc: Global, value: bool, len: usize) -> Result<Vob<usize>, AllocError>
         ensures bits { IfOk result (λ vob. vob.bits ≡ replicate len value) }
+        ensures len { IfOk result (λ vob. length vob.bits ≡ len) }
+        ensures each { IfOk result (λ vob. (i : ℕ) → i < len → item vob.bits i ≡ value) }
         ensures room { IfOk result (λ vob. len ≤ vob.capacity) }
         ensures nothing { len ≡ 0 → IsOk result }
     {
         Vob::from_elem_with_storage_type(alloc, value, len)
     }
 
-    /// The bits of a slice, or a refusal for memory; no bits take none. vob 4.0.1 has no such call.
+    /// Makes a Vob of the bits of a slice. Fails if memory runs out; no bits take none. vob 4.0.1
+    /// has no such call.
     ///
     /// ```
     /// let vob = Vob::from_slice(alloc, &[true, false, true])?;
@@ -357,9 +367,9 @@ impl Vob<usize> {
         })
     }
 
-    /// The bits of some bytes, the most significant one of each byte first. No bytes take no
-    /// memory. vob 4.0.1 ends the process where memory is refused, and panics where eight times
-    /// the number of bytes passes `usize::MAX`.
+    /// Makes a Vob of the bits of some bytes, the most significant bit of each byte first. Fails
+    /// if eight times the number of bytes exceeds `usize::MAX`, where vob 4.0.1 panics. Fails if
+    /// memory runs out, where it ends the process; no bytes take none.
     pub fn from_bytes(alloc: Global, slice: &[u8]) -> Result<Vob<usize>, VobError>
         ensures bits { IfOk result (λ vob. vob.bits ≡ bytes_list slice.now) }
         ensures too_long { (result ≡ Err VobError.TooLong) ↔ (usize.MAX < 8 * length slice.now) }
@@ -376,9 +386,9 @@ impl Vob<usize> {
         })
     }
 
-    /// The items of an iterator that ends. The lower bound of its size hint is reserved first.
-    /// Refused are more than `usize::MAX` items, where vob 4.0.1 panics, and memory, where it ends
-    /// the process.
+    /// Makes a Vob of the items of an iterator that ends. Reserves the lower bound of its size
+    /// hint first. Fails if there are more than `usize::MAX` items, where vob 4.0.1 panics. Fails
+    /// if memory runs out, where it ends the process.
     pub fn from_iter<I: IntoIterator<Item = bool>>(
         alloc: Global,
         iter: I,
@@ -395,9 +405,9 @@ impl Vob<usize> {
     {
         let items = iter.into_iter();
         let (hint, _) = items.size_hint();
-        let mut vec = Vec::with_capacity(alloc, hint.div_ceil(usize::BITS as usize))?;
-        let len = pack_items(&mut vec, items)?;
-        Ok(Vob { len, vec })
+        let mut vob = Vob::with_capacity(alloc, hint)?;
+        vob.push_all(items)?;
+        Ok(vob)
     }
 }
 
@@ -406,9 +416,11 @@ impl<T: Block> Index<usize> for Vob<T> {
 
     ghost can_index = { λ vob index. index < length vob.bits };
 
-    ghost index_gives = { λ vob index bit. slice_get vob.bits index ≡ Some bit };
+    ghost index_gives = { λ vob index bit. (slice_get vob.bits index ≡ Some bit)
+        × (bit ≡ item vob.bits index) };
 
-    /// Bit `index`, with no test of the index. vob 4.0.1 panics from the length on.
+    /// Returns bit `index`, which must be below the length. The index isn't tested. vob 4.0.1
+    /// panics from the length on.
     fn index(&self, index: usize) -> &bool {
         if self.get_unchecked(index) {
             &true
@@ -416,85 +428,4 @@ impl<T: Block> Index<usize> for Vob<T> {
             &false
         }
     }
-}
-
-impl<T: Block> fmt::Debug for Vob<T> {
-    /// `Vob[`, a digit for each bit, that of index 0 first, and `]`, as vob 4.0.1 writes it.
-    fn fmt<W: fmt::Write>(&self, f: &mut fmt::Formatter<W>) -> fmt::Result {
-        write!(f, "Vob[")?;
-        for bit in self {
-            f.write_str(if bit { "1" } else { "0" })?;
-        }
-        write!(f, "]")
-    }
-}
-
-/// Puts a block behind the others.
-fn push_block<T: Block>(blocks: &mut Vec<T>, block: T) -> Result<(), AllocError>
-    ensures { OnOk result (blocks.new.items ≡ blocks.old.items ++ block ∷ []) }
-{
-    blocks.push(block)?;
-    Ok(())
-}
-
-/// Puts one bit more behind `len` packed ones, into the block at hand, which goes behind the others
-/// where it is full.
-fn pack_bit<T: Block>(
-    blocks: &mut Vec<T>,
-    block: &mut T,
-    len: usize,
-    bit: bool,
-) -> Result<(), AllocError>
-    ensures { (xs : List Bool) → len ≡ length xs
-        → Packs T.BITS xs (map T.number blocks.old.items) (T.number block.old)
-        → OnOk result (Packs T.BITS (xs ++ bit ∷ []) (map T.number blocks.new.items) (T.number block.new)) }
-{
-    let width = T::BITS;
-    let place = len % width;
-    let mark: T = first_place(bit);
-    *block = block.bor(mark.up(place));
-    if place + 1 == width {
-        push_block(blocks, *block)?;
-        *block = T::ZERO;
-    }
-    Ok(())
-}
-
-/// Puts the block at hand behind the others where it holds one of the `len` packed bits.
-fn push_partial<T: Block>(blocks: &mut Vec<T>, block: T, len: usize) -> Result<(), AllocError>
-    ensures err { OnErr result (0 < len) }
-    ensures ok { (xs : List Bool) → len ≡ length xs
-        → Packs T.BITS xs (map T.number blocks.old.items) (T.number block)
-        → OnOk result (Stores T.BITS len (map T.number blocks.new.items) xs) }
-{
-    if len % T::BITS != 0 {
-        push_block(blocks, block)?;
-    }
-    Ok(())
-}
-
-/// Puts the items into blocks, of which there are none yet, and answers how many items came. Each
-/// block is packed first and then pushed.
-fn pack_items<T: Block, I: Iterator<Item = bool>>(
-    blocks: &mut Vec<T>,
-    items: I,
-) -> Result<usize, VobError>
-    requires empty { blocks.old.items ≡ [] }
-    requires ends { I.can_next items × IsFinite (I.remaining items) }
-    ensures ok { IfOk result (λ len. (xs : List Bool) × Drains I.next_gives items xs
-        × (len ≡ length xs) × Stores T.BITS len (map T.number blocks.new.items) xs) }
-    ensures err { IfErr result (λ refusal. (xs : List Bool) × (rest : I)
-        × Yields I.next_gives items xs rest × MayRefuseItems refusal (length xs)) }
-{
-    let mut block = T::ZERO;
-    let mut len: usize = 0;
-    for bit in items {
-        if len == usize::MAX {
-            return Err(VobError::TooLong);
-        }
-        pack_bit(blocks, &mut block, len, bit)?;
-        len += 1;
-    }
-    push_partial(blocks, block, len)?;
-    Ok(len)
 }

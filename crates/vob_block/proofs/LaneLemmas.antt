@@ -10,7 +10,7 @@ use Rattle.std.proofs.lemmas.Simd.{get_or-zip2, get_or-put_chunk_below, get_or-p
 use Rattle.std.proofs.lemmas.Simd.{get_or-put_chunk_above, Each1-get_or}
 use lib.Lanes.{zip2, chunk, put_chunk, fold_l, Each1}
 use Rattle.vob_block.specs.Places.{place, HasPlaces}
-use Rattle.vob_block.specs.Kernel.{Connective, conjunction, disjunction, difference, exclusion}
+use Rattle.vob_block.specs.Kernel.{Connective, conjunction, disjunction, exclusive, difference}
 use Rattle.vob_block.specs.Kernel.{on_bits, on_numbers, Takes}
 use Rattle.vob_block.specs.Pointwise.{differ}
 use Rattle.vob_block.proofs.BoolLemmas.{differ-both}
@@ -21,15 +21,15 @@ pub place-on_numbers : (o : Connective) (a b j : ℕ)
     → place j (on_numbers o a b) ≡ on_bits o (place j a) (place j b)
 place-on_numbers conjunction a b j = place-and a b j
 place-on_numbers disjunction a b j = place-or a b j
-place-on_numbers difference a b j = place-xor a b j
-place-on_numbers exclusion a b j = place-xor a (bit_and a b) j
+place-on_numbers exclusive a b j = place-xor a b j
+place-on_numbers difference a b j = place-xor a (bit_and a b) j
     ∙ ap (differ (place j a)) (place-and a b j) ∙ differ-both (place j a) (place j b)
 
 on_numbers-in : (o : Connective) (a b : ℕ) → a < 2 ^ 64 → b < 2 ^ 64 → on_numbers o a b < 2 ^ 64
 on_numbers-in conjunction a b a-in b-in = omega (arith, and_le_l a b)
 on_numbers-in disjunction a b a-in b-in = or_lt 64 a b a-in b-in
-on_numbers-in difference a b a-in b-in = xor_lt 64 a b a-in b-in
-on_numbers-in exclusion a b a-in b-in =
+on_numbers-in exclusive a b a-in b-in = xor_lt 64 a b a-in b-in
+on_numbers-in difference a b a-in b-in =
     xor_lt 64 a (bit_and a b) a-in (omega (arith, and_le_l a b))
 
 -- "xor" twice with one number
@@ -46,12 +46,12 @@ zip-undone (x ∷ xs) (y ∷ ys) =
     let more = zip-undone xs ys in cc
 
 -- "and not" in lanes, by "and" and then "xor"
-pub zip-exclusion : (xs ys : List ℕ)
-    → zip2 bit_xor xs (zip2 bit_and xs ys) ≡ zip2 (on_numbers exclusion) xs ys
-zip-exclusion [] ys = refl
-zip-exclusion (x ∷ xs) [] = refl
-zip-exclusion (x ∷ xs) (y ∷ ys) =
-    ap (λ zs. bit_xor x (bit_and x y) ∷ zs) (zip-exclusion xs ys)
+pub zip-difference : (xs ys : List ℕ)
+    → zip2 bit_xor xs (zip2 bit_and xs ys) ≡ zip2 (on_numbers difference) xs ys
+zip-difference [] ys = refl
+zip-difference (x ∷ xs) [] = refl
+zip-difference (x ∷ xs) (y ∷ ys) =
+    ap (λ zs. bit_xor x (bit_and x y) ∷ zs) (zip-difference xs ys)
 
 -- ---- the flag: the lanes of what changed, taken together
 

@@ -7,22 +7,22 @@ use Rattle.vob_block.specs.Pointwise.{differ, without}
 pub data Connective : Type 0 where
   conjunction : Connective
   disjunction : Connective
+  exclusive : Connective
   difference : Connective
-  exclusion : Connective
 
 -- what it makes of two bits
 abbrev pub on_bits : Connective → Bool → Bool → Bool
 on_bits conjunction = ◌&&◌
 on_bits disjunction = ◌||◌
-on_bits difference = differ
-on_bits exclusion = without
+on_bits exclusive = differ
+on_bits difference = without
 
 -- what it makes of the numbers of two blocks
 abbrev pub on_numbers : Connective → ℕ → ℕ → ℕ
 on_numbers conjunction = bit_and
 on_numbers disjunction = bit_or
-on_numbers difference = bit_xor
-on_numbers exclusion = λ own other. bit_xor own (bit_and own other)
+on_numbers exclusive = bit_xor
+on_numbers difference = λ own other. bit_xor own (bit_and own other)
 
 -- from the blocks before to those after, the m from k on are combined with the others, the rest are as
 -- they were, and later is 0 exactly where changed is and none of the m changed

@@ -1,4 +1,5 @@
 pub mod Bytes
+pub mod Digits
 pub mod Kernel
 pub mod Packing
 pub mod Places

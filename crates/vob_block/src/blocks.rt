@@ -80,7 +80,7 @@ impl<'a, T> Model for Blocks<'a, T> {
 }
 
 impl<'a, T: Copy> Blocks<'a, T> {
-    /// These blocks, none of which was read.
+    /// Returns these blocks with a read count of 0.
     pub fn new(slice: &'a [T]) -> Blocks<'a, T>
         ensures items { result.items ≡ slice.now }
         ensures reads { result.reads ≡ 0 }
@@ -91,7 +91,7 @@ impl<'a, T: Copy> Blocks<'a, T> {
         }
     }
 
-    /// The number of blocks. None is read.
+    /// Returns the number of blocks. No block is read.
     pub fn len(&self) -> usize
         ensures { result ≡ length self.now.items }
     {

@@ -1,7 +1,7 @@
 //! The kernels at `usize`, eight blocks at a time.
 ghost use Rattle.std.specs.Prelude.{◌≡◌, ◌+◌, ◌*◌, ◌^◌, ◌<◌, ◌≤◌, length, bit_or, bit_xor};
 ghost use Rattle.std.specs.Simd.Lanes.{Each1, zip2, fold_l};
-ghost use Rattle.vob_block.specs.Kernel.{Connective, conjunction, disjunction, difference, exclusion};
+ghost use Rattle.vob_block.specs.Kernel.{Connective, conjunction, disjunction, exclusive, difference};
 ghost use Rattle.vob_block.specs.Kernel.{on_bits, on_numbers, Takes, AreTaken};
 ghost use Rattle.vob_block.specs.Pointwise.{IsCombined};
 ghost use Rattle.vob_block.specs.Reading.{AreReadOnce};
@@ -68,7 +68,7 @@ impl Combine for Or {
 pub(crate) struct Xor;
 
 impl Combine for Xor {
-    ghost connective = { difference };
+    ghost connective = { exclusive };
 
     #[inline(always)]
     fn block(own: usize, other: usize) -> (usize, usize) {
@@ -87,7 +87,7 @@ pub(crate) struct AndNot;
 
 // What both have is where it differs.
 impl Combine for AndNot {
-    ghost connective = { exclusion };
+    ghost connective = { difference };
 
     #[inline(always)]
     fn block(own: usize, other: usize) -> (usize, usize) {

@@ -2,8 +2,8 @@
 ghost use Rattle.std.specs.Prelude.{◌-◌, ◌^◌};
 ghost use Rattle.std.proofs.Common.{refl, ap, arith, eq-eqb, eqb-true, lit<};
 
+use crate::bit_block::BitBlock;
 use crate::block::Block;
-use crate::prim::PrimBlock;
 use crate::word::Word;
 use std::hash::Hash;
 
@@ -31,7 +31,7 @@ impl Word for u8 {
     ghost one_number_law = { refl };
 }
 
-impl Block for u8 {
+impl BitBlock for u8 {
     ghost BITS = { 8 };
 
     const BITS: usize = 8;
@@ -128,7 +128,7 @@ impl Block for u8 {
     ghost ones_number_law = { refl };
 }
 
-impl PrimBlock for u8 {
+impl Block for u8 {
     ghost number_law = { λ x. refl };
 
     ghost width_law = { refl };
@@ -158,7 +158,7 @@ impl Word for u16 {
     ghost one_number_law = { refl };
 }
 
-impl Block for u16 {
+impl BitBlock for u16 {
     ghost BITS = { 16 };
 
     const BITS: usize = 16;
@@ -255,7 +255,7 @@ impl Block for u16 {
     ghost ones_number_law = { refl };
 }
 
-impl PrimBlock for u16 {
+impl Block for u16 {
     ghost number_law = { λ x. refl };
 
     ghost width_law = { refl };
@@ -285,7 +285,7 @@ impl Word for u32 {
     ghost one_number_law = { refl };
 }
 
-impl Block for u32 {
+impl BitBlock for u32 {
     ghost BITS = { 32 };
 
     const BITS: usize = 32;
@@ -382,7 +382,7 @@ impl Block for u32 {
     ghost ones_number_law = { refl };
 }
 
-impl PrimBlock for u32 {
+impl Block for u32 {
     ghost number_law = { λ x. refl };
 
     ghost width_law = { refl };

@@ -2,10 +2,10 @@
 ghost use Rattle.std.specs.Prelude.{◌-◌, ◌^◌};
 ghost use Rattle.std.proofs.Common.{refl, ap, arith, eq-eqb, eqb-true, lit<};
 
+use crate::bit_block::BitBlock;
 use crate::block::Block;
 use crate::blocks::Blocks;
 use crate::lanes::{And, AndNot, Or, Xor, combine_blocks};
-use crate::prim::PrimBlock;
 use crate::word::Word;
 use std::hash::Hash;
 
@@ -33,7 +33,7 @@ impl Word for u64 {
     ghost one_number_law = { refl };
 }
 
-impl Block for u64 {
+impl BitBlock for u64 {
     ghost BITS = { 64 };
 
     const BITS: usize = 64;
@@ -130,7 +130,7 @@ impl Block for u64 {
     ghost ones_number_law = { refl };
 }
 
-impl PrimBlock for u64 {
+impl Block for u64 {
     ghost number_law = { λ x. refl };
 
     ghost width_law = { refl };
@@ -160,7 +160,7 @@ impl Word for u128 {
     ghost one_number_law = { refl };
 }
 
-impl Block for u128 {
+impl BitBlock for u128 {
     ghost BITS = { 128 };
 
     const BITS: usize = 128;
@@ -257,7 +257,7 @@ impl Block for u128 {
     ghost ones_number_law = { refl };
 }
 
-impl PrimBlock for u128 {
+impl Block for u128 {
     ghost number_law = { λ x. refl };
 
     ghost width_law = { refl };
@@ -287,7 +287,7 @@ impl Word for usize {
     ghost one_number_law = { refl };
 }
 
-impl Block for usize {
+impl BitBlock for usize {
     ghost BITS = { 64 };
 
     const BITS: usize = 64;
@@ -400,7 +400,7 @@ impl Block for usize {
     ghost ones_number_law = { refl };
 }
 
-impl PrimBlock for usize {
+impl Block for usize {
     ghost number_law = { λ x. refl };
 
     ghost width_law = { refl };

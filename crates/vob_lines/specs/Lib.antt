@@ -7,6 +7,7 @@ pub mod Grammar
 pub mod Keywords
 pub mod Kinds
 pub mod Lists
+pub mod Reading
 pub mod Spelling
 pub mod Texts
 pub mod Written

@@ -3,7 +3,7 @@ use Rattle.std.specs.Prelude.{◌≡◌, ℕ, ◌^◌, ◌<◌, Bool, List, [], 
 use Rattle.std.specs.Str.Parse.{IsNumeral, digits_value}
 use Rattle.std.specs.declared.ops.Bound.{Bound}
 use Rattle.std.specs.declared.ops.Bound.TheVariants.{Included, Excluded, Unbounded}
-pub use Rattle.vob.specs.Text.{digit}
+pub use Rattle.vob_block.specs.Digits.{digit}
 use Rattle.vob_walk.specs.declared.walk.End.{End}
 use Rattle.vob_walk.specs.declared.walk.End.TheVariants.{Front, Back}
 

@@ -2,8 +2,6 @@
 
 ghost use Rattle.std.specs.Prelude.{◌≡◌, ◌+◌, ◌≤◌, ℕ, List, [], ◌++◌, length, take, OnOk};
 ghost use Rattle.std.specs.Fmt.{decimal};
-ghost use Rattle.std.specs.Io.{WritesAtMost};
-ghost use Rattle.std.specs.Io.KnownBytes.{WriteAppends};
 ghost use Rattle.vob_lines.specs.Written.{Puts};
 
 use std::io;
@@ -13,36 +11,22 @@ use std::marker::Model;
 /// How many bytes wait at most.
 const ROOM: usize = 4096;
 
-/// How many calls of `write` a text has at most.
-const MOST_WRITES: u64 = u64::MAX;
-
-/// Writes a first part of a text, by one call, and answers how long it is: 0 where the call was
-/// interrupted.
-fn write_some<W: Write>(output: &mut W, text: &[u8]) -> io::Result<usize>
-    ensures bound { WritesAtMost result text.now }
-    ensures bytes { WriteAppends (W.contents output.old) (W.contents output.new) result text.now }
-{
-    match output.write(text) {
-        Ok(0) => Err(io::Error::from(ErrorKind::WriteZero)),
-        Ok(count) => Ok(count),
-        Err(error) if error.kind() == ErrorKind::Interrupted => Ok(0),
-        Err(error) => Err(error),
-    }
-}
-
-/// Writes a text. Where that fails, a first part of it was written.
+/// Writes a text. If that fails, a prefix of it was written.
+///
+/// Each call of `write` takes a byte at least, so there are no more calls than bytes. A call that
+/// was interrupted has failed, as a read has: a writer may be interrupted without end.
 pub fn put<W: Write>(output: &mut W, text: &[u8]) -> io::Result<()>
     ensures { Puts result (W.contents output.old) (W.contents output.new) text.now [] }
 {
     let mut rest = text;
-    for _ in 0..MOST_WRITES {
-        if rest.is_empty() {
-            return Ok(());
+    while !rest.is_empty() {
+        let count = output.write(rest)?;
+        if count == 0 {
+            return Err(io::Error::from(ErrorKind::WriteZero));
         }
-        let count = write_some(output, rest)?;
         rest = &rest[count..];
     }
-    Err(io::Error::from(ErrorKind::Other))
+    Ok(())
 }
 
 /// Text that waits to be written, seen as its bytes.

@@ -1,16 +1,17 @@
 //! A conversation: the whole input is read, its lines are run as commands, and a line is printed
 //! for each reply.
 
-ghost use Rattle.std.specs.Prelude.{◌≡◌, ℕ, List, [], ◌++◌, map, codes, IfOk, IfErr, OnOk, OnErr, IsOkUnless, IsErrOf};
+ghost use Rattle.std.specs.Prelude.{◌≡◌, ℕ, List, [], ◌++◌, map, codes, IfOk, IfErr, OnOk, OnErr, IsOk, IsOkUnless};
 ghost use Rattle.std.specs.Fmt.{decimal};
 ghost use Rattle.vob_run.specs.Run.{IsRun};
 ghost use Rattle.vob_run.specs.Call.{Call};
 ghost use Rattle.vob_run.specs.Commands.{usize_call_of};
 ghost use Rattle.vob_lines.specs.Cuts.{lines_of};
-ghost use Rattle.vob_lines.specs.Conversation.{sentences, AllRead, lines_for, IsInput, Answers, Converses};
+ghost use Rattle.vob_lines.specs.Conversation.{lines_for, IsInput, Answers, Converses};
+ghost use Rattle.vob_lines.specs.Reading.{sentences, AllRead};
 ghost use Rattle.vob_lines.specs.Texts.{line_of};
 ghost use Rattle.vob_lines.specs.Written.{Puts};
-ghost use Rattle.vob_lines.specs.Ends.{Ends, ending_at};
+ghost use Rattle.vob_lines.specs.Ends.{Ends, Stops, ending_at};
 ghost use Rattle.vob_run.specs.Answer.{usize_answer_of};
 ghost use Rattle.vob_lines.specs.declared.session.Ending.TheVariants.{Memory};
 
@@ -72,7 +73,8 @@ impl LineError {
 /// Reads all there is, by `MOST_READS` reads at most.
 fn read_all<R: Read>(alloc: Global, input: &mut R) -> Result<Vec<u8>, Ending>
     ensures ok { IfOk result (λ text. IsInput (R.remaining input.old) text.items) }
-    ensures err { IfErr result (λ ending. (lines : _) → Ends lines ending) }
+    ensures err { IfErr result (λ ending. (text : List ℕ) × IsInput (R.remaining input.old) text
+        × Stops text ending) }
 {
     let mut text = Vec::new(alloc);
     let mut chunk = [0u8; CHUNK];
@@ -91,7 +93,6 @@ fn read_commands(alloc: Global, text: &[u8]) -> Result<Vec<UsizeCommand>, Ending
     ensures ok { IfOk result (λ commands.
         AllRead (sentences (lines_of text.now)) (map usize_call_of commands.items)) }
     ensures err { IfErr result (λ ending. Ends (lines_of text.now) ending) }
-    ensures failed { ¬ (IsErrOf result Ending.Failed) }
 {
     let mut commands = Vec::new(alloc);
     let mut rest = text;
@@ -114,6 +115,7 @@ fn answer(alloc: Global, commands: &[UsizeCommand]) -> Result<Vec<Reply<usize>>,
         (after : _) × IsRun 64 [] (map usize_call_of commands.now)
         (map usize_answer_of replies.items) after) }
     ensures err { IsOkUnless result Ending.Memory }
+    ensures nothing { commands.now ≡ [] → IsOk result }
 {
     let mut vobs = Vec::new(alloc);
     let mut replies = Vec::new(alloc);
@@ -121,16 +123,25 @@ fn answer(alloc: Global, commands: &[UsizeCommand]) -> Result<Vec<Reply<usize>>,
     Ok(replies)
 }
 
+/// Runs the lines of a text.
+fn replies_to(alloc: Global, text: &[u8]) -> Result<Vec<Reply<usize>>, Ending>
+    ensures ok { IfOk result (λ replies.
+        Answers text.now (lines_for (map usize_answer_of replies.items))) }
+    ensures err { IfErr result (λ ending. Ends (lines_of text.now) ending) }
+{
+    let commands = read_commands(alloc, text)?;
+    answer(alloc, &commands)
+}
+
 /// Reads the whole input and runs its lines.
-fn replies_to<R: Read>(alloc: Global, input: &mut R) -> Result<Vec<Reply<usize>>, Ending>
+fn replies_from<R: Read>(alloc: Global, input: &mut R) -> Result<Vec<Reply<usize>>, Ending>
     ensures ok { IfOk result (λ replies. (text : List ℕ) × IsInput (R.remaining input.old) text
         × Answers text (lines_for (map usize_answer_of replies.items))) }
     ensures err { IfErr result (λ ending. (text : List ℕ) × IsInput (R.remaining input.old) text
-        × Ends (lines_of text) ending) }
+        × Stops text ending) }
 {
     let text = read_all(alloc, input)?;
-    let commands = read_commands(alloc, &text)?;
-    answer(alloc, &commands)
+    replies_to(alloc, &text)
 }
 
 /// Writes a line for each reply.
@@ -162,19 +173,23 @@ fn status_after(written: io::Result<()>, status: u8) -> u8
     if written.is_ok() { status } else { 1 }
 }
 
-/// Reads command lines, and writes a line for each reply. The answer is the exit status:
+/// Reads command lines, and writes a line for each reply. Returns the exit status:
 ///
 /// - 0: each line was read and run;
 /// - 1: reading or writing failed, or input hadn't ended after 1,048,576 reads of at most 4096 bytes
-///   each, and what was written is a first part of what would have been;
+///   each, and what was written is a prefix of what would have been;
 /// - 2: a line can't be read, nothing was run, and `bad line` and its number is all that was
 ///   written;
-/// - 3: memory was refused, nothing was run, and `memory` is all that was written.
+/// - 3: memory was refused before a line that can't be read was found, nothing was run, and
+///   `memory` is all that was written.
+///
+/// A call of `read` or `write` that was interrupted has failed like any other, and isn't tried
+/// again. So has a `write` that took no bytes.
 pub fn converse<R: Read, W: Write>(alloc: Global, input: &mut R, output: &mut W) -> u8
     ensures { Converses result (R.remaining input.old)
         (W.contents output.old) (W.contents output.new) }
 {
-    match replies_to(alloc, input) {
+    match replies_from(alloc, input) {
         Ok(replies) => status_after(write_replies(output, &replies), 0),
         Err(Ending::BadLine(line)) => status_after(write_bad_line(output, line), 2),
         Err(Ending::Memory) => status_after(put(output, b"memory\n"), 3),

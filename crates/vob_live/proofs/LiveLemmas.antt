@@ -31,22 +31,24 @@ module _ (vars : ℕ) (nodes : List Flow) where
         ↔ (IsLive before n v ⊎ (IsLive after' n v × ¬ Contains flow.writes.items v))
     pub after_here : (v : ℕ) → IsLive after' n v ↔ (IsLive after n v ⊎ IsLiveNext before flow v)
 
-  -- the nodes from k on were walked
-  pub record IsWalked (starts before after : List (List Bool)) (k : ℕ) (changed : Bool)
+  -- the nodes from k on were walked, from sets of what they read and sets after them
+  pub record IsWalked (reads starts before after : List (List Bool)) (k : ℕ) (changed : Bool)
       : Type 0 where
     pub underway : AreUnderway vars nodes before after
     pub grown : total_count starts ≤ total_count after
     pub more : changed ≡ true → total_count starts < total_count after
     pub none : changed ≡ false → (n : ℕ) (flow : Flow) → k ≤ n → slice_get nodes n ≡ Some flow →
         (v : ℕ) → IsLiveNext before flow v → IsLive after n v
+    pub same : changed ≡ false → AreWithin before reads
 
   pub IsWalked-start : (before after : List (List Bool)) → AreUnderway vars nodes before after →
-      IsWalked after before after (length nodes) false
+      IsWalked before after before after (length nodes) false
   IsWalked-start before after h = record {
     underway = h;
     grown = omega arith;
     more = λ e. absurd (false≢true e);
     none = λ e n flow past is. absurd (omega (arith, past, slice_get_within nodes n flow is));
+    same = λ e n v live. live;
   }
 
   module _ (n : ℕ) (flow : Flow) (before after before' after' : List (List Bool))
@@ -173,20 +175,21 @@ module _ (vars : ℕ) (nodes : List Flow) where
     }
 
   -- the sets of one node more, which gained, or kept what is live before it
-  module _ (starts before after before' after' : List (List Bool)) (n : ℕ) (flow : Flow)
-      (changed : Bool) (h : IsWalked starts before after (n + 1) changed)
+  module _ (reads starts before after before' after' : List (List Bool)) (n : ℕ) (flow : Flow)
+      (changed : Bool) (h : IsWalked reads starts before after (n + 1) changed)
       (s : IsStep n flow before after before' after')
       (grown : total_count after ≤ total_count after') where
     pub IsWalked-more : total_count after < total_count after' →
-        IsWalked starts before' after' n true
+        IsWalked reads starts before' after' n true
     IsWalked-more grew = record {
       underway = AreUnderway-step n flow before after before' after' h.underway s;
       grown = omega (arith, h.grown, grew);
       more = λ _. omega (arith, h.grown, grew);
       none = λ e. absurd (false≢true (sym e));
+      same = λ e. absurd (false≢true (sym e));
     }
 
-    pub IsWalked-same : AreWithin before' before → IsWalked starts before' after' n changed
+    pub IsWalked-same : AreWithin before' before → IsWalked reads starts before' after' n changed
     IsWalked-same same = record {
       underway = AreUnderway-step n flow before after before' after' h.underway s;
       grown = omega (arith, h.grown, grown);
@@ -202,14 +205,16 @@ module _ (vars : ℕ) (nodes : List Flow) where
                 after_wider n flow before after before' after' h.underway s k v
                 (h.none e k there (omega arith) is v any')
           ];
+      same = λ e m v live. h.same e m v (same m v live);
     }
 
   -- all nodes were walked
   pub IsPass-whole : (start end : Live) (k : ℕ) (changed : Bool) →
-      IsWalked (bits_of start.after.items) (bits_of end.before.items) (bits_of end.after.items)
-      k changed → k ≡ 0 → IsPass vars nodes start end changed
+      IsWalked (bits_of start.before.items) (bits_of start.after.items)
+      (bits_of end.before.items) (bits_of end.after.items) k changed → k ≡ 0 → IsPass vars nodes start end changed
   IsPass-whole start end k changed h whole = record {
     underway = h.underway;
     more = h.more;
     none = λ e n flow is. h.none e n flow (omega arith) is;
+    same = h.same;
   }

@@ -209,22 +209,22 @@ module _ {vars : ℕ} {nodes : List Flow} (before after : List BitVector)
 -- ---- and the walk over the nodes goes on
 
 -- the set after node n got what is live before the nodes that come next
-pub record IsTurn (vars : ℕ) (nodes : List Flow) (starts : List (List Bool))
+pub record IsTurn (vars : ℕ) (nodes : List Flow) (reads starts : List (List Bool))
     (before after : List BitVector) (n : ℕ) (changed : Bool) (flow : Flow) (added : List Bool)
     (grew : Bool) : Type 0 where
-  pub walked : IsWalked vars nodes starts (bits_of before) (bits_of after) (n + 1) changed
+  pub walked : IsWalked vars nodes reads starts (bits_of before) (bits_of after) (n + 1) changed
   pub is : slice_get nodes n ≡ Some flow
   pub adds : IsNextAdded (bits_of before) flow.next.items (get_or (bits_of after) n []) added grew
 
-module _ {vars : ℕ} {nodes : List Flow} {starts : List (List Bool)} {before after : List BitVector}
+module _ {vars : ℕ} {nodes : List Flow} {reads starts : List (List Bool)} {before after : List BitVector}
     {changed : Bool} where
   -- as the code has it
   pub IsTurn-from : {k : ℕ} (n : ℕ) (d : Flow) (e : BitVector) {sets : List BitVector}
       {next : List ℕ} {row : BitVector} {added : List Bool} {grew : Bool} →
-      IsWalked vars nodes starts (bits_of before) (bits_of after) k changed → k ≡ n + 1 →
+      IsWalked vars nodes reads starts (bits_of before) (bits_of after) k changed → k ≡ n + 1 →
       n < length nodes → sets ≡ before → next ≡ (get_or nodes n d).next.items →
       row ≡ get_or after n e → IsNextAdded (bits_of sets) next row.bits added grew →
-      IsTurn vars nodes starts before after n changed (get_or nodes n d) added grew
+      IsTurn vars nodes reads starts before after n changed (get_or nodes n d) added grew
   IsTurn-from n d e walked step less sets_is next_is row_is adds =
       let count = vob_count after walked.underway.after_sets in
       let row_bits = get_or-map (λ v. v.bits) after n e [] (omega (arith, less, count)) in
@@ -235,7 +235,7 @@ module _ {vars : ℕ} {nodes : List Flow} {starts : List (List Bool)} {before af
       }
 
   module _ {n : ℕ} {flow : Flow} {grew : Bool} (added : BitVector)
-      (turn : IsTurn vars nodes starts before after n changed flow added.bits grew) where
+      (turn : IsTurn vars nodes reads starts before after n changed flow added.bits grew) where
     after_is : bits_of (set after n added) ≡ set (bits_of after) n added.bits
     after_is = map-set (λ v. v.bits) after n added
 
@@ -245,9 +245,9 @@ module _ {vars : ℕ} {nodes : List Flow} {starts : List (List Bool)} {before af
 
     -- nothing was added to the set after it
     pub IsWalked-quiet : grew ≡ false →
-        IsWalked vars nodes starts (bits_of before) (bits_of (set after n added)) n changed
+        IsWalked vars nodes reads starts (bits_of before) (bits_of (set after n added)) n changed
     IsWalked-quiet quiet =
-        rw after_is (IsWalked-same vars nodes starts (bits_of before) (bits_of after)
+        rw after_is (IsWalked-same vars nodes reads starts (bits_of before) (bits_of after)
         (bits_of before) (set (bits_of after) n added.bits) n flow changed turn.walked
         (IsStep-quiet vars nodes (bits_of before) (bits_of after) n flow turn.is
         turn.walked.underway added.bits grew turn.adds quiet)
@@ -281,19 +281,19 @@ module _ {vars : ℕ} {nodes : List Flow} {starts : List (List Bool)} {before af
           turn.walked.underway added.bits grew turn.adds may.bits kept.bits flag p b
 
       -- what was added there may be live before it, or was live there already
-      pub IsWalked-grown : grew ≡ true → IsWalked vars nodes starts
+      pub IsWalked-grown : grew ≡ true → IsWalked vars nodes reads starts
           (bits_of (set before n kept)) (bits_of (set after n added)) n true
       IsWalked-grown up =
-          rw (before_is, after_is) (IsWalked-more vars nodes starts (bits_of before)
+          rw (before_is, after_is) (IsWalked-more vars nodes reads starts (bits_of before)
           (bits_of after) (set (bits_of before) n kept.bits) (set (bits_of after) n added.bits) n
           flow changed turn.walked step more_places
           (places_more vars nodes (bits_of before) (bits_of after) n flow turn.is
           turn.walked.underway added.bits grew turn.adds up))
 
-      pub IsWalked-still : flag ≡ false → IsWalked vars nodes starts
+      pub IsWalked-still : flag ≡ false → IsWalked vars nodes reads starts
           (bits_of (set before n kept)) (bits_of (set after n added)) n changed
       IsWalked-still quiet =
-          rw (before_is, after_is) (IsWalked-same vars nodes starts (bits_of before)
+          rw (before_is, after_is) (IsWalked-same vars nodes reads starts (bits_of before)
           (bits_of after) (set (bits_of before) n kept.bits) (set (bits_of after) n added.bits) n
           flow changed turn.walked step more_places
           (kept_within vars nodes (bits_of before) (bits_of after) n flow turn.is

@@ -66,7 +66,7 @@ module _ (vars : ℕ) (nodes : List Flow) (reads afters : List BitVector)
         (AllZip-all R (λ v. length v.bits ≡ vars) nodes reads (λ flow set is. is.count) all);
   }
 
-  reads_at : (n : ℕ) (flow : Flow) → slice_get nodes n ≡ Some flow → (v : ℕ) →
+  pub reads_at : (n : ℕ) (flow : Flow) → slice_get nodes n ≡ Some flow → (v : ℕ) →
       IsLive (bits_of reads) n v ↔ Contains flow.reads.items v
   unfolding R
   reads_at n flow is v =

@@ -1,5 +1,6 @@
 -- What can be wrong with the nodes of a flow graph, and which node is the first with a fault.
-use Rattle.std.specs.Prelude.{◌≡◌, ℕ, ◌<◌, List, length, slice_get, Some, All}
+use Rattle.std.specs.Prelude.{◌≡◌, ℕ, ◌<◌, List, ◌++◌, length, slice_get, Some, All, codes}
+use Rattle.std.specs.Fmt.{decimal}
 use Rattle.vob_live.specs.declared.live.Flow.{Flow}
 use Rattle.vob_live.specs.declared.live.LiveError.{LiveError}
 use Rattle.vob_live.specs.declared.live.LiveError.TheVariants.{Memory, BadVariable, BadNext}
@@ -39,3 +40,9 @@ abbrev pub live_error_number : LiveError → ℕ
 live_error_number Memory = 2
 live_error_number (BadVariable node) = 5
 live_error_number (BadNext node) = 6
+
+-- the text of a refusal
+abbrev pub live_error_text : LiveError → List ℕ
+live_error_text Memory = codes "out of memory"
+live_error_text (BadVariable node) = codes "node " ++ decimal node ++ codes " names no variable"
+live_error_text (BadNext node) = codes "node " ++ decimal node ++ codes " leads to no node"

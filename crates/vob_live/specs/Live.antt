@@ -1,13 +1,9 @@
 -- Which variables are live at the nodes of a flow graph: the sets that solve its flow equations.
-use Rattle.std.specs.Prelude.{◌≡◌, ℕ, ◌+◌, ◌*◌, ◌≤◌, ◌⊎◌, ◌↔◌, Bool, true, List, [], length, map, slice_index_or, slice_get, Some, All, Any, Contains}
+use Rattle.std.specs.Prelude.{◌≡◌, ℕ, ◌+◌, ◌*◌, ◌≤◌, ◌⊎◌, ◌↔◌, Bool, true, List, [], length, slice_index_or, slice_get, Some, All, Any, Contains}
 use Rattle.vob_block.specs.Packing.{item}
-use Rattle.vob.specs.Vob.{BitVector}
+pub use Rattle.vob.specs.Vobs.{bits_of}
 use Rattle.vob_live.specs.declared.live.Flow.{Flow}
 use Rattle.vob_live.specs.declared.live.Live.{Live}
-
--- the bits of some Vobs
-abbrev pub bits_of : List BitVector → List (List Bool)
-bits_of vobs = map (λ vob. vob.bits) vobs
 
 -- a set for each of some nodes, and in each set a bit for each variable
 pub record AreSets (vars nodes : ℕ) (sets : List (List Bool)) : Type 0 where
@@ -51,8 +47,16 @@ AreLeast vars nodes before after = (others others_after : List (List Bool)) →
     IsSolution vars nodes others others_after →
     AreWithin before others × AreWithin after others_after
 
--- the least sets that meet the flow equations, found in at most one pass for each place and one more
+-- what is live before each node is read there
+abbrev pub AreRead : List Flow → List (List Bool) → Type 0
+AreRead nodes before = (n : ℕ) (flow : Flow) → slice_get nodes n ≡ Some flow →
+    (v : ℕ) → IsLive before n v → Contains flow.reads.items v
+
+-- the least sets that meet the flow equations, found in at most one pass for each place and one
+-- more; no pass was enough only if there are no nodes, and one only if it added nothing to the reads
 pub record AreLive (vars : ℕ) (nodes : List Flow) (live : Live) : Type 0 where
   pub solution : IsSolution vars nodes (bits_of live.before.items) (bits_of live.after.items)
   pub least : AreLeast vars nodes (bits_of live.before.items) (bits_of live.after.items)
   pub rounds : live.rounds ≤ 1 + length nodes * vars
+  pub no_round : live.rounds ≡ 0 → nodes ≡ []
+  pub one_round : live.rounds ≡ 1 → AreRead nodes (bits_of live.before.items)

@@ -1,9 +1,9 @@
 -- What the passes over the nodes of a flow graph keep. No public clause cites this page.
-use Rattle.std.specs.Prelude.{◌≡◌, ℕ, ◌<◌, ◌↔◌, Bool, true, false, List, length, slice_get, Some, All, sum_by}
-use Rattle.vob.specs.Bits.{count_of}
+use Rattle.std.specs.Prelude.{◌≡◌, ℕ, ◌<◌, ◌↔◌, Bool, true, false, List, length, slice_get, Some, All}
 use Rattle.vob.specs.Vob.{BitVector}
+pub use Rattle.vob.specs.Vobs.{total_count}
 use Rattle.vob_live.specs.FlowFaults.{NamesNodes, IsBadVariable, IsBadNext}
-use Rattle.vob_live.specs.Live.{AreSets, IsLive, IsLiveNext, IsLiveHere, AreLeast, bits_of}
+use Rattle.vob_live.specs.Live.{AreSets, IsLive, IsLiveNext, IsLiveHere, AreLeast, AreWithin, bits_of}
 use Rattle.vob_live.specs.LiveSets.{ArePossible}
 use Rattle.vob_live.specs.declared.live.Flow.{Flow}
 use Rattle.vob_live.specs.declared.live.Live.{Live}
@@ -35,10 +35,6 @@ pub record AreReady (vars : ℕ) (nodes : List Flow) (possible : List BitVector)
   pub possible_sets : ArePossible vars nodes possible
   pub underway : AreUnderway vars nodes (bits_of live.before.items) (bits_of live.after.items)
 
--- how many places of some sets are true
-abbrev pub total_count : List (List Bool) → ℕ
-total_count sets = sum_by (count_of true) sets
-
 -- sets that got more after some node, or none where those after the nodes have all of them
 pub record IsPass (vars : ℕ) (nodes : List Flow) (start end : Live) (changed : Bool)
     : Type 0 where
@@ -48,3 +44,5 @@ pub record IsPass (vars : ℕ) (nodes : List Flow) (start end : Live) (changed :
   pub none : changed ≡ false → (n : ℕ) (flow : Flow) → slice_get nodes n ≡ Some flow →
       (v : ℕ) → IsLiveNext (bits_of end.before.items) flow v →
       IsLive (bits_of end.after.items) n v
+  pub same : changed ≡ false →
+      AreWithin (bits_of end.before.items) (bits_of start.before.items)

@@ -3,12 +3,12 @@
 ghost use Rattle.std.specs.Prelude.{◌≡◌, ◌≢◌, ◌↔◌, ℕ, ◌<◌, false, [], length, replicate, All, IsTrue, IfOk, IfErr, OnOk, IsOk, Err};
 ghost use Rattle.vob.specs.Vob.{HaveSameLength};
 ghost use Rattle.vob_live.specs.FlowFaults.{IsBadNext, IsBadVariable, IsSound, NamesVariables};
-ghost use Rattle.vob_live.specs.Live.{AreLive, bits_of};
+ghost use Rattle.vob_live.specs.Live.{AreLive, AreRead, bits_of};
 ghost use Rattle.vob_live.specs.LivePass.{AreReady, IsFlowFault, IsPass};
 ghost use Rattle.vob_live.specs.LiveSets.{AddsMembers, ArePossible, AreReads, IsNextAdded, IsPossibleAdded, IsSetOf};
 
 use std::alloc::{AllocError, Global};
-use thiserror::Error;
+use std::{error, fmt};
 use vob::Vob;
 
 /// A node of a flow graph: the variables that it reads, those that it writes behind that, and the
@@ -30,16 +30,13 @@ pub struct Live {
 }
 
 /// Why `liveness` was refused.
-#[derive(Clone, Copy, Debug, PartialEq, Eq, Error)]
+#[derive(Clone, Copy, Debug, PartialEq, Eq)]
 pub enum LiveError {
     /// There was no memory for the sets.
-    #[error("out of memory")]
     Memory,
     /// A node reads or writes what isn't a variable.
-    #[error("node {node} names no variable")]
     BadVariable { node: usize },
     /// What comes next to a node isn't a node.
-    #[error("node {node} leads to no node")]
     BadNext { node: usize },
 }
 
@@ -58,6 +55,23 @@ impl LiveError {
         }
     }
 }
+
+impl fmt::Display for LiveError {
+    ghost use Rattle.std.specs.Prelude.{Some};
+    ghost use Rattle.vob_live.specs.FlowFaults.{live_error_text};
+
+    ghost output = { λ error. Some (live_error_text error) };
+
+    fn fmt<W: fmt::Write>(&self, f: &mut fmt::Formatter<W>) -> fmt::Result {
+        match self {
+            LiveError::Memory => f.write_str("out of memory"),
+            LiveError::BadVariable { node } => write!(f, "node {node} names no variable"),
+            LiveError::BadNext { node } => write!(f, "node {node} leads to no node"),
+        }
+    }
+}
+
+impl error::Error for LiveError {}
 
 impl From<AllocError> for LiveError {
     ghost use Rattle.std.specs.Prelude.{◌≡◌};
@@ -209,7 +223,8 @@ fn pass(vars: usize, nodes: &[Flow], possible: &[Vob], live: &mut Live) -> bool
 
 /// Goes over all nodes until there is no more to add, and counts how often it went.
 fn settle(vars: usize, nodes: &[Flow], possible: &[Vob], live: &mut Live)
-    requires { AreReady vars nodes.now possible.now live.old }
+    requires ready { AreReady vars nodes.now possible.now live.old }
+    requires read { AreRead nodes.now (bits_of live.old.before.items) }
     ensures { AreLive vars nodes.now live.new }
 {
     let mut rounds = 1;

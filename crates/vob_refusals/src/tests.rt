@@ -10,5 +10,6 @@ mod runs;
 mod sets;
 mod support;
 mod unhinted;
+mod users;
 mod walks;
 mod without_memory;

@@ -6,7 +6,7 @@ use Rattle.vob_run.specs.Call.{Call, FromRaw, Storage, FromRecord}
 use Rattle.vob_run.specs.Answer.{Answer, refused, outcome}
 use Rattle.vob_run.specs.Step.{step}
 use Rattle.vob_run.specs.Run.{IsStep, IsRun}
-use Rattle.vob_run.specs.Widths.{SpeaksOfBlocks, IsOfListsAlone}
+use Rattle.vob_run.specs.Widths.{SpeaksOfBlocks, IsOfListsAlone, step_answers, step_lists}
 
 abbrev IsPlain : Call → Type 0
 IsPlain call = SpeaksOfBlocks call → ⊥
@@ -27,6 +27,26 @@ step-taken : (width : ℕ) (before after : List (List Bool)) (call : Call) (answ
     → step width before call ≡ outcome answer after
 step-taken width before after call answer (inl is) taken = is
 step-taken width before after call answer (inr refusal) taken = absurd (taken refusal.1)
+
+steps_of_run : (width other : ℕ) (before : List (List Bool)) (calls : List Call)
+    (answers : List Answer) (after : List (List Bool)) → IsRun width before calls answers after
+    → All IsPlain calls → All WasTaken answers
+    → (answers ≡ step_answers other before calls) × (after ≡ step_lists other before calls)
+steps_of_run width other before [] [] after run plain took = (refl, run)
+steps_of_run width other before (call ∷ calls) (a ∷ answers) after run plain took =
+    let own = step-taken width before run.0 call a run.1 (All-head WasTaken a answers took) in
+    let same = sym own ∙ step-widths width other before call (All-head IsPlain call calls plain) in
+    let between : run.0 ≡ (step other before call).lists = ap (λ o. o.lists) same in
+    let rest = steps_of_run width other run.0 calls answers after run.2
+    (All-tail IsPlain call calls plain) (All-tail WasTaken a answers took) in (
+      ap (λ x. x ∷ answers) (ap (λ o. o.answer) same)
+          ∙ ap (λ xs. (step other before call).answer ∷ xs)
+          (rest.0 ∙ ap (λ l. step_answers other l calls) between),
+      rest.1
+          ∙ ap (λ l. step_lists other l calls) between,
+    )
+steps_of_run width other before [] (a ∷ answers) after run plain took = absurd run
+steps_of_run width other before (call ∷ calls) [] after run plain took = absurd run
 
 same_runs : (width other : ℕ) (before : List (List Bool)) (calls : List Call)
     (answers others : List Answer) (after afterwards : List (List Bool))
@@ -58,6 +78,13 @@ same_runs width other before (call ∷ calls) (a ∷ answers) [] after afterward
     run its plain took took_too = absurd its
 
 -- as records
+pub run_is_its_steps : (width other : ℕ) (before : List (List Bool)) (calls : List Call)
+    (answers : List Answer) (after : List (List Bool))
+    → IsOfListsAlone width before calls answers after
+    → (answers ≡ step_answers other before calls) × (after ≡ step_lists other before calls)
+run_is_its_steps width other before calls answers after run =
+    steps_of_run width other before calls answers after run.run run.no_blocks run.none_refused
+
 pub same_at_every_width : (width other : ℕ) (before : List (List Bool)) (calls : List Call)
     (answers others : List Answer) (after afterwards : List (List Bool))
     → IsOfListsAlone width before calls answers after

@@ -22,14 +22,14 @@ pub enum Command<T> {
     },
     /// Makes a Vob of `len` bits in a copy of these blocks: `RawVob::from_parts` and `into_vob`,
     /// and where `mask`, `mask_last_block` between them, which is skipped where the blocks are not
-    /// as many as the length needs. `Refused(3)` where the blocks are not the length's canonical
+    /// as many as the length needs. `Refused(3)` if the blocks are not the length's canonical
     /// ones.
     FromRaw {
         len: usize,
         mask: bool,
         blocks: Vec<T>,
     },
-    /// Adds a bit behind the last one: `Vob::push`.
+    /// Appends a bit: `Vob::push`.
     Push {
         which: usize,
         value: bool,
@@ -69,7 +69,7 @@ pub enum Command<T> {
     Length {
         which: usize,
     },
-    /// Whether there are no bits: `Vob::is_empty`.
+    /// Returns whether there are no bits: `Vob::is_empty`.
     IsEmpty {
         which: usize,
     },
@@ -97,18 +97,18 @@ pub enum Command<T> {
         len: usize,
         value: bool,
     },
-    /// Adds these bits behind the last one: `Vob::extend_from_slice`.
+    /// Appends these bits: `Vob::extend_from_slice`.
     ExtendSlice {
         which: usize,
         bits: Vec<bool>,
     },
-    /// Adds these bits behind the last one, one by one, once there is room for all of them:
+    /// Appends these bits one by one, once there is room for all of them:
     /// `Vob::reserve` and `Vob::extend`.
     ExtendItems {
         which: usize,
         bits: Vec<bool>,
     },
-    /// Adds the bits of another Vob behind the last bit: `Vob::extend_from_vob`. Skipped where both
+    /// Appends the bits of another Vob: `Vob::extend_from_vob`. Skipped if both
     /// numbers are the same.
     ExtendVob {
         which: usize,
@@ -125,31 +125,31 @@ pub enum Command<T> {
         which: usize,
         bounds: (Bound<usize>, Bound<usize>),
     },
-    /// Keeps the bits that both have: `Vob::and`. Skipped where the numbers are the same or the
+    /// Keeps the bits that both have: `Vob::and`. Skipped if the numbers are the same or the
     /// lengths differ.
     And {
         which: usize,
         other: usize,
     },
-    /// Gets the bits that either has: `Vob::or`. Skipped where the numbers are the same or the
+    /// Adds the bits that the other has: `Vob::or`. Skipped if the numbers are the same or the
     /// lengths differ.
     Or {
         which: usize,
         other: usize,
     },
-    /// Gets the bits that one has and the other hasn't: `Vob::xor`. Skipped where the numbers are
+    /// Keeps the bits that exactly one has: `Vob::xor`. Skipped if the numbers are
     /// the same or the lengths differ.
     Xor {
         which: usize,
         other: usize,
     },
-    /// Makes a Vob of the bits that both have: `&` on two references. Skipped where
+    /// Makes a Vob of the bits that both have: `&` on two references. Skipped if
     /// the numbers are the same or the lengths differ.
     AndNew {
         which: usize,
         other: usize,
     },
-    /// Makes a Vob of the bits that either has: `|` on two references. Skipped where
+    /// Makes a Vob of the bits that either has: `|` on two references. Skipped if
     /// the numbers are the same or the lengths differ.
     OrNew {
         which: usize,
@@ -161,7 +161,7 @@ pub enum Command<T> {
         which: usize,
         other: usize,
     },
-    /// Whether both have the same bits: `==`. Skipped where the numbers are the same.
+    /// Returns whether both have the same bits: `==`. Skipped if the numbers are the same.
     Equal {
         which: usize,
         other: usize,

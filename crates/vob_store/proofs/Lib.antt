@@ -6,6 +6,7 @@ pub mod CutLemmas
 pub mod DrainLemmas
 pub mod FillLemmas
 pub mod FunnelLemmas
+pub mod GatherLemmas
 pub mod JoinLemmas
 pub mod PackLemmas
 pub mod PushLemmas
@@ -16,6 +17,7 @@ pub mod RoomLemmas
 pub mod SameLemmas
 pub mod SplatLemmas
 pub mod StorageLemmas
+pub mod TextLemmas
 pub mod WholeLemmas
 pub mod WordLemmas
 pub mod WriteLemmas

@@ -1,5 +1,5 @@
 -- Two lists of blocks of one length, combined bit by bit. No public contract cites this page.
-use Rattle.std.specs.Prelude.{◌≡◌, ℕ, ◌*◌, ◌/◌, ◌<◌, ◌≤◌, Bool, false, List, count_by}
+use Rattle.std.specs.Prelude.{◌≡◌, ℕ, ◌+◌, ◌*◌, ◌/◌, ◌<◌, ◌≤◌, Bool, true, false, List, length, count_by}
 use Rattle.std.specs.List.{range_with_len}
 use Rattle.vob_block.specs.Packing.{bit_at}
 
@@ -16,3 +16,10 @@ ones_combined f width blocks others k =
 abbrev pub HaveNone : (Bool → Bool → Bool) → ℕ → ℕ → ℕ → List ℕ → List ℕ → Type 0
 HaveNone f width from to blocks others = (i : ℕ) → from ≤ i / width → i / width < to
     → combined_bit f width blocks others i ≡ false
+
+-- reads stop with the chunk of 64 blocks that holds the first true bit of both combined: if bit i
+-- is true, no block past its chunk was read
+abbrev pub StopsAtChunk : (Bool → Bool → Bool) → ℕ → List ℕ → List ℕ → ℕ → ℕ → Type 0
+StopsAtChunk f width blocks others before after =
+    (i : ℕ) → i / width < length blocks → combined_bit f width blocks others i ≡ true
+    → after ≤ before + (i / width / 64 + 1) * 64

@@ -4,11 +4,11 @@ ghost use Rattle.std.specs.Prelude.{◌≡◌, ◌==◌, ◌↔◌, map, length,
 ghost use Rattle.vob_block.specs.Packing.{need, unpacking, IsCanonical, packing};
 
 use crate::mask::mask_last;
-use vob_block::Block;
+use vob_block::BitBlock;
 
 /// Whether the blocks are as many as `len` bits need, and false from bit `len` on. Only the last of
 /// so many blocks can be otherwise, so no other one is read.
-pub fn is_canonical<T: Block>(blocks: &[T], len: usize) -> bool
+pub fn is_canonical<T: BitBlock>(blocks: &[T], len: usize) -> bool
     ensures { IsTrue result ↔ IsCanonical len (map T.number blocks.now) T.BITS }
 {
     T::all_in_range(blocks);
@@ -25,7 +25,7 @@ pub fn is_canonical<T: Block>(blocks: &[T], len: usize) -> bool
 }
 
 /// Makes every bit from `len` on false, of as many blocks as `len` bits need.
-pub fn mask<T: Block>(blocks: &mut [T], len: usize)
+pub fn mask<T: BitBlock>(blocks: &mut [T], len: usize)
     requires { length blocks.old ≡ need len T.BITS }
     ensures { map T.number blocks.new
         ≡ packing (unpacking len (map T.number blocks.old) T.BITS) T.BITS }

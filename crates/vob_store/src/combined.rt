@@ -3,9 +3,9 @@ ghost use Rattle.std.specs.Prelude.{◌≡◌, ◌↔◌, ◌+◌, ◌-◌, ◌^
 ghost use Rattle.vob_block.specs.Places.{place, HasPlaces};
 ghost use Rattle.vob_block.specs.Pointwise.{differ, without, IsCombined};
 ghost use Rattle.vob_block.specs.Reading.{AreReadOnce};
-ghost use Rattle.vob_store.specs.Combined.{ones_combined, HaveNone};
+ghost use Rattle.vob_store.specs.Combined.{ones_combined, HaveNone, StopsAtChunk};
 
-use vob_block::{Block, Blocks};
+use vob_block::{BitBlock, Blocks};
 
 // How many blocks are read for one test. A test after each block takes more than twice as long.
 const CHUNK: usize = 64;
@@ -16,7 +16,7 @@ pub trait Combine {
     ghost of_bits: { Bool → Bool → Bool };
 
     /// What it makes of the places of both blocks.
-    fn block<T: Block>(own: T, other: T) -> T
+    fn block<T: BitBlock>(own: T, other: T) -> T
         ensures places { HasPlaces T.BITS (T.number result)
             (λ j. of_bits (place j (T.number own)) (place j (T.number other))) }
         ensures within { T.number result < 2 ^ T.BITS };
@@ -29,7 +29,7 @@ impl Combine for And {
     ghost of_bits = { ◌&&◌ };
 
     #[inline(always)]
-    fn block<T: Block>(own: T, other: T) -> T {
+    fn block<T: BitBlock>(own: T, other: T) -> T {
         own.band(other)
     }
 }
@@ -41,7 +41,7 @@ impl Combine for Or {
     ghost of_bits = { ◌||◌ };
 
     #[inline(always)]
-    fn block<T: Block>(own: T, other: T) -> T {
+    fn block<T: BitBlock>(own: T, other: T) -> T {
         own.bor(other)
     }
 }
@@ -53,7 +53,7 @@ impl Combine for Xor {
     ghost of_bits = { differ };
 
     #[inline(always)]
-    fn block<T: Block>(own: T, other: T) -> T {
+    fn block<T: BitBlock>(own: T, other: T) -> T {
         own.bxor(other)
     }
 }
@@ -65,7 +65,7 @@ impl Combine for Without {
     ghost of_bits = { without };
 
     #[inline(always)]
-    fn block<T: Block>(own: T, other: T) -> T {
+    fn block<T: BitBlock>(own: T, other: T) -> T {
         own.band(other.bnot())
     }
 }
@@ -74,7 +74,7 @@ impl Combine for Without {
 pub trait CombineInto: Combine {
     /// Stores in `own` both combined, and answers whether a block changed. Each block of `other` is
     /// read once.
-    fn combine_into<T: Block>(own: &mut [T], other: &mut Blocks<'_, T>) -> bool
+    fn combine_into<T: BitBlock>(own: &mut [T], other: &mut Blocks<'_, T>) -> bool
         requires { length own.old ≡ length other.old.items }
         ensures combined { IsCombined T.BITS Self.of_bits (map T.number own.old)
             (map T.number other.old.items) (map T.number own.new) result }
@@ -83,34 +83,34 @@ pub trait CombineInto: Combine {
 
 impl CombineInto for And {
     #[inline(always)]
-    fn combine_into<T: Block>(own: &mut [T], other: &mut Blocks<'_, T>) -> bool {
+    fn combine_into<T: BitBlock>(own: &mut [T], other: &mut Blocks<'_, T>) -> bool {
         T::and_into(own, other)
     }
 }
 
 impl CombineInto for Or {
     #[inline(always)]
-    fn combine_into<T: Block>(own: &mut [T], other: &mut Blocks<'_, T>) -> bool {
+    fn combine_into<T: BitBlock>(own: &mut [T], other: &mut Blocks<'_, T>) -> bool {
         T::or_into(own, other)
     }
 }
 
 impl CombineInto for Xor {
     #[inline(always)]
-    fn combine_into<T: Block>(own: &mut [T], other: &mut Blocks<'_, T>) -> bool {
+    fn combine_into<T: BitBlock>(own: &mut [T], other: &mut Blocks<'_, T>) -> bool {
         T::xor_into(own, other)
     }
 }
 
 impl CombineInto for Without {
     #[inline(always)]
-    fn combine_into<T: Block>(own: &mut [T], other: &mut Blocks<'_, T>) -> bool {
+    fn combine_into<T: BitBlock>(own: &mut [T], other: &mut Blocks<'_, T>) -> bool {
         T::and_not_into(own, other)
     }
 }
 
 /// How many places are true in both combined. Each block of `other` is read once.
-pub fn count_combined<C: Combine, T: Block>(own: &[T], other: &mut Blocks<'_, T>) -> usize
+pub fn count_combined<C: Combine, T: BitBlock>(own: &[T], other: &mut Blocks<'_, T>) -> usize
     requires count { length own.now ≡ length other.old.items }
     requires fits { ones_combined C.of_bits T.BITS (map T.number own.now)
         (map T.number other.old.items) (length own.now) ≤ usize.MAX }
@@ -127,7 +127,7 @@ pub fn count_combined<C: Combine, T: Block>(own: &[T], other: &mut Blocks<'_, T>
 
 /// Whether no place is true in the blocks from `from` to below `to` of both combined. Each of them
 /// is read once.
-fn none_between<C: Combine, T: Block>(
+fn none_between<C: Combine, T: BitBlock>(
     own: &[T],
     other: &mut Blocks<'_, T>,
     from: usize,
@@ -148,13 +148,15 @@ fn none_between<C: Combine, T: Block>(
     found == T::ZERO
 }
 
-/// Whether no place is true in both combined. Each block of `other` is read once at most, and none
-/// behind a chunk with such a place. A block that is alone needs no loop.
-pub fn has_none<C: Combine, T: Block>(own: &[T], other: &mut Blocks<'_, T>) -> bool
+/// Whether no place is true in both combined. Each block of `other` is read at most once, and none
+/// after the chunk of the first such place. A block that is alone needs no loop.
+pub fn has_none<C: Combine, T: BitBlock>(own: &[T], other: &mut Blocks<'_, T>) -> bool
     requires { length own.now ≡ length other.old.items }
     ensures none { IsTrue result ↔ HaveNone C.of_bits T.BITS 0 (length own.now)
         (map T.number own.now) (map T.number other.old.items) }
     ensures reads { other.new.reads ≤ other.old.reads + length other.old.items }
+    ensures stops { StopsAtChunk C.of_bits T.BITS (map T.number own.now)
+        (map T.number other.old.items) other.old.reads other.new.reads }
 {
     if own.len() == 1 {
         return C::block(own[0], other.block(0)) == T::ZERO;

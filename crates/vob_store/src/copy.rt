@@ -6,7 +6,7 @@ ghost use Rattle.vob_block.specs.Packing.{bit_at};
 ghost use Rattle.vob_store.specs.Copying.{AreCopied};
 
 use crate::drain::spliced;
-use vob_block::{Block, Blocks};
+use vob_block::{BitBlock, Blocks};
 
 /// What is copied: so many bits, or whole blocks of them, from index `start` on.
 #[derive(Clone, Copy)]
@@ -15,8 +15,8 @@ pub struct Stretch {
     pub count: usize,
 }
 
-/// Block `k`, or an empty one where there is none. It is read once at most.
-fn read_or_zero<T: Block>(other: &mut Blocks<'_, T>, k: usize) -> T
+/// BitBlock `k`, or an empty one where there is none. It is read once at most.
+fn read_or_zero<T: BitBlock>(other: &mut Blocks<'_, T>, k: usize) -> T
     ensures block { T.number result ≡ slice_index_or (map T.number other.old.items) k 0 }
     ensures items { other.new.items ≡ other.old.items }
     ensures reads { other.new.reads ≤ other.old.reads + 1 }
@@ -29,7 +29,7 @@ fn read_or_zero<T: Block>(other: &mut Blocks<'_, T>, k: usize) -> T
 }
 
 /// A block of the bits from index `from` on, false past the end. Two blocks are read at most.
-fn bits_at<T: Block>(other: &mut Blocks<'_, T>, from: usize) -> T
+fn bits_at<T: BitBlock>(other: &mut Blocks<'_, T>, from: usize) -> T
     ensures places { HasPlaces T.BITS (T.number result)
         (λ j. bit_at (map T.number other.old.items) T.BITS (from + j)) }
     ensures items { other.new.items ≡ other.old.items }
@@ -46,7 +46,7 @@ fn bits_at<T: Block>(other: &mut Blocks<'_, T>, from: usize) -> T
 }
 
 /// Writes the bits of a stretch of `other` over those from `at` on, in one block.
-fn copy_part<T: Block>(own: &mut [T], at: usize, other: &mut Blocks<'_, T>, cut: Stretch)
+fn copy_part<T: BitBlock>(own: &mut [T], at: usize, other: &mut Blocks<'_, T>, cut: Stretch)
     requires one { at % T.BITS + cut.count ≤ T.BITS }
     requires inside { at + cut.count ≤ length own.old * T.BITS }
     ensures copied { AreCopied T.BITS at cut.start cut.count (map T.number own.old)
@@ -66,7 +66,7 @@ fn copy_part<T: Block>(own: &mut [T], at: usize, other: &mut Blocks<'_, T>, cut:
 }
 
 /// Stores the blocks of a stretch of `other`, from block `first` on.
-fn copy_whole<T: Block>(own: &mut [T], first: usize, other: &mut Blocks<'_, T>, blocks: Stretch)
+fn copy_whole<T: BitBlock>(own: &mut [T], first: usize, other: &mut Blocks<'_, T>, blocks: Stretch)
     requires inside { first + blocks.count ≤ length own.old }
     requires fits { blocks.start + blocks.count * T.BITS ≤ usize.MAX }
     ensures copied { AreCopied T.BITS (first * T.BITS) blocks.start (blocks.count * T.BITS)
@@ -82,7 +82,7 @@ fn copy_whole<T: Block>(own: &mut [T], first: usize, other: &mut Blocks<'_, T>, 
 
 /// Writes the bits of a stretch of `other` over those from `at` on: up to the end of a block, then
 /// whole blocks, and then what is left. Two blocks are read at most for each written.
-pub fn copy_bits<T: Block>(own: &mut [T], at: usize, other: &mut Blocks<'_, T>, cut: Stretch)
+pub fn copy_bits<T: BitBlock>(own: &mut [T], at: usize, other: &mut Blocks<'_, T>, cut: Stretch)
     requires inside { at + cut.count ≤ length own.old * T.BITS }
     requires own { at + cut.count ≤ usize.MAX }
     requires other { cut.start + cut.count ≤ usize.MAX }

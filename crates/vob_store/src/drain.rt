@@ -5,11 +5,11 @@ ghost use Rattle.vob_block.specs.Packing.{unpacking, IsCanonical, Stores};
 ghost use Rattle.vob_store.specs.Building.{AreBuilt, closed_bit};
 
 use crate::mask::truncate_to;
-use vob_block::Block;
+use vob_block::BitBlock;
 
 /// Moves the bits of all blocks behind the first ones down by some blocks and some places. Each
 /// block is made of two neighbours, which are read before it is written.
-fn shift_down<T: Block>(blocks: &mut [T], first: usize, skip: usize, places: usize)
+fn shift_down<T: BitBlock>(blocks: &mut [T], first: usize, skip: usize, places: usize)
     requires inside { first + skip < length blocks.old }
     requires positive { 0 < places }
     requires below { places < T.BITS }
@@ -24,7 +24,7 @@ fn shift_down<T: Block>(blocks: &mut [T], first: usize, skip: usize, places: usi
 }
 
 /// Moves the bits of all blocks behind the first ones down by `by`.
-fn close_blocks<T: Block>(blocks: &mut [T], first: usize, by: usize)
+fn close_blocks<T: BitBlock>(blocks: &mut [T], first: usize, by: usize)
     requires inside { first * T.BITS + by ≤ length blocks.old * T.BITS }
     ensures { AreBuilt T.BITS (length blocks.old - by / T.BITS) (map T.number blocks.new)
         (closed_bit T.BITS (first * T.BITS) by (map T.number blocks.old)) }
@@ -40,7 +40,7 @@ fn close_blocks<T: Block>(blocks: &mut [T], first: usize, by: usize)
 }
 
 /// The places of `low` below `from`, and those of `high` from there on.
-pub(crate) fn spliced<T: Block>(low: T, high: T, from: usize) -> T
+pub(crate) fn spliced<T: BitBlock>(low: T, high: T, from: usize) -> T
     requires { from ≤ T.BITS }
     ensures places { HasPlaces T.BITS (T.number result)
         (λ j. if nat_lt j from then place j (T.number low) else place j (T.number high)) }
@@ -50,7 +50,7 @@ pub(crate) fn spliced<T: Block>(low: T, high: T, from: usize) -> T
 }
 
 /// Moves the bits behind the first `from + by` ones down by `by`, and so takes out those before.
-fn close_up<T: Block>(blocks: &mut [T], from: usize, by: usize)
+fn close_up<T: BitBlock>(blocks: &mut [T], from: usize, by: usize)
     requires positive { 0 < by }
     requires inside { from + by ≤ length blocks.old * T.BITS }
     ensures { AreBuilt T.BITS (length blocks.old - by / T.BITS) (map T.number blocks.new)
@@ -65,7 +65,7 @@ fn close_up<T: Block>(blocks: &mut [T], from: usize, by: usize)
 }
 
 /// Takes the bits from index `from` to below `to` out of `len` bits, and closes up those behind.
-pub fn remove_bits<T: Block>(blocks: &mut Vec<T>, len: usize, from: usize, to: usize)
+pub fn remove_bits<T: BitBlock>(blocks: &mut Vec<T>, len: usize, from: usize, to: usize)
     requires canonical { IsCanonical len (map T.number blocks.old.items) T.BITS }
     requires some { from < to }
     requires inside { to ≤ len }

@@ -6,17 +6,17 @@ use crate::last::extend_last;
 use crate::mask::mask_last;
 use crate::room::block_count;
 use std::alloc::{AllocError, Global};
-use vob_block::Block;
+use vob_block::BitBlock;
 
 /// A block whose places are all `value`.
-pub fn splat<T: Block>(value: bool) -> T
+pub fn splat<T: BitBlock>(value: bool) -> T
     ensures { T.number result ≡ (if value then 2 ^ T.BITS - 1 else 0) }
 {
     if value { T::ONES } else { T::ZERO }
 }
 
 /// Stores `block` in the place of every block.
-fn store_all<T: Block>(blocks: &mut [T], block: T)
+fn store_all<T: BitBlock>(blocks: &mut [T], block: T)
     ensures { blocks.new ≡ replicate (length blocks.old) block }
 {
     for k in 0..blocks.len() {
@@ -25,7 +25,7 @@ fn store_all<T: Block>(blocks: &mut [T], block: T)
 }
 
 /// Makes each place of the blocks `value`.
-fn fill_blocks<T: Block>(blocks: &mut [T], value: bool)
+fn fill_blocks<T: BitBlock>(blocks: &mut [T], value: bool)
     ensures { (splat : T) × (blocks.new ≡ replicate (length blocks.old) splat)
         × (T.number splat ≡ (if value then 2 ^ T.BITS - 1 else 0)) }
 {
@@ -38,7 +38,7 @@ fn fill_blocks<T: Block>(blocks: &mut [T], value: bool)
 }
 
 /// Makes each of the `len` bits `value`.
-pub fn fill<T: Block>(blocks: &mut [T], len: usize, value: bool)
+pub fn fill<T: BitBlock>(blocks: &mut [T], len: usize, value: bool)
     requires { IsCanonical len (map T.number blocks.old) T.BITS }
     ensures { Stores T.BITS len (map T.number blocks.new) (replicate len value) }
 {
@@ -47,7 +47,7 @@ pub fn fill<T: Block>(blocks: &mut [T], len: usize, value: bool)
 }
 
 /// Makes the places that the last block has left `value`.
-fn fill_last<T: Block>(blocks: &mut [T], len: usize, value: bool)
+fn fill_last<T: BitBlock>(blocks: &mut [T], len: usize, value: bool)
     requires { IsCanonical len (map T.number blocks.old) T.BITS }
     ensures { Stores T.BITS (length blocks.old * T.BITS) (map T.number blocks.new)
         (unpacking len (map T.number blocks.old) T.BITS
@@ -60,7 +60,7 @@ fn fill_last<T: Block>(blocks: &mut [T], len: usize, value: bool)
 
 /// Adds bits of one `value` behind `len` bits until `count` blocks are full, in the room that is
 /// there.
-pub(crate) fn fill_up<T: Block>(blocks: &mut Vec<T>, len: usize, count: usize, value: bool)
+pub(crate) fn fill_up<T: BitBlock>(blocks: &mut Vec<T>, len: usize, count: usize, value: bool)
     requires canonical { IsCanonical len (map T.number blocks.old.items) T.BITS }
     requires longer { length blocks.old.items ≤ count }
     requires room { count ≤ vec_capacity blocks.old }
@@ -75,7 +75,7 @@ pub(crate) fn fill_up<T: Block>(blocks: &mut Vec<T>, len: usize, count: usize, v
 }
 
 /// Adds bits of one `value` behind `len` bits, up to `new_len` bits, in the room that is there.
-pub fn append_fill<T: Block>(blocks: &mut Vec<T>, len: usize, new_len: usize, value: bool)
+pub fn append_fill<T: BitBlock>(blocks: &mut Vec<T>, len: usize, new_len: usize, value: bool)
     requires canonical { IsCanonical len (map T.number blocks.old.items) T.BITS }
     requires longer { len ≤ new_len }
     requires room { need new_len T.BITS ≤ vec_capacity blocks.old }
@@ -88,7 +88,11 @@ pub fn append_fill<T: Block>(blocks: &mut Vec<T>, len: usize, new_len: usize, va
 }
 
 /// The blocks of `len` times `value`.
-pub fn filled_blocks<T: Block>(alloc: Global, value: bool, len: usize) -> Result<Vec<T>, AllocError>
+pub fn filled_blocks<T: BitBlock>(
+    alloc: Global,
+    value: bool,
+    len: usize,
+) -> Result<Vec<T>, AllocError>
     ensures stores { IfOk result (λ blocks.
         Stores T.BITS len (map T.number blocks.items) (replicate len value)) }
     ensures nothing { len ≡ 0 → IsOk result }

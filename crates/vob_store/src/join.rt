@@ -8,10 +8,10 @@ ghost use Rattle.vob_store.specs.Joining.{HaveRoom, IsJoined};
 
 use crate::fill::fill_up;
 use crate::room::block_count;
-use vob_block::{Block, Blocks};
+use vob_block::{BitBlock, Blocks};
 
 /// Stores the blocks of `other` as they are.
-fn join_whole<T: Block>(own: &mut [T], other: &mut Blocks<'_, T>)
+fn join_whole<T: BitBlock>(own: &mut [T], other: &mut Blocks<'_, T>)
     requires { length own.old ≡ length other.old.items }
     ensures built { AreBuilt T.BITS (length own.old) (map T.number own.new)
         (bit_at (map T.number other.old.items) T.BITS) }
@@ -24,7 +24,7 @@ fn join_whole<T: Block>(own: &mut [T], other: &mut Blocks<'_, T>)
 
 /// Stores the bits from place `from` of `first` on, which the blocks of `other` follow. Each block
 /// that is stored takes its low places from the block before, and the others from the one just read.
-fn join_shifted<T: Block>(own: &mut [T], first: T, other: &mut Blocks<'_, T>, from: usize)
+fn join_shifted<T: BitBlock>(own: &mut [T], first: T, other: &mut Blocks<'_, T>, from: usize)
     requires few { length other.old.items ≤ length own.old }
     requires many { length own.old ≤ length other.old.items + 1 }
     requires positive { 0 < from }
@@ -46,7 +46,7 @@ fn join_shifted<T: Block>(own: &mut [T], first: T, other: &mut Blocks<'_, T>, fr
 }
 
 /// Stores the bits of `other` behind the first `used` ones.
-fn join_behind<T: Block>(own: &mut [T], used: usize, other: &mut Blocks<'_, T>)
+fn join_behind<T: BitBlock>(own: &mut [T], used: usize, other: &mut Blocks<'_, T>)
     requires whole { used ≡ 0 → length own.old ≡ length other.old.items }
     requires some { used ≢ 0 → 0 < length own.old }
     requires few { length other.old.items ≤ length own.old }
@@ -66,7 +66,7 @@ fn join_behind<T: Block>(own: &mut [T], used: usize, other: &mut Blocks<'_, T>)
 }
 
 /// Stores the bits of `other` behind `len` bits, whose blocks have room for them.
-fn join_into<T: Block>(own: &mut [T], len: usize, other: &mut Blocks<'_, T>, more: usize)
+fn join_into<T: BitBlock>(own: &mut [T], len: usize, other: &mut Blocks<'_, T>, more: usize)
     requires room { HaveRoom T.BITS len more (map T.number own.old) (map T.number other.old.items) }
     ensures joined { IsJoined T.BITS len more (map T.number own.old) (map T.number other.old.items)
         (map T.number own.new) }
@@ -78,7 +78,7 @@ fn join_into<T: Block>(own: &mut [T], len: usize, other: &mut Blocks<'_, T>, mor
 }
 
 /// Joins the `more` bits of `other` behind `len` bits, in the room that is there.
-pub fn join<T: Block>(own: &mut Vec<T>, len: usize, other: &mut Blocks<'_, T>, more: usize)
+pub fn join<T: BitBlock>(own: &mut Vec<T>, len: usize, other: &mut Blocks<'_, T>, more: usize)
     requires canonical { IsCanonical len (map T.number own.old.items) T.BITS }
     requires other { IsCanonical more (map T.number other.old.items) T.BITS }
     requires fits { len + more ≤ usize.MAX }
@@ -93,7 +93,7 @@ pub fn join<T: Block>(own: &mut Vec<T>, len: usize, other: &mut Blocks<'_, T>, m
 }
 
 /// Copies the blocks of `more` bits behind `len` bits that fill theirs, in the room that is there.
-fn join_copied<T: Block>(blocks: &mut Vec<T>, len: usize, others: &[T], more: usize)
+fn join_copied<T: BitBlock>(blocks: &mut Vec<T>, len: usize, others: &[T], more: usize)
     requires canonical { IsCanonical len (map T.number blocks.old.items) T.BITS }
     requires other { IsCanonical more (map T.number others.now) T.BITS }
     requires room { len + more ≤ vec_capacity blocks.old * T.BITS }
@@ -108,7 +108,7 @@ fn join_copied<T: Block>(blocks: &mut Vec<T>, len: usize, others: &[T], more: us
 
 /// Joins the `more` bits of `others` behind `len` bits, in the room that is there. Behind whole blocks
 /// the others are copied all at once.
-pub fn join_slice<T: Block>(blocks: &mut Vec<T>, len: usize, others: &[T], more: usize)
+pub fn join_slice<T: BitBlock>(blocks: &mut Vec<T>, len: usize, others: &[T], more: usize)
     requires canonical { IsCanonical len (map T.number blocks.old.items) T.BITS }
     requires other { IsCanonical more (map T.number others.now) T.BITS }
     requires fits { len + more ≤ usize.MAX }

@@ -3,11 +3,11 @@ ghost use Rattle.std.specs.Prelude.{◌≡◌, ◌≢◌, ◌+◌, ◌-◌, ◌%
 ghost use Rattle.vob_block.specs.Places.{HasPlaces};
 ghost use Rattle.vob_block.specs.Packing.{item, unpacking, IsCanonical, Stores};
 
-use vob_block::Block;
+use vob_block::BitBlock;
 
 /// Puts the places of `more` behind the bits that stand in the last block: as many bits as find
 /// room there.
-pub(crate) fn extend_last<T: Block>(blocks: &mut [T], len: usize, more: T)
+pub(crate) fn extend_last<T: BitBlock>(blocks: &mut [T], len: usize, more: T)
     requires canonical { IsCanonical len (map T.number blocks.old) T.BITS }
     requires partial { len % T.BITS ≢ 0 }
     ensures { (bits : List Bool) → len % T.BITS + length bits ≤ T.BITS

@@ -2,11 +2,11 @@
 ghost use Rattle.std.specs.Prelude.{◌≡◌, not, ◌≤◌, map, length, take, vec_capacity};
 ghost use Rattle.vob_block.specs.Packing.{need, unpacking, IsCanonical, Stores};
 
-use vob_block::Block;
+use vob_block::BitBlock;
 
 /// Makes every bit from `len` on false, in as many blocks as `len` bits need. Only the last block
 /// can have such a bit.
-pub fn mask_last<T: Block>(blocks: &mut [T], len: usize)
+pub fn mask_last<T: BitBlock>(blocks: &mut [T], len: usize)
     requires { length blocks.old ≡ need len T.BITS }
     ensures { Stores T.BITS len (map T.number blocks.new)
         (unpacking len (map T.number blocks.old) T.BITS) }
@@ -22,7 +22,7 @@ pub fn mask_last<T: Block>(blocks: &mut [T], len: usize)
 }
 
 /// Negates each of the `len` bits.
-pub fn negate<T: Block>(blocks: &mut [T], len: usize)
+pub fn negate<T: BitBlock>(blocks: &mut [T], len: usize)
     requires { IsCanonical len (map T.number blocks.old) T.BITS }
     ensures { Stores T.BITS len (map T.number blocks.new)
         (map not (unpacking len (map T.number blocks.old) T.BITS)) }
@@ -35,7 +35,7 @@ pub fn negate<T: Block>(blocks: &mut [T], len: usize)
 }
 
 /// Takes off the bits from `new_len` on, with the blocks that only they needed.
-pub fn truncate_to<T: Block>(blocks: &mut Vec<T>, len: usize, new_len: usize)
+pub fn truncate_to<T: BitBlock>(blocks: &mut Vec<T>, len: usize, new_len: usize)
     requires count { length blocks.old.items ≡ need len T.BITS }
     requires shorter { new_len ≤ len }
     ensures stores { Stores T.BITS new_len (map T.number blocks.new.items)

@@ -6,10 +6,10 @@ ghost use Rattle.vob_block.specs.Packing.{item, need, packing, unpacking, IsCano
 use crate::last::extend_last;
 use crate::single::first_place;
 use std::alloc::{AllocError, Global};
-use vob_block::Block;
+use vob_block::BitBlock;
 
 /// The block whose places are some bits, and false above them.
-fn pack_block<T: Block>(bits: &[bool]) -> T
+fn pack_block<T: BitBlock>(bits: &[bool]) -> T
     requires { length bits.now ≤ T.BITS }
     ensures places { HasPlaces T.BITS (T.number result) (item bits.now) }
     ensures within { T.number result < 2 ^ T.BITS }
@@ -23,7 +23,7 @@ fn pack_block<T: Block>(bits: &[bool]) -> T
 }
 
 /// Puts the blocks of some bits behind others, in the room that is there.
-pub fn push_packed<T: Block>(blocks: &mut Vec<T>, bits: &[bool])
+pub fn push_packed<T: BitBlock>(blocks: &mut Vec<T>, bits: &[bool])
     requires room { length blocks.old.items + need (length bits.now) T.BITS ≤ vec_capacity blocks.old }
     ensures blocks { map T.number blocks.new.items
         ≡ map T.number blocks.old.items ++ packing bits.now T.BITS }
@@ -39,7 +39,7 @@ pub fn push_packed<T: Block>(blocks: &mut Vec<T>, bits: &[bool])
 }
 
 /// Puts the first of some bits into the places that the last block has left, and answers how many.
-fn top_up<T: Block>(blocks: &mut [T], len: usize, bits: &[bool]) -> usize
+fn top_up<T: BitBlock>(blocks: &mut [T], len: usize, bits: &[bool]) -> usize
     requires { IsCanonical len (map T.number blocks.old) T.BITS }
     ensures inside { result ≤ length bits.now }
     ensures stores { Stores T.BITS (len + result) (map T.number blocks.new)
@@ -57,7 +57,7 @@ fn top_up<T: Block>(blocks: &mut [T], len: usize, bits: &[bool]) -> usize
 }
 
 /// Adds some bits behind `len` bits, in the room that is there.
-pub fn append_slice<T: Block>(blocks: &mut Vec<T>, len: usize, bits: &[bool])
+pub fn append_slice<T: BitBlock>(blocks: &mut Vec<T>, len: usize, bits: &[bool])
     requires canonical { IsCanonical len (map T.number blocks.old.items) T.BITS }
     requires room { need (len + length bits.now) T.BITS ≤ vec_capacity blocks.old }
     ensures stores { Stores T.BITS (len + length bits.now) (map T.number blocks.new.items)
@@ -69,7 +69,7 @@ pub fn append_slice<T: Block>(blocks: &mut Vec<T>, len: usize, bits: &[bool])
 }
 
 /// The blocks of some bits.
-pub fn packed_blocks<T: Block>(alloc: Global, bits: &[bool]) -> Result<Vec<T>, AllocError>
+pub fn packed_blocks<T: BitBlock>(alloc: Global, bits: &[bool]) -> Result<Vec<T>, AllocError>
     ensures stores { IfOk result (λ blocks.
         Stores T.BITS (length bits.now) (map T.number blocks.items) bits.now) }
     ensures nothing { bits.now ≡ [] → IsOk result }

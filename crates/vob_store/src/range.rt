@@ -5,7 +5,7 @@ ghost use Rattle.vob_block.specs.Places.{place, HasPlaces};
 ghost use Rattle.vob_block.specs.Packing.{unpacking, IsCanonical};
 ghost use Rattle.vob_store.specs.Range.{HaveSameBits, IsRanged};
 
-use vob_block::Block;
+use vob_block::BitBlock;
 
 /// A way to change a block.
 pub trait Change {
@@ -13,7 +13,7 @@ pub trait Change {
     ghost of_bit: { Bool → Bool };
 
     /// What it makes of the places that the mask has. The others stay.
-    fn block<T: Block>(block: T, mask: T) -> T
+    fn block<T: BitBlock>(block: T, mask: T) -> T
         ensures places { HasPlaces T.BITS (T.number result) (λ j. if place j (T.number mask)
             then of_bit (place j (T.number block)) else place j (T.number block)) }
         ensures within { T.number result < 2 ^ T.BITS };
@@ -26,7 +26,7 @@ impl Change for Set {
     ghost of_bit = { λ _. true };
 
     #[inline(always)]
-    fn block<T: Block>(block: T, mask: T) -> T {
+    fn block<T: BitBlock>(block: T, mask: T) -> T {
         block.bor(mask)
     }
 }
@@ -38,7 +38,7 @@ impl Change for Unset {
     ghost of_bit = { λ _. false };
 
     #[inline(always)]
-    fn block<T: Block>(block: T, mask: T) -> T {
+    fn block<T: BitBlock>(block: T, mask: T) -> T {
         block.band(mask.bnot())
     }
 }
@@ -50,13 +50,13 @@ impl Change for Negate {
     ghost of_bit = { not };
 
     #[inline(always)]
-    fn block<T: Block>(block: T, mask: T) -> T {
+    fn block<T: BitBlock>(block: T, mask: T) -> T {
         block.bxor(mask)
     }
 }
 
 /// The places from `from` to below `to`.
-fn mask_between<T: Block>(from: usize, to: usize) -> T
+fn mask_between<T: BitBlock>(from: usize, to: usize) -> T
     requires from { from ≤ T.BITS }
     requires to { to ≤ T.BITS }
     ensures { HasPlaces T.BITS (T.number result) (λ j. nat_le from j && nat_lt j to) }
@@ -66,7 +66,7 @@ fn mask_between<T: Block>(from: usize, to: usize) -> T
 
 /// Changes the places of block `k` from `from` to below `to`, and answers whether the block
 /// changed.
-fn change_places<C: Change, T: Block>(blocks: &mut [T], k: usize, from: usize, to: usize) -> bool
+fn change_places<C: Change, T: BitBlock>(blocks: &mut [T], k: usize, from: usize, to: usize) -> bool
     requires inside { k < length blocks.old }
     requires from { from ≤ T.BITS }
     requires to { to ≤ T.BITS }
@@ -83,7 +83,7 @@ fn change_places<C: Change, T: Block>(blocks: &mut [T], k: usize, from: usize, t
 }
 
 /// Changes all places of the blocks from `from` to below `to`, and answers whether one changed.
-fn change_blocks<C: Change, T: Block>(blocks: &mut [T], from: usize, to: usize) -> bool
+fn change_blocks<C: Change, T: BitBlock>(blocks: &mut [T], from: usize, to: usize) -> bool
     requires order { from ≤ to }
     requires inside { to ≤ length blocks.old }
     ensures ranged { IsRanged T.BITS C.of_bit (from * T.BITS) (to * T.BITS)
@@ -104,7 +104,7 @@ fn change_blocks<C: Change, T: Block>(blocks: &mut [T], from: usize, to: usize) 
 
 /// The same in two parts. The second begins at a multiple of eight blocks, so that vectors of 64-bit
 /// blocks lie across no lines of the cache there, where the memory begins at one.
-fn change_lines<C: Change, T: Block>(blocks: &mut [T], from: usize, to: usize) -> bool
+fn change_lines<C: Change, T: BitBlock>(blocks: &mut [T], from: usize, to: usize) -> bool
     requires order { from ≤ to }
     requires inside { to ≤ length blocks.old }
     ensures ranged { IsRanged T.BITS C.of_bit (from * T.BITS) (to * T.BITS)
@@ -119,7 +119,7 @@ fn change_lines<C: Change, T: Block>(blocks: &mut [T], from: usize, to: usize) -
 }
 
 /// Changes the bits from index `start` to below `stop`, and answers whether one changed.
-fn change_some<C: Change, T: Block>(blocks: &mut [T], start: usize, stop: usize) -> bool
+fn change_some<C: Change, T: BitBlock>(blocks: &mut [T], start: usize, stop: usize) -> bool
     requires some { start < stop }
     requires inside { stop ≤ length blocks.old * T.BITS }
     ensures ranged { IsRanged T.BITS C.of_bit start stop
@@ -143,7 +143,7 @@ fn change_some<C: Change, T: Block>(blocks: &mut [T], start: usize, stop: usize)
 
 /// Changes the bits from index `start` to below `stop` of `len` bits, and answers whether one
 /// changed.
-pub fn change_range<C: Change, T: Block>(
+pub fn change_range<C: Change, T: BitBlock>(
     blocks: &mut [T],
     len: usize,
     start: usize,

@@ -3,17 +3,17 @@ ghost use Rattle.std.specs.Prelude.{◌≡◌, ◌<◌, ◌≤◌, OnOk, OnErr, 
 ghost use Rattle.vob_block.specs.Packing.{need};
 
 use std::alloc::AllocError;
-use vob_block::Block;
+use vob_block::BitBlock;
 
 /// How many blocks `len` bits take.
-pub fn block_count<T: Block>(len: usize) -> usize
+pub fn block_count<T: BitBlock>(len: usize) -> usize
     ensures { result ≡ need len T.BITS }
 {
     len.div_ceil(T::BITS)
 }
 
 /// Makes room for `total` bits. Memory is asked for only where there is less.
-pub fn reserve_bits<T: Block>(blocks: &mut Vec<T>, total: usize) -> Result<(), AllocError>
+pub fn reserve_bits<T: BitBlock>(blocks: &mut Vec<T>, total: usize) -> Result<(), AllocError>
     ensures items { blocks.new.items ≡ blocks.old.items }
     ensures ok { OnOk result (need total T.BITS ≤ vec_capacity blocks.new) }
     ensures err { OnErr result (vec_capacity blocks.new ≡ vec_capacity blocks.old) }

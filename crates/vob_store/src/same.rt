@@ -2,13 +2,13 @@
 ghost use Rattle.std.specs.Prelude.{◌≡◌, ◌↔◌, ◌≤◌, length, map, IsTrue};
 ghost use Rattle.vob_store.specs.Same.{AreSame};
 
-use vob_block::Block;
+use vob_block::BitBlock;
 
 // How many blocks are read for one test. A test after each block takes more than twice as long.
 const CHUNK: usize = 64;
 
 /// Whether the blocks from `from` to below `to` are the same in both.
-fn same_between<T: Block>(blocks: &[T], others: &[T], from: usize, to: usize) -> bool
+fn same_between<T: BitBlock>(blocks: &[T], others: &[T], from: usize, to: usize) -> bool
     requires order { from ≤ to }
     requires mine { to ≤ length blocks.now }
     requires theirs { to ≤ length others.now }
@@ -26,7 +26,7 @@ fn same_between<T: Block>(blocks: &[T], others: &[T], from: usize, to: usize) ->
 }
 
 /// Whether all blocks are the same in both.
-pub fn same_blocks<T: Block>(blocks: &[T], others: &[T]) -> bool
+pub fn same_blocks<T: BitBlock>(blocks: &[T], others: &[T]) -> bool
     requires { length blocks.now ≡ length others.now }
     ensures { IsTrue result ↔ (map T.number blocks.now ≡ map T.number others.now) }
 {

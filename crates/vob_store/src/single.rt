@@ -7,10 +7,10 @@ ghost use Rattle.vob_block.specs.Places.{place, HasPlaces};
 
 use crate::last::extend_last;
 use std::alloc::AllocError;
-use vob_block::Block;
+use vob_block::BitBlock;
 
 /// The place of bit `index` in its block. The bits past the length are places too.
-pub fn block_bit<T: Block>(blocks: &[T], index: usize) -> bool
+pub fn block_bit<T: BitBlock>(blocks: &[T], index: usize) -> bool
     requires { index < length blocks.now * T.BITS }
     ensures { result ≡ bit_at (map T.number blocks.now) T.BITS index }
 {
@@ -19,7 +19,7 @@ pub fn block_bit<T: Block>(blocks: &[T], index: usize) -> bool
 }
 
 /// Bit `index` of the `len` bits of the blocks.
-pub fn stored_bit<T: Block>(blocks: &[T], len: usize, index: usize) -> bool
+pub fn stored_bit<T: BitBlock>(blocks: &[T], len: usize, index: usize) -> bool
     requires canonical { IsCanonical len (map T.number blocks.now) T.BITS }
     requires in_range { index < len }
     ensures { slice_get (unpacking len (map T.number blocks.now) T.BITS) index ≡ Some result }
@@ -28,7 +28,7 @@ pub fn stored_bit<T: Block>(blocks: &[T], len: usize, index: usize) -> bool
 }
 
 /// A block whose first place is `value`, and whose other places are false.
-pub fn first_place<T: Block>(value: bool) -> T
+pub fn first_place<T: BitBlock>(value: bool) -> T
     ensures { T.number result ≡ (if value then 1 else 0) }
 {
     if value { T::ONE } else { T::ZERO }
@@ -36,7 +36,11 @@ pub fn first_place<T: Block>(value: bool) -> T
 
 /// Adds a bit behind the last one, with a block more where the last one is full. Memory is asked for
 /// only where there is no room for it.
-pub fn append_bit<T: Block>(blocks: &mut Vec<T>, len: usize, value: bool) -> Result<(), AllocError>
+pub fn append_bit<T: BitBlock>(
+    blocks: &mut Vec<T>,
+    len: usize,
+    value: bool,
+) -> Result<(), AllocError>
     requires { IsCanonical len (map T.number blocks.old.items) T.BITS }
     ensures stores { OnOk result (Stores T.BITS (len + 1) (map T.number blocks.new.items)
         (unpacking len (map T.number blocks.old.items) T.BITS ++ value ∷ [])) }
@@ -56,7 +60,7 @@ pub fn append_bit<T: Block>(blocks: &mut Vec<T>, len: usize, value: bool) -> Res
 }
 
 /// The block with `value` at place `j`.
-fn with_place<T: Block>(block: T, j: usize, value: bool) -> T
+fn with_place<T: BitBlock>(block: T, j: usize, value: bool) -> T
     requires { j < T.BITS }
     ensures places { HasPlaces T.BITS (T.number result)
         (λ i. if i == j then value else place i (T.number block)) }
@@ -71,7 +75,7 @@ fn with_place<T: Block>(block: T, j: usize, value: bool) -> T
 }
 
 /// Writes bit `index`, and answers whether it changed.
-pub fn write_bit<T: Block>(blocks: &mut [T], len: usize, index: usize, value: bool) -> bool
+pub fn write_bit<T: BitBlock>(blocks: &mut [T], len: usize, index: usize, value: bool) -> bool
     requires canonical { IsCanonical len (map T.number blocks.old) T.BITS }
     requires in_range { index < len }
     ensures stores { Stores T.BITS len (map T.number blocks.new)

@@ -7,10 +7,10 @@ ghost use Rattle.vob_store.specs.Building.{AreBuilt};
 use crate::mask::mask_last;
 use crate::room::block_count;
 use std::alloc::{AllocError, Global};
-use vob_block::Block;
+use vob_block::BitBlock;
 
-/// Block `k`, or an empty one where there is none.
-fn block_or_zero<T: Block>(blocks: &[T], k: usize) -> T
+/// BitBlock `k`, or an empty one where there is none.
+fn block_or_zero<T: BitBlock>(blocks: &[T], k: usize) -> T
     ensures { T.number result ≡ slice_index_or (map T.number blocks.now) k 0 }
 {
     if k < blocks.len() { blocks[k] } else { T::ZERO }
@@ -18,7 +18,7 @@ fn block_or_zero<T: Block>(blocks: &[T], k: usize) -> T
 
 /// Stores the bits from place `from` of the first block on: each block takes its high places from
 /// the next one.
-fn split_shifted<T: Block>(rest: &mut [T], blocks: &[T], from: usize)
+fn split_shifted<T: BitBlock>(rest: &mut [T], blocks: &[T], from: usize)
     requires some { 0 < length rest.old }
     requires count { length rest.old ≤ length blocks.now }
     requires positive { 0 < from }
@@ -34,7 +34,7 @@ fn split_shifted<T: Block>(rest: &mut [T], blocks: &[T], from: usize)
 }
 
 /// Stores the bits from place `from` of the first block on.
-fn split_into<T: Block>(rest: &mut [T], blocks: &[T], from: usize)
+fn split_into<T: BitBlock>(rest: &mut [T], blocks: &[T], from: usize)
     requires some { 0 < length rest.old }
     requires count { length rest.old ≤ length blocks.now }
     requires below { from < T.BITS }
@@ -49,7 +49,7 @@ fn split_into<T: Block>(rest: &mut [T], blocks: &[T], from: usize)
 }
 
 /// The blocks of the bits from index `at` on, of the first `len` bits.
-pub fn split_blocks<T: Block>(
+pub fn split_blocks<T: BitBlock>(
     alloc: Global,
     blocks: &[T],
     len: usize,

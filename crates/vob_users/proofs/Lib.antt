@@ -1,3 +1,4 @@
+mod CalendarLemmas
 mod FirstLemmas
 mod GrammarLemmas
 mod GrowthLemmas

@@ -1,5 +1,6 @@
 -- Which rule of a grammar is the first that names a symbol that isn't there.
-use Rattle.std.specs.Prelude.{◌≡◌, ℕ, ◌<◌, slice_get, Some, All}
+use Rattle.std.specs.Prelude.{◌≡◌, ℕ, ◌<◌, List, ◌++◌, slice_get, Some, All, codes}
+use Rattle.std.specs.Fmt.{decimal}
 use Rattle.vob_users.specs.declared.grammar.Grammar.{Grammar}
 use Rattle.vob_users.specs.declared.grammar.GrammarError.{GrammarError}
 use Rattle.vob_users.specs.declared.grammar.GrammarError.TheVariants.{Memory, BadSymbol}
@@ -38,3 +39,9 @@ IsFault grammar (BadSymbol n) = IsBadRule grammar n
 abbrev pub grammar_error_number : GrammarError → ℕ
 grammar_error_number Memory = 2
 grammar_error_number (BadSymbol rule) = 7
+
+-- the text of a refusal
+abbrev pub grammar_error_text : GrammarError → List ℕ
+grammar_error_text Memory = codes "out of memory"
+grammar_error_text (BadSymbol rule) =
+    codes "rule " ++ decimal rule ++ codes " names a symbol that isn't there"

@@ -1,3 +1,4 @@
+pub mod Calendar
 pub mod Grammar
 pub mod GrammarFaults
 pub mod GrammarPass
@@ -5,4 +6,3 @@ pub mod Matrix
 pub mod MatrixRows
 pub mod Reachable
 pub mod Rows
-pub mod Slots

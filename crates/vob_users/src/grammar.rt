@@ -8,7 +8,7 @@ ghost use Rattle.vob_users.specs.Matrix.{HaveShapeOf};
 
 use crate::matrix::BitMatrix;
 use std::alloc::{AllocError, Global};
-use thiserror::Error;
+use std::{error, fmt};
 use vob::Vob;
 
 /// A symbol of a grammar: terminals and nonterminals have numbers from 0 on, each kind its own.
@@ -42,13 +42,11 @@ pub struct FirstSets {
 }
 
 /// Why `nullable` or `first_sets` was refused.
-#[derive(Clone, Copy, Debug, PartialEq, Eq, Error)]
+#[derive(Clone, Copy, Debug, PartialEq, Eq)]
 pub enum GrammarError {
     /// There was no memory for the sets.
-    #[error("out of memory")]
     Memory,
     /// A rule names a terminal or a nonterminal that isn't there.
-    #[error("rule {rule} names a symbol that isn't there")]
     BadSymbol { rule: usize },
 }
 
@@ -66,6 +64,24 @@ impl GrammarError {
         }
     }
 }
+
+impl fmt::Display for GrammarError {
+    ghost use Rattle.std.specs.Prelude.{Some};
+    ghost use Rattle.vob_users.specs.GrammarFaults.{grammar_error_text};
+
+    ghost output = { λ error. Some (grammar_error_text error) };
+
+    fn fmt<W: fmt::Write>(&self, f: &mut fmt::Formatter<W>) -> fmt::Result {
+        match self {
+            GrammarError::Memory => f.write_str("out of memory"),
+            GrammarError::BadSymbol { rule } => {
+                write!(f, "rule {rule} names a symbol that isn't there")
+            }
+        }
+    }
+}
+
+impl error::Error for GrammarError {}
 
 impl From<AllocError> for GrammarError {
     ghost use Rattle.std.specs.Prelude.{◌≡◌};

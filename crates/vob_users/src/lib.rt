@@ -2,11 +2,13 @@
 //! makes.
 #![tactic(auto)]
 
+pub mod calendar;
 pub mod grammar;
-pub mod joined;
+pub mod loops;
 pub mod matrix;
 pub mod reachable;
 pub mod rows;
 pub mod slots;
+pub mod take_slot;
 
 pub use vob_live::live;

@@ -1,23 +1,13 @@
 //! Slots that are free or taken: a user of `first_unset`, and of the flag of `set`.
-ghost use Rattle.std.specs.Prelude.{◌≡◌, ◌≢◌, ◌↔◌, ◌+◌, ◌<◌, ◌++◌, false, length, replicate, slice_set, IsOk, IfOk, IfSome, OnOk, OnErr, Err};
+ghost use Rattle.std.specs.Prelude.{◌≡◌, ◌≢◌, ◌↔◌, ◌+◌, ◌<◌, ◌++◌, true, false, length, replicate, slice_set, MatchOption, IsOk, IfOk, OnOk, OnErr, Err};
 ghost use Rattle.vob.specs.Bits.{count_of};
 ghost use Rattle.vob_block.specs.Packing.{item};
-ghost use Rattle.vob_users.specs.Slots.{IsTaken};
+ghost use Rattle.vob.specs.Sets.{IsNext};
 
+use crate::take_slot::take_slot;
 use std::alloc::{AllocError, Global};
 use std::marker::Model;
 use vob::{Vob, VobError};
-
-/// Takes the first free slot, if one is free. A set bit is a slot that is taken.
-pub fn take_slot(slots: &mut Vob) -> Option<usize>
-    ensures taken { IsTaken slots.old.bits result slots.new.bits }
-    ensures fewer { IfSome result (λ _.
-        count_of false slots.old.bits ≡ count_of false slots.new.bits + 1) }
-{
-    let slot = slots.first_unset()?;
-    slots.set(slot, true);
-    Some(slot)
-}
 
 /// Numbered slots, each free or taken. Contracts see the list of whether each is taken.
 #[derive(Drop)]
@@ -62,7 +52,9 @@ impl Slots {
 
     /// Takes the first free slot, if one is free.
     pub fn alloc(&mut self) -> Option<usize>
-        ensures { IsTaken self.old result self.new }
+        ensures first { IsNext false self.old 0 result }
+        ensures taken { MatchOption result (self.new ≡ self.old)
+            (λ slot. self.new ≡ slice_set self.old slot true) }
     {
         let slot = take_slot(&mut self.taken)?;
         self.free -= 1;

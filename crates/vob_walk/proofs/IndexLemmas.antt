@@ -4,19 +4,21 @@ use Rattle.std.specs.Iterator.Adapters.{rev_source, rev_steps}
 use Rattle.std.specs.List.{range_with_len}
 use Rattle.std.specs.declared.iter.Rev.{Rev}
 use Rattle.std.specs.declared.ops.Bound.{Bound}
-use Rattle.std.specs.declared.ops.Bound.TheVariants.{Unbounded}
-use Rattle.std.proofs.Common.{◌≡◌, ◌≢◌, reverse, subst, ◌↔◌, ℕ, suc, ◌+◌, ◌<◌, ◌≤◌, Bool, true}
-use Rattle.std.proofs.Common.{false, not, ◌&&◌, cond, IsTrue, List, [], ◌∷◌, length, get_or}
-use Rattle.std.proofs.Common.{count_by, Contains, refl, sym, ap, ◌∙◌, arith, inl, inr}
+use Rattle.std.specs.declared.ops.Bound.TheVariants.{Included, Excluded, Unbounded}
+use Rattle.std.proofs.Common.{◌≡◌, ◌≢◌, reverse, subst, ◌↔◌, ℕ, suc, ◌+◌, ◌-◌, ◌<◌, ◌≤◌, nat_eq, nat_le, nat_lt, eq-eqb, eqb-true, leb-true, ltb-true, Bool, true}
+use Rattle.std.proofs.Common.{zero, false, not, ◌&&◌, ◌||◌, cond, IsTrue, List, [], ◌∷◌, ◌++◌, length, get_or}
+use Rattle.std.proofs.Common.{All, count_by, Contains, refl, sym, ap, ◌∙◌, arith, inl, inr}
 use Rattle.std.proofs.lemmas.Iterator.{YieldsList}
 use Rattle.std.proofs.lemmas.Iterator.Consumers.{YieldsList-from_shown}
 use Rattle.std.proofs.lemmas.Bool.{cases_eq, false≢true}
 use Rattle.std.proofs.lemmas.List.{length-reverse, reverse-append}
+use Rattle.std.proofs.lemmas.List.Elements.{All-head, All-tail, All-pop, All-contains, Contains-get_or}
 use Rattle.std.proofs.lemmas.List.FromFn.{get_or-range_with_len, length-range_with_len}
 use Rattle.std.proofs.lemmas.List.Kept.{AllPairs-filter}
 use Rattle.std.proofs.lemmas.List.Sums.{length-filter, sum_by-cons}
 use Rattle.vob_block.specs.Packing.{item}
-use Rattle.vob_walk.specs.Matches.{within, has_value, matches}
+use Rattle.vob_walk.specs.Matches.{from_start, up_to_end, within, has_value, matches}
+use Rattle.vob_walk.specs.Left.{IsMatch, AreMatches, is_left}
 use Rattle.vob_walk.specs.Walk.{Walk, IsFresh, GivesFirst, GivesLast}
 use Rattle.vob_walk.proofs.MatchesLemmas.{matches-only, matches-has}
 
@@ -122,8 +124,172 @@ pub IsFresh-first : {walk after : Walk} {bits : List Bool} {value : Bool} {low h
     {width i : ℕ} → IsFresh walk bits value low high width → GivesFirst walk (Some i) after
     → (i < length bits) × IsTrue (within low high i) × (item bits i ≡ value)
 IsFresh-first {walk} {after} {bits} {value} {low} {high} {width} {i} fresh first =
-    let least = matches-first bits value low high i after.rest (sym fresh.rest ∙ first.gives) in
+    let least = matches-first bits value low high i after.rest (sym fresh.whole.rest ∙ first.gives) in
     (least.0, least.1, least.2)
+
+-- ---- what a loop over a walk keeps of the indices that are left: `using` takes these by name
+
+module _ (bits : List Bool) (value : Bool) (low high : Bound ℕ) where
+  -- those of a walk of which nothing was given yet
+  pub matches_all : AreMatches bits value low high (matches bits value low high)
+  unfolding AreMatches
+  matches_all = λ k d less. (matches-exactly bits value low high _).0 (Contains-get_or _ k d less)
+
+  -- one index of them
+  pub match_of : (indices : List ℕ) (i : ℕ) → AreMatches bits value low high indices
+      → Contains indices i → IsMatch bits value low high i
+  unfolding AreMatches
+  match_of indices i all there = All-contains (IsMatch bits value low high) indices i all there
+
+  module _ (i : ℕ) (rest : List ℕ) where
+    -- the first is that of a bit, within the range, and its bit has the value
+    pub first_inside : AreMatches bits value low high (i ∷ rest) → i < length bits
+    unfolding AreMatches
+    first_inside all = (All-head (IsMatch bits value low high) i rest all).0
+
+    pub first_within : AreMatches bits value low high (i ∷ rest) → IsTrue (within low high i)
+    unfolding AreMatches
+    first_within all = (All-head (IsMatch bits value low high) i rest all).1
+
+    pub first_value : AreMatches bits value low high (i ∷ rest) → item bits i ≡ value
+    unfolding AreMatches
+    first_value all = (All-head (IsMatch bits value low high) i rest all).2
+
+    -- those behind it
+    pub matches_after : AreMatches bits value low high (i ∷ rest)
+        → AreMatches bits value low high rest
+    unfolding AreMatches
+    matches_after all = All-tail (IsMatch bits value low high) i rest all
+
+    -- the same of the last
+    pub last_inside : AreMatches bits value low high (rest ++ i ∷ []) → i < length bits
+    unfolding AreMatches
+    last_inside all = (All-pop (IsMatch bits value low high) _ rest (Some i) refl all).1.0
+
+    pub last_within : AreMatches bits value low high (rest ++ i ∷ []) → IsTrue (within low high i)
+    unfolding AreMatches
+    last_within all = (All-pop (IsMatch bits value low high) _ rest (Some i) refl all).1.1
+
+    pub last_value : AreMatches bits value low high (rest ++ i ∷ []) → item bits i ≡ value
+    unfolding AreMatches
+    last_value all = (All-pop (IsMatch bits value low high) _ rest (Some i) refl all).1.2
+
+    pub matches_before : AreMatches bits value low high (rest ++ i ∷ [])
+        → AreMatches bits value low high rest
+    unfolding AreMatches
+    matches_before all = (All-pop (IsMatch bits value low high) _ rest (Some i) refl all).0
+
+-- ---- which indices a loop over a walk has come to: those that aren't left
+
+pub left_none : (j : ℕ) → is_left [] j ≡ false
+unfolding is_left
+left_none j = refl
+
+other_or : (b c : Bool) → b ≢ true → (b || c) ≡ c
+other_or true c other = absurd (other refl)
+other_or false c other = refl
+
+or_true : (b : Bool) → (b || true) ≡ true
+or_true true = refl
+or_true false = refl
+
+-- the first is no longer left behind it
+pub left_other : (i : ℕ) (rest : List ℕ) (j : ℕ) → j ≢ i → is_left (i ∷ rest) j ≡ is_left rest j
+unfolding is_left
+left_other i rest j other =
+    other_or (nat_eq i j) (is_left rest j) (λ same. other (sym (eqb-true i j same)))
+
+left_at : (xs : List ℕ) (k j : ℕ) → k < length xs → get_or xs k j ≡ j → is_left xs j ≡ true
+unfolding is_left
+left_at [] k j inside here = absurd (omega arith)
+left_at (x ∷ xs) zero j inside here = ap (λ b. b || is_left xs j) (eq-eqb x j here)
+left_at (x ∷ xs) (suc k) j inside here =
+    ap (λ b. nat_eq x j || b) (left_at xs k j (omega (arith, inside)) here) ∙ or_true (nat_eq x j)
+
+-- each index that matches is left of a walk of which nothing was given yet
+pub left_all : (bits : List Bool) (value : Bool) (low high : Bound ℕ) (j : ℕ) → j < length bits
+    → IsTrue (within low high j) → item bits j ≡ value
+    → is_left (matches bits value low high) j ≡ true
+left_all bits value low high j inside ranged there =
+    let found = (matches-exactly bits value low high j).1 (inside, ranged, there) in
+    left_at (matches bits value low high) found.0 j found.1 found.2
+
+-- what a loop over a walk needs: `using(vob_walk::proofs::IndexLemmas::loop_steps)`
+pub ruleset loop_steps = (
+  matches_all,
+  first_inside,
+  first_value,
+  matches_after,
+  left_all,
+  left_other,
+  left_none,
+)
+
+-- ---- indices of a range
+
+-- an index of a range with an end is below it, and one of a range with a start is at or above it
+and_first : (a b : Bool) → (a && b) ≡ true → a ≡ true
+and_first true b h = refl
+and_first false b h = h
+
+and_second : (a b : Bool) → (a && b) ≡ true → b ≡ true
+and_second true b h = h
+and_second false b h = absurd (false≢true h)
+
+pub first_below : (bits : List Bool) (value : Bool) (low : Bound ℕ) (stop i : ℕ) (rest : List ℕ)
+    → AreMatches bits value low (Excluded stop) (i ∷ rest) → i < stop
+first_below bits value low stop i rest all =
+    ltb-true i stop (and_second (from_start low i) (nat_lt i stop)
+    (first_within bits value low (Excluded stop) i rest all))
+
+pub first_above : (bits : List Bool) (value : Bool) (start : ℕ) (high : Bound ℕ) (i : ℕ)
+    (rest : List ℕ) → AreMatches bits value (Included start) high (i ∷ rest) → start ≤ i
+first_above bits value start high i rest all =
+    leb-true start i (and_first (nat_le start i) (up_to_end high i)
+    (first_within bits value (Included start) high i rest all))
+
+-- no more indices rise within a range than it has
+rising_few : (start stop : ℕ) (xs : List ℕ) → AllPairs (λ i j. i < j) xs
+    → All (λ i. (start ≤ i) × (i < stop)) xs → length xs ≤ stop - start
+rising_few start stop [] rise within = omega arith
+rising_few start stop (i ∷ xs) rise within =
+    let here = within 0 i (omega arith) in
+    let rest = rising_few (i + 1) stop xs
+    (λ j k d less inside. rise (suc j) (suc k) d (omega (arith, less)) (omega (arith, inside)))
+    (λ k d inside.
+    let less = rise 0 (suc k) d (omega arith) (omega (arith, inside)) in
+    (omega (arith, less), (within (suc k) d (omega (arith, inside))).1)) in
+    omega (arith, here.0, here.1, rest)
+
+pub matches_at_most : (bits : List Bool) (value : Bool) (start stop : ℕ)
+    → length (matches bits value (Included start) (Excluded stop)) ≤ stop - start
+matches_at_most bits value start stop =
+    rising_few start stop (matches bits value (Included start) (Excluded stop))
+    (matches-rise bits value (Included start) (Excluded stop)) (λ k d inside.
+    let there = (matches-exactly bits value (Included start) (Excluded stop) _).0
+    (Contains-get_or _ k d inside) in (
+      leb-true start _ (and_first (nat_le start _) (nat_lt _ stop) there.1),
+      ltb-true _ stop (and_second (nat_le start _) (nat_lt _ stop) there.1),
+    ))
+
+-- ---- the same under names that `using` takes
+
+pub matches_exactly : (bits : List Bool) (value : Bool) (low high : Bound ℕ) (i : ℕ)
+    → Contains (matches bits value low high) i ↔ IsMatch bits value low high i
+matches_exactly bits value low high i = matches-exactly bits value low high i
+
+pub matches_rise : (bits : List Bool) (value : Bool) (low high : Bound ℕ)
+    → AllPairs (λ i j. i < j) (matches bits value low high)
+matches_rise bits value low high = matches-rise bits value low high
+
+pub matches_count : (bits : List Bool) (value : Bool)
+    → length (matches bits value Unbounded Unbounded) ≡ count_by (has_value value) bits
+matches_count bits value = matches-count bits value
+
+pub fresh_first : {walk after : Walk} {bits : List Bool} {value : Bool} {low high : Bound ℕ}
+    {width i : ℕ} → IsFresh walk bits value low high width → GivesFirst walk (Some i) after
+    → IsMatch bits value low high i
+fresh_first fresh first = IsFresh-first fresh first
 
 -- ---- a walk as the source of other iterators, which std's lemmas on them start from
 

@@ -6,6 +6,7 @@ pub mod FrontBitsLemmas
 pub mod IndexLemmas
 pub mod MatchesLemmas
 pub mod NextLemmas
+pub mod OnceLemmas
 pub mod PullLemmas
 pub mod ReadLemmas
 pub mod ScanLemmas

@@ -115,7 +115,7 @@ end_item-last (Some i) old new taken =
 -- ---- a pull that gave nothing
 
 -- was at an empty list
-end_item-none : (xs : List ℕ) (side : End) → end_item side xs ≡ None → xs ≡ []
+pub end_item-none : (xs : List ℕ) (side : End) → end_item side xs ≡ None → xs ≡ []
 unfolding end_item
 end_item-none [] side none = refl
 end_item-none (x ∷ xs) Front none = absurd (cc)
@@ -131,7 +131,7 @@ answers-nil [] = refl
 answers-nil (Front ∷ pulls) = ap (λ others. None ∷ others) (answers-nil pulls)
 answers-nil (Back ∷ pulls) = ap (λ others. None ∷ others) (answers-nil pulls)
 
-without_end-nil : (side : End) → without_end side [] ≡ []
+pub without_end-nil : (side : End) → without_end side [] ≡ []
 unfolding without_end
 without_end-nil Front = refl
 without_end-nil Back = refl

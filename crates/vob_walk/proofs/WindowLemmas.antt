@@ -1,19 +1,20 @@
 -- A range cut to a window of indices: what matches there stands in the blocks that the window meets.
 use Rattle.std.specs.List.{list_any, range_with_len}
 use Rattle.std.specs.declared.ops.Bound.{Bound}
+use Rattle.std.specs.declared.ops.Bound.TheVariants.{Included, Excluded}
 use Rattle.std.proofs.Common.{◌≡◌, ℕ, ◌+◌, ◌-◌, ◌*◌, ◌/◌, ◌<◌, ◌≤◌, Bool, true, false, ◌&&◌, nat_le}
 use Rattle.std.proofs.Common.{nat_lt, ◌==◌, List, [], length, refl, sym, ap, ◌∙◌, arith, inl, inr}
 use Rattle.std.proofs.Common.{add-mul, suc-mul, add-one, div-add-mod', mod-lt, div-mul-le_self}
 use Rattle.std.proofs.Common.{mul-div_cancel}
 use Rattle.std.proofs.lemmas.Bool.{cases_lt, and_from, and_left, and_right, and_parts, ltb-true}
-use Rattle.std.proofs.lemmas.Bool.{leb-true, lt-ltb, le-leb, eqb-true, eq-eqb, false_from_ne_true}
+use Rattle.std.proofs.lemmas.Bool.{leb-true, lt-ltb, le-ltb, le-leb, eqb-true, eq-eqb, false_from_ne_true}
 use Rattle.std.proofs.lemmas.Bool.{false≢true}
 use Rattle.std.proofs.lemmas.List.Sums.{length-filter}
 use Rattle.std.proofs.lemmas.Nat.{div_below, le-div, mul-le}
 use Rattle.vob_block.specs.Packing.{item, need, bit_at, unpacking}
 use Rattle.vob_block.proofs.NeedLemmas.{need_enough, need_least, mul-lt_from_need, div-lt-need}
 use Rattle.vob_block.proofs.PackingLemmas.{length-unpacking, get_or-unpacking}
-use Rattle.vob_walk.specs.Matches.{from_start, up_to_end, within, has_value, matches, blocks_met}
+use Rattle.vob_walk.specs.Matches.{from_start, up_to_end, within, has_value, matches, blocks_met, IsRangeOf}
 use Rattle.vob_walk.specs.Cursor.{indices_where, is_hit, unread}
 use Rattle.vob_walk.proofs.WhereLemmas.{indices_where-same, indices_where-nothing}
 use Rattle.vob_walk.proofs.WhereLemmas.{indices_where-both, length-indices_all}
@@ -41,6 +42,28 @@ IsWindow-cut low high len start stop shorter ordered ends starts = record {
   each = λ i. cut_tests (nat_lt i len) (up_to_end high i) (nat_lt i stop) (nat_le start i)
       (from_start low i) (ends i) (λ below. starts i (ltb-true i stop below));
 }
+
+-- from the indices below len alone
+pub IsWindow-range : {low high : Bound ℕ} {len start stop : ℕ} → IsRangeOf low high len start stop
+    → IsWindow low high len start stop
+IsWindow-range {low} {high} {len} {start} {stop} range =
+    let inside = range.inside in
+    record {
+      ordered = range.order;
+      inside = inside;
+      each = λ i. elim (cases_lt i len) [
+        | inl below ↦ sym (range.each i below)
+            ∙ sym (ap (λ b. b && within low high i) (lt-ltb i len below))
+        | inr past ↦ and_right (nat_le start i) (nat_lt i stop) (le-ltb i stop (omega (arith, past, inside)))
+            ∙ sym (and_left (nat_lt i len) (within low high i) (le-ltb i len past))
+      ];
+    }
+
+-- indices are the range of themselves
+pub IsRangeOf-own : (start stop len : ℕ) → start ≤ stop → stop ≤ len
+    → IsRangeOf (Included start) (Excluded stop) len start stop
+IsRangeOf-own start stop len order inside =
+    record { order = order; inside = inside; each = λ i _. refl }
 
 module _ {low high : Bound ℕ} {n start stop : ℕ} (window : IsWindow low high n start stop) where
   -- at an index below n the bounds and the window ask the same

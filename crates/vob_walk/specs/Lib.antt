@@ -2,8 +2,10 @@ pub mod Count
 pub mod Cursor
 pub mod InHand
 pub mod Laws
+pub mod Left
 pub mod Matches
 pub mod Next
+pub mod Once
 pub mod Select
 pub mod Skip
 pub mod Walk

@@ -1,5 +1,5 @@
 -- The indices of the bits of one value, cut to a range.
-use Rattle.std.specs.Prelude.{ℕ, ◌/◌, Bool, true, false, ◌&&◌, ◌==◌, not, nat_le, nat_lt, List, length, count_by, filter}
+use Rattle.std.specs.Prelude.{◌≡◌, ℕ, ◌/◌, ◌<◌, ◌≤◌, Bool, true, false, ◌&&◌, ◌==◌, not, nat_le, nat_lt, List, length, count_by, filter}
 use Rattle.std.specs.List.{list_any, range_with_len}
 use Rattle.std.specs.declared.ops.Bound.{Bound}
 use Rattle.std.specs.declared.ops.Bound.TheVariants.{Included, Excluded, Unbounded}
@@ -19,6 +19,18 @@ up_to_end Unbounded i = true
 -- whether it meets both
 abbrev pub within : Bound ℕ → Bound ℕ → ℕ → Bool
 within low high i = from_start low i && up_to_end high i
+
+-- of the indices below len a range has those from start to below stop
+pub record IsRangeOf (low high : Bound ℕ) (len start stop : ℕ) : Type 0 where
+  pub order : start ≤ stop
+  pub inside : stop ≤ len
+  pub each : (i : ℕ) → i < len → within low high i ≡ (nat_le start i && nat_lt i stop)
+
+-- p holds of the indices from some start to below some stop, at most len. A call says so at any
+-- range, also where the type of the range doesn't state its bounds
+abbrev pub ForSomeRange : ℕ → (Bound ℕ → Bound ℕ → Type 0) → Type 0
+ForSomeRange len p =
+    (start : ℕ) × (stop : ℕ) × (start ≤ stop) × (stop ≤ len) × p (Included start) (Excluded stop)
 
 -- whether a bit has the value that is wanted
 abbrev pub has_value : Bool → Bool → Bool

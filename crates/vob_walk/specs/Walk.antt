@@ -39,13 +39,19 @@ given_count [] = 0
 given_count (None ∷ others) = given_count others
 given_count (Some i ∷ others) = given_count others + 1
 
--- a walk of which nothing is given yet: all that matches is left, and each block that holds an index
--- of the range is unread
-pub record IsFresh (walk : Walk) (bits : List Bool) (value : Bool) (low high : Bound ℕ) (width : ℕ)
+-- a walk that has given no index: all that matches is left, and each block that holds an index of
+-- the range is unread
+pub record IsWhole (walk : Walk) (bits : List Bool) (value : Bool) (low high : Bound ℕ) (width : ℕ)
     : Type 0 where
   pub rest : walk.rest ≡ matches bits value low high
   pub left : walk.left ≡ blocks_met low high (length bits) width
   pub credit : walk.credit ≡ blocks_met low high (length bits) width
+
+-- a walk that has given no index and read no block
+pub record IsFresh (walk : Walk) (bits : List Bool) (value : Bool) (low high : Bound ℕ) (width : ℕ)
+    : Type 0 where
+  pub whole : IsWhole walk bits value low high width
+  pub reads : walk.reads ≡ 0
 
 -- a walk after pulls that were answered: reads rise by at most one for each index given and each
 -- block of the range, and no block that an end holds is read again

@@ -7,11 +7,11 @@ ghost use Rattle.vob_walk.specs.InHand.{IsBlockBits};
 
 use crate::block_bits::is_zero;
 use std::marker::Model;
-use vob_block::Block;
+use vob_block::BitBlock;
 
 /// The indices of one block that are still to give, seen as the list of them. Place 0 is index `at`.
 #[derive(Drop)]
-pub(crate) struct BackBits<T: Block> {
+pub(crate) struct BackBits<T: BitBlock> {
     // The true places are indices still to give. Beside a run there are none.
     word: T,
     at: usize,
@@ -20,7 +20,7 @@ pub(crate) struct BackBits<T: Block> {
     past: usize,
 }
 
-impl<T: Block> Model for BackBits<T> {
+impl<T: BitBlock> Model for BackBits<T> {
     ghost use Rattle.std.specs.Prelude.{ℕ, ◌-◌, List};
     ghost use Rattle.vob_walk.specs.Cursor.{block_indices};
     ghost use Rattle.vob_walk.specs.InHand.{held, IsBackBits};
@@ -34,7 +34,7 @@ impl<T: Block> Model for BackBits<T> {
 
 /// The block with its true place `j` made false.
 #[inline(always)]
-fn without_place<T: Block>(block: T, j: usize) -> T
+fn without_place<T: BitBlock>(block: T, j: usize) -> T
     requires inside { j < T.BITS }
     requires there { place j (T.number block) ≡ true }
     ensures places { HasPlaces T.BITS (T.number result)
@@ -44,7 +44,7 @@ fn without_place<T: Block>(block: T, j: usize) -> T
     block.bxor(T::ONE.up(j))
 }
 
-impl<T: Block> BackBits<T> {
+impl<T: BitBlock> BackBits<T> {
     /// No indices.
     pub(crate) fn none() -> BackBits<T>
         ensures { result ≡ [] }

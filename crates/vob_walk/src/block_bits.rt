@@ -6,12 +6,12 @@ ghost use Rattle.vob_walk.specs.Cursor.{block_indices};
 ghost use Rattle.vob_walk.specs.InHand.{IsBlockBits};
 
 use std::marker::Model;
-use vob_block::Block;
+use vob_block::BitBlock;
 
 /// A block whose true places are indices still to give, seen as the list of them. Place 0 is index
 /// `at`.
 #[derive(Drop)]
-pub(crate) struct BlockBits<T: Block> {
+pub(crate) struct BlockBits<T: BitBlock> {
     word: T,
     at: usize,
     // How many are left. A loop ends by this count, which is known long before the last word is.
@@ -20,7 +20,7 @@ pub(crate) struct BlockBits<T: Block> {
     ready: usize,
 }
 
-impl<T: Block> Model for BlockBits<T> {
+impl<T: BitBlock> Model for BlockBits<T> {
     ghost use Rattle.std.specs.Prelude.{ℕ, List};
     ghost use Rattle.vob_walk.specs.Cursor.{block_indices};
     ghost use Rattle.vob_walk.specs.InHand.{IsReady};
@@ -34,13 +34,13 @@ impl<T: Block> Model for BlockBits<T> {
 
 /// Whether no place is true.
 #[inline(always)]
-pub(crate) fn is_zero<T: Block>(block: T) -> bool
+pub(crate) fn is_zero<T: BitBlock>(block: T) -> bool
     ensures { IsTrue result ↔ (T.number block ≡ 0) }
 {
     block == T::ZERO
 }
 
-impl<T: Block> BlockBits<T> {
+impl<T: BitBlock> BlockBits<T> {
     /// No indices.
     pub(crate) fn none() -> BlockBits<T>
         ensures { result ≡ [] }

@@ -8,11 +8,26 @@ ghost use Rattle.vob_walk.specs.Cursor.{unread};
 
 use crate::range::blocks_of;
 use crate::window::{Window, masked};
-use vob_block::{Block, Blocks};
+use vob_block::{BitBlock, Block, Blocks};
 
-/// How many places are true from index `start` to below `stop`. Reads each block that holds one of
-/// these indices once, and no other. vob 4.0.1 has no public call like it.
+/// Counts the set bits from index `start` to below `stop`. Reads each block that holds one of these
+/// indices once, and no other. vob 4.0.1 has no public call like it.
 pub fn count_ones_in<T: Block>(blocks: &mut Blocks<'_, T>, start: usize, stop: usize) -> usize
+    requires order { start ≤ stop }
+    requires enough { need stop T.BITS ≤ length blocks.old.items }
+    ensures ones { result ≡ ones_between T.BITS (map T.number blocks.old.items) start stop }
+    ensures reads { blocks.new.reads ≡ blocks.old.reads + blocks_met (Included start) (Excluded stop) stop T.BITS }
+    ensures items { blocks.new.items ≡ blocks.old.items }
+{
+    count_ones(blocks, start, stop)
+}
+
+/// The same, for blocks without arithmetic.
+pub(crate) fn count_ones<T: BitBlock>(
+    blocks: &mut Blocks<'_, T>,
+    start: usize,
+    stop: usize,
+) -> usize
     requires order { start ≤ stop }
     requires enough { need stop T.BITS ≤ length blocks.old.items }
     ensures ones { result ≡ ones_between T.BITS (map T.number blocks.old.items) start stop }
@@ -34,7 +49,12 @@ pub fn count_ones_in<T: Block>(blocks: &mut Blocks<'_, T>, start: usize, stop: u
 }
 
 /// How many places of block `k` are true from index `start` to below `stop`, some of which it holds.
-fn ones_in_block<T: Block>(blocks: &mut Blocks<'_, T>, k: usize, start: usize, stop: usize) -> usize
+fn ones_in_block<T: BitBlock>(
+    blocks: &mut Blocks<'_, T>,
+    k: usize,
+    start: usize,
+    stop: usize,
+) -> usize
     requires count { k < length blocks.old.items }
     requires order { start ≤ stop }
     requires begins { start ≤ k * T.BITS + T.BITS }
@@ -53,7 +73,7 @@ fn ones_in_block<T: Block>(blocks: &mut Blocks<'_, T>, k: usize, start: usize, s
 }
 
 /// How many places are true in the blocks from `from` to below `to`. Reads each of them once.
-fn ones_in_blocks<T: Block>(blocks: &mut Blocks<'_, T>, from: usize, to: usize) -> usize
+fn ones_in_blocks<T: BitBlock>(blocks: &mut Blocks<'_, T>, from: usize, to: usize) -> usize
     requires order { from ≤ to }
     requires count { to ≤ length blocks.old.items }
     requires fits { to * T.BITS ≤ usize.MAX }
@@ -75,7 +95,7 @@ fn ones_in_blocks<T: Block>(blocks: &mut Blocks<'_, T>, from: usize, to: usize) 
 /// both halves side by side, so that no count waits for the one before, in a loop that a compiler
 /// still turns into one over vectors where the processor has them for it.
 #[inline(always)]
-fn ones_in_halves<T: Block>(blocks: &mut Blocks<'_, T>, from: usize, half: usize) -> usize
+fn ones_in_halves<T: BitBlock>(blocks: &mut Blocks<'_, T>, from: usize, half: usize) -> usize
     requires count { from + half + half ≤ length blocks.old.items }
     requires fits { (from + half + half) * T.BITS ≤ usize.MAX }
     ensures ones { result ≡ ones_between T.BITS (map T.number blocks.old.items)
@@ -93,7 +113,7 @@ fn ones_in_halves<T: Block>(blocks: &mut Blocks<'_, T>, from: usize, half: usize
 }
 
 /// How many indices of the window stand in the blocks from `next` to below `end`.
-pub(crate) fn count_between<T: Block>(
+pub(crate) fn count_between<T: BitBlock>(
     blocks: &mut Blocks<'_, T>,
     window: Window,
     next: usize,
@@ -107,7 +127,7 @@ pub(crate) fn count_between<T: Block>(
     // Where a block ends past the greatest index, the window ends before it.
     let below = window.stop.min(end.saturating_mul(T::BITS));
     let from = window.start.max(next.saturating_mul(T::BITS)).min(below);
-    let ones = count_ones_in(blocks, from, below);
+    let ones = count_ones(blocks, from, below);
     if window.value {
         ones
     } else {

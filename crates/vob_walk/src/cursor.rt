@@ -1,28 +1,29 @@
 //! Walks over the indices of the set bits, or of the unset ones, within a range, from both ends. A
 //! block is read once, when an end first enters it, and its indices are then in hand at that end.
-ghost use Rattle.std.specs.Prelude.{◌≡◌, ◌≤◌, ◌∷◌, ◌++◌, [], ⊤, ◌+◌, length, map};
+ghost use Rattle.std.specs.Prelude.{ℕ, ◌≡◌, ◌≤◌, ◌∷◌, ◌++◌, [], ⊤, ◌+◌, length, map};
 ghost use Rattle.std.specs.Iterator.{YieldsFirst, YieldsLast, MakesProgress, item_count};
 ghost use Rattle.vob_block.specs.Packing.{need, unpacking};
-ghost use Rattle.vob_walk.specs.Walk.{Walk, IsFresh, IsPulled, end_item, without_end};
+ghost use Rattle.std.specs.declared.ops.Bound.{Bound};
+ghost use Rattle.vob_walk.specs.Matches.{IsRangeOf};
+ghost use Rattle.vob_walk.specs.Walk.{Walk, IsWhole, IsPulled, end_item, without_end};
 
 use crate::back_bits::BackBits;
 use crate::front_bits::FrontBits;
 use crate::scan::Unread;
 use crate::walk::End;
 use std::marker::Model;
-use std::ops::RangeBounds;
-use vob_block::{Block, Blocks};
+use vob_block::{BitBlock, Blocks};
 
 /// A walk over the indices of the bits of one value: those in hand at either end, and the blocks
 /// between them.
 #[derive(Drop)]
-pub(crate) struct Cursor<'a, T: Block> {
+pub(crate) struct Cursor<'a, T: BitBlock> {
     unread: Unread<'a, T>,
     front: FrontBits<T>,
     back: BackBits<T>,
 }
 
-impl<'a, T: Block> Model for Cursor<'a, T> {
+impl<'a, T: BitBlock> Model for Cursor<'a, T> {
     ghost use Rattle.std.specs.Prelude.{◌^◌, ◌<◌, ◌++◌, length};
     ghost use Rattle.vob_walk.specs.Walk.{Walk};
     ghost use Rattle.vob_walk.specs.Cursor.{walk_of};
@@ -35,23 +36,21 @@ impl<'a, T: Block> Model for Cursor<'a, T> {
     ghost invariant = { λ c. length (c.front ++ (c.unread.rest ++ c.back)) < 2 ^ 64 };
 }
 
-/// Where the front has no index in hand, it gets those of the first block that has some, or else
-/// what the back has. So it has none afterwards only where none is left at all.
+/// Gives an empty front the indices of the first block that has some, or else what the back has. So
+/// the front is empty afterwards only if no index is left at all.
 #[inline(always)]
-fn fill_front<T: Block>(
+fn fill_front<T: BitBlock>(
     unread: &mut Unread<'_, T>,
     front: &mut FrontBits<T>,
     back: &mut BackBits<T>,
 )
+    requires { front.old ≡ [] }
     ensures rest { front.new ++ (unread.new.rest ++ back.new) ≡ front.old ++ (unread.old.rest ++ back.old) }
     ensures empty { front.new ≡ [] → unread.new.rest ++ back.new ≡ [] }
     ensures fewer { length back.new ≤ length back.old }
     ensures falls { unread.new.left ≤ unread.old.left }
     ensures reads { unread.new.reads + unread.new.left ≡ unread.old.reads + unread.old.left }
 {
-    if !front.is_empty() {
-        return;
-    }
     *front = unread.next_bits();
     if front.is_empty() {
         let (word, at) = back.block();
@@ -63,7 +62,11 @@ fn fill_front<T: Block>(
 /// Where the back has no index in hand, it gets those of the last block that has some, or else what
 /// the front has. So it has none afterwards only where none is left at all.
 #[inline(always)]
-fn fill_back<T: Block>(unread: &mut Unread<'_, T>, front: &mut FrontBits<T>, back: &mut BackBits<T>)
+fn fill_back<T: BitBlock>(
+    unread: &mut Unread<'_, T>,
+    front: &mut FrontBits<T>,
+    back: &mut BackBits<T>,
+)
     ensures rest { front.new ++ (unread.new.rest ++ back.new) ≡ front.old ++ (unread.old.rest ++ back.old) }
     ensures empty { back.new ≡ [] → front.new ++ unread.new.rest ≡ [] }
     ensures fewer { length front.new ≤ length front.old }
@@ -81,22 +84,23 @@ fn fill_back<T: Block>(unread: &mut Unread<'_, T>, front: &mut FrontBits<T>, bac
     }
 }
 
-impl<'a, T: Block> Cursor<'a, T> {
-    /// A walk over the first `len` bits of some blocks.
-    pub(crate) fn over<R: RangeBounds<usize>>(
+impl<'a, T: BitBlock> Cursor<'a, T> {
+    /// A walk over the indices from `start` to below `stop`.
+    pub(crate) fn over(
         blocks: Blocks<'a, T>,
         value: bool,
-        len: usize,
-        range: R,
+        start: usize,
+        stop: usize,
     ) -> Cursor<'a, T>
-        requires { length blocks.items ≡ need len T.BITS }
-        ensures fresh { R.has_bounds range
-            → IsFresh result (unpacking len (map T.number blocks.entry.items) T.BITS) value
-            (R.start_bound range) (R.end_bound range) T.BITS }
+        requires order { start ≤ stop }
+        requires enough { need stop T.BITS ≤ length blocks.items }
+        ensures whole { (low high : Bound ℕ) (len : ℕ) → IsRangeOf low high len start stop
+            → IsWhole result (unpacking len (map T.number blocks.entry.items) T.BITS) value
+            low high T.BITS }
         ensures reads { result.reads ≡ blocks.entry.reads }
     {
         Cursor {
-            unread: Unread::over(blocks, value, len, range),
+            unread: Unread::over(blocks, value, start, stop),
             front: FrontBits::none(),
             back: BackBits::none(),
         }
@@ -114,7 +118,7 @@ impl<'a, T: Block> Cursor<'a, T> {
         if self.front.has_places() {
             return self.front.next();
         }
-        if self.front.is_run() {
+        if !self.front.is_empty() {
             return self.front.next();
         }
         fill_front(&mut self.unread, &mut self.front, &mut self.back);

@@ -6,11 +6,11 @@ ghost use Rattle.vob_walk.specs.InHand.{IsBlockBits};
 
 use crate::block_bits::BlockBits;
 use std::marker::Model;
-use vob_block::Block;
+use vob_block::BitBlock;
 
 /// The indices of one block that are still to give, seen as the list of them.
 #[derive(Drop)]
-pub(crate) struct FrontBits<T: Block> {
+pub(crate) struct FrontBits<T: BitBlock> {
     // Those of true places. Beside a run there are none.
     places: BlockBits<T>,
     // Of a block whose places were all true, those that are left: the first one, and how many. So the
@@ -19,7 +19,7 @@ pub(crate) struct FrontBits<T: Block> {
     run: usize,
 }
 
-impl<T: Block> Model for FrontBits<T> {
+impl<T: BitBlock> Model for FrontBits<T> {
     ghost use Rattle.std.specs.Prelude.{ℕ, List, ◌++◌};
     ghost use Rattle.std.specs.List.{range_with_len};
     ghost use Rattle.vob_walk.specs.InHand.{IsFrontBits};
@@ -31,7 +31,7 @@ impl<T: Block> Model for FrontBits<T> {
     ghost invariant = { λ bits. IsFrontBits T.BITS bits.places bits.first bits.run };
 }
 
-impl<T: Block> FrontBits<T> {
+impl<T: BitBlock> FrontBits<T> {
     /// No indices.
     pub(crate) fn none() -> FrontBits<T>
         ensures { result ≡ [] }
@@ -70,14 +70,6 @@ impl<T: Block> FrontBits<T> {
         ensures { IsTrue result → self.now ≢ [] }
     {
         !self.places.is_empty()
-    }
-
-    /// Whether the indices that are left follow one another, in a block whose places were all true.
-    #[inline(always)]
-    pub(crate) fn is_run(&self) -> bool
-        ensures { IsTrue result → self.now ≢ [] }
-    {
-        self.run != 0
     }
 
     /// Whether no index is left.

@@ -4,17 +4,19 @@ ghost use Rattle.std.specs.Iterator.{item_count, at_most, UpTo};
 ghost use Rattle.std.specs.Iterator.SizeHint.{IsWithinCount};
 ghost use Rattle.std.specs.Iterator.Runs.{YieldsInOrder, YieldsInReverse};
 ghost use Rattle.vob_block.specs.Packing.{need, unpacking};
-ghost use Rattle.vob_walk.specs.Walk.{IsFresh, GivesFirst, GivesLast};
+ghost use Rattle.vob_walk.specs.Matches.{ForSomeRange};
+ghost use Rattle.vob_walk.specs.Walk.{IsWhole, GivesFirst, GivesLast};
 
 use crate::cursor::Cursor;
+use crate::range::cut_range;
 use crate::walk::{End, IndexWalk};
 use std::iter::FusedIterator;
 use std::marker::Model;
 use std::ops::RangeBounds;
 use vob_block::{Block, Blocks};
 
-/// The rising indices of the set bits within a range. Each block that holds an index of the range is
-/// read once at most.
+/// A walk over the indices of the set bits within a range, from both ends. It reads each block that
+/// holds an index of the range at most once.
 #[derive(Drop)]
 pub struct IterSetBits<'a, T: Block> {
     cursor: Cursor<'a, T>,
@@ -29,27 +31,30 @@ impl<'a, T: Block> Model for IterSetBits<'a, T> {
 }
 
 impl<'a, T: Block> IterSetBits<'a, T> {
-    /// A walk over the first `len` bits of some blocks. Every pair of bounds is accepted; an index
-    /// belongs to the range where it is below `len` and meets both as whole numbers.
+    /// Makes a walk over the first `len` bits of some blocks. Every pair of bounds is accepted. An index
+    /// belongs to the range if it is below `len` and meets both bounds as whole numbers.
     pub fn over<R: RangeBounds<usize>>(
         blocks: Blocks<'a, T>,
         len: usize,
         range: R,
     ) -> IterSetBits<'a, T>
         requires { length blocks.items ≡ need len T.BITS }
-        ensures fresh { R.has_bounds range
-            → IsFresh result (unpacking len (map T.number blocks.entry.items) T.BITS) true
+        ensures whole { R.has_bounds range
+            → IsWhole result (unpacking len (map T.number blocks.entry.items) T.BITS) true
             (R.start_bound range) (R.end_bound range) T.BITS }
+        ensures some { ForSomeRange len (λ low high. IsWhole result
+            (unpacking len (map T.number blocks.entry.items) T.BITS) true low high T.BITS) }
         ensures reads { result.reads ≡ blocks.entry.reads }
         ensures runs { YieldsInOrder GivesFirst (λ walk. walk.rest) }
         ensures runs_back { YieldsInReverse GivesLast (λ walk. walk.rest) }
     {
+        let (start, stop) = cut_range(&range, len);
         IterSetBits {
-            cursor: Cursor::over(blocks, true, len, range),
+            cursor: Cursor::over(blocks, true, start, stop),
         }
     }
 
-    /// How many indices are still to come. vob 4.0.1 overrides `Iterator::count` by this number.
+    /// Counts the indices that are left. vob 4.0.1 overrides `Iterator::count` by this number.
     pub fn count(self) -> usize
         ensures { result ≡ length self.entry.rest }
     {
@@ -69,7 +74,7 @@ impl<'a, T: Block> Iterator for IterSetBits<'a, T> {
         self.cursor.next()
     }
 
-    /// No bounds, as vob 4.0.1 answers: how many indices are left only a count can say.
+    /// Returns no bounds, as vob 4.0.1 does: only a count can say how many indices are left.
     fn size_hint(&self) -> (usize, Option<usize>)
         ensures lower { IsWithinCount result.0 (at_most (length self.now.rest)) }
         ensures upper { IfSome result.1 (UpTo (at_most (length self.now.rest))) }
@@ -98,8 +103,8 @@ impl<'a, T: Block> IndexWalk for IterSetBits<'a, T> {
     }
 }
 
-/// The rising indices of the unset bits within a range. Each block that holds an index of the range
-/// is read once at most.
+/// A walk over the indices of the unset bits within a range, from both ends. It reads each block that
+/// holds an index of the range at most once.
 #[derive(Drop)]
 pub struct IterUnsetBits<'a, T: Block> {
     cursor: Cursor<'a, T>,
@@ -114,29 +119,31 @@ impl<'a, T: Block> Model for IterUnsetBits<'a, T> {
 }
 
 impl<'a, T: Block> IterUnsetBits<'a, T> {
-    /// A walk over the first `len` bits of some blocks. Every pair of bounds is accepted; an index
-    /// belongs to the range where it is below `len` and meets both as whole numbers.
+    /// Makes a walk over the first `len` bits of some blocks. Every pair of bounds is accepted. An index
+    /// belongs to the range if it is below `len` and meets both bounds as whole numbers.
     pub fn over<R: RangeBounds<usize>>(
         blocks: Blocks<'a, T>,
         len: usize,
         range: R,
     ) -> IterUnsetBits<'a, T>
         requires { length blocks.items ≡ need len T.BITS }
-        ensures fresh { R.has_bounds range
-            → IsFresh result (unpacking len (map T.number blocks.entry.items) T.BITS) false
+        ensures whole { R.has_bounds range
+            → IsWhole result (unpacking len (map T.number blocks.entry.items) T.BITS) false
             (R.start_bound range) (R.end_bound range) T.BITS }
+        ensures some { ForSomeRange len (λ low high. IsWhole result
+            (unpacking len (map T.number blocks.entry.items) T.BITS) false low high T.BITS) }
         ensures reads { result.reads ≡ blocks.entry.reads }
         ensures runs { YieldsInOrder GivesFirst (λ walk. walk.rest) }
         ensures runs_back { YieldsInReverse GivesLast (λ walk. walk.rest) }
     {
+        let (start, stop) = cut_range(&range, len);
         IterUnsetBits {
-            cursor: Cursor::over(blocks, false, len, range),
+            cursor: Cursor::over(blocks, false, start, stop),
         }
     }
 
-    /// How many indices are still to come. vob 4.0.1 overrides `Iterator::count` by the indices of the
-    /// range less its set bits: of a range whose end is before its start, and after an answer None that
-    /// left the start past the end, that panics or wraps.
+    /// Counts the indices that are left. vob 4.0.1 overrides `Iterator::count`, and panics or wraps if
+    /// the range ends before it starts, and after some answers `None`.
     pub fn count(self) -> usize
         ensures { result ≡ length self.entry.rest }
     {
@@ -156,7 +163,7 @@ impl<'a, T: Block> Iterator for IterUnsetBits<'a, T> {
         self.cursor.next()
     }
 
-    /// No bounds, as vob 4.0.1 answers: how many indices are left only a count can say.
+    /// Returns no bounds, as vob 4.0.1 does: only a count can say how many indices are left.
     fn size_hint(&self) -> (usize, Option<usize>)
         ensures lower { IsWithinCount result.0 (at_most (length self.now.rest)) }
         ensures upper { IfSome result.1 (UpTo (at_most (length self.now.rest))) }

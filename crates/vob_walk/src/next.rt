@@ -7,11 +7,11 @@ ghost use Rattle.vob_walk.specs.Next.{HasNoBit, IsFirstBit, IsLastBit, IsFirstPl
 use crate::block_bits::is_zero;
 use crate::skip::{first_other, last_other};
 use crate::window::{bits_of_value, block_without};
-use vob_block::{Block, Blocks};
+use vob_block::{BitBlock, Blocks};
 
 /// The first place from `from` on whose bit has the value, or `BITS` where there is none.
 #[inline(always)]
-fn first_place<T: Block>(block: T, value: bool, from: usize) -> usize
+fn first_place<T: BitBlock>(block: T, value: bool, from: usize) -> usize
     requires { from < T.BITS }
     ensures { IsFirstPlace T.BITS (T.number block) value from result }
 {
@@ -26,7 +26,7 @@ fn first_place<T: Block>(block: T, value: bool, from: usize) -> usize
 
 /// One more than the last place up to `upto` whose bit has the value, or 0 where there is none.
 #[inline(always)]
-fn past_last_place<T: Block>(block: T, value: bool, upto: usize) -> usize
+fn past_last_place<T: BitBlock>(block: T, value: bool, upto: usize) -> usize
     requires { upto < T.BITS }
     ensures { IsLastPlace (T.number block) value (upto + 1) result }
 {
@@ -38,10 +38,10 @@ fn past_last_place<T: Block>(block: T, value: bool, upto: usize) -> usize
     }
 }
 
-/// The block of index `from`, where a walk goes on: `hand`, which is that block and isn't read again,
-/// unless `from` is 0. There `hand` may be any block, and block 0 is read.
+/// Returns the block of index `from`, at which a walk goes on. That is `hand`, which isn't read again.
+/// If `from` is 0, `hand` may be any block, and block 0 is read.
 #[inline(always)]
-pub fn block_in_hand<T: Block>(blocks: &mut Blocks<'_, T>, hand: T, from: usize) -> T
+pub fn block_in_hand<T: BitBlock>(blocks: &mut Blocks<'_, T>, hand: T, from: usize) -> T
     requires count { from / T.BITS < length blocks.old.items }
     requires hand { 0 < from → T.number hand
         ≡ slice_index_or (map T.number blocks.old.items) (from / T.BITS) 0 }
@@ -53,11 +53,11 @@ pub fn block_in_hand<T: Block>(blocks: &mut Blocks<'_, T>, hand: T, from: usize)
     if from == 0 { blocks.block(0) } else { hand }
 }
 
-/// The first index from `from.0` to below `len` whose bit has the value, with its block; where there
-/// is none, `len`, and which block is beside it isn't said. `from.1` is the block of `from.0`, which
-/// isn't read again; those behind it are read, once each, until one has such a bit.
+/// Returns the first index from `from.0` to below `len` whose bit has the value, with its block. If
+/// there is none, returns `len`; the block is then unspecified. `from.1` is the block of `from.0`, which
+/// isn't read again. The blocks after it are read, once each, until one has such a bit.
 #[inline(always)]
-pub fn next_in_hand<T: Block>(
+pub fn next_in_hand<T: BitBlock>(
     blocks: &mut Blocks<'_, T>,
     value: bool,
     len: usize,
@@ -87,7 +87,7 @@ pub fn next_in_hand<T: Block>(
 
 /// One more than the last index up to `upto` whose bit has the value, or 0 where there is none.
 #[inline(always)]
-fn past_last_index_of<T: Block>(blocks: &mut Blocks<'_, T>, value: bool, upto: usize) -> usize
+fn past_last_index_of<T: BitBlock>(blocks: &mut Blocks<'_, T>, value: bool, upto: usize) -> usize
     requires count { upto / T.BITS < length blocks.old.items }
     requires fits { upto < usize.MAX }
     ensures { FindsDown T.BITS T.number value blocks.old blocks.new upto result }
@@ -104,12 +104,11 @@ fn past_last_index_of<T: Block>(blocks: &mut Blocks<'_, T>, value: bool, upto: u
     found.0 * T::BITS + past_last_place(found.1, value, T::BITS - 1)
 }
 
-/// The first index from `from` to below `len` whose bit has the value. Reads the blocks from that of
-/// `from` to that of the index, or to the last one that `len` bits need where the answer is None, at
-/// most once each, and no other; none where `from` is at or past `len`. vob 4.0.1 has no public call
-/// like it.
+/// Returns the first index from `from` to below `len` whose bit has the value. Reads the blocks from
+/// that of `from` to that of the index, or to the last one that `len` bits need, at most once each.
+/// Reads no block if `from` is at or past `len`. vob 4.0.1 has no public call like it.
 #[inline(always)]
-pub fn next_index<T: Block>(
+pub fn next_index<T: BitBlock>(
     blocks: &mut Blocks<'_, T>,
     value: bool,
     len: usize,
@@ -136,12 +135,11 @@ pub fn next_index<T: Block>(
     if index < len { Some(index) } else { None }
 }
 
-/// The last index up to `upto` and below `len` whose bit has the value. Reads the blocks from that of
-/// the greatest index that is looked at down to that of the index, or to the first one where the
-/// answer is None, at most once each, and no other; none where `len` is 0. vob 4.0.1 has no public
-/// call like it.
+/// Returns the last index up to `upto` and below `len` whose bit has the value. Reads the blocks from
+/// that of the greatest index down to that of the index, or to the first one, at most once each. Reads
+/// no block if `len` is 0. vob 4.0.1 has no public call like it.
 #[inline(always)]
-pub fn previous_index<T: Block>(
+pub fn previous_index<T: BitBlock>(
     blocks: &mut Blocks<'_, T>,
     value: bool,
     len: usize,

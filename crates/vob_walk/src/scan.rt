@@ -2,23 +2,23 @@
 //! of the value that is looked for.
 ghost use Rattle.std.specs.Prelude.{◌≡◌, ℕ, ◌+◌, ◌-◌, ◌*◌, ◌^◌, ◌<◌, ◌≤◌, [], ◌++◌, map, length};
 ghost use Rattle.vob_block.specs.Packing.{need, unpacking};
-ghost use Rattle.vob_walk.specs.Matches.{matches, blocks_met};
+ghost use Rattle.std.specs.declared.ops.Bound.{Bound};
+ghost use Rattle.vob_walk.specs.Matches.{matches, blocks_met, IsRangeOf};
 ghost use Rattle.vob_walk.specs.Cursor.{indices_in, unread};
 ghost use Rattle.vob_walk.specs.Skip.{ReadsUp, ReadsDown};
 
 use crate::back_bits::BackBits;
 use crate::count::count_between;
 use crate::front_bits::FrontBits;
-use crate::range::{blocks_of, first_index, past_last_index};
+use crate::range::blocks_of;
 use crate::skip::{first_other, last_other};
 use crate::window::{Window, block_without, masked};
 use std::marker::Model;
-use std::ops::RangeBounds;
-use vob_block::{Block, Blocks};
+use vob_block::{BitBlock, Blocks};
 
 /// The indices that the window looks for in block `k`.
 #[inline(always)]
-fn bits_in<T: Block>(block: T, k: usize, window: Window) -> FrontBits<T>
+fn bits_in<T: BitBlock>(block: T, k: usize, window: Window) -> FrontBits<T>
     requires { k * T.BITS < window.stop }
     ensures { result ≡ indices_in T.BITS (T.number block) (k * T.BITS) window.value window.start
         window.stop }
@@ -28,7 +28,7 @@ fn bits_in<T: Block>(block: T, k: usize, window: Window) -> FrontBits<T>
 
 /// The same, to be given from the last one on.
 #[inline(always)]
-fn back_bits_in<T: Block>(block: T, k: usize, window: Window) -> BackBits<T>
+fn back_bits_in<T: BitBlock>(block: T, k: usize, window: Window) -> BackBits<T>
     requires { k * T.BITS < window.stop }
     ensures { result ≡ indices_in T.BITS (T.number block) (k * T.BITS) window.value window.start
         window.stop }
@@ -39,7 +39,7 @@ fn back_bits_in<T: Block>(block: T, k: usize, window: Window) -> BackBits<T>
 /// Reads blocks from `next` on until one has an index to give, and answers that one's. Where none
 /// has, all up to `end` are read.
 #[inline(always)]
-fn find_front<T: Block>(
+fn find_front<T: BitBlock>(
     blocks: &mut Blocks<'_, T>,
     window: Window,
     next: &mut usize,
@@ -69,7 +69,7 @@ fn find_front<T: Block>(
 /// Reads blocks from below `end` down until one has an index to give, and answers that one's. Where
 /// none has, all down to `next` are read.
 #[inline(always)]
-fn find_back<T: Block>(
+fn find_back<T: BitBlock>(
     blocks: &mut Blocks<'_, T>,
     window: Window,
     next: usize,
@@ -99,14 +99,14 @@ fn find_back<T: Block>(
 /// The blocks that neither end of a walk has read, from `next` to below `end`, and what is looked
 /// for in them.
 #[derive(Drop)]
-pub(crate) struct Unread<'a, T: Block> {
+pub(crate) struct Unread<'a, T: BitBlock> {
     blocks: Blocks<'a, T>,
     window: Window,
     next: usize,
     end: usize,
 }
 
-impl<'a, T: Block> Model for Unread<'a, T> {
+impl<'a, T: BitBlock> Model for Unread<'a, T> {
     ghost use Rattle.std.specs.Prelude.{map, ◌-◌};
     ghost use Rattle.vob_walk.specs.Cursor.{UnreadBlocks, IsUnread, unread};
 
@@ -121,27 +121,26 @@ impl<'a, T: Block> Model for Unread<'a, T> {
     ghost invariant = { λ u. IsUnread T.BITS (map T.number u.blocks.items) u.window.stop u.next u.end };
 }
 
-impl<'a, T: Block> Unread<'a, T> {
-    /// The blocks of a walk over the first `len` bits of some blocks, all unread.
-    pub(crate) fn over<R: RangeBounds<usize>>(
+impl<'a, T: BitBlock> Unread<'a, T> {
+    /// The blocks of a walk over the indices from `start` to below `stop`, all unread.
+    pub(crate) fn over(
         blocks: Blocks<'a, T>,
         value: bool,
-        len: usize,
-        range: R,
+        start: usize,
+        stop: usize,
     ) -> Unread<'a, T>
-        requires { length blocks.items ≡ need len T.BITS }
-        ensures rest { R.has_bounds range
+        requires order { start ≤ stop }
+        requires enough { need stop T.BITS ≤ length blocks.items }
+        ensures rest { (low high : Bound ℕ) (len : ℕ) → IsRangeOf low high len start stop
             → result.rest ≡ matches (unpacking len (map T.number blocks.entry.items) T.BITS)
-            value (R.start_bound range) (R.end_bound range) }
+            value low high }
+        ensures left { (low high : Bound ℕ) (len : ℕ) → IsRangeOf low high len start stop
+            → result.left ≡ blocks_met low high len T.BITS }
         ensures reads { result.reads ≡ blocks.entry.reads }
-        ensures left { R.has_bounds range
-            → result.left ≡ blocks_met (R.start_bound range) (R.end_bound range) len T.BITS }
 
         // Countable by the type of lengths.
         ensures countable { length result.rest < 2 ^ 64 }
     {
-        let stop = past_last_index(&range, len);
-        let start = first_index(&range, stop);
         let (next, end) = blocks_of::<T>(start, stop);
         let window = Window { value, start, stop };
         Unread {

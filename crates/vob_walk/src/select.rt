@@ -5,12 +5,12 @@ ghost use Rattle.vob_block.specs.Places.{place, true_places};
 ghost use Rattle.vob_walk.specs.Count.{ones_between};
 ghost use Rattle.vob_walk.specs.Select.{HasRank};
 
-use vob_block::{Block, Blocks};
+use vob_block::{BitBlock, Blocks};
 
-/// The index of the true bit of this rank, or `None` where there are at most `rank` true bits.
-/// Reads the blocks up to the one that holds it once each, and no other. vob 4.0.1 has no public
-/// call like it.
-pub fn index_of_rank<T: Block>(blocks: &mut Blocks<'_, T>, rank: usize) -> Option<usize>
+/// Returns the index of the set bit of this rank, counted from 0, or `None` if there are at most `rank`
+/// set bits. Reads the blocks up to the one that holds it, once each. vob 4.0.1 has no public call like
+/// it.
+pub fn index_of_rank<T: BitBlock>(blocks: &mut Blocks<'_, T>, rank: usize) -> Option<usize>
     requires fits { (i : ℕ) → bit_at (map T.number blocks.old.items) T.BITS i ≡ true
         → i ≤ usize.MAX }
     ensures found { MatchOption result
@@ -36,7 +36,7 @@ pub fn index_of_rank<T: Block>(blocks: &mut Blocks<'_, T>, rank: usize) -> Optio
 
 /// The true place below which `rank` true ones stand. A count of the places below the middle of
 /// those that are left says on which side of it the place is.
-fn place_of_rank<T: Block>(block: T, rank: usize) -> usize
+fn place_of_rank<T: BitBlock>(block: T, rank: usize) -> usize
     requires { rank < true_places T.BITS (T.number block) }
     ensures inside { result < T.BITS }
     ensures there { place result (T.number block) ≡ true }

@@ -3,11 +3,11 @@
 ghost use Rattle.std.specs.Prelude.{◌+◌, ◌-◌, ◌*◌, ◌<◌, ◌≤◌, length};
 ghost use Rattle.vob_walk.specs.Skip.{ScansUp, ScansDown};
 
-use vob_block::{Block, Blocks};
+use vob_block::{BitBlock, Blocks};
 
-/// Block `k` with its number, where it isn't `skip`.
+/// BitBlock `k` with its number, where it isn't `skip`.
 #[inline(always)]
-fn other_at<T: Block>(blocks: &mut Blocks<'_, T>, skip: T, k: usize) -> Option<(usize, T)>
+fn other_at<T: BitBlock>(blocks: &mut Blocks<'_, T>, skip: T, k: usize) -> Option<(usize, T)>
     requires { k < length blocks.old.items }
     ensures up { ScansUp T.number skip blocks.old blocks.new k (k + 1) result }
     ensures down { ScansDown T.number skip blocks.old blocks.new k (k + 1) result }
@@ -22,7 +22,7 @@ fn other_at<T: Block>(blocks: &mut Blocks<'_, T>, skip: T, k: usize) -> Option<(
 
 /// The first of the four blocks from `k` on that isn't `skip`, with its number.
 #[inline(always)]
-fn first_of_four<T: Block>(blocks: &mut Blocks<'_, T>, skip: T, k: usize) -> Option<(usize, T)>
+fn first_of_four<T: BitBlock>(blocks: &mut Blocks<'_, T>, skip: T, k: usize) -> Option<(usize, T)>
     requires count { k + 4 ≤ length blocks.old.items }
     requires fits { k + 4 ≤ usize.MAX }
     ensures { ScansUp T.number skip blocks.old blocks.new k (k + 4) result }
@@ -44,7 +44,7 @@ fn first_of_four<T: Block>(blocks: &mut Blocks<'_, T>, skip: T, k: usize) -> Opt
 
 /// The last of the four blocks below `end` that isn't `skip`, with its number.
 #[inline(always)]
-fn last_of_four<T: Block>(blocks: &mut Blocks<'_, T>, skip: T, end: usize) -> Option<(usize, T)>
+fn last_of_four<T: BitBlock>(blocks: &mut Blocks<'_, T>, skip: T, end: usize) -> Option<(usize, T)>
     requires four { 4 ≤ end }
     requires count { end ≤ length blocks.old.items }
     ensures { ScansDown T.number skip blocks.old blocks.new (end - 4) end result }
@@ -66,7 +66,7 @@ fn last_of_four<T: Block>(blocks: &mut Blocks<'_, T>, skip: T, end: usize) -> Op
 
 /// The first block of `fours` times four, from `from` on, that isn't `skip`.
 #[inline(always)]
-fn first_of_fours<T: Block>(
+fn first_of_fours<T: BitBlock>(
     blocks: &mut Blocks<'_, T>,
     skip: T,
     from: usize,
@@ -87,7 +87,7 @@ fn first_of_fours<T: Block>(
 
 /// The last block of `fours` times four, below `end`, that isn't `skip`.
 #[inline(always)]
-fn last_of_fours<T: Block>(
+fn last_of_fours<T: BitBlock>(
     blocks: &mut Blocks<'_, T>,
     skip: T,
     end: usize,
@@ -108,7 +108,7 @@ fn last_of_fours<T: Block>(
 
 /// The first block from `from` to below `end` that isn't `skip`, looked at one by one.
 #[inline(always)]
-fn first_of_rest<T: Block>(
+fn first_of_rest<T: BitBlock>(
     blocks: &mut Blocks<'_, T>,
     skip: T,
     from: usize,
@@ -129,7 +129,7 @@ fn first_of_rest<T: Block>(
 
 /// The last block from `from` to below `end` that isn't `skip`, looked at one by one.
 #[inline(always)]
-fn last_of_rest<T: Block>(
+fn last_of_rest<T: BitBlock>(
     blocks: &mut Blocks<'_, T>,
     skip: T,
     from: usize,
@@ -151,7 +151,7 @@ fn last_of_rest<T: Block>(
 /// The first block from `from` to below `end` that isn't `skip`, with its number. No block behind
 /// it is read.
 #[inline(always)]
-pub(crate) fn first_other<T: Block>(
+pub(crate) fn first_other<T: BitBlock>(
     blocks: &mut Blocks<'_, T>,
     skip: T,
     from: usize,
@@ -172,7 +172,7 @@ pub(crate) fn first_other<T: Block>(
 /// The last block from `from` to below `end` that isn't `skip`, with its number. No block before it
 /// is read.
 #[inline(always)]
-pub(crate) fn last_other<T: Block>(
+pub(crate) fn last_other<T: BitBlock>(
     blocks: &mut Blocks<'_, T>,
     skip: T,
     from: usize,

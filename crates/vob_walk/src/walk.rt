@@ -16,15 +16,15 @@ pub trait IndexWalk {
     // What contracts see of the walk.
     ghost walk: { Self → Walk };
 
-    /// The first or the last index that is left, which leaves the walk.
+    /// Removes the first or the last index that is left, and returns it.
     fn pull(&mut self, side: End) -> Option<usize>
         ensures given { result ≡ end_item side (walk self.old).rest }
         ensures kept { (walk self.new).rest ≡ without_end side (walk self.old).rest }
         ensures reads { IsPulled (walk self.old) (result ∷ []) (walk self.new) };
 }
 
-/// Pulls at a walk, and appends an answer for each pull. Room for the answers is made first: where it
-/// is refused nothing was pulled. vob 4.0.1 has no call like it.
+/// Pulls at a walk, and appends an answer for each pull. Room for the answers is made first: if memory
+/// runs out, nothing was pulled. vob 4.0.1 has no call like it.
 pub fn deal<W: IndexWalk>(
     walk: &mut W,
     pulls: &[End],

@@ -3,7 +3,7 @@ ghost use Rattle.std.specs.Prelude.{◌≡◌, ◌+◌, ◌-◌, ◌*◌, ◌^�
 ghost use Rattle.vob_block.specs.Places.{place, HasPlaces};
 ghost use Rattle.vob_walk.specs.Matches.{has_value};
 
-use vob_block::Block;
+use vob_block::BitBlock;
 
 /// What a walk looks for: the bits of one value from index `start` to below `stop`.
 #[derive(Clone, Copy)]
@@ -15,7 +15,7 @@ pub(crate) struct Window {
 
 /// The block of which no place has the value.
 #[inline(always)]
-pub(crate) fn block_without<T: Block>(value: bool) -> T
+pub(crate) fn block_without<T: BitBlock>(value: bool) -> T
     ensures { T.number result ≡ (if value then 0 else 2 ^ T.BITS - 1) }
 {
     if value { T::ZERO } else { T::ONES }
@@ -23,7 +23,7 @@ pub(crate) fn block_without<T: Block>(value: bool) -> T
 
 /// The places whose bits have the value.
 #[inline(always)]
-pub(crate) fn bits_of_value<T: Block>(block: T, value: bool) -> T
+pub(crate) fn bits_of_value<T: BitBlock>(block: T, value: bool) -> T
     ensures places { HasPlaces T.BITS (T.number result)
         (λ j. has_value value (place j (T.number block))) }
     ensures within { T.number result < 2 ^ T.BITS }
@@ -37,7 +37,7 @@ pub(crate) fn bits_of_value<T: Block>(block: T, value: bool) -> T
 }
 
 /// The places from index `start` on, where place 0 is index `at`.
-fn places_from<T: Block>(block: T, at: usize, start: usize) -> T
+fn places_from<T: BitBlock>(block: T, at: usize, start: usize) -> T
     ensures places { HasPlaces T.BITS (T.number result)
         (λ j. nat_le start (at + j) && place j (T.number block)) }
     ensures within { T.number result < 2 ^ T.BITS }
@@ -55,7 +55,7 @@ fn places_from<T: Block>(block: T, at: usize, start: usize) -> T
 }
 
 /// The places below index `stop`, where place 0 is index `at`.
-fn places_below<T: Block>(block: T, at: usize, stop: usize) -> T
+fn places_below<T: BitBlock>(block: T, at: usize, stop: usize) -> T
     requires { at ≤ stop }
     ensures places { HasPlaces T.BITS (T.number result)
         (λ j. nat_lt (at + j) stop && place j (T.number block)) }
@@ -71,7 +71,7 @@ fn places_below<T: Block>(block: T, at: usize, stop: usize) -> T
 }
 
 /// The places of block `k` that the window looks for.
-pub(crate) fn masked<T: Block>(block: T, k: usize, window: Window) -> T
+pub(crate) fn masked<T: BitBlock>(block: T, k: usize, window: Window) -> T
     requires { k * T.BITS < window.stop }
     ensures places { HasPlaces T.BITS (T.number result)
         (λ j. nat_le window.start (k * T.BITS + j) && nat_lt (k * T.BITS + j) window.stop

@@ -4,10 +4,15 @@ use super::unhinted::Unhinted;
 use std::process::Abort;
 use vob::{Vob, VobError};
 
-/// Whether `101` was grown, and is so long now. If not, there was no memory, and it is as it was.
+/// Whether `101` was grown by true bits to this length. If not, there was no memory, and it is as it
+/// was.
 fn is_grown(rt: &impl Abort, answer: Result<(), VobError>, vob: &Vob<u8>, len: usize) -> bool {
     if answer.is_ok() {
         same(rt, "the length", vob.len(), len);
+        same(rt, "the blocks", vob.get_storage().len(), len.div_ceil(8));
+        let mut unset = vob.iter_unset_bits(..);
+        same(rt, "the unset bit", unset.next(), Some(1));
+        same(rt, "another one", unset.next(), None);
         return true;
     }
     same(rt, "the answer", answer, Err(VobError::Memory));

@@ -1,5 +1,5 @@
 //! A conversation over eight lines, into room that is there: what is written where a request is refused.
-use super::support::{FIRST, request, same, tell};
+use super::support::{FIRST, request, same, same_list, tell};
 use std::process::Abort;
 use vob_lines::converse;
 
@@ -77,4 +77,36 @@ fn lines_are_answered_or_refused_from_5_on(rt: HostRuntime) {
 #[test]
 fn lines_are_answered_or_refused_from_9_on(rt: HostRuntime) {
     check_lines(&rt, FIRST - 8);
+}
+
+/// Whether a bad line is told, of lines for whose input there is memory; else `memory` is.
+fn is_bad_line_told(rt: &(impl Abort + AllocGlobal), lines: &[u8], told: &[u8]) -> bool {
+    // The room for what is written and the input take a request each.
+    request(rt, FIRST - 2);
+    let mut written = Vec::with_capacity(rt.alloc(), 100).expect(rt, "memory");
+    let mut input = lines;
+    let status = converse(rt.alloc(), &mut input, &mut written);
+    let is_told = status != 3;
+    let (text, wanted) = if is_told {
+        (told, 2)
+    } else {
+        (b"memory\n".as_slice(), 3)
+    };
+    same(rt, "the status", status, wanted);
+    same_list(rt, "what is written", &written, text);
+    is_told
+}
+
+// Memory that is refused for the command of the first line comes before the bad line.
+#[test]
+fn a_bad_second_line_is_found_by_one_request(rt: HostRuntime) {
+    tell(&rt, is_bad_line_told(&rt, b"new 0\nfoo\n", b"bad line 2\n"));
+}
+
+// The list of the second line would take a request.
+#[test]
+fn lines_after_a_bad_one_take_no_memory(rt: HostRuntime) {
+    let is_told = is_bad_line_told(&rt, b"foo\nslice 1\n", b"bad line 1\n");
+    same(&rt, "the bad line is told", is_told, true);
+    tell(&rt, is_told);
 }

@@ -58,41 +58,41 @@ fn repeated_bits_are_made_or_refused(rt: HostRuntime) {
 #[test]
 fn listed_bits_are_made_or_refused(rt: HostRuntime) {
     request(&rt, FIRST);
-    let listed = Vob::from_slice(rt.alloc(), &[true, false, true]);
-    let listed = is_made(&rt, listed, 3, &[5]);
+    let listed = Vob::from_slice(rt.alloc(), &[true, true, false]);
+    let listed = is_made(&rt, listed, 3, &[3]);
     let bytes = Vob::from_bytes(rt.alloc(), &[0b1010_0000]);
     let bytes = is_made(&rt, bytes, 8, &[5]);
-    let items = Vob::from_iter(rt.alloc(), [true, false, true]);
-    let items = is_made(&rt, items, 3, &[5]);
+    let items = Vob::from_iter(rt.alloc(), [true, true, false]);
+    let items = is_made(&rt, items, 3, &[3]);
     tell(&rt, listed && bytes && items);
 }
 
 #[test]
 fn items_without_a_hint_are_made_or_refused(rt: HostRuntime) {
     request(&rt, FIRST);
-    let rest = &[true, false, true];
+    let rest = &[true, true, false];
     let made = Vob::from_iter(rt.alloc(), Unhinted { rest });
-    tell(&rt, is_made(&rt, made, 3, &[5]));
+    tell(&rt, is_made(&rt, made, 3, &[3]));
 }
 
 #[test]
 fn a_copy_is_made_or_refused(rt: HostRuntime) {
     request(&rt, FIRST);
-    let Ok(vob) = vob_of(rt.alloc(), "101") else {
+    let Ok(vob) = vob_of(rt.alloc(), "110000001") else {
         return;
     };
-    let copy = is_made(&rt, vob.clone(), 3, &[5]);
-    check_blocks(&rt, &vob, 3, &[5]);
+    let copy = is_made(&rt, vob.clone(), 9, &[3, 1]);
+    check_blocks(&rt, &vob, 9, &[3, 1]);
     tell(&rt, copy);
 }
 
 /// Whether ten bits were cut in two. If not, they are as they were.
 fn is_cut(rt: &impl Abort, vob: &mut Vob<u8>) -> bool {
-    if is_made(rt, vob.split_off(5), 5, &[31]) {
-        check_blocks(rt, vob, 5, &[31]);
+    if is_made(rt, vob.split_off(5), 5, &[23]) {
+        check_blocks(rt, vob, 5, &[13]);
         true
     } else {
-        check_blocks(rt, vob, 10, &[255, 3]);
+        check_blocks(rt, vob, 10, &[237, 2]);
         false
     }
 }
@@ -100,7 +100,7 @@ fn is_cut(rt: &impl Abort, vob: &mut Vob<u8>) -> bool {
 #[test]
 fn a_cut_that_is_refused_leaves_all_bits(rt: HostRuntime) {
     request(&rt, FIRST);
-    let Ok(mut vob) = vob_of(rt.alloc(), "1111111111") else {
+    let Ok(mut vob) = vob_of(rt.alloc(), "1011011101") else {
         return;
     };
     tell(&rt, is_cut(&rt, &mut vob));

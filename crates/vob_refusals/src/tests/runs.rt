@@ -5,7 +5,7 @@ use super::support::{FIRST, request, same, same_list, tell};
 use std::alloc::{AllocError, Global};
 use std::ops::Bound::{Excluded, Included, Unbounded};
 use std::process::Abort;
-use vob::{End, Vob};
+use vob::{End, RawVob, Vob};
 use vob_block::Block;
 use vob_run::run::{run, run_usize};
 use vob_run::{Command, Reply, UsizeCommand};
@@ -18,7 +18,7 @@ trait Runs: Drop {
     /// A command that Vobs of every block type have.
     fn common(command: Command<Self::Stored>) -> Self;
 
-    /// The blocks of nine true bits.
+    /// The blocks of the bits `110100101`.
     fn nine(alloc: Global) -> Result<Vec<Self::Stored>, AllocError>;
 
     /// Runs the commands.
@@ -38,7 +38,7 @@ impl Runs for Command<u8> {
     }
 
     fn nine(alloc: Global) -> Result<Vec<u8>, AllocError> {
-        [255, 1].to_vec(alloc)
+        [75, 1].to_vec(alloc)
     }
 
     fn run_all(
@@ -59,7 +59,7 @@ impl Runs for UsizeCommand {
     }
 
     fn nine(alloc: Global) -> Result<Vec<usize>, AllocError> {
-        [511].to_vec(alloc)
+        [331].to_vec(alloc)
     }
 
     fn run_all(
@@ -141,13 +141,19 @@ fn pops<C: Runs>(alloc: Global) -> Result<Vec<C>, AllocError> {
     Ok(commands)
 }
 
+/// The Vob of these nine bits.
+fn vob_of_nine<C: Runs>(rt: &impl Abort, alloc: Global) -> Result<Vob<C::Stored>, AllocError> {
+    let raw = RawVob::from_parts(9, C::nine(alloc)?);
+    Ok(raw.into_vob().ok().expect(rt, "nine bits"))
+}
+
 /// Whether nine pops at nine bits were answered behind a reply that was there. If not, the bits and
 /// the reply are as they were.
 fn are_popped<C: Runs>(rt: &impl Abort, alloc: Global) -> Result<bool, AllocError> {
     let pops: Vec<C> = pops(alloc)?;
     let mut vobs = Vec::with_capacity(alloc, 1)?;
-    let nine = Vob::<C::Stored>::from_elem_with_storage_type(alloc, true, 9)?;
-    vobs.push(nine)?;
+    let wanted = vob_of_nine::<C>(rt, alloc)?;
+    vobs.push(vob_of_nine::<C>(rt, alloc)?)?;
     let mut replies = Vec::with_capacity(alloc, 1)?;
     replies.push(Reply::Done)?;
     if C::run_all(alloc, &pops, &mut vobs, &mut replies).is_ok() {
@@ -155,21 +161,20 @@ fn are_popped<C: Runs>(rt: &impl Abort, alloc: Global) -> Result<bool, AllocErro
         return Ok(true);
     }
     same_list(rt, "the reply of before", &replies, &[Reply::Done]);
-    let before = vobs.first().expect(rt, "the Vob of before");
-    same(rt, "its bits", before.len(), 9);
+    same_list(rt, "the Vob of before", &vobs, &[wanted]);
     Ok(false)
 }
 
 #[test]
 fn a_run_that_is_refused_leaves_all_of_before(rt: HostRuntime) {
-    // Those for the commands and the list of Vobs aren't refused.
-    request(&rt, FIRST - 2);
+    // Those for the commands, the list of Vobs and what is wanted aren't refused.
+    request(&rt, FIRST - 3);
     tell(&rt, are_popped::<Command<u8>>(&rt, rt.alloc()) == Ok(true));
 }
 
 #[test]
 fn a_run_of_words_that_is_refused_leaves_all_of_before(rt: HostRuntime) {
-    request(&rt, FIRST - 2);
+    request(&rt, FIRST - 3);
     tell(&rt, are_popped::<UsizeCommand>(&rt, rt.alloc()) == Ok(true));
 }
 
@@ -183,9 +188,9 @@ fn makers<C: Runs>(alloc: Global) -> Result<Vec<C>, AllocError> {
     commands.push(C::common(Command::Copy { which: 1 }))?;
     let (len, mask) = (9, false);
     commands.push(C::common(Command::FromRaw { len, mask, blocks }))?;
-    commands.push(C::common(Command::SplitOff { which: 1, index: 5 }))?;
+    commands.push(C::common(Command::SplitOff { which: 3, index: 5 }))?;
     let bounds = (Included(2), Excluded(5));
-    commands.push(C::common(Command::Drain { which: 2, bounds }))?;
+    commands.push(C::common(Command::Drain { which: 3, bounds }))?;
     commands.push(C::common(Command::Length { which: 5 }))?;
     Ok(commands)
 }

@@ -37,6 +37,21 @@ pub fn same_list<V: PartialEq + Debug>(rt: &impl Abort, what: &str, found: &[V],
     assert_eq!(rt; found, wanted, "{what}");
 }
 
+/// What a call gave, or nothing if memory was refused, its one refusal here.
+pub fn given<V: Drop, E: PartialEq + Debug + Drop>(
+    rt: &impl Abort,
+    called: Result<V, E>,
+    memory: E,
+) -> Option<V> {
+    match called {
+        Ok(value) => Some(value),
+        Err(refusal) => {
+            same(rt, "the refusal", refusal, memory);
+            None
+        }
+    }
+}
+
 /// The Vob of these digits in bytes, index 0 first.
 pub fn vob_of(alloc: Global, digits: &str) -> Result<Vob<u8>, VobError> {
     let mut vob = Vob::<u8>::new_with_storage_type(alloc, 0)?;

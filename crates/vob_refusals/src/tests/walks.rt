@@ -9,22 +9,27 @@ fn pulled<W: IndexWalk>(walk: &mut W) -> Option<usize> {
     walk.pull(End::Front)
 }
 
-/// Whether many pulls at the back were answered behind an answer that was there. If not, that one
-/// stands alone, and the walk's next index is still `next`.
+/// Whether many pulls at the back were answered behind an answer that was there, by `indices`, the
+/// last one first. If not, that one stands alone, and the walk's next index is still the first.
 fn is_dealt<W: IndexWalk>(
     rt: &impl Abort,
     walk: &mut W,
     answers: &mut Vec<Option<usize>>,
-    next: usize,
+    indices: &[usize],
 ) -> bool {
     if deal(walk, &[End::Back; 99], answers).is_ok() {
         same(rt, "the answers", answers.len(), 100);
         same(rt, "the first answer", answers.first(), Some(&Some(9)));
+        for (answer, index) in answers.iter().skip(1).zip(indices.iter().rev()) {
+            same(rt, "an answer", *answer, Some(*index));
+        }
+        let behind = answers.get(indices.len().saturating_add(1));
+        same(rt, "behind the last one", behind, Some(&None));
         same(rt, "the end", pulled(walk), None);
         return true;
     }
     same_list(rt, "the answers", answers, &[Some(9)]);
-    same(rt, "the next index", pulled(walk), Some(next));
+    same(rt, "the next index", pulled(walk), indices.first().copied());
     false
 }
 
@@ -37,7 +42,7 @@ fn are_set_dealt(rt: &impl Abort, alloc: Global, vob: &Vob<u8>) -> bool {
     let mut walk = vob.iter_set_bits(..);
     same(rt, "the first index", walk.next(), Some(0));
     same(rt, "the last index", walk.next_back(), Some(6));
-    let dealt = is_dealt(rt, &mut walk, &mut answers, 2);
+    let dealt = is_dealt(rt, &mut walk, &mut answers, &[2, 3, 5]);
     let left = if dealt { 0 } else { 2 };
     same(rt, "how many are left", walk.count(), left);
     dealt
@@ -50,7 +55,7 @@ fn are_unset_dealt(rt: &impl Abort, alloc: Global, vob: &Vob<u8>) -> bool {
         return false;
     };
     let mut walk = vob.iter_unset_bits(..);
-    let dealt = is_dealt(rt, &mut walk, &mut answers, 1);
+    let dealt = is_dealt(rt, &mut walk, &mut answers, &[1, 4]);
     let left = if dealt { 0 } else { 1 };
     same(rt, "how many are left", walk.count(), left);
     dealt

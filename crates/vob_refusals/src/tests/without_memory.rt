@@ -120,6 +120,47 @@ fn bits_are_combined_in_place(rt: HostRuntime) {
     tell(&rt, true);
 }
 
+/// `or`, `and`, `xor` and `and_not` of false bits with others: `and` alone changes none here.
+fn check_kernels(rt: &impl Abort, none: &mut Vob, other: &Vob) {
+    assert!(rt; none.len() == other.len());
+    same(rt, "or", none.or(other), true);
+    check_blocks(rt, none, other.len(), other.get_storage());
+    assert!(rt; none.len() == other.len());
+    same(rt, "and", none.and(other), false);
+    check_blocks(rt, none, other.len(), other.get_storage());
+    assert!(rt; none.len() == other.len());
+    same(rt, "xor", none.xor(other), true);
+    same(rt, "no bit", none.first_set(), None);
+    assert!(rt; none.len() == other.len());
+    same(rt, "or", none.or(other), true);
+    assert!(rt; none.len() == other.len());
+    same(rt, "and_not", none.and_not(other), true);
+    same(rt, "no bit", none.first_set(), None);
+}
+
+#[test]
+fn words_are_combined_in_place_by_lanes(rt: HostRuntime) {
+    request(&rt, FIRST);
+    let Ok(mut none) = Vob::from_elem(rt.alloc(), false, 64 * 530) else {
+        return;
+    };
+    let Ok(mut other) = Vob::from_elem(rt.alloc(), true, 64 * 530) else {
+        return;
+    };
+    // 530, 528, 513, 512, 511, 33, 32, 17, 16, 15 and 1 blocks: whole turns of 16, and some with a rest.
+    for len in [
+        33920, 33792, 32832, 32768, 32704, 2112, 2048, 1088, 1024, 960, 64,
+    ] {
+        none.truncate(len);
+        other.truncate(len);
+        if other.len() > 1 {
+            other.set(1, false);
+        }
+        check_kernels(&rt, &mut none, &other);
+    }
+    tell(&rt, true);
+}
+
 /// Appends the blocks of another Vob, for which there is room.
 fn append(vob: &mut Vob<u8>, other: &Vob<u8>) -> Result<(), VobError> {
     vob.reserve(other.len())?;

@@ -21,7 +21,7 @@ fn check_part<T: Block>(
     part: Range<usize>,
 ) {
     let old = pattern::<T>(rt, 1, len);
-    let other = pattern::<T>(rt, 3, len.saturating_add(10));
+    let other = pattern::<T>(rt, 2, len.saturating_add(10));
     let mut vob = pattern::<T>(rt, 1, len);
     let Range { start, end } = part;
     copy(&mut vob, at, &other, start, end);

@@ -1,6 +1,14 @@
 //! The examples in the doc comments of `vob`, each as it stands there, beside those of like calls.
 use std::test::Fail;
-use vob::Vob;
+use vob::prelude::{Vob, vob};
+
+#[test]
+fn one_line_imports_the_type_and_the_macro(rt: HostRuntime) -> Result<(), Fail> {
+    let alloc = rt.alloc();
+    let made = vob!(alloc; true, false)?;
+    assert!(rt; made == Vob::from_slice(alloc, &[true, false])?);
+    Ok(())
+}
 
 #[test]
 fn vobs_are_made(rt: HostRuntime) -> Result<(), Fail> {

@@ -72,8 +72,18 @@ fn joined_bits_are_cut_apart_again_and_not_past_the_end(rt: HostRuntime) {
     check_blocks(&rt, &vob, 3, &[5]);
 }
 
-/// Two Vobs that are joined are what pushes leave; cut apart, they are both again.
+/// Appends the blocks of another Vob.
+fn append<T: Block>(rt: &impl Abort, vob: &mut Vob<T>, other: &Vob<T>) {
+    vob.reserve(other.len()).expect(rt, "memory");
+    vob.append_blocks(&mut other.blocks(), other.len());
+}
+
+/// Two Vobs that are joined, or whose blocks are appended, are what pushes leave; cut apart, they are
+/// both again.
 fn check_join<T: Block>(rt: &impl Abort, one: &Vob<T>, two: &Vob<T>, pushed: &Vob<T>) {
+    let mut appended = copy_of(rt, one);
+    append(rt, &mut appended, two);
+    check_same(rt, &appended, pushed);
     let mut joined = copy_of(rt, one);
     join(rt, &mut joined, two);
     check_same(rt, &joined, pushed);
@@ -101,10 +111,11 @@ fn joins_leave_what_pushes_leave(rt: HostRuntime) {
         for first in 0..128 {
             check_joins::<usize>(&rt, seed, first, 128);
         }
-        for first in 0..41 {
-            check_joins::<u8>(&rt, seed, first, 41);
-            check_joins::<u128>(&rt, seed, first, 41);
-        }
+    }
+    for first in 0..130 {
+        check_joins::<u8>(&rt, 0, first, 130);
+        check_joins::<u64>(&rt, 1, first, 130);
+        check_joins::<u128>(&rt, 2, first, 130);
     }
 }
 

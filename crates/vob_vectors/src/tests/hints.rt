@@ -1,7 +1,7 @@
 //! Iterators with size hints of their own, and what growing by their items leaves.
 ghost use Rattle.std.specs.Iterator.{YieldsFirst, item_count};
 
-use super::support::{check_blocks, same, vob_of};
+use super::support::{check_blocks, check_same, same, vob_of};
 use std::marker::Model;
 use vob::{Vob, VobError};
 
@@ -87,29 +87,32 @@ fn all_items_come_behind_the_bits(rt: HostRuntime) {
     vob.truncate(4);
     check_blocks(&rt, &vob, 4, &[13]);
     // More come than the hint promised.
-    let items = [true; 5];
+    let items = [true, true, false, true, false];
     let mut vob = Vob::new(rt.alloc());
     vob.extend(Hinted {
         rest: &items,
         lower: 2,
     })
     .expect(&rt, "memory");
-    check_blocks(&rt, &vob, 5, &[31]);
+    check_blocks(&rt, &vob, 5, &[11]);
 }
 
 #[test]
 fn a_hint_that_cannot_be_met_is_refused_first(rt: HostRuntime) {
-    let left = usize::MAX;
-    let mut one = vob_of::<usize>(&rt, "1");
-    let refused = one.extend(Countdown { left });
-    same(&rt, "behind a bit", left, refused, Err(VobError::TooLong));
-    check_blocks(&rt, &one, 1, &[1]);
-    let mut none = Vob::new(rt.alloc());
-    let refused = none.extend(Countdown { left });
-    same(&rt, "alone", left, refused, Err(VobError::Memory));
-    check_blocks(&rt, &none, 0, &[]);
-    none.extend(Countdown { left: 3 }).expect(&rt, "memory");
-    check_blocks(&rt, &none, 3, &[7]);
-    let refused = Vob::from_iter(rt.alloc(), Countdown { left }).is_err();
-    same(&rt, "refused", left, refused, true);
+    let most = usize::MAX;
+    for (digits, left, refusal, grown) in [
+        ("1", most, VobError::TooLong, "1111"),
+        ("01", most - 1, VobError::TooLong, "01111"),
+        ("01", most - 2, VobError::Memory, "01111"),
+        ("", most, VobError::Memory, "111"),
+    ] {
+        let mut vob = vob_of::<usize>(&rt, digits);
+        let refused = vob.extend(Countdown { left });
+        same(&rt, digits, left, refused, Err(refusal));
+        check_same(&rt, &vob, &vob_of(&rt, digits));
+        vob.extend(Countdown { left: 3 }).expect(&rt, "memory");
+        check_same(&rt, &vob, &vob_of(&rt, grown));
+    }
+    let refused = Vob::from_iter(rt.alloc(), Countdown { left: most }).err();
+    same(&rt, "refused", most, refused, Some(VobError::Memory));
 }

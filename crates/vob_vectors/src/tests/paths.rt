@@ -2,7 +2,7 @@
 use super::support::{same, vob_of};
 use std::slice;
 use vob::iter::{End, IndexWalk, count_ones_in, deal};
-use vob::vob_block::{Block, Blocks, PrimBlock};
+use vob::vob_block::{BitBlock, Block, Blocks};
 use vob::{Vob, VobError};
 use vob_run::run::{Command, Reply, UsizeCommand, run, run_usize};
 
@@ -35,8 +35,8 @@ fn walks_are_named_at_the_root_and_in_their_module(rt: HostRuntime) {
     );
 }
 
-/// The number of bits, over any block with arithmetic, which the calls of a Vob take as it is.
-fn length_of<T: PrimBlock>(vob: &Vob<T>) -> usize {
+/// The number of bits, over any block type.
+fn length_of<T: Block>(vob: &Vob<T>) -> usize {
     vob.len()
 }
 
@@ -44,7 +44,7 @@ fn length_of<T: PrimBlock>(vob: &Vob<T>) -> usize {
 fn counts_and_blocks_are_named_by_their_modules(rt: HostRuntime) {
     let mut blocks: Blocks<'_, u8> = Blocks::new(&[5]);
     same(&rt, "ones", 0, count_ones_in(&mut blocks, 0, 0), 0);
-    same(&rt, "the width", 8, <u8 as Block>::BITS, 8);
+    same(&rt, "the width", 8, <u8 as BitBlock>::BITS, 8);
     let length = length_of::<u8>(&vob_of(&rt, "101"));
     same(&rt, "the length", 3, length, 3);
     let refusal: VobError = VobError::TooLong;

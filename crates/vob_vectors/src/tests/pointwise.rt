@@ -12,11 +12,12 @@ pub(super) enum Call {
     And,
     Or,
     Xor,
+    AndNot,
 }
 
-pub(super) const CALLS: [Call; 3] = [Call::And, Call::Or, Call::Xor];
+pub(super) const CALLS: [Call; 4] = [Call::And, Call::Or, Call::Xor, Call::AndNot];
 
-/// `and`, `or` or `xor` of two Vobs of one length.
+/// `and`, `or`, `xor` or `and_not` of two Vobs of one length.
 pub(super) fn combine<T: Block>(
     rt: &impl Abort,
     call: Call,
@@ -28,28 +29,29 @@ pub(super) fn combine<T: Block>(
         Call::And => vob.and(other),
         Call::Or => vob.or(other),
         Call::Xor => vob.xor(other),
+        Call::AndNot => vob.and_not(other),
     }
 }
 
 /// What the three forms of an operator make of two Vobs of one length: a new Vob, the left side in
-/// place, `assigned` being like it, and the left side itself.
+/// place, `assigned` being like it, and the left side itself. `and_not` has no operator.
 fn forms(rt: &impl Abort, call: Call, vob: Vob, mut assigned: Vob, other: &Vob) -> (Vob, Vob, Vob) {
     assert!(rt; vob.len() == other.len() && assigned.len() == other.len());
     let made = match call {
         Call::And => &vob & other,
         Call::Or => &vob | other,
-        Call::Xor => &vob ^ other,
+        _ => &vob ^ other,
     };
     check_same(rt, &vob, &assigned);
     match call {
         Call::And => assigned &= other,
         Call::Or => assigned |= other,
-        Call::Xor => assigned ^= other,
+        _ => assigned ^= other,
     }
     let moved = match call {
         Call::And => vob & other,
         Call::Or => vob | other,
-        Call::Xor => vob ^ other,
+        _ => vob ^ other,
     };
     (made.expect(rt, "memory"), assigned, moved)
 }
@@ -163,6 +165,7 @@ fn check_patterns<T: Block>(
             Call::And => bit && other,
             Call::Or => bit || other,
             Call::Xor => bit != other,
+            Call::AndNot => bit && !other,
         };
         changed = changed || after != bit;
         push(rt, &mut wanted, after);
@@ -177,7 +180,7 @@ fn check_patterns<T: Block>(
 #[test]
 fn patterns_are_combined_as_lists(rt: HostRuntime) {
     for call in CALLS {
-        for seeds in [(0, 0), (0, 1), (1, 0), (1, 1)] {
+        for seeds in [(0, 0), (0, 1), (1, 0), (2, 4)] {
             for len in 0..40 {
                 check_patterns::<u8>(&rt, call, seeds, len);
                 check_patterns::<usize>(&rt, call, seeds, len);

@@ -57,6 +57,8 @@ fn dirty_storage_is_taken_once_it_is_masked(rt: HostRuntime) {
     let dirty = masked(&rt, check_refused(&rt, 3, &[13u8]));
     check_raw(&rt, &dirty, 3, &[5]);
     check_taken(&rt, dirty, "101", &[5]);
+    let dirty = masked(&rt, check_refused(&rt, 10, &[11u8, 6]));
+    check_taken(&rt, dirty, "1101000001", &[11, 2]);
     let dirty = masked(&rt, check_refused(&rt, 9, &[255u8, 2]));
     check_raw(&rt, &dirty, 9, &[255, 0]);
     check_taken(&rt, dirty, "111111110", &[255, 0]);
@@ -68,7 +70,8 @@ fn dirty_storage_is_taken_once_it_is_masked(rt: HostRuntime) {
     check_taken(&rt, one, "010101010101010111111111111111", &[1_073_719_978]);
     let two = masked(&rt, raw_of(&rt, 68, &[word, word]));
     check_raw(&rt, &two, 68, &[word, 10u64]);
-    same(&rt, "taken", 68, two.into_vob().is_ok(), true);
+    let taken = two.into_vob().ok().expect(&rt, "a Vob");
+    check_blocks(&rt, &taken, 68, &[word, 10]);
 }
 
 #[test]
@@ -133,6 +136,7 @@ fn check_taken_text(rt: &(impl Abort + AllocGlobal), text: &str, digits: &str, b
 #[test]
 fn a_record_is_written_as_it_was_read_or_handed_back(rt: HostRuntime) {
     check_taken_text(&rt, r#"{"len":3,"vec":[5]}"#, "101", &[5]);
+    check_taken_text(&rt, r#"{"len":4,"vec":[2]}"#, "0100", &[2]);
     check_taken_text(&rt, r#"{"len":0,"vec":[]}"#, "", &[]);
     check_refused_text(&rt, r#"{"len":3,"vec":[13]}"#, 3, &[13]);
     let longest = r#"{"len":18446744073709551615,"vec":[]}"#;

@@ -57,7 +57,7 @@ fn check_stretch<T: Block>(rt: &(impl Abort + AllocGlobal), start: usize, stop: 
 fn runs_and_ranks_are_those_of_one_bit_after_another(rt: HostRuntime) {
     check_patterns::<u8>(&rt, 1);
     check_patterns::<u64>(&rt, 2);
-    check_patterns::<u128>(&rt, 3);
+    check_patterns::<u128>(&rt, 4);
     // Runs that begin and end at the borders of blocks.
     for start in [0, 7, 8, 63, 64, 65, 127, 128, 192] {
         for stop in [8, 64, 65, 127, 128, 129, 256, 299, 300] {

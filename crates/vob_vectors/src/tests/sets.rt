@@ -91,7 +91,7 @@ fn bits_of_patterns_and_single_bits_are_found(rt: HostRuntime) {
     for len in 0..130 {
         check_pattern::<u8>(&rt, 1, len);
         check_pattern::<u64>(&rt, 2, len);
-        check_pattern::<u128>(&rt, 3, len);
+        check_pattern::<u128>(&rt, 4, len);
     }
     for index in 0..13 {
         check_single::<u8>(&rt, index * 10);
@@ -177,7 +177,7 @@ fn pairs_are_counted_and_compared(rt: HostRuntime) {
     for len in 0..130 {
         check_pairs::<u8>(&rt, 1, len);
         check_pairs::<u64>(&rt, 2, len);
-        check_pairs::<u128>(&rt, 3, len);
+        check_pairs::<u128>(&rt, 4, len);
     }
     // More blocks than a chunk, with one bit in common, or one that the other hasn't.
     for index in [0, 511, 512, 1023, 1024, 1099] {

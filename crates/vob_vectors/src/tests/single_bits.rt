@@ -1,7 +1,7 @@
 //! Single bits: rows and patterns of pushes, reads, writes and cuts.
 use super::support::{
-    at_each_block_type, check_bits, check_blocks, filled, listed, pattern, push, same, vob_of,
-    write,
+    at_each_block_type, check_bits, check_blocks, check_same, filled, listed, pattern, pattern_bit,
+    push, same, vob_of, write,
 };
 use std::process::Abort;
 use vob::Vob;
@@ -157,10 +157,11 @@ fn check_pattern<T: Block>(rt: &(impl Abort + AllocGlobal), seed: usize, len: us
     let mut one = pattern::<T>(rt, seed, len);
     let mut other = pattern::<T>(rt, seed, len);
     for index in 0..len {
+        let mut bit = pattern_bit(seed, index);
+        reads(rt, &one, index, Some(bit));
         for value in [false, true] {
-            let bit = one.get(index);
-            reads(rt, &one, index, bit);
-            let changed = Some(bit != Some(value));
+            let changed = Some(bit != value);
+            bit = value;
             same(rt, "set", index, write(&mut one, index, value), changed);
             let unchecked = write_unchecked(&mut other, index, value);
             same(rt, "set_unchecked", index, unchecked, changed);
@@ -203,10 +204,10 @@ fn the_walk_gives_the_bits_from_both_ends(rt: HostRuntime) {
 
 #[test]
 fn collected_bits_are_those_that_get_reads(rt: HostRuntime) {
-    let vob = pattern::<u8>(&rt, 1, 19);
+    let vob = pattern::<usize>(&rt, 1, 79);
     let bits = listed(&rt, vob.iter());
     let listed = Vob::from_slice(rt.alloc(), &bits).expect(&rt, "memory");
-    same(&rt, "bits", 0, listed.len(), 19);
+    check_same(&rt, &listed, &vob);
     for (index, bit) in (&vob).into_iter().enumerate() {
         same(&rt, "bit", index, vob.get(index), Some(bit));
         same(&rt, "bit", index, bits.get(index).copied(), Some(bit));
@@ -232,8 +233,11 @@ fn a_cloned_walk_over_blocks_goes_on_from_the_same_place(rt: HostRuntime) {
         others.size_hint(),
         (2, Some(2)),
     );
+    // Of each five bits the second and the last are false; these two blocks begin with the fourth
+    // and the second of five.
+    let wanted = [0b1011_0101, 0b110];
     let rest = listed(&rt, others);
-    same(&rt, "blocks left", 0, rest.len(), 2);
+    same(&rt, "blocks left", 0, rest.as_slice(), &wanted);
     let others = listed(&rt, blocks);
-    same(&rt, "blocks", 2, rest.as_slice(), others.as_slice());
+    same(&rt, "blocks", 2, others.as_slice(), &wanted);
 }

@@ -84,7 +84,7 @@ pub fn vob_of<T: Block>(rt: &(impl Abort + AllocGlobal), digits: &str) -> Vob<T>
     vob
 }
 
-/// Bit `index` of the pattern with this seed.
+/// Bit `index` of the pattern with this seed. With seed 3 no bit is true.
 pub fn pattern_bit(seed: usize, index: usize) -> bool {
     let place = index % 5;
     (place * place + seed % 5) % 5 < 2
@@ -97,6 +97,16 @@ pub fn pattern<T: Block>(rt: &(impl Abort + AllocGlobal), seed: usize, len: usiz
         push(rt, &mut vob, pattern_bit(seed, index));
     }
     vob
+}
+
+/// The digits of the first `len` bits of the pattern with this seed.
+pub fn pattern_digits(rt: &(impl Abort + AllocGlobal), seed: usize, len: usize) -> String {
+    let mut digits = String::new(rt.alloc());
+    for index in 0..len {
+        let digit = if pattern_bit(seed, index) { '1' } else { '0' };
+        digits.push(digit).expect(rt, "memory");
+    }
+    digits
 }
 
 /// Compares the length and the blocks.

@@ -1,21 +1,23 @@
 //! A Vob as digits and as bytes, and as serde writes and reads it where it stands; errors as text.
-use super::support::{check_bits, check_same, pattern, same, vob_of};
+use super::support::{check_bits, check_same, pattern, pattern_digits, same, vob_of};
 use serde::{Deserialize, Serialize};
 use std::alloc::Global;
 use std::fmt::Display;
 use std::process::Abort;
-use vob::{DigitsError, Vob, VobError};
+use vob::{DigitsError, IndicesError, Vob, VobError};
 use vob_block::Block;
 use vob_users::grammar::GrammarError;
 use vob_users::live::LiveError;
 
-/// Each pattern below 130 bits is written as its digits, and they are read back.
+/// A pattern of each length up to 130 is written as its digits, which are read back.
 fn check_digits<T: Block>(rt: &(impl Abort + AllocGlobal)) {
-    for len in 0..130 {
-        let vob = pattern::<T>(rt, 3, len);
-        let text = format!(in rt.alloc(); "{vob}").expect(rt, "memory");
-        check_bits(rt, &vob, text.as_str());
-        let read = Vob::<T>::from_digits(rt.alloc(), text.as_str()).expect(rt, "digits");
+    for len in 0..131 {
+        let vob = pattern::<T>(rt, 1, len);
+        let digits = pattern_digits(rt, 1, len);
+        let text = format!(in rt.alloc(); "{vob} {vob:?}").expect(rt, "memory");
+        let wanted = format!(in rt.alloc(); "{digits} Vob[{digits}]").expect(rt, "memory");
+        same(rt, "as text", len, text.as_str(), wanted.as_str());
+        let read = Vob::<T>::from_digits(rt.alloc(), digits.as_str()).expect(rt, "digits");
         check_same(rt, &read, &vob);
     }
 }
@@ -47,11 +49,12 @@ fn digits_and_bytes_are_read_back(rt: HostRuntime) {
     }
 }
 
-/// The rows and the columns of a table that are shown.
+/// The rows, the columns and the cells of a table that are shown.
 #[derive(Debug, Drop, PartialEq, Serialize, Deserialize)]
 struct Shown {
     rows: Vob<u8>,
-    columns: Vob,
+    columns: Vob<u64>,
+    cells: Vob<u128>,
 }
 
 /// Reads one from JSON. Blocks that don't fit a length are an error there.
@@ -59,18 +62,33 @@ fn shown_of(alloc: Global, text: &str) -> Result<Shown, serde_json::Error> {
     serde_json::from_str(alloc, text)
 }
 
+/// What is written is read as the same again. Returns the text.
+fn check_shown(rt: &(impl Abort + AllocGlobal), shown: Shown) -> String {
+    let text = serde_json::to_string(rt.alloc(), &shown).ok();
+    let text = text.expect(rt, "written");
+    let read = shown_of(rt.alloc(), text.as_str()).ok().expect(rt, "read");
+    same(rt, "a struct", read.rows.len(), read, shown);
+    text
+}
+
 #[test]
 fn a_struct_with_vobs_is_written_and_read_and_dirty_storage_is_not(rt: HostRuntime) {
     let shown = Shown {
-        rows: vob_of(&rt, "100000001"),
-        columns: vob_of(&rt, "101"),
+        rows: vob_of(&rt, "110000001"),
+        columns: vob_of(&rt, "110"),
+        cells: vob_of(&rt, ""),
     };
-    let wanted = "{\"rows\":{\"len\":9,\"vec\":[1,1]},\"columns\":{\"len\":3,\"vec\":[5]}}";
-    let text = serde_json::to_string(rt.alloc(), &shown).ok();
-    let text = text.expect(&rt, "written");
-    same(&rt, "a struct", 0, text.as_str(), wanted);
-    let read = shown_of(rt.alloc(), wanted).ok().expect(&rt, "read");
-    same(&rt, "a struct", 0, read, shown);
+    let wanted = "{\"rows\":{\"len\":9,\"vec\":[3,1]},\"columns\":{\"len\":3,\"vec\":[3]},\
+        \"cells\":{\"len\":0,\"vec\":[]}}";
+    same(&rt, "a struct", 0, check_shown(&rt, shown).as_str(), wanted);
+    for len in 0..131 {
+        let shown = Shown {
+            rows: pattern(&rt, 1, len),
+            columns: pattern(&rt, 1, len),
+            cells: pattern(&rt, 1, len),
+        };
+        check_shown(&rt, shown);
+    }
     for text in [
         "{\"len\":9,\"vec\":[1,2]}",
         "{\"len\":9,\"vec\":[1]}",
@@ -102,6 +120,11 @@ fn errors_say_why_and_go_into_any_error(rt: HostRuntime) {
     check_error(&rt, VobError::TooLong, "the length would pass usize::MAX");
     check_error(&rt, VobError::Memory, "out of memory");
     check_error(&rt, VobError::PastEnd, "the index is past the end");
+    check_error(&rt, IndicesError::Memory, "out of memory");
+    let index = IndicesError::OutOfRange { position: 3 };
+    let past = "the index at position 3 is at or past the length";
+    check_error(&rt, index, past);
+    check_error(&rt, DigitsError::Memory, "out of memory");
     let digit = DigitsError::BadDigit(7);
     check_error(&rt, digit, "neither 0 nor 1 at index 7");
     let symbol = GrammarError::BadSymbol { rule: 12 };

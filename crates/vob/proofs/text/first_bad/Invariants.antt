@@ -1,6 +1,6 @@
 -- The bytes so far are digits.
 use Rattle.std.proofs.Common.{All, take}
-use Rattle.vob.specs.Text.{IsDigit}
+use Rattle.vob_block.specs.Digits.{IsDigit}
 use Rattle.vob.proofs.text.first_bad.Given as goal
 
 abbrev pub invariant-loop-index : goal.invariant-loop-index

@@ -1,6 +1,6 @@
 -- The bits are those of the digits so far.
 use Rattle.std.proofs.Common.{◌≡◌, ◌≤◌, map, take}
-use Rattle.vob.specs.Text.{digit}
+use Rattle.vob_block.specs.Digits.{digit}
 use Rattle.vob.proofs.text.push_digits.Given as goal
 
 abbrev pub invariant-loop-byte : goal.invariant-loop-byte

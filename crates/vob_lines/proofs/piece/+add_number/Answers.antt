@@ -1,5 +1,5 @@
 -- The last digit stands behind those of a tenth.
-use Rattle.std.proofs.Common.{◌≡◌, ◌++◌, ◌/◌, ◌%◌, ◌+◌, [], ◌∷◌, ◌<◌, ◌≤◌, sym, arith}
+use Rattle.std.proofs.Common.{◌/◌, ◌%◌, ◌+◌, [], ◌∷◌, sym, arith}
 use Rattle.std.specs.Fmt.{decimal}
 use Rattle.std.proofs.lemmas.Fmt.{decimal_digit, decimal_step}
 use Rattle.vob_lines.proofs.WrittenLemmas.{puts_next, puts_failed}

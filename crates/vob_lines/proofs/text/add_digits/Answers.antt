@@ -1,5 +1,5 @@
 -- Each digit stands behind those before it.
-use Rattle.std.proofs.Common.{◌∷◌, [], true, false, map, ap, sym, arith}
+use Rattle.std.proofs.Common.{◌∷◌, [], false, map, ap, sym, arith}
 use Rattle.std.proofs.lemmas.List.{map-append}
 use Rattle.vob_lines.specs.Spelling.{digit}
 use Rattle.vob_lines.proofs.WrittenLemmas.{loop_next, loop_failed}

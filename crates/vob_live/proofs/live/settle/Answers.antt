@@ -4,7 +4,12 @@ use Rattle.vob_live.proofs.StartLemmas.{IsSolution-whole, total_count_le, produc
 use Rattle.vob_live.proofs.live.settle.Goals as goal
 
 pub passes-init : goal.passes-init
-passes-init c = record { ready = c.requires; rounds = omega arith }
+passes-init c = record {
+  ready = c.requires.ready;
+  rounds = omega arith;
+  some = omega arith;
+  read = λ _. c.requires.read;
+}
 
 pub pass-requires : goal.pass-requires
 pass-requires c = c.passes.invariant.ready
@@ -25,9 +30,9 @@ overflow_add-rounds c =
 pub passes-preserved : goal.passes-preserved
 passes-preserved c = record {
   ready = record {
-    next = c.requires.next;
-    count = c.requires.count;
-    possible_sets = c.requires.possible_sets;
+    next = c.requires.ready.next;
+    count = c.requires.ready.count;
+    possible_sets = c.requires.ready.possible_sets;
     underway = c.pass.ensures.underway;
   };
   rounds = omega (
@@ -35,6 +40,8 @@ passes-preserved c = record {
     c.passes.invariant.rounds,
     c.pass.ensures.more c.passes-test.true,
   );
+  some = omega arith;
+  read = λ one. absurd (omega (arith, one, c.passes.invariant.some));
 }
 
 pub passes-smaller : goal.passes-smaller
@@ -52,4 +59,8 @@ returns c =
           (c.pass.ensures.none c.passes-test.false);
       least = c.pass.ensures.underway.least;
       rounds = omega (arith, places, c.passes.invariant.rounds);
+      no_round = λ none. absurd (omega (arith, none, c.passes.invariant.some));
+      one_round = λ one n flow is v live.
+          c.passes.invariant.read one n flow is v
+          (c.pass.ensures.same c.passes-test.false n v live);
     }

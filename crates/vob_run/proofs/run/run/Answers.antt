@@ -17,7 +17,7 @@ loop-command-preserved g c =
     let reply = c.run_one-reply in
     let command = c.command-item in
     let pushed = c.push_reserved.ensures in (
-      HasRun-more (call_of g.T.Block.number) (answer_of g.T.Block.number) g.T.Block.BITS
+      HasRun-more (call_of g.T.BitBlock.number) (answer_of g.T.BitBlock.number) g.T.BitBlock.BITS
           c.args.commands.now _ c.args.replies.now.items c.loop-command.command-index _ _ _ _
           command.result reply.result ran.0 c.loop-command-test.true command.is pushed.items
           reply.ensures,

@@ -8,7 +8,7 @@ use Rattle.vob_run.proofs.run.run.Given as goal
 
 abbrev pub invariant-loop-command : goal.invariant-loop-command
 invariant-loop-command g l =
-    HasRun (call_of g.T.Block.number) (answer_of g.T.Block.number) g.T.Block.BITS
+    HasRun (call_of g.T.BitBlock.number) (answer_of g.T.BitBlock.number) g.T.BitBlock.BITS
     l.commands (lists l.fn.vobs.items) l.fn.replies.items l.command-index l.replies.items
     (lists l.vobs.items)
     × (vec_len l.replies + length l.commands ≤ vec_capacity l.replies + l.command-index)

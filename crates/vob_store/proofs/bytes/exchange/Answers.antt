@@ -5,8 +5,8 @@ use Rattle.vob_store.proofs.bytes.exchange.Goals as goal
 
 pub returns : goal.returns
 returns g c =
-    let w = g.T.Block.BITS in
-    let number = g.T.Block.number in
+    let w = g.T.BitBlock.BITS in
+    let number = g.T.BitBlock.number in
     let n = c.args.by in
     let m = number c.args.mask in
     record {

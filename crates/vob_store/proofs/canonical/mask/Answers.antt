@@ -6,6 +6,6 @@ use Rattle.vob_store.proofs.canonical.mask.Goals as goal
 
 pub returns : goal.returns
 returns g c =
-    let w = g.T.Block.BITS in
-    sym (packing-unpacking w g.met.T.Block.wide_law c.args.len _ c.mask_last.ensures.canonical)
+    let w = g.T.BitBlock.BITS in
+    sym (packing-unpacking w g.met.T.BitBlock.wide_law c.args.len _ c.mask_last.ensures.canonical)
     ∙ ap (λ bits. packing bits w) c.mask_last.ensures.bits

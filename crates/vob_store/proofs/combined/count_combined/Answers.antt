@@ -7,15 +7,15 @@ use Rattle.vob_store.proofs.combined.count_combined.Goals as goal
 
 pub loop-k-init : goal.loop-k-init
 loop-k-init g c = record {
-  ones = sym (ones_combined-none g.C.Combine.of_bits g.T.Block.BITS
-      (map g.T.Block.number c.args.own.now) (map g.T.Block.number c.args.other.now.items));
+  ones = sym (ones_combined-none g.C.Combine.of_bits g.T.BitBlock.BITS
+      (map g.T.BitBlock.number c.args.own.now) (map g.T.BitBlock.number c.args.other.now.items));
   items = refl;
   reads = omega arith;
 }
 
 pub overflow_add-ones : goal.overflow_add-ones
 overflow_add-ones g c =
-    let number = g.T.Block.number in
+    let number = g.T.BitBlock.number in
     let h = c.loop-k in
     let xs = map number c.args.own.now in
     let ys = map number c.args.other.now.items in
@@ -23,15 +23,15 @@ overflow_add-ones g c =
     ∙ sym (get_or-map number c.args.own.now h.k c.index-own-k.result 0 (omega arith)) in
     let its = number_read number c.args.other.now.items h.k c.block.result
     (rw h.invariant.items at c.block.ensures.block) in
-    let more = ones_combined-more g.C.Combine.of_bits g.T.Block.BITS xs ys h.k _ _ _ mine its
+    let more = ones_combined-more g.C.Combine.of_bits g.T.BitBlock.BITS xs ys h.k _ _ _ mine its
     c.block-in-loop-k.ensures.places in
-    let few = ones_combined-le g.C.Combine.of_bits g.T.Block.BITS xs ys (h.k + 1)
+    let few = ones_combined-le g.C.Combine.of_bits g.T.BitBlock.BITS xs ys (h.k + 1)
     (length c.args.own.now) (omega arith) in
     omega (arith, h.invariant.ones, c.ones_in-ones.ensures, more, few, c.requires.fits)
 
 pub loop-k-preserved : goal.loop-k-preserved
 loop-k-preserved g c =
-    let number = g.T.Block.number in
+    let number = g.T.BitBlock.number in
     let h = c.loop-k in
     let xs = map number c.args.own.now in
     let ys = map number c.args.other.now.items in
@@ -39,7 +39,7 @@ loop-k-preserved g c =
     ∙ sym (get_or-map number c.args.own.now h.k c.index-own-k.result 0 (omega arith)) in
     let its = number_read number c.args.other.now.items h.k c.block.result
     (rw h.invariant.items at c.block.ensures.block) in
-    let more = ones_combined-more g.C.Combine.of_bits g.T.Block.BITS xs ys h.k _ _ _ mine its
+    let more = ones_combined-more g.C.Combine.of_bits g.T.BitBlock.BITS xs ys h.k _ _ _ mine its
     c.block-in-loop-k.ensures.places in
     record {
       ones = omega (arith, h.invariant.ones, c.ones_in-ones.ensures, more);

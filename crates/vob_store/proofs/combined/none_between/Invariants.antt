@@ -5,8 +5,8 @@ use Rattle.vob_store.proofs.combined.none_between.Given as goal
 
 abbrev pub invariant-loop-k : goal.invariant-loop-k
 invariant-loop-k g l = record {
-  found : IsFound g.C.Combine.of_bits g.T.Block.BITS (map g.T.Block.number l.fn.own)
-      (map g.T.Block.number l.fn.other.items) l.fn.from l.k (g.T.Block.number l.found);
+  found : IsFound g.C.Combine.of_bits g.T.BitBlock.BITS (map g.T.BitBlock.number l.fn.own)
+      (map g.T.BitBlock.number l.fn.other.items) l.fn.from l.k (g.T.BitBlock.number l.found);
   items : l.other.items ≡ l.fn.other.items;
   reads : l.other.reads + l.fn.from ≡ l.fn.other.reads + l.k;
 }

@@ -7,7 +7,7 @@ pub copy_whole-requires-clause-inside : goal.copy_whole-requires-clause-inside
 copy_whole-requires-clause-inside g c =
     let head = c.min-head.result in
     let u = c.BITS-width.result in
-    rw c.copy_part.auto.own (whole_inside g.T.Block.BITS g.met.T.Block.wide_law c.args.at
+    rw c.copy_part.auto.own (whole_inside g.T.BitBlock.BITS g.met.T.BitBlock.wide_law c.args.at
     c.args.cut.count head ((c.args.cut.count - head) / u) u c.BITS-width.ensures
     c.min-head.ensures refl _ c.requires.inside)
 
@@ -15,14 +15,14 @@ pub copy_part-requires-2-clause-one : goal.copy_part-requires-2-clause-one
 copy_part-requires-2-clause-one g c =
     let head = c.min-head.result in
     let u = c.BITS-width.result in
-    rest_one g.T.Block.BITS g.met.T.Block.wide_law c.args.at c.args.cut.count head
+    rest_one g.T.BitBlock.BITS g.met.T.BitBlock.wide_law c.args.at c.args.cut.count head
     ((c.args.cut.count - head) / u) u c.BITS-width.ensures c.min-head.ensures refl
 
 pub returns-clause-copied : goal.returns-clause-copied
 returns-clause-copied g c =
     let head = c.min-head.result in
     let u = c.BITS-width.result in
-    AreCopied-parts g.T.Block.BITS g.met.T.Block.wide_law c.args.at c.args.cut.count head
+    AreCopied-parts g.T.BitBlock.BITS g.met.T.BitBlock.wide_law c.args.at c.args.cut.count head
     ((c.args.cut.count - head) / u) u c.BITS-width.ensures c.min-head.ensures refl
     c.copy_part.ensures.copied (rw c.copy_part.ensures.items at c.copy_whole.ensures.copied)
     (rw (c.copy_whole.ensures.items, c.copy_part.ensures.items) at c.copy_part-2.ensures.copied)
@@ -31,7 +31,7 @@ pub returns-clause-reads : goal.returns-clause-reads
 returns-clause-reads g c =
     let head = c.min-head.result in
     let u = c.BITS-width.result in
-    let few = whole-few g.T.Block.BITS g.met.T.Block.wide_law c.args.at c.args.cut.count head
+    let few = whole-few g.T.BitBlock.BITS g.met.T.BitBlock.wide_law c.args.at c.args.cut.count head
     ((c.args.cut.count - head) / u) u c.BITS-width.ensures c.min-head.ensures refl in
     omega (
       arith,

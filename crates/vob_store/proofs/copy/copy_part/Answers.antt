@@ -7,8 +7,8 @@ use Rattle.vob_store.proofs.copy.copy_part.Goals as goal
 
 pub returns-clause-copied : goal.returns-clause-copied
 returns-clause-copied g c =
-    let number = g.T.Block.number in
-    let w = g.T.Block.BITS in
+    let number = g.T.BitBlock.number in
+    let w = g.T.BitBlock.BITS in
     let u = c.BITS-width.result in
     let at = c.args.at in
     let own = c.args.own.now in
@@ -16,7 +16,7 @@ returns-clause-copied g c =
     let room = block_inside w (at / u) (at % u) at (length own)
     whole
     (omega (arith, c.requires.inside, c.if-cut-eq0.false)) in
-    rw map-set (AreCopied-spliced w g.met.T.Block.wide_law (map number own)
+    rw map-set (AreCopied-spliced w g.met.T.BitBlock.wide_law (map number own)
     (map number c.args.other.now.items) (at / u) (number c.spliced-2.result)
     (omega (arith, room, length-map own number)) at (at % u) c.args.cut.start c.args.cut.count
     (number c.index-own-k.result) (number c.bits_at.result) (number c.up-bits.result)

@@ -6,10 +6,10 @@ use Rattle.vob_store.proofs.copy.copy_whole.Goals as goal
 
 pub loop-k-preserved : goal.loop-k-preserved
 loop-k-preserved g c =
-    let number = g.T.Block.number in
+    let number = g.T.BitBlock.number in
     let h = c.loop-k in
     record {
-      copied = rw map-set (AreCopied-next g.T.Block.BITS g.met.T.Block.wide_law (map number h.own)
+      copied = rw map-set (AreCopied-next g.T.BitBlock.BITS g.met.T.BitBlock.wide_law (map number h.own)
           (map number c.args.other.now.items) (c.args.first + h.k) (number c.bits_at.result)
           (omega (
             arith,

@@ -7,13 +7,13 @@ pub overflow_add-first : goal.overflow_add-first
 overflow_add-first g c = record {
   fits = omega (
     arith,
-    skip-inside _ _ _ _ _ g.met.T.Block.wide_law c.BITS-width.ensures c.requires.inside,
+    skip-inside _ _ _ _ _ g.met.T.BitBlock.wide_law c.BITS-width.ensures c.requires.inside,
     c.well_formed.0.0,
   );
 }
 
 pub copy_within-requires-clause-start_le_end : goal.copy_within-requires-clause-start_le_end
-copy_within-requires-clause-start_le_end g c = skip-inside _ _ _ _ _ g.met.T.Block.wide_law
+copy_within-requires-clause-start_le_end g c = skip-inside _ _ _ _ _ g.met.T.BitBlock.wide_law
     c.BITS-width.ensures c.requires.inside
 
 pub shift_down-requires-clause-inside : goal.shift_down-requires-clause-inside
@@ -22,9 +22,9 @@ shift_down-requires-clause-inside g c = skip-below _ _ _ _ _ c.BITS-width.ensure
 
 pub returns-then-places-eq0 : goal.returns-then-places-eq0
 returns-then-places-eq0 g c =
-    AreBuilt-moved g.T.Block.number g.T.Block.BITS g.met.T.Block.wide_law c.args.by
+    AreBuilt-moved g.T.BitBlock.number g.T.BitBlock.BITS g.met.T.BitBlock.wide_law c.args.by
     c.args.blocks.now c.copy_within.new.self c.copy_within.ensures.len c.BITS-width.result
-    c.BITS-width.ensures c.args.first g.T.Block.ZERO c.if-places-eq0.true
+    c.BITS-width.ensures c.args.first g.T.BitBlock.ZERO c.if-places-eq0.true
     c.copy_within.ensures.by_index.0 c.copy_within.ensures.by_index.1
 
 pub returns-else-places-eq0 : goal.returns-else-places-eq0

@@ -5,7 +5,7 @@ use Rattle.vob_store.proofs.WriteLemmas.{offset_fits}
 use Rattle.vob_store.proofs.drain.close_up.Goals as goal
 
 pub bounds-blocks-first : goal.bounds-blocks-first
-bounds-blocks-first g c = first-inside _ _ _ _ _ g.met.T.Block.wide_law c.BITS-width.ensures
+bounds-blocks-first g c = first-inside _ _ _ _ _ g.met.T.BitBlock.wide_law c.BITS-width.ensures
     c.requires.positive c.requires.inside
 
 pub offset_bounds-blocks-first : goal.offset_bounds-blocks-first
@@ -18,28 +18,28 @@ close_blocks-requires g c = record {
 
 pub bounds-blocks-first-2 : goal.bounds-blocks-first-2
 bounds-blocks-first-2 g c = rw c.close_blocks.auto.blocks (first-inside _ _ _ _ _
-    g.met.T.Block.wide_law c.BITS-width.ensures c.requires.positive c.requires.inside)
+    g.met.T.BitBlock.wide_law c.BITS-width.ensures c.requires.positive c.requires.inside)
 
 pub offset_bounds-blocks-first-2 : goal.offset_bounds-blocks-first-2
 offset_bounds-blocks-first-2 g c = offset_fits _ _ _ (first-inside _ _ _ _ _
-    g.met.T.Block.wide_law c.BITS-width.ensures c.requires.positive c.requires.inside)
+    g.met.T.BitBlock.wide_law c.BITS-width.ensures c.requires.positive c.requires.inside)
     c.well_formed.0.1
 
 pub spliced-requires : goal.spliced-requires
-spliced-requires g c = omega (arith, c.BITS-width.ensures, g.met.T.Block.wide_law)
+spliced-requires g c = omega (arith, c.BITS-width.ensures, g.met.T.BitBlock.wide_law)
 
 pub bounds-blocks-first-3 : goal.bounds-blocks-first-3
 bounds-blocks-first-3 g c = rw c.close_blocks.auto.blocks (first-inside _ _ _ _ _
-    g.met.T.Block.wide_law c.BITS-width.ensures c.requires.positive c.requires.inside)
+    g.met.T.BitBlock.wide_law c.BITS-width.ensures c.requires.positive c.requires.inside)
 
 pub offset_bounds-blocks-first-3 : goal.offset_bounds-blocks-first-3
 offset_bounds-blocks-first-3 g c = offset_fits _ _ _ (first-inside _ _ _ _ _
-    g.met.T.Block.wide_law c.BITS-width.ensures c.requires.positive c.requires.inside)
+    g.met.T.BitBlock.wide_law c.BITS-width.ensures c.requires.positive c.requires.inside)
     c.well_formed.0.1
 
 pub returns : goal.returns
 returns g c =
-    AreBuilt-spliced_at g.T.Block.number g.T.Block.BITS g.met.T.Block.wide_law c.args.by
+    AreBuilt-spliced_at g.T.BitBlock.number g.T.BitBlock.BITS g.met.T.BitBlock.wide_law c.args.by
     c.args.blocks.now c.close_blocks.new.blocks c.close_blocks.auto.blocks c.BITS-width.result
     c.BITS-width.ensures c.args.from _ c.index-blocks-first.result c.spliced.result
     c.index-blocks-first-2.result c.close_blocks.ensures

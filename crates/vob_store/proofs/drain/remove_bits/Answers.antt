@@ -8,22 +8,22 @@ use Rattle.vob_store.proofs.drain.remove_bits.Goals as goal
 
 pub close_up-requires-clause-inside : goal.close_up-requires-clause-inside
 close_up-requires-clause-inside g c =
-    let w = g.T.Block.BITS in
+    let w = g.T.BitBlock.BITS in
     let count : length c.deref_mut.result.now * w ≡ need c.args.len w * w =
     ap (λ k. k * w) (ap length c.deref_mut.ensures.value
-    ∙ sym (length-map c.args.blocks.now.items g.T.Block.number) ∙ c.requires.canonical.count) in
+    ∙ sym (length-map c.args.blocks.now.items g.T.BitBlock.number) ∙ c.requires.canonical.count) in
     omega (
       arith,
       count,
-      need_enough w g.met.T.Block.wide_law c.args.len,
+      need_enough w g.met.T.BitBlock.wide_law c.args.len,
       c.requires.some,
       c.requires.inside,
     )
 
 pub returns-clause-stores : goal.returns-clause-stores
 returns-clause-stores g c =
-    let w = g.T.Block.BITS in
-    let number = g.T.Block.number in
+    let w = g.T.BitBlock.BITS in
+    let number = g.T.BitBlock.number in
     let n = c.args.len in
     let from = c.args.from in
     let to = c.args.to in
@@ -36,7 +36,7 @@ returns-clause-stores g c =
       bits = c.truncate_to.ensures.stores.bits
           ∙ ap (λ items. take (n - (to - from)) (unpacking n (map number items) w))
           (take_at c.close_up.new.blocks _ c.args.blocks.now.len long)
-          ∙ unpacking-closed w g.met.T.Block.wide_law n from to (length c.deref_mut.result.now)
+          ∙ unpacking-closed w g.met.T.BitBlock.wide_law n from to (length c.deref_mut.result.now)
           (map number c.deref_mut.result.now) (map number c.close_up.new.blocks)
           (omega (arith, c.requires.some)) c.requires.inside count c.close_up.ensures
           ∙ ap (λ items. take from (unpacking n (map number items) w)

@@ -7,15 +7,15 @@ use Rattle.vob_store.proofs.drain.shift_down.Goals as goal
 
 pub loop-k-init : goal.loop-k-init
 loop-k-init g c = record {
-  built = AreBuilt-before g.T.Block.BITS g.met.T.Block.wide_law
-      (c.args.skip * g.T.Block.BITS + c.args.places) (map g.T.Block.number c.args.blocks.now)
+  built = AreBuilt-before g.T.BitBlock.BITS g.met.T.BitBlock.wide_law
+      (c.args.skip * g.T.BitBlock.BITS + c.args.places) (map g.T.BitBlock.number c.args.blocks.now)
       c.args.first;
   rest = λ i _. refl;
 }
 
 pub loop-k-preserved : goal.loop-k-preserved
 loop-k-preserved g c =
-    let number = g.T.Block.number in
+    let number = g.T.BitBlock.number in
     let h = c.loop-k.invariant in
     let k = c.loop-k.k in
     let skip = c.args.skip in
@@ -23,7 +23,7 @@ loop-k-preserved g c =
     c.index-blocks-k-in-loop-k.result (omega arith) c.index-blocks-k-in-loop-k.is
     ∙ h.rest (k + skip + 1) (omega arith) in
     record {
-      built = AreBuilt-shifted number g.T.Block.BITS g.met.T.Block.wide_law c.args.first skip
+      built = AreBuilt-shifted number g.T.BitBlock.BITS g.met.T.BitBlock.wide_law c.args.first skip
           c.args.places c.requires.below c.args.blocks.now c.loop-k.blocks c.loop-k.auto.blocks k
           c.index-blocks-k.result c.funnel_down.result
           (number c.index-blocks-k-in-loop-k.result) c.loop-k.auto.k (omega arith) h.built
@@ -34,7 +34,7 @@ loop-k-preserved g c =
 
 pub returns : goal.returns
 returns g c =
-    let number = g.T.Block.number in
+    let number = g.T.BitBlock.number in
     let h = c.loop-k.invariant in
     let skip = c.args.skip in
     let last = length c.args.blocks.now - skip - 1 in
@@ -42,10 +42,10 @@ returns g c =
     let first : c.args.first ≤ last = omega (arith, c.requires.inside) in
     let end : c.loop-k.k ≤ last = c.loop-k.auto.k-end first in
     let none : number c.ZERO.result ≡ get_or source (last + skip + 1) 0 =
-    ap number c.ZERO.ensures ∙ g.met.T.Block.zero_number_law
+    ap number c.ZERO.ensures ∙ g.met.T.BitBlock.zero_number_law
     ∙ sym (get_or_past source (last + skip + 1) 0
     (omega (arith, length-map c.args.blocks.now number, c.requires.inside))) in
-    AreBuilt-upto _ (AreBuilt-shifted number g.T.Block.BITS g.met.T.Block.wide_law c.args.first
+    AreBuilt-upto _ (AreBuilt-shifted number g.T.BitBlock.BITS g.met.T.BitBlock.wide_law c.args.first
     skip c.args.places c.requires.below c.args.blocks.now c.loop-k.blocks c.loop-k.auto.blocks
     last c.index-blocks-last.result c.funnel_down-2.result (number c.ZERO.result) first
     (omega (arith, c.requires.inside)) (AreBuilt-upto _ h.built (omega (arith, c.loop-k-test.false)))

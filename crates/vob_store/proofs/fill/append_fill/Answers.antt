@@ -12,22 +12,22 @@ pub fill_up-requires-clause-longer : goal.fill_up-requires-clause-longer
 fill_up-requires-clause-longer g c = omega (
   arith,
   c.requires.canonical.count,
-  length-map c.args.blocks.now.items g.T.Block.number,
+  length-map c.args.blocks.now.items g.T.BitBlock.number,
   c.block_count.ensures,
-  need-le-need g.T.Block.BITS g.met.T.Block.wide_law c.args.len c.args.new_len c.requires.longer,
+  need-le-need g.T.BitBlock.BITS g.met.T.BitBlock.wide_law c.args.len c.args.new_len c.requires.longer,
 )
 
 pub mask_last-requires : goal.mask_last-requires
 mask_last-requires g c = ap length c.deref_mut.ensures.value
-    ∙ sym (length-map c.fill_up.new.blocks.items g.T.Block.number)
+    ∙ sym (length-map c.fill_up.new.blocks.items g.T.BitBlock.number)
     ∙ c.fill_up.ensures.stores.canonical.count
-    ∙ need-mul g.T.Block.BITS g.met.T.Block.wide_law c.block_count.result ∙ c.block_count.ensures
+    ∙ need-mul g.T.BitBlock.BITS g.met.T.BitBlock.wide_law c.block_count.result ∙ c.block_count.ensures
 
 pub returns-clause-stores : goal.returns-clause-stores
 returns-clause-stores g c =
-    let w = g.T.Block.BITS in
-    let number = g.T.Block.number in
-    let enough = need_enough w g.met.T.Block.wide_law c.args.new_len in
+    let w = g.T.BitBlock.BITS in
+    let number = g.T.BitBlock.number in
+    let enough = need_enough w g.met.T.BitBlock.wide_law c.args.new_len in
     let room = ap (λ k. k * w) c.block_count.ensures in
     let filled = unpacking-filled w c.args.len c.block_count.result c.args.new_len _
     (map number c.fill_up.new.blocks.items) c.args.value

@@ -12,8 +12,8 @@ fill_last-requires g c = rw c.deref_mut.ensures.value c.requires.canonical
 
 pub returns-clause-stores : goal.returns-clause-stores
 returns-clause-stores g c =
-    let w = g.T.Block.BITS in
-    let number = g.T.Block.number in
+    let w = g.T.BitBlock.BITS in
+    let number = g.T.BitBlock.number in
     let olds = c.args.blocks.now.items in
     let filled = c.fill_last.new.blocks in
     let items = resized_is filled olds c.resize.new.self.items c.splat.result c.args.count
@@ -22,8 +22,8 @@ returns-clause-stores g c =
     (omega (arith, c.requires.longer, c.args.blocks.now.ok.0))
     (c.resize.ensures.succeeds c.requires.room) c.resize.ensures.items in
     let enough : c.args.len ≤ length olds * w = rw (← c.requires.canonical.count, length-map) at
-    (need_enough w g.met.T.Block.wide_law c.args.len) in
-    rw (items, c.args.blocks.now.ok.0) (Stores-filled_up number w g.met.T.Block.wide_law
+    (need_enough w g.met.T.BitBlock.wide_law c.args.len) in
+    rw (items, c.args.blocks.now.ok.0) (Stores-filled_up number w g.met.T.BitBlock.wide_law
     c.args.len (length olds) c.args.count (unpacking c.args.len (map number olds) w) filled
     c.args.value c.splat.result enough c.requires.longer
     (rw c.deref_mut.ensures.value at c.fill_last.ensures) c.splat.ensures)

@@ -7,12 +7,12 @@ use Rattle.vob_store.proofs.fill.filled_blocks.Goals as goal
 
 pub append_fill-requires-clause-canonical : goal.append_fill-requires-clause-canonical
 append_fill-requires-clause-canonical g c = rw c.in_ok-blocks.ensures.items
-    (canonical_nothing g.T.Block.BITS g.met.T.Block.wide_law)
+    (canonical_nothing g.T.BitBlock.BITS g.met.T.BitBlock.wide_law)
 
 pub append_fill-requires-clause-room : goal.append_fill-requires-clause-room
 append_fill-requires-clause-room g c = omega (
   arith,
-  need-is-div_ceil g.T.Block.BITS g.met.T.Block.wide_law c.args.len c.BITS.result c.BITS.ensures,
+  need-is-div_ceil g.T.BitBlock.BITS g.met.T.BitBlock.wide_law c.args.len c.BITS.result c.BITS.ensures,
   c.div_ceil.ensures,
   c.in_ok-blocks.ensures.capacity,
 )

@@ -10,11 +10,11 @@ use Rattle.vob_store.proofs.join.join_copied.Goals as goal
 
 pub returns-clause-joined : goal.returns-clause-joined
 returns-clause-joined g c =
-    let w = g.T.Block.BITS in
-    let number = g.T.Block.number in
+    let w = g.T.BitBlock.BITS in
+    let number = g.T.BitBlock.number in
     let xs = c.args.blocks.now.items in
     let ys = c.args.others.now in
-    let joined = Stores-behind w g.met.T.Block.wide_law c.args.len (map number xs)
+    let joined = Stores-behind w g.met.T.BitBlock.wide_law c.args.len (map number xs)
     c.requires.canonical c.args.more (map number ys) (unpacking c.args.more (map number ys) w)
     c.requires.full (record { canonical = c.requires.other; bits = refl }) in
     let count : length xs + length ys ≡ need (c.args.len + c.args.more) w =
@@ -25,7 +25,7 @@ returns-clause-joined g c =
       length-map ys number,
       joined.canonical.count,
     ) in
-    let fits = need_least w g.met.T.Block.wide_law (c.args.len + c.args.more)
+    let fits = need_least w g.met.T.BitBlock.wide_law (c.args.len + c.args.more)
     c.args.blocks.now.cap c.requires.room in
     let done : is_ok c.extend_from_slice.result ≡ true =
     c.extend_from_slice.ensures.succeeds (omega (arith, count, fits, c.args.blocks.now.ok.0)) in

@@ -12,14 +12,14 @@ loop-k-init g c =
 
 pub loop-k-preserved : goal.loop-k-preserved
 loop-k-preserved g c =
-    let number = g.T.Block.number in
+    let number = g.T.BitBlock.number in
     let h = c.loop-k.invariant in
     let source = number c.args.first ∷ map number c.args.other.now.items in
     let read = number_read number c.args.other.now.items c.loop-k.k c.block-block.result
     (rw h.items at c.block-block.ensures.block)
     ∙ sym (ap (λ k. get_or source k 0) (add-one c.loop-k.k)) in
     record {
-      built = rw map-set (AreBuilt-funnel g.T.Block.BITS g.met.T.Block.wide_law source
+      built = rw map-set (AreBuilt-funnel g.T.BitBlock.BITS g.met.T.BitBlock.wide_law source
           c.args.from (map number c.loop-k.own) c.loop-k.k (number c.funnel_down.result)
           (number c.loop-k.before) (number c.block-block.result) c.requires.below h.built
           (omega (arith, length-map c.loop-k.own number, c.loop-k.auto.own)) h.before read
@@ -31,15 +31,15 @@ loop-k-preserved g c =
 
 pub returns-then-count-own-clause-built : goal.returns-then-count-own-clause-built
 returns-then-count-own-clause-built g c =
-    let number = g.T.Block.number in
+    let number = g.T.BitBlock.number in
     let end : c.loop-k.k ≡ c.len-count.result = omega arith in
     let h = c.loop-k.invariant in
     let source = number c.args.first ∷ map number c.args.other.now.items in
     let none : number c.ZERO.result ≡ get_or source (c.loop-k.k + 1) 0 =
-    ap number c.ZERO.ensures ∙ g.met.T.Block.zero_number_law
+    ap number c.ZERO.ensures ∙ g.met.T.BitBlock.zero_number_law
     ∙ sym (get_or_past source (c.loop-k.k + 1) 0
     (omega (arith, length-map c.args.other.now.items number))) in
-    rw (map-set, ← end) (AreBuilt-upto _ (AreBuilt-funnel g.T.Block.BITS g.met.T.Block.wide_law
+    rw (map-set, ← end) (AreBuilt-upto _ (AreBuilt-funnel g.T.BitBlock.BITS g.met.T.BitBlock.wide_law
     source c.args.from (map number c.loop-k.own) c.loop-k.k
     (number c.funnel_down-then-count-own.result) (number c.loop-k.before) (number c.ZERO.result) c.requires.below h.built
     (omega (arith, length-map c.loop-k.own number)) h.before none

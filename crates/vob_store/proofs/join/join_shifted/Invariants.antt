@@ -6,11 +6,11 @@ use Rattle.vob_store.proofs.join.join_shifted.Given as goal
 
 abbrev pub invariant-loop-k : goal.invariant-loop-k
 invariant-loop-k g l = record {
-  built : AreBuilt g.T.Block.BITS l.k (map g.T.Block.number l.own)
-      (λ i. bit_at (g.T.Block.number l.fn.first ∷ map g.T.Block.number l.fn.other.items)
-      g.T.Block.BITS (l.from + i));
-  before : g.T.Block.number l.before
-      ≡ get_or (g.T.Block.number l.fn.first ∷ map g.T.Block.number l.fn.other.items) l.k 0;
+  built : AreBuilt g.T.BitBlock.BITS l.k (map g.T.BitBlock.number l.own)
+      (λ i. bit_at (g.T.BitBlock.number l.fn.first ∷ map g.T.BitBlock.number l.fn.other.items)
+      g.T.BitBlock.BITS (l.from + i));
+  before : g.T.BitBlock.number l.before
+      ≡ get_or (g.T.BitBlock.number l.fn.first ∷ map g.T.BitBlock.number l.fn.other.items) l.k 0;
   items : l.other.items ≡ l.fn.other.items;
   reads : l.other.reads ≡ l.fn.other.reads + l.k;
 }

@@ -10,12 +10,12 @@ loop-k-init g c = record { built = AreBuilt-none; items = search rules; reads = 
 
 pub loop-k-preserved : goal.loop-k-preserved
 loop-k-preserved g c =
-    let number = g.T.Block.number in
+    let number = g.T.BitBlock.number in
     let h = c.loop-k.invariant in
     let read = number_read number c.args.other.now.items c.loop-k.k c.block.result
     (rw h.items at c.block.ensures.block) in
     record {
-      built = rw map-set (AreBuilt-copy g.T.Block.BITS g.met.T.Block.wide_law
+      built = rw map-set (AreBuilt-copy g.T.BitBlock.BITS g.met.T.BitBlock.wide_law
           (map number c.args.other.now.items) (map number c.loop-k.own) c.loop-k.k
           (number c.block.result) h.built
           (omega (arith, length-map c.loop-k.own number, c.loop-k.auto.own)) read);

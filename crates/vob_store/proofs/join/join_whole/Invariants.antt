@@ -6,8 +6,8 @@ use Rattle.vob_store.proofs.join.join_whole.Given as goal
 
 abbrev pub invariant-loop-k : goal.invariant-loop-k
 invariant-loop-k g l = record {
-  built : AreBuilt g.T.Block.BITS l.k (map g.T.Block.number l.own)
-      (bit_at (map g.T.Block.number l.fn.other.items) g.T.Block.BITS);
+  built : AreBuilt g.T.BitBlock.BITS l.k (map g.T.BitBlock.number l.own)
+      (bit_at (map g.T.BitBlock.number l.fn.other.items) g.T.BitBlock.BITS);
   items : l.other.items ≡ l.fn.other.items;
   reads : l.other.reads ≡ l.fn.other.reads + l.k;
 }

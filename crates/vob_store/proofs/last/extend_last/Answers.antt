@@ -5,7 +5,7 @@ use Rattle.vob_store.proofs.last.extend_last.Goals as goal
 
 pub bounds-blocks-last : goal.bounds-blocks-last
 bounds-blocks-last g c =
-    last_in_canonical g.T.Block.number g.T.Block.BITS g.met.T.Block.wide_law c.args.len
+    last_in_canonical g.T.BitBlock.number g.T.BitBlock.BITS g.met.T.BitBlock.wide_law c.args.len
     c.args.blocks.now c.requires.canonical c.BITS-width.result c.BITS-width.ensures
     c.requires.partial
 
@@ -14,7 +14,7 @@ offset_bounds-blocks-last g c = offset_fits _ _ _ (bounds-blocks-last g c) c.wel
 
 pub bounds-blocks-last-2 : goal.bounds-blocks-last-2
 bounds-blocks-last-2 g c =
-    last_in_canonical _ _ g.met.T.Block.wide_law _ _ c.requires.canonical _ c.BITS-width.ensures
+    last_in_canonical _ _ g.met.T.BitBlock.wide_law _ _ c.requires.canonical _ c.BITS-width.ensures
     c.requires.partial
 
 pub offset_bounds-blocks-last-2 : goal.offset_bounds-blocks-last-2
@@ -23,8 +23,8 @@ offset_bounds-blocks-last-2 g c =
 
 pub returns : goal.returns
 returns g c =
-    let number = g.T.Block.number in
-    Stores-topped number g.T.Block.BITS g.met.T.Block.wide_law c.args.len c.args.blocks.now
+    let number = g.T.BitBlock.number in
+    Stores-topped number g.T.BitBlock.BITS g.met.T.BitBlock.wide_law c.args.len c.args.blocks.now
     c.requires.canonical c.BITS-width.result c.BITS-width.ensures c.requires.partial
     c.index-blocks-last.result c.bor.result (number c.args.more) (number c.up.result)
     c.index-blocks-last.is c.up.ensures.places c.bor.ensures.within c.bor.ensures.places

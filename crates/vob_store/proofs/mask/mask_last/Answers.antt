@@ -6,7 +6,7 @@ use Rattle.vob_store.proofs.mask.mask_last.Goals as goal
 
 pub bounds-blocks-last : goal.bounds-blocks-last
 bounds-blocks-last g c =
-    last_in_items g.T.Block.number g.T.Block.BITS g.met.T.Block.wide_law c.args.len
+    last_in_items g.T.BitBlock.number g.T.BitBlock.BITS g.met.T.BitBlock.wide_law c.args.len
     c.args.blocks.now c.requires c.BITS-width.result c.BITS-width.ensures
     c.if-used-ne0.true
 
@@ -15,7 +15,7 @@ offset_bounds-blocks-last g c = offset_fits _ _ _ (bounds-blocks-last g c) c.wel
 
 pub bounds-blocks-last-then-used-ne0 : goal.bounds-blocks-last-then-used-ne0
 bounds-blocks-last-then-used-ne0 g c =
-    last_in_items g.T.Block.number _ g.met.T.Block.wide_law _ _ c.requires _
+    last_in_items g.T.BitBlock.number _ g.met.T.BitBlock.wide_law _ _ c.requires _
     c.BITS-width.ensures
     c.if-used-ne0.true
 
@@ -25,7 +25,7 @@ offset_bounds-blocks-last-then-used-ne0 g c =
 
 pub returns-else-used-ne0 : goal.returns-else-used-ne0
 returns-else-used-ne0 g c = record {
-  canonical = canonical_at_full_width g.T.Block.number g.T.Block.BITS g.met.T.Block.wide_law
+  canonical = canonical_at_full_width g.T.BitBlock.number g.T.BitBlock.BITS g.met.T.BitBlock.wide_law
       c.args.len
       c.args.blocks.now c.requires c.BITS-width.result c.BITS-width.ensures
       c.all_in_range.ensures c.if-used-ne0.false;
@@ -34,8 +34,8 @@ returns-else-used-ne0 g c = record {
 
 pub returns-then-used-ne0 : goal.returns-then-used-ne0
 returns-then-used-ne0 g c =
-    mask_last_at g.T.Block.number g.T.Block.BITS g.met.T.Block.wide_law c.args.len
+    mask_last_at g.T.BitBlock.number g.T.BitBlock.BITS g.met.T.BitBlock.wide_law c.args.len
     c.args.blocks.now c.requires c.BITS-width.result c.BITS-width.ensures
     c.all_in_range.ensures c.if-used-ne0.true c.index-blocks-last.result c.band.result
-    (g.T.Block.number c.low_mask.result) c.index-blocks-last.is c.band.ensures.within
+    (g.T.BitBlock.number c.low_mask.result) c.index-blocks-last.is c.band.ensures.within
     c.band.ensures.places c.low_mask.ensures.places

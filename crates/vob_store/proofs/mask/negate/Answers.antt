@@ -10,7 +10,7 @@ loop-k-init g c = record { built = AreBuilt-none; rest = λ i _. refl }
 
 pub loop-k-preserved : goal.loop-k-preserved
 loop-k-preserved g c =
-    let number = g.T.Block.number in
+    let number = g.T.BitBlock.number in
     let h = c.loop-k.invariant in
     let xs = map number c.loop-k.blocks in
     let y = number c.bnot.result in
@@ -18,7 +18,7 @@ loop-k-preserved g c =
     let read = number_indexed number c.loop-k.blocks c.loop-k.k c.index-blocks-k.result inside
     c.index-blocks-k.is ∙ h.rest c.loop-k.k (omega arith) in
     record {
-      built = rw map-set (AreBuilt-negated g.T.Block.BITS g.met.T.Block.wide_law
+      built = rw map-set (AreBuilt-negated g.T.BitBlock.BITS g.met.T.BitBlock.wide_law
           (map number c.args.blocks.now) xs c.loop-k.k (number c.index-blocks-k.result) y read
           c.bnot.ensures.places h.built (omega (arith, length-map c.loop-k.blocks number)));
       rest = rw map-set (λ i above. get_or-set_other xs c.loop-k.k i y 0
@@ -27,16 +27,16 @@ loop-k-preserved g c =
 
 pub mask_last-requires : goal.mask_last-requires
 mask_last-requires g c = c.loop-k.auto.blocks
-    ∙ sym (length-map c.args.blocks.now g.T.Block.number) ∙ c.requires.count
+    ∙ sym (length-map c.args.blocks.now g.T.BitBlock.number) ∙ c.requires.count
 
 pub returns : goal.returns
 returns g c =
-    let w = g.T.Block.BITS in
-    let number = g.T.Block.number in
+    let w = g.T.BitBlock.BITS in
+    let number = g.T.BitBlock.number in
     record {
       canonical = c.mask_last.ensures.canonical;
       bits = c.mask_last.ensures.bits
-          ∙ unpacking-negated w g.met.T.Block.wide_law c.args.len (map number c.args.blocks.now)
+          ∙ unpacking-negated w g.met.T.BitBlock.wide_law c.args.len (map number c.args.blocks.now)
           (map number c.loop-k.blocks) c.loop-k.k
           (omega (
             arith,

@@ -6,8 +6,8 @@ use Rattle.vob_store.proofs.mask.negate.Given as goal
 
 abbrev pub invariant-loop-k : goal.invariant-loop-k
 invariant-loop-k g l = record {
-  built : AreBuilt g.T.Block.BITS l.k (map g.T.Block.number l.blocks)
-      (λ i. not (bit_at (map g.T.Block.number l.fn.blocks) g.T.Block.BITS i));
-  rest : (i : ℕ) → l.k ≤ i → get_or (map g.T.Block.number l.blocks) i 0
-      ≡ get_or (map g.T.Block.number l.fn.blocks) i 0;
+  built : AreBuilt g.T.BitBlock.BITS l.k (map g.T.BitBlock.number l.blocks)
+      (λ i. not (bit_at (map g.T.BitBlock.number l.fn.blocks) g.T.BitBlock.BITS i));
+  rest : (i : ℕ) → l.k ≤ i → get_or (map g.T.BitBlock.number l.blocks) i 0
+      ≡ get_or (map g.T.BitBlock.number l.fn.blocks) i 0;
 }

@@ -8,17 +8,17 @@ use Rattle.vob_store.proofs.mask.truncate_to.Goals as goal
 pub mask_last-requires : goal.mask_last-requires
 mask_last-requires g c =
     rw (c.deref_mut.ensures.value, c.truncate.ensures.items)
-    (length-kept g.T.Block.number g.T.Block.BITS g.met.T.Block.wide_law c.args.len
+    (length-kept g.T.BitBlock.number g.T.BitBlock.BITS g.met.T.BitBlock.wide_law c.args.len
     c.args.blocks.now.items c.requires.count c.args.new_len c.requires.shorter
     c.BITS.result c.div_ceil.result c.BITS.ensures c.div_ceil.ensures)
 
 pub returns-clause-stores : goal.returns-clause-stores
 returns-clause-stores g c =
-    let number = g.T.Block.number in
-    let w = g.T.Block.BITS in
+    let number = g.T.BitBlock.number in
+    let w = g.T.BitBlock.BITS in
     let long : length c.mask_last.new.blocks ≡ c.truncate.new.self.len =
     omega (arith, c.mask_last.auto.blocks, c.deref_mut.ensures.len) in
-    let kept = unpacking-kept number w g.met.T.Block.wide_law c.args.len c.args.blocks.now.items
+    let kept = unpacking-kept number w g.met.T.BitBlock.wide_law c.args.len c.args.blocks.now.items
     c.requires.count c.args.new_len c.requires.shorter c.BITS.result c.div_ceil.result
     c.BITS.ensures c.div_ceil.ensures in
     rw (take_at c.mask_last.new.blocks _ c.truncate.new.self.len long)

@@ -8,11 +8,11 @@ use Rattle.vob_store.proofs.pack.append_slice.Goals as goal
 
 pub push_packed-requires : goal.push_packed-requires
 push_packed-requires g c =
-    let w = g.T.Block.BITS in
-    let number = g.T.Block.number in
+    let w = g.T.BitBlock.BITS in
+    let number = g.T.BitBlock.number in
     let taken = c.top_up-taken.result in
     let news = c.top_up-taken.new.blocks in
-    let stored = Stores-parts w g.met.T.Block.wide_law c.args.len
+    let stored = Stores-parts w g.met.T.BitBlock.wide_law c.args.len
     (unpacking c.args.len (map number c.args.blocks.now.items) w) c.args.bits.now taken
     (map number news) c.top_up-taken.ensures.inside c.top_up-taken.ensures.whole
     (rw c.deref_mut.ensures.value at c.top_up-taken.ensures.stores) in
@@ -23,7 +23,7 @@ push_packed-requires g c =
         arith,
         stored.canonical.count,
         length-append (map number news) (packing (drop taken c.args.bits.now) w),
-        length-packing w g.met.T.Block.wide_law (drop taken c.args.bits.now),
+        length-packing w g.met.T.BitBlock.wide_law (drop taken c.args.bits.now),
         length-map news number,
         c.requires.room,
       ));
@@ -31,12 +31,12 @@ push_packed-requires g c =
 
 pub returns-clause-stores : goal.returns-clause-stores
 returns-clause-stores g c =
-    let w = g.T.Block.BITS in
-    let number = g.T.Block.number in
+    let w = g.T.BitBlock.BITS in
+    let number = g.T.BitBlock.number in
     let news = c.top_up-taken.new.blocks in
     let left = take_at news (drop (length news) c.args.blocks.now.items) c.args.blocks.now.len
     (c.top_up-taken.auto.blocks ∙ c.deref_mut.ensures.len) in
     rw (rw (left, take_rest) at c.push_packed.ensures.blocks) (Stores-parts w
-    g.met.T.Block.wide_law c.args.len (unpacking c.args.len (map number c.args.blocks.now.items) w)
+    g.met.T.BitBlock.wide_law c.args.len (unpacking c.args.len (map number c.args.blocks.now.items) w)
     c.args.bits.now c.top_up-taken.result (map number news) c.top_up-taken.ensures.inside
     c.top_up-taken.ensures.whole (rw c.deref_mut.ensures.value at c.top_up-taken.ensures.stores))

@@ -7,8 +7,8 @@ use Rattle.vob_store.proofs.pack.packed_blocks.Goals as goal
 
 pub push_packed-requires : goal.push_packed-requires
 push_packed-requires g c =
-    let w = g.T.Block.BITS in
-    let wanted = need-is-div_ceil w g.met.T.Block.wide_law (length c.args.bits.now) c.BITS.result
+    let w = g.T.BitBlock.BITS in
+    let wanted = need-is-div_ceil w g.met.T.BitBlock.wide_law (length c.args.bits.now) c.BITS.result
     c.BITS.ensures in
     record {
       room = omega (
@@ -22,9 +22,9 @@ push_packed-requires g c =
 
 pub returns-clause-stores : goal.returns-clause-stores
 returns-clause-stores g c =
-    let w = g.T.Block.BITS in
-    let number = g.T.Block.number in
+    let w = g.T.BitBlock.BITS in
+    let number = g.T.BitBlock.number in
     let blocks = c.push_packed.ensures.blocks
     ∙ ap (λ xs. map number xs ++ packing c.args.bits.now w) c.in_ok-blocks.ensures.items in
-    packing_is w g.met.T.Block.wide_law c.args.bits.now (length c.args.bits.now)
+    packing_is w g.met.T.BitBlock.wide_law c.args.bits.now (length c.args.bits.now)
     (map number c.push_packed.new.blocks.items) blocks refl

@@ -12,18 +12,18 @@ loop-rest-init g c = record { packed = refl; capacity = refl }
 
 pub push_reserved-requires : goal.push_reserved-requires
 push_reserved-requires g c =
-    let w = g.T.Block.BITS in
-    let number = g.T.Block.number in
+    let w = g.T.BitBlock.BITS in
+    let number = g.T.BitBlock.number in
     let h = c.loop-rest.invariant in
     let olds = map number c.args.blocks.now.items in
     let some = some_left (length c.loop-rest.rest.now) c.is_empty.result c.is_empty.ensures
     c.loop-rest-test.true in
     omega (
       arith,
-      packed-lt w g.met.T.Block.wide_law (map number c.loop-rest.blocks.items)
+      packed-lt w g.met.T.BitBlock.wide_law (map number c.loop-rest.blocks.items)
           (olds ++ packing c.args.bits.now w) c.loop-rest.rest.now h.packed some,
       length-append olds (packing c.args.bits.now w),
-      length-packing w g.met.T.Block.wide_law c.args.bits.now,
+      length-packing w g.met.T.BitBlock.wide_law c.args.bits.now,
       length-map c.args.blocks.now.items number,
       length-map c.loop-rest.blocks.items number,
       h.capacity,
@@ -32,14 +32,14 @@ push_reserved-requires g c =
 
 pub loop-rest-preserved : goal.loop-rest-preserved
 loop-rest-preserved g c =
-    let w = g.T.Block.BITS in
-    let number = g.T.Block.number in
+    let w = g.T.BitBlock.BITS in
+    let number = g.T.BitBlock.number in
     let h = c.loop-rest.invariant in
     let rest = c.loop-rest.rest.now in
     let some = some_left (length rest) c.is_empty.result c.is_empty.ensures
     c.loop-rest-test.true in
     record {
-      packed = rw (c.push_reserved.ensures.items, map_push) (packed_more w g.met.T.Block.wide_law
+      packed = rw (c.push_reserved.ensures.items, map_push) (packed_more w g.met.T.BitBlock.wide_law
           (map number c.loop-rest.blocks.items) _ rest h.packed c.split_at.result.1.now
           (number c.pack_block.result) c.min.result some
           (c.min.ensures ∙ ap (min (length rest)) c.BITS-width.ensures)
@@ -49,7 +49,7 @@ loop-rest-preserved g c =
     }
 
 pub returns-clause-blocks : goal.returns-clause-blocks
-returns-clause-blocks g c = packed_all g.T.Block.BITS g.met.T.Block.wide_law
-    (map g.T.Block.number c.loop-rest.blocks.items) _ c.loop-rest.rest.now
+returns-clause-blocks g c = packed_all g.T.BitBlock.BITS g.met.T.BitBlock.wide_law
+    (map g.T.BitBlock.number c.loop-rest.blocks.items) _ c.loop-rest.rest.now
     c.loop-rest.invariant.packed (none_left (length c.loop-rest.rest.now) c.is_empty.result
     c.is_empty.ensures c.loop-rest-test.false)

@@ -6,8 +6,8 @@ use Rattle.vob_store.proofs.pack.push_packed.Given as goal
 
 abbrev pub invariant-loop-rest : goal.invariant-loop-rest
 invariant-loop-rest g l = record {
-  packed : map g.T.Block.number l.blocks.items ++ packing l.rest g.T.Block.BITS
-      ≡ map g.T.Block.number l.fn.blocks.items ++ packing l.fn.bits g.T.Block.BITS;
+  packed : map g.T.BitBlock.number l.blocks.items ++ packing l.rest g.T.BitBlock.BITS
+      ≡ map g.T.BitBlock.number l.fn.blocks.items ++ packing l.fn.bits g.T.BitBlock.BITS;
   capacity : vec_capacity l.blocks ≡ vec_capacity l.fn.blocks;
 }
 

@@ -6,9 +6,9 @@ use Rattle.vob_store.proofs.pack.top_up.Goals as goal
 
 pub returns-clause-stores : goal.returns-clause-stores
 returns-clause-stores g c =
-    let w = g.T.Block.BITS in
+    let w = g.T.BitBlock.BITS in
     let taken = c.min-taken.result in
-    let rest = mod-lt c.args.len g.met.T.Block.wide_law in
+    let rest = mod-lt c.args.len g.met.T.BitBlock.wide_law in
     let size : taken ≡ min (length c.args.bits.now) (w - c.args.len % w) =
     rw c.BITS-width.ensures at c.min-taken.ensures in
     let long : length (take taken c.args.bits.now) ≡ taken =
@@ -17,5 +17,5 @@ returns-clause-stores g c =
     (HasPlaces-fewer c.pack_block.ensures.places (omega arith)))
 
 pub returns-clause-whole : goal.returns-clause-whole
-returns-clause-whole g c = λ less. full-room g.T.Block.BITS c.args.len c.min-taken.result _
-    g.met.T.Block.wide_law (rw c.BITS-width.ensures at c.min-taken.ensures) less
+returns-clause-whole g c = λ less. full-room g.T.BitBlock.BITS c.args.len c.min-taken.result _
+    g.met.T.BitBlock.wide_law (rw c.BITS-width.ensures at c.min-taken.ensures) less

@@ -7,18 +7,18 @@ use Rattle.vob_store.proofs.range.change_blocks.Goals as goal
 
 pub loop-k-init : goal.loop-k-init
 loop-k-init g c =
-    let zero = ap g.T.Block.number c.ZERO-changed.ensures ∙ g.met.T.Block.zero_number_law in
+    let zero = ap g.T.BitBlock.number c.ZERO-changed.ensures ∙ g.met.T.BitBlock.zero_number_law in
     record {
       ranged = IsRanged-none (omega arith);
-      small = subst (λ (x : ℕ). x < 2 ^ g.T.Block.BITS) (sym zero) (pow_pos g.T.Block.BITS);
-      flag = gathered_none g.T.Block.BITS (g.T.Block.number c.ZERO-changed.result)
-          (map g.T.Block.number c.args.blocks.now) zero;
+      small = subst (λ (x : ℕ). x < 2 ^ g.T.BitBlock.BITS) (sym zero) (pow_pos g.T.BitBlock.BITS);
+      flag = gathered_none g.T.BitBlock.BITS (g.T.BitBlock.number c.ZERO-changed.result)
+          (map g.T.BitBlock.number c.args.blocks.now) zero;
     }
 
 pub loop-k-preserved : goal.loop-k-preserved
 loop-k-preserved g c =
-    let number = g.T.Block.number in
-    let w = g.T.Block.BITS in
+    let number = g.T.BitBlock.number in
+    let w = g.T.BitBlock.BITS in
     let k = c.loop-k.k in
     let h = c.loop-k.invariant in
     let now = c.loop-k.blocks in
@@ -26,13 +26,13 @@ loop-k-preserved g c =
     omega (arith, c.loop-k.auto.blocks, c.loop-k-test.true, c.requires.inside) in
     let old = c.index-blocks-k.result in
     let new = c.block-new.result in
-    let ones = ap number c.ONES.ensures ∙ g.met.T.Block.ones_number_law in
+    let ones = ap number c.ONES.ensures ∙ g.met.T.BitBlock.ones_number_law in
     let row : k * w + w ≡ (k + 1) * w = omega (arith, add-mul k 1 w, one-mul w) in
-    let one = IsRanged-ends (IsRanged-item number w g.met.T.Block.wide_law g.C.Change.of_bit now k
+    let one = IsRanged-ends (IsRanged-item number w g.met.T.BitBlock.wide_law g.C.Change.of_bit now k
     old new inside c.index-blocks-k.is 0 w (number c.ONES.result) (omega arith)
     (HasPlaces-all w (number c.ONES.result) ones) c.block-new.ensures.within
     c.block-new.ensures.places) (omega arith) row in
-    let same = same_item number w g.met.T.Block.wide_law g.C.Change.of_bit now k old new inside
+    let same = same_item number w g.met.T.BitBlock.wide_law g.C.Change.of_bit now k old new inside
     c.index-blocks-k.is c.in_range.ensures c.block-new.ensures.within in
     let low = mul-le c.args.from w k w c.loop-k.auto.k (omega arith) in
     record {
@@ -47,11 +47,11 @@ loop-k-preserved g c =
 pub returns : goal.returns
 returns g c =
     let last : c.loop-k.k ≡ c.args.to = omega (arith, c.loop-k.auto.k-end, c.requires.order) in
-    let zero = ap g.T.Block.number c.ZERO.ensures ∙ g.met.T.Block.zero_number_law in
-    let test = g.met.T.Block.equal_law c.loop-k.changed c.ZERO.result in
+    let zero = ap g.T.BitBlock.number c.ZERO.ensures ∙ g.met.T.BitBlock.zero_number_law in
+    let test = g.met.T.BitBlock.equal_law c.loop-k.changed c.ZERO.result in
     let h = c.loop-k.invariant in
     record {
-      ranged = IsRanged-ends h.ranged refl (ap (λ k. k * g.T.Block.BITS) last);
+      ranged = IsRanged-ends h.ranged refl (ap (λ k. k * g.T.BitBlock.BITS) last);
       changed = not_flag c.ne.result (g.T.PartialEq.eq c.loop-k.changed c.ZERO.result)
           c.ne.ensures (
             (λ e. h.flag.0 (test.0 e ∙ zero)),

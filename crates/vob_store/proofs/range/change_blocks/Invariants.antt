@@ -5,9 +5,9 @@ use Rattle.vob_store.proofs.range.change_blocks.Given as goal
 
 abbrev pub invariant-loop-k : goal.invariant-loop-k
 invariant-loop-k g l = record {
-  ranged : IsRanged g.T.Block.BITS g.C.Change.of_bit (l.fn.from * g.T.Block.BITS)
-      (l.k * g.T.Block.BITS) (map g.T.Block.number l.fn.blocks) (map g.T.Block.number l.blocks);
-  small : g.T.Block.number l.changed < 2 ^ g.T.Block.BITS;
-  flag : (g.T.Block.number l.changed ≡ 0) ↔ HaveSameBits g.T.Block.BITS
-      (map g.T.Block.number l.fn.blocks) (map g.T.Block.number l.blocks);
+  ranged : IsRanged g.T.BitBlock.BITS g.C.Change.of_bit (l.fn.from * g.T.BitBlock.BITS)
+      (l.k * g.T.BitBlock.BITS) (map g.T.BitBlock.number l.fn.blocks) (map g.T.BitBlock.number l.blocks);
+  small : g.T.BitBlock.number l.changed < 2 ^ g.T.BitBlock.BITS;
+  flag : (g.T.BitBlock.number l.changed ≡ 0) ↔ HaveSameBits g.T.BitBlock.BITS
+      (map g.T.BitBlock.number l.fn.blocks) (map g.T.BitBlock.number l.blocks);
 }

@@ -6,6 +6,6 @@ use Rattle.vob_store.proofs.room.block_count.Goals as goal
 
 pub returns : goal.returns
 returns g c =
-    let times = div_ceil_times c.args.len g.T.Block.BITS g.met.T.Block.wide_law in
+    let times = div_ceil_times c.args.len g.T.BitBlock.BITS g.met.T.BitBlock.wide_law in
     rw c.BITS.ensures at c.div_ceil.ensures ∙ sym
-    (need_is g.T.Block.BITS g.met.T.Block.wide_law c.args.len _ times.0 times.1)
+    (need_is g.T.BitBlock.BITS g.met.T.BitBlock.wide_law c.args.len _ times.0 times.1)

@@ -4,5 +4,5 @@ use Rattle.vob_store.proofs.SameLemmas.{IsGathered}
 use Rattle.vob_store.proofs.same.same_between.Given as goal
 
 abbrev pub invariant-loop-k : goal.invariant-loop-k
-invariant-loop-k g l = IsGathered g.T.Block.BITS l.fn.from l.k (g.T.Block.number l.differing)
-    (map g.T.Block.number l.fn.blocks) (map g.T.Block.number l.fn.others)
+invariant-loop-k g l = IsGathered g.T.BitBlock.BITS l.fn.from l.k (g.T.BitBlock.number l.differing)
+    (map g.T.BitBlock.number l.fn.blocks) (map g.T.BitBlock.number l.fn.others)

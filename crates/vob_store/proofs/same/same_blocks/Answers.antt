@@ -6,7 +6,7 @@ use Rattle.vob_store.proofs.same.same_blocks.Goals as goal
 
 pub returns : goal.returns
 returns g c =
-    let number = g.T.Block.number in
+    let number = g.T.BitBlock.number in
     let mine = length-map c.args.blocks.now number in
     let theirs = length-map c.args.others.now number in
     let rest = c.same_between-2.ensures in (

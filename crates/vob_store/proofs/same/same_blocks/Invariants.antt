@@ -4,5 +4,5 @@ use Rattle.vob_store.specs.Same.{AreSame}
 use Rattle.vob_store.proofs.same.same_blocks.Given as goal
 
 abbrev pub invariant-loop-chunk : goal.invariant-loop-chunk
-invariant-loop-chunk g l = AreSame 0 (l.chunk * 64) (map g.T.Block.number l.fn.blocks)
-    (map g.T.Block.number l.fn.others)
+invariant-loop-chunk g l = AreSame 0 (l.chunk * 64) (map g.T.BitBlock.number l.fn.blocks)
+    (map g.T.BitBlock.number l.fn.others)

@@ -6,9 +6,9 @@ use Rattle.vob_store.proofs.single.with_place.Goals as goal
 
 pub returns-then-value-clause-places : goal.returns-then-value-clause-places
 returns-then-value-clause-places g c =
-    let number = g.T.Block.number in
-    let w = g.T.Block.BITS in
-    let one = ap number c.ONE.ensures ∙ g.met.T.Block.one_number_law in
+    let number = g.T.BitBlock.number in
+    let w = g.T.BitBlock.BITS in
+    let one = ap number c.ONE.ensures ∙ g.met.T.BitBlock.one_number_law in
     let mask = mask-is w c.args.j c.requires (number c.ONE.result) (number c.up-mask.result) one
     c.up-mask.ensures.within c.up-mask.ensures.places in
     HasPlaces-marked w (number c.args.block) (number c.bor.result) (number c.up-mask.result)
@@ -16,9 +16,9 @@ returns-then-value-clause-places g c =
 
 pub returns-else-value-clause-places : goal.returns-else-value-clause-places
 returns-else-value-clause-places g c =
-    let number = g.T.Block.number in
-    let w = g.T.Block.BITS in
-    let one = ap number c.ONE.ensures ∙ g.met.T.Block.one_number_law in
+    let number = g.T.BitBlock.number in
+    let w = g.T.BitBlock.BITS in
+    let one = ap number c.ONE.ensures ∙ g.met.T.BitBlock.one_number_law in
     let mask = mask-is w c.args.j c.requires (number c.ONE.result) (number c.up-mask.result) one
     c.up-mask.ensures.within c.up-mask.ensures.places in
     HasPlaces-unmarked w (number c.args.block) (number c.band.result) (number c.bnot.result)

@@ -5,7 +5,7 @@ use Rattle.vob_store.proofs.single.write_bit.Goals as goal
 
 pub bounds-blocks-k : goal.bounds-blocks-k
 bounds-blocks-k g c =
-    block_in_range g.T.Block.number g.T.Block.BITS g.met.T.Block.wide_law c.args.len
+    block_in_range g.T.BitBlock.number g.T.BitBlock.BITS g.met.T.BitBlock.wide_law c.args.len
     c.args.blocks.now c.requires.canonical c.args.index c.BITS-width.result
     c.BITS-width.ensures c.requires.in_range
 
@@ -14,7 +14,7 @@ offset_bounds-blocks-k g c = offset_fits _ _ _ (bounds-blocks-k g c) c.well_form
 
 pub bounds-blocks-k-2 : goal.bounds-blocks-k-2
 bounds-blocks-k-2 g c =
-    block_in_range _ _ g.met.T.Block.wide_law _ _ c.requires.canonical _ _ c.BITS-width.ensures
+    block_in_range _ _ g.met.T.BitBlock.wide_law _ _ c.requires.canonical _ _ c.BITS-width.ensures
     c.requires.in_range
 
 pub offset_bounds-blocks-k-2 : goal.offset_bounds-blocks-k-2
@@ -23,12 +23,12 @@ offset_bounds-blocks-k-2 g c =
 
 pub returns : goal.returns
 returns g c =
-    let stored = write_at g.T.Block.number g.T.Block.BITS g.met.T.Block.wide_law c.args.len
+    let stored = write_at g.T.BitBlock.number g.T.BitBlock.BITS g.met.T.BitBlock.wide_law c.args.len
     c.args.blocks.now c.requires.canonical c.args.index c.requires.in_range
     c.BITS-width.result c.BITS-width.ensures c.args.value c.index-blocks-k.result
     c.with_place.result c.index-blocks-k.is c.with_place.ensures.within
     c.with_place.ensures.places in
-    let bit = bit_is_place g.T.Block.number g.T.Block.BITS g.met.T.Block.wide_law c.args.len
+    let bit = bit_is_place g.T.BitBlock.number g.T.BitBlock.BITS g.met.T.BitBlock.wide_law c.args.len
     c.args.blocks.now c.requires.canonical c.args.index c.BITS-width.result
     c.BITS-width.ensures c.requires.in_range c.index-blocks-k.result c.bit.result
     c.index-blocks-k.is c.bit.ensures in

@@ -7,30 +7,30 @@ use Rattle.vob_store.proofs.FunnelLemmas.{start-le, need-le-tail, Stores-tail}
 use Rattle.vob_store.proofs.split.split_blocks.Goals as goal
 
 pub offset_bounds-blocks-at : goal.offset_bounds-blocks-at
-offset_bounds-blocks-at g c = start-le g.T.Block.number g.T.Block.BITS g.met.T.Block.wide_law
+offset_bounds-blocks-at g c = start-le g.T.BitBlock.number g.T.BitBlock.BITS g.met.T.BitBlock.wide_law
     c.args.len c.args.at c.args.blocks.now c.requires.count c.requires.inside
     c.BITS-width.result c.BITS-width.ensures
 
 pub slice_bounds-split_into-count : goal.slice_bounds-split_into-count
-slice_bounds-split_into-count g c = start-le g.T.Block.number _ g.met.T.Block.wide_law _ _ _
+slice_bounds-split_into-count g c = start-le g.T.BitBlock.number _ g.met.T.BitBlock.wide_law _ _ _
     c.requires.count c.requires.inside _ c.BITS-width.ensures
 
 pub slice_bounds-split_into-start : goal.slice_bounds-split_into-start
 slice_bounds-split_into-start g c =
     let start : c.args.at / c.BITS-width.result ≤ length c.args.blocks.now =
-    start-le g.T.Block.number g.T.Block.BITS g.met.T.Block.wide_law _ _ _
+    start-le g.T.BitBlock.number g.T.BitBlock.BITS g.met.T.BitBlock.wide_law _ _ _
     c.requires.count c.requires.inside _ c.BITS-width.ensures in
     search rules
 
 pub split_into-requires-clause-some : goal.split_into-requires-clause-some
 split_into-requires-clause-some g c =
-    let some = lt-need g.T.Block.BITS g.met.T.Block.wide_law (c.args.len - c.args.at) 0
+    let some = lt-need g.T.BitBlock.BITS g.met.T.BitBlock.wide_law (c.args.len - c.args.at) 0
     (omega (arith, c.requires.inside)) in
     omega (arith, c.deref_mut.ensures.len, c.in_ok-resize.ensures.len, some)
 
 pub split_into-requires-clause-count : goal.split_into-requires-clause-count
 split_into-requires-clause-count g c =
-    let fits = need-le-tail g.T.Block.number g.T.Block.BITS g.met.T.Block.wide_law _ _ _
+    let fits = need-le-tail g.T.BitBlock.number g.T.BitBlock.BITS g.met.T.BitBlock.wide_law _ _ _
     c.requires.count c.requires.inside _ c.BITS-width.ensures in
     omega (arith, c.deref_mut.ensures.len, c.in_ok-resize.ensures.len, fits)
 
@@ -41,7 +41,7 @@ mask_last-requires g c =
 
 pub returns : goal.returns
 returns g c =
-    let number = g.T.Block.number in
+    let number = g.T.BitBlock.number in
     let count = c.resize.new.self.len in
     let moved = c.split_into.new.rest in
     let long : length moved ≡ count =
@@ -49,8 +49,8 @@ returns g c =
     let whole : length c.mask_last.new.blocks ≡ count =
     omega (arith, c.mask_last.auto.blocks, c.deref_mut-2.ensures.len) in
     let same = length-map moved number in
-    rw (take_at c.mask_last.new.blocks _ count whole) (Stores-tail number g.T.Block.BITS
-    g.met.T.Block.wide_law c.args.len c.args.at c.args.blocks.now c.requires.count
+    rw (take_at c.mask_last.new.blocks _ count whole) (Stores-tail number g.T.BitBlock.BITS
+    g.met.T.BitBlock.wide_law c.args.len c.args.at c.args.blocks.now c.requires.count
     c.requires.inside _ c.BITS-width.ensures (map number moved) _
     (omega (arith, same, long, c.in_ok-resize.ensures.len, c.block_count-count.ensures))
     (AreBuilt-upto _ c.split_into.ensures (omega (arith, same, c.split_into.auto.rest)))

@@ -7,9 +7,9 @@ use Rattle.vob_store.proofs.split.split_into.Goals as goal
 
 pub returns-then-from-eq0 : goal.returns-then-from-eq0
 returns-then-from-eq0 g c =
-    let w = g.T.Block.BITS in
-    let number = g.T.Block.number in
+    let w = g.T.BitBlock.BITS in
+    let number = g.T.BitBlock.number in
     let xs = map number c.args.blocks.now in
     rw (c.if-from-eq0.true, c.copy_from_slice.ensures.after, ← take-map) (AreBuilt-same
-    (AreBuilt-take w g.met.T.Block.wide_law (length c.args.rest.now) xs)
+    (AreBuilt-take w g.met.T.BitBlock.wide_law (length c.args.rest.now) xs)
     (λ i. ap (bit_at xs w) (sym (zero-add i))))

@@ -10,13 +10,13 @@ loop-k-init g c = AreBuilt-none
 
 pub loop-k-preserved : goal.loop-k-preserved
 loop-k-preserved g c =
-    let number = g.T.Block.number in
+    let number = g.T.BitBlock.number in
     let blocks = c.args.blocks.now in
     let low = number_indexed number blocks c.loop-k.k c.index-blocks-k.result (omega arith)
     c.index-blocks-k.is in
     let high = number_indexed number blocks (c.loop-k.k + 1) c.index-blocks-k-in-loop-k.result
     (omega arith) c.index-blocks-k-in-loop-k.is in
-    rw map-set (AreBuilt-funnel g.T.Block.BITS g.met.T.Block.wide_law (map number blocks)
+    rw map-set (AreBuilt-funnel g.T.BitBlock.BITS g.met.T.BitBlock.wide_law (map number blocks)
     c.args.from (map number c.loop-k.rest) c.loop-k.k (number c.funnel_down.result)
     (number c.index-blocks-k.result) (number c.index-blocks-k-in-loop-k.result) c.requires.below
     c.loop-k.invariant (omega (arith, length-map c.loop-k.rest number, c.loop-k.auto.rest)) low high
@@ -24,11 +24,11 @@ loop-k-preserved g c =
 
 pub returns : goal.returns
 returns g c =
-    let number = g.T.Block.number in
+    let number = g.T.BitBlock.number in
     let last = length c.args.rest.now - 1 in
     let low = number_indexed number c.args.blocks.now last c.index-blocks-last.result (omega arith)
     c.index-blocks-last.is in
-    rw map-set (AreBuilt-upto _ (AreBuilt-funnel g.T.Block.BITS g.met.T.Block.wide_law
+    rw map-set (AreBuilt-upto _ (AreBuilt-funnel g.T.BitBlock.BITS g.met.T.BitBlock.wide_law
     (map number c.args.blocks.now) c.args.from (map number c.loop-k.rest) last
     (number c.funnel_down-2.result) (number c.index-blocks-last.result)
     (number c.block_or_zero.result) c.requires.below

@@ -5,5 +5,5 @@ use Rattle.vob_store.specs.Building.{AreBuilt}
 use Rattle.vob_store.proofs.split.split_shifted.Given as goal
 
 abbrev pub invariant-loop-k : goal.invariant-loop-k
-invariant-loop-k g l = AreBuilt g.T.Block.BITS l.k (map g.T.Block.number l.rest)
-    (λ i. bit_at (map g.T.Block.number l.fn.blocks) g.T.Block.BITS (l.from + i))
+invariant-loop-k g l = AreBuilt g.T.BitBlock.BITS l.k (map g.T.BitBlock.number l.rest)
+    (λ i. bit_at (map g.T.BitBlock.number l.fn.blocks) g.T.BitBlock.BITS (l.from + i))

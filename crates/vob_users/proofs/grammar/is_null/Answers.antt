@@ -5,6 +5,6 @@ use Rattle.vob_users.proofs.grammar.is_null.Goals as goal
 
 pub returns-in-Nonterminal : goal.returns-in-Nonterminal
 returns-in-Nonterminal c =
-    let bit = c.unwrap_or.ensures ∙ ap (λ o. unwrap_or o false) c.get.ensures
+    let bit = c.unwrap_or.ensures ∙ ap (λ o. unwrap_or o false) c.get.ensures.bit
     ∙ unwrap_or-slice_get c.args.nullable.now.bits _ false in
     rw (c.in-Nonterminal.is, bit) (λ e. e, λ e. e)

@@ -18,7 +18,7 @@ loop-row-preserved c =
     let h = c.loop-row.invariant in
     let bits = row_of-items items row c.index-rows-row.result inside in
     let step = ap (λ r. item r k) bits ∙ sym (unwrap_or-slice_get _ k false)
-    ∙ ap (λ o. unwrap_or o false) (sym c.get.ensures) ∙ sym c.unwrap_or.ensures in
+    ∙ ap (λ o. unwrap_or o false) (sym c.get.ensures.bit) ∙ sym c.unwrap_or.ensures in
     elim c.if-unwrap_or.branch [
       | then-unwrap_or w ↦ rw w.rows-is
           (AreLedBefore-more _ k row _ h _ _ (omega (arith, count)) (step ∙ w.if-unwrap_or.true)

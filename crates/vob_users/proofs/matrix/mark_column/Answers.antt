@@ -10,7 +10,7 @@ loop-row-init c = record {
   is_finite = tt;
   marked = AreMarkedBut-start _ _ _ _ (ap (λ walk. walk.rest)
       c.into_iter-row-iterator.ensures.into_iter_gives
-      ∙ (c.iter_set_bits-row-items.ensures.fresh tt).rest);
+      ∙ (c.iter_set_bits-row-items.ensures.fresh tt).whole.rest);
 }
 
 pub bounds-rows-row : goal.bounds-rows-row

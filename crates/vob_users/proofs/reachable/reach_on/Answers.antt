@@ -15,7 +15,7 @@ loop-node-preserved c =
     let changed = c.loop-node.changed in
     let k = c.loop-node.node in
     let h = c.loop-node.invariant in
-    let bit = get_or_from_slice_get bits k _ false c.get_unchecked.ensures in
+    let bit = sym c.get_unchecked.ensures.item in
     let inside : k < length items = omega arith in
     let added = λ (after : List Bool).
     row_added (λ row. row.bits) items starts bits after k in

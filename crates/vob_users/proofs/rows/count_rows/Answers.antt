@@ -5,5 +5,5 @@ use Rattle.vob_users.proofs.rows.count_rows.Goals as goal
 
 pub returns : goal.returns
 returns c =
-    c.count.ensures ∙ ap length (c.iter_set_bits.ensures.fresh tt).rest
+    c.count.ensures ∙ ap length (c.iter_set_bits.ensures.fresh tt).whole.rest
     ∙ matches-count c.args.filter.now.bits true

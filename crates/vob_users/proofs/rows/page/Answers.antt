@@ -7,7 +7,7 @@ use Rattle.vob_users.proofs.rows.page.Goals as goal
 
 pub returns : goal.returns
 returns c =
-    let walk = YieldsList-from_walk _ (c.iter_set_bits.ensures.fresh tt).rest in
+    let walk = YieldsList-from_walk _ (c.iter_set_bits.ensures.fresh tt).whole.rest in
     let behind = YieldsList-from_skip c.args.skip (YieldsList-at c.skip.ensures.source walk)
     c.skip.ensures.count in
     let some = YieldsList-from_take c.args.count (YieldsList-at c.take.ensures.source behind)

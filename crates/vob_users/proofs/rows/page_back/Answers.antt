@@ -10,7 +10,7 @@ use Rattle.vob_users.proofs.rows.page_back.Goals as goal
 pub returns : goal.returns
 returns c =
     let walk = YieldsList-from_rev_walk _
-    (ap (λ (w : Walk). w.rest) c.rev.ensures.source ∙ (c.iter_set_bits.ensures.fresh tt).rest) in
+    (ap (λ (w : Walk). w.rest) c.rev.ensures.source ∙ (c.iter_set_bits.ensures.fresh tt).whole.rest) in
     let behind = YieldsList-from_skip c.args.skip (YieldsList-at c.skip.ensures.source walk)
     c.skip.ensures.count in
     let some = YieldsList-from_take c.args.count (YieldsList-at c.take.ensures.source behind)

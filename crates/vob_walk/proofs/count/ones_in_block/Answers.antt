@@ -6,8 +6,8 @@ use Rattle.vob_walk.proofs.count.ones_in_block.Goals as goal
 
 pub returns-clause-ones : goal.returns-clause-ones
 returns-clause-ones g c =
-    let w = g.T.Block.BITS in
-    let number = g.T.Block.number in
+    let w = g.T.BitBlock.BITS in
+    let number = g.T.BitBlock.number in
     let items = c.args.blocks.now.items in
     let at = c.args.k * w in
     c.ones_in.ensures ∙ ones-masked w (map number items) c.args.start c.args.stop c.args.k

@@ -7,8 +7,8 @@ use Rattle.vob_walk.proofs.count.ones_in_blocks.Goals as goal
 
 pub returns-then-last-to-clause-ones : goal.returns-then-last-to-clause-ones
 returns-then-last-to-clause-ones g c =
-    let w = g.T.Block.BITS in
-    let number = g.T.Block.number in
+    let w = g.T.BitBlock.BITS in
+    let number = g.T.BitBlock.number in
     let xs = map number c.args.blocks.now.items in
     let half = (c.args.to - c.args.from) / 2 in
     let last = c.args.from + half + half in
@@ -21,10 +21,10 @@ returns-then-last-to-clause-ones g c =
 
 pub overflow_add-result : goal.overflow_add-result
 overflow_add-result g c =
-    let w = g.T.Block.BITS in
+    let w = g.T.BitBlock.BITS in
     omega (
       arith,
       returns-then-last-to-clause-ones g c,
-      ones-le w (map g.T.Block.number c.args.blocks.now.items) (c.args.from * w) (c.args.to * w),
+      ones-le w (map g.T.BitBlock.number c.args.blocks.now.items) (c.args.from * w) (c.args.to * w),
       c.requires.fits,
     )

@@ -5,8 +5,8 @@ use Rattle.vob_walk.proofs.count.ones_in_halves.Goals as goal
 
 pub loop-k-init : goal.loop-k-init
 loop-k-init g c =
-    let w = g.T.Block.BITS in
-    let none = λ (n : ℕ). ones-none w (map g.T.Block.number c.args.blocks.now.items) n n (omega arith) in
+    let w = g.T.BitBlock.BITS in
+    let none = λ (n : ℕ). ones-none w (map g.T.BitBlock.number c.args.blocks.now.items) n n (omega arith) in
     record {
       low = sym (none (c.args.from * w));
       high = sym (none ((c.args.from + c.args.half) * w));
@@ -47,12 +47,12 @@ loop-k-preserved g c =
 
 pub returns-clause-ones : goal.returns-clause-ones
 returns-clause-ones g c =
-    ones-halves g.T.Block.BITS (map g.T.Block.number c.args.blocks.now.items) c.args.from c.args.half
+    ones-halves g.T.BitBlock.BITS (map g.T.BitBlock.number c.args.blocks.now.items) c.args.from c.args.half
     c.loop-k.k (omega (arith, c.loop-k.auto.k-end, c.loop-k-test.false)) c.loop-k.invariant.low
     c.loop-k.invariant.high
 
 pub overflow_add-result : goal.overflow_add-result
 overflow_add-result g c =
-    let few = ones-le g.T.Block.BITS (map g.T.Block.number c.args.blocks.now.items)
-    (c.args.from * g.T.Block.BITS) ((c.args.from + c.args.half + c.args.half) * g.T.Block.BITS) in
+    let few = ones-le g.T.BitBlock.BITS (map g.T.BitBlock.number c.args.blocks.now.items)
+    (c.args.from * g.T.BitBlock.BITS) ((c.args.from + c.args.half + c.args.half) * g.T.BitBlock.BITS) in
     omega (arith, returns-clause-ones g c, few, c.requires.fits)

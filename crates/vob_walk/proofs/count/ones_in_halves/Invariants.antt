@@ -5,10 +5,10 @@ use Rattle.vob_walk.proofs.count.ones_in_halves.Given as goal
 
 abbrev pub invariant-loop-k : goal.invariant-loop-k
 invariant-loop-k g l = record {
-  low : l.low ≡ ones_between g.T.Block.BITS (map g.T.Block.number l.fn.blocks.items)
-      (l.fn.from * g.T.Block.BITS) (l.k * g.T.Block.BITS);
-  high : l.high ≡ ones_between g.T.Block.BITS (map g.T.Block.number l.fn.blocks.items)
-      ((l.fn.from + l.fn.half) * g.T.Block.BITS) ((l.k + l.fn.half) * g.T.Block.BITS);
+  low : l.low ≡ ones_between g.T.BitBlock.BITS (map g.T.BitBlock.number l.fn.blocks.items)
+      (l.fn.from * g.T.BitBlock.BITS) (l.k * g.T.BitBlock.BITS);
+  high : l.high ≡ ones_between g.T.BitBlock.BITS (map g.T.BitBlock.number l.fn.blocks.items)
+      ((l.fn.from + l.fn.half) * g.T.BitBlock.BITS) ((l.k + l.fn.half) * g.T.BitBlock.BITS);
   items : l.blocks.items ≡ l.fn.blocks.items;
   reads : l.blocks.reads + l.fn.from + l.fn.from ≡ l.fn.blocks.reads + l.k + l.k;
 }

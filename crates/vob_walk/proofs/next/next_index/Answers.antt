@@ -12,21 +12,21 @@ block-block-requires g c = omega (
   arith,
   c.requires,
   ap (λ u. c.args.from / u) c.BITS.ensures,
-  div-lt-need g.T.Block.BITS g.met.T.Block.wide_law c.args.len c.args.from (omega arith),
+  div-lt-need g.T.BitBlock.BITS g.met.T.BitBlock.wide_law c.args.len c.args.from (omega arith),
 )
 
 pub next_in_hand-index-requires-clause-hand : goal.next_in_hand-index-requires-clause-hand
 next_in_hand-index-requires-clause-hand g c =
     let read = rw c.BITS.ensures at c.block-block.ensures.block in
-    rw c.block-block.ensures.items (number_read g.T.Block.number c.args.blocks.now.items
-    (c.args.from / g.T.Block.BITS) c.block-block.result read)
+    rw c.block-block.ensures.items (number_read g.T.BitBlock.number c.args.blocks.now.items
+    (c.args.from / g.T.BitBlock.BITS) c.block-block.result read)
 
 pub returns-then-bit-value-clause-found : goal.returns-then-bit-value-clause-found
 returns-then-bit-value-clause-found g c =
-    let w = g.T.Block.BITS in
-    let xs = map g.T.Block.number c.args.blocks.now.items in
+    let w = g.T.BitBlock.BITS in
+    let xs = map g.T.BitBlock.number c.args.blocks.now.items in
     let from = c.args.from in
-    let read = number_read g.T.Block.number c.args.blocks.now.items (from / w) c.block-block.result
+    let read = number_read g.T.BitBlock.number c.args.blocks.now.items (from / w) c.block-block.result
     (rw c.BITS.ensures at c.block-block.ensures.block) in
     record {
       above = omega arith;

@@ -7,11 +7,11 @@ use Rattle.vob_walk.proofs.next.past_last_index_of.Goals as goal
 
 pub returns-then-end-gt0 : goal.returns-then-end-gt0
 returns-then-end-gt0 g c =
-    let w = g.T.Block.BITS in
+    let w = g.T.BitBlock.BITS in
     let x = c.args.blocks.now in
-    let number = g.T.Block.number in
+    let number = g.T.BitBlock.number in
     let k = c.args.upto / c.BITS.result in
-    FindsDown-here w g.met.T.Block.wide_law number c.args.value x _ c.args.upto k _
+    FindsDown-here w g.met.T.BitBlock.wide_law number c.args.value x _ c.args.upto k _
     c.past_last_place-end.result c.block.result
     (ap (λ u. c.args.upto / u) c.BITS.ensures) (ap (λ u. c.args.upto % u + 1) c.BITS-2.ensures)
     (number_read number x.items k c.block.result c.block.ensures.block)
@@ -20,13 +20,13 @@ returns-then-end-gt0 g c =
 
 pub returns-in_default : goal.returns-in_default
 returns-in_default g c =
-    let w = g.T.Block.BITS in
+    let w = g.T.BitBlock.BITS in
     let x = c.args.blocks.now in
     let y = c.last_other.new.blocks in
     let z = c.block.new.self in
-    let number = g.T.Block.number in
+    let number = g.T.BitBlock.number in
     let k = c.args.upto / c.BITS.result in
-    FindsDown-none w g.met.T.Block.wide_law number c.args.value x y c.args.upto k _
+    FindsDown-none w g.met.T.BitBlock.wide_law number c.args.value x y c.args.upto k _
     c.past_last_place-end.result c.block.result
     (ap (λ u. c.args.upto / u) c.BITS.ensures) (ap (λ u. c.args.upto % u + 1) c.BITS-2.ensures)
     (number_read number x.items k c.block.result c.block.ensures.block)
@@ -37,14 +37,14 @@ returns-in_default g c =
 
 pub returns : goal.returns
 returns g c =
-    let w = g.T.Block.BITS in
+    let w = g.T.BitBlock.BITS in
     let x = c.args.blocks.now in
     let y = c.last_other.new.blocks in
     let z = c.block.new.self in
-    let number = g.T.Block.number in
+    let number = g.T.BitBlock.number in
     let k = c.args.upto / c.BITS.result in
     let found = c.in-Some.found in
-    FindsDown-before w g.met.T.Block.wide_law number c.args.value x y c.args.upto k _
+    FindsDown-before w g.met.T.BitBlock.wide_law number c.args.value x y c.args.upto k _
     c.past_last_place-end.result c.block.result
     (ap (λ u. c.args.upto / u) c.BITS.ensures) (ap (λ u. c.args.upto % u + 1) c.BITS-2.ensures)
     (number_read number x.items k c.block.result c.block.ensures.block)
@@ -54,5 +54,5 @@ returns g c =
     (ScansDown-is number c.block_without.result z y _ _ _ (Some found) c.in-Some.is
     c.last_other.ensures)
     c.in_range.ensures
-    (omega (arith, c.BITS-4.ensures, g.met.T.Block.wide_law)) c.past_last_place.ensures
+    (omega (arith, c.BITS-4.ensures, g.met.T.BitBlock.wide_law)) c.past_last_place.ensures
     (ap (λ u. found.0 * u + c.past_last_place.result) c.BITS-3.ensures)

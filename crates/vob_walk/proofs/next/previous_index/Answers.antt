@@ -9,7 +9,7 @@ pub past_last_index_of-end-requires-clause-count : goal.past_last_index_of-end-r
 past_last_index_of-end-requires-clause-count g c = omega (
   arith,
   c.requires,
-  div-lt-need g.T.Block.BITS g.met.T.Block.wide_law c.args.len c.min.result (omega arith),
+  div-lt-need g.T.BitBlock.BITS g.met.T.BitBlock.wide_law c.args.len c.min.result (omega arith),
 )
 
 pub returns-then-end-gt0-clause-reads : goal.returns-then-end-gt0-clause-reads
@@ -18,8 +18,8 @@ returns-then-end-gt0-clause-reads g c =
     omega (
       arith,
       c.past_last_index_of-end.ensures.reads,
-      ap (λ n. need n g.T.Block.BITS) last,
-      need_one_more g.T.Block.BITS g.met.T.Block.wide_law c.min.result,
+      ap (λ n. need n g.T.BitBlock.BITS) last,
+      need_one_more g.T.BitBlock.BITS g.met.T.BitBlock.wide_law c.min.result,
     )
 
 pub returns-else-end-gt0-clause-reads : goal.returns-else-end-gt0-clause-reads
@@ -28,6 +28,6 @@ returns-else-end-gt0-clause-reads g c =
     omega (
       arith,
       c.past_last_index_of-end.ensures.reads,
-      ap (λ n. need n g.T.Block.BITS) last,
-      need_one_more g.T.Block.BITS g.met.T.Block.wide_law c.min.result,
+      ap (λ n. need n g.T.BitBlock.BITS) last,
+      need_one_more g.T.BitBlock.BITS g.met.T.BitBlock.wide_law c.min.result,
     )

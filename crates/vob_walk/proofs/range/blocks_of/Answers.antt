@@ -6,10 +6,10 @@ use Rattle.vob_walk.proofs.range.blocks_of.Goals as goal
 
 pub returns : goal.returns
 returns g c =
-    let w = g.T.Block.BITS in
-    AreBlocksOf-window w g.met.T.Block.wide_law c.args.start c.args.stop
+    let w = g.T.BitBlock.BITS in
+    AreBlocksOf-window w g.met.T.BitBlock.wide_law c.args.start c.args.stop
     (c.args.start / c.BITS.result) c.div_ceil.result
     (omega (arith, c.requires, c.if-start-stop.false))
     (ap (λ v. c.args.start / v) c.BITS.ensures)
-    (c.div_ceil.ensures ∙ need-is-div_ceil w g.met.T.Block.wide_law c.args.stop _
+    (c.div_ceil.ensures ∙ need-is-div_ceil w g.met.T.BitBlock.wide_law c.args.stop _
     c.BITS-2.ensures)

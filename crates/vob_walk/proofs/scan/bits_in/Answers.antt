@@ -6,9 +6,9 @@ use Rattle.vob_walk.proofs.scan.bits_in.Goals as goal
 
 pub returns : goal.returns
 returns g c =
-    let w = g.T.Block.BITS in
-    let word = g.T.Block.number c.masked.result in
+    let w = g.T.BitBlock.BITS in
+    let word = g.T.BitBlock.number c.masked.result in
     let window = c.args.window in
     c.of.ensures ∙ ap (λ v. block_indices w (c.args.k * v) word) c.BITS.ensures
-    ∙ block_indices-in w (g.T.Block.number c.args.block) word (c.args.k * w) window.start
+    ∙ block_indices-in w (g.T.BitBlock.number c.args.block) word (c.args.k * w) window.start
     window.stop window.value c.masked.ensures.places

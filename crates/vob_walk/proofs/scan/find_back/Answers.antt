@@ -5,7 +5,7 @@ use Rattle.vob_walk.proofs.ReadLemmas.{ScansDown-inside, ReadsDown-start, ReadsD
 use Rattle.vob_walk.proofs.scan.find_back.Goals as goal
 
 pub loop-found-init : goal.loop-found-init
-loop-found-init g c = ReadsDown-start g.T.Block.BITS c.args.window.value c.args.window.start
+loop-found-init g c = ReadsDown-start g.T.BitBlock.BITS c.args.window.value c.args.window.start
     c.args.window.stop c.args.blocks.now c.args.next c.args.end.now
     c.requires.order
 
@@ -29,7 +29,7 @@ back_bits_in-bits-requires g c =
 pub loop-found-preserved : goal.loop-found-preserved
 loop-found-preserved g c =
     let window = c.args.window in
-    ReadsDown-found g.T.Block.BITS window.value window.start window.stop
+    ReadsDown-found g.T.BitBlock.BITS window.value window.start window.stop
     c.block_without-skip.ensures c.loop-found.invariant c.in-Some.is c.last_other.ensures
     (sym (c.is_empty.ensures.0 c.if-not-is_empty.false) ∙ c.back_bits_in-bits.ensures)
 
@@ -40,7 +40,7 @@ loop-found-smaller g c =
 pub returns-then-not-is_empty-clause-reads : goal.returns-then-not-is_empty-clause-reads
 returns-then-not-is_empty-clause-reads g c =
     let window = c.args.window in
-    ReadsDown-found g.T.Block.BITS window.value window.start window.stop
+    ReadsDown-found g.T.BitBlock.BITS window.value window.start window.stop
     c.block_without-skip.ensures c.loop-found.invariant c.in-Some.is c.last_other.ensures
     c.back_bits_in-bits.ensures
 
@@ -51,6 +51,6 @@ returns-then-not-is_empty-clause-none g c = λ none.
 pub returns-clause-reads : goal.returns-clause-reads
 returns-clause-reads g c =
     let window = c.args.window in
-    ReadsDown-end g.T.Block.BITS window.value window.start window.stop
+    ReadsDown-end g.T.BitBlock.BITS window.value window.start window.stop
     c.block_without-skip.ensures c.loop-found.invariant c.in_default.not-Some c.last_other.ensures
     c.none.ensures

@@ -5,7 +5,7 @@ use Rattle.vob_walk.proofs.ReadLemmas.{ScansUp-inside, ReadsUp-start, ReadsUp-fo
 use Rattle.vob_walk.proofs.scan.find_front.Goals as goal
 
 pub loop-found-init : goal.loop-found-init
-loop-found-init g c = ReadsUp-start g.T.Block.BITS c.args.window.value c.args.window.start
+loop-found-init g c = ReadsUp-start g.T.BitBlock.BITS c.args.window.value c.args.window.start
     c.args.window.stop c.args.blocks.now c.args.next.now c.args.end
     c.requires.order
 
@@ -31,7 +31,7 @@ bits_in-bits-requires g c =
 pub loop-found-preserved : goal.loop-found-preserved
 loop-found-preserved g c =
     let window = c.args.window in
-    ReadsUp-found g.T.Block.BITS window.value window.start window.stop
+    ReadsUp-found g.T.BitBlock.BITS window.value window.start window.stop
     c.block_without-skip.ensures c.loop-found.invariant c.in-Some.is c.first_other.ensures
     (sym (c.is_empty.ensures.0 c.if-not-is_empty.false) ∙ c.bits_in-bits.ensures)
 
@@ -42,7 +42,7 @@ loop-found-smaller g c =
 pub returns-then-not-is_empty-clause-reads : goal.returns-then-not-is_empty-clause-reads
 returns-then-not-is_empty-clause-reads g c =
     let window = c.args.window in
-    ReadsUp-found g.T.Block.BITS window.value window.start window.stop
+    ReadsUp-found g.T.BitBlock.BITS window.value window.start window.stop
     c.block_without-skip.ensures c.loop-found.invariant c.in-Some.is c.first_other.ensures
     c.bits_in-bits.ensures
 
@@ -53,6 +53,6 @@ returns-then-not-is_empty-clause-none g c = λ none.
 pub returns-clause-reads : goal.returns-clause-reads
 returns-clause-reads g c =
     let window = c.args.window in
-    ReadsUp-end g.T.Block.BITS window.value window.start window.stop
+    ReadsUp-end g.T.BitBlock.BITS window.value window.start window.stop
     c.block_without-skip.ensures c.loop-found.invariant c.in_default.not-Some c.first_other.ensures
     c.none.ensures

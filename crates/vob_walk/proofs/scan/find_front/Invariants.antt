@@ -8,6 +8,6 @@ abbrev pub decreases-loop-found : goal.decreases-loop-found
 decreases-loop-found g l = l.end - l.from
 
 abbrev pub invariant-loop-found : goal.invariant-loop-found
-invariant-loop-found g l = ReadsUp g.T.Block.number
-    (λ xs. unread g.T.Block.BITS xs l.fn.window.value l.fn.window.start l.fn.window.stop)
+invariant-loop-found g l = ReadsUp g.T.BitBlock.number
+    (λ xs. unread g.T.BitBlock.BITS xs l.fn.window.value l.fn.window.start l.fn.window.stop)
     l.fn.blocks l.blocks l.fn.next l.fn.end l.from []

@@ -9,8 +9,8 @@ pub loop-k-init : goal.loop-k-init
 loop-k-init g c = record {
   ones = omega (
     arith,
-    ones-none g.T.Block.BITS (map g.T.Block.number c.args.blocks.now.items) 0
-        (0 * g.T.Block.BITS) (omega arith),
+    ones-none g.T.BitBlock.BITS (map g.T.BitBlock.number c.args.blocks.now.items) 0
+        (0 * g.T.BitBlock.BITS) (omega arith),
   );
   items = refl;
   reads = omega arith;
@@ -20,10 +20,10 @@ pub loop-k-preserved : goal.loop-k-preserved
 loop-k-preserved g c =
     let h = c.loop-k.invariant in
     let items = c.args.blocks.now.items in
-    let read = number_read g.T.Block.number items c.loop-k.k c.block-block.result
+    let read = number_read g.T.BitBlock.number items c.loop-k.k c.block-block.result
     (rw h.items at c.block-block.ensures.block) in
-    let more = ones-whole g.T.Block.BITS (map g.T.Block.number items) c.loop-k.k
-    (g.T.Block.number c.block-block.result) read in
+    let more = ones-whole g.T.BitBlock.BITS (map g.T.BitBlock.number items) c.loop-k.k
+    (g.T.BitBlock.number c.block-block.result) read in
     record {
       ones = omega (arith, h.ones, c.ones_in-ones.ensures, c.if-left-ones.false, more);
       items = c.block-block.ensures.items ∙ h.items;
@@ -34,9 +34,9 @@ pub overflow_mul-result : goal.overflow_mul-result
 overflow_mul-result g c =
     let h = c.loop-k.invariant in
     let at = c.place_of_rank-place.ensures in
-    let read = number_read g.T.Block.number c.args.blocks.now.items _ _
+    let read = number_read g.T.BitBlock.number c.args.blocks.now.items _ _
     (rw h.items at c.block-block.ensures.block) in
-    let fits = place-fits g.T.Block.BITS _ _ _ read h.ones at.inside at.there at.rank
+    let fits = place-fits g.T.BitBlock.BITS _ _ _ read h.ones at.inside at.there at.rank
     c.BITS.ensures c.requires.fits in
     omega (arith, fits)
 
@@ -44,9 +44,9 @@ pub overflow_add-result : goal.overflow_add-result
 overflow_add-result g c =
     let h = c.loop-k.invariant in
     let at = c.place_of_rank-place.ensures in
-    let read = number_read g.T.Block.number c.args.blocks.now.items _ _
+    let read = number_read g.T.BitBlock.number c.args.blocks.now.items _ _
     (rw h.items at c.block-block.ensures.block) in
-    let fits = place-fits g.T.Block.BITS _ _ _ read h.ones at.inside at.there at.rank
+    let fits = place-fits g.T.BitBlock.BITS _ _ _ read h.ones at.inside at.there at.rank
     c.BITS.ensures c.requires.fits in
     omega (arith, fits)
 
@@ -54,6 +54,6 @@ pub returns-then-left-ones-clause-found : goal.returns-then-left-ones-clause-fou
 returns-then-left-ones-clause-found g c =
     let h = c.loop-k.invariant in
     let at = c.place_of_rank-place.ensures in
-    let read = number_read g.T.Block.number c.args.blocks.now.items _ _
+    let read = number_read g.T.BitBlock.number c.args.blocks.now.items _ _
     (rw h.items at c.block-block.ensures.block) in
-    rw c.BITS.ensures (HasRank-place g.T.Block.BITS _ _ _ read h.ones at.inside at.there at.rank)
+    rw c.BITS.ensures (HasRank-place g.T.BitBlock.BITS _ _ _ read h.ones at.inside at.there at.rank)

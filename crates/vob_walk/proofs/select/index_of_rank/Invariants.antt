@@ -5,8 +5,8 @@ use Rattle.vob_walk.proofs.select.index_of_rank.Given as goal
 
 abbrev pub invariant-loop-k : goal.invariant-loop-k
 invariant-loop-k g l = record {
-  ones : ones_between g.T.Block.BITS (map g.T.Block.number l.fn.blocks.items) 0
-      (l.k * g.T.Block.BITS) + l.left ≡ l.fn.rank;
+  ones : ones_between g.T.BitBlock.BITS (map g.T.BitBlock.number l.fn.blocks.items) 0
+      (l.k * g.T.BitBlock.BITS) + l.left ≡ l.fn.rank;
   items : l.blocks.items ≡ l.fn.blocks.items;
   reads : l.blocks.reads ≡ l.fn.blocks.reads + l.k;
 }

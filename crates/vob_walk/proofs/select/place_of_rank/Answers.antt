@@ -5,10 +5,10 @@ use Rattle.vob_walk.proofs.select.place_of_rank.Goals as goal
 
 pub loop-high-init : goal.loop-high-init
 loop-high-init g c =
-    let w = g.T.Block.BITS in
-    let x = g.T.Block.number c.args.block in
+    let w = g.T.BitBlock.BITS in
+    let x = g.T.BitBlock.number c.args.block in
     record {
-      some = omega (arith, c.BITS-high.ensures, g.met.T.Block.wide_law);
+      some = omega (arith, c.BITS-high.ensures, g.met.T.BitBlock.wide_law);
       width = omega (arith, c.BITS-high.ensures);
       least = omega (arith, true_places-none x);
       most = rw c.BITS-high.ensures c.requires;
@@ -17,7 +17,7 @@ loop-high-init g c =
 pub loop-high-preserved-then-ones_in-rank : goal.loop-high-preserved-then-ones_in-rank
 loop-high-preserved-then-ones_in-rank g c =
     let h = c.loop-high.invariant in
-    let low = true_places-masked g.T.Block.BITS _ _ _ _
+    let low = true_places-masked g.T.BitBlock.BITS _ _ _ _
     (omega (arith, h.width, h.some, c.loop-high-test.true)) c.low_mask.ensures.places
     c.band.ensures.places in
     record {
@@ -30,7 +30,7 @@ loop-high-preserved-then-ones_in-rank g c =
 pub loop-high-preserved : goal.loop-high-preserved
 loop-high-preserved g c =
     let h = c.loop-high.invariant in
-    let low = true_places-masked g.T.Block.BITS _ _ _ _
+    let low = true_places-masked g.T.BitBlock.BITS _ _ _ _
     (omega (arith, h.width, h.some, c.loop-high-test.true)) c.low_mask.ensures.places
     c.band.ensures.places in
     record {

@@ -9,7 +9,7 @@ decreases-loop-high g l = l.high - l.low
 abbrev pub invariant-loop-high : goal.invariant-loop-high
 invariant-loop-high g l = record {
   some : l.low < l.high;
-  width : l.high ≤ g.T.Block.BITS;
-  least : true_places l.low (g.T.Block.number l.fn.block) ≤ l.fn.rank;
-  most : l.fn.rank < true_places l.high (g.T.Block.number l.fn.block);
+  width : l.high ≤ g.T.BitBlock.BITS;
+  least : true_places l.low (g.T.BitBlock.number l.fn.block) ≤ l.fn.rank;
+  most : l.fn.rank < true_places l.high (g.T.BitBlock.number l.fn.block);
 }

@@ -4,7 +4,7 @@ use Rattle.vob_walk.proofs.SkipLemmas.{ScansUp-start, ScansUp-past, ScansUp-on, 
 use Rattle.vob_walk.proofs.skip.first_of_fours.Goals as goal
 
 pub loop-four-init : goal.loop-four-init
-loop-four-init g c = ScansUp-start g.T.Block.number c.args.skip c.args.blocks.now c.args.from _
+loop-four-init g c = ScansUp-start g.T.BitBlock.number c.args.skip c.args.blocks.now c.args.from _
     (omega arith)
 
 pub first_of_four-found-requires-clause-count : goal.first_of_four-found-requires-clause-count
@@ -19,7 +19,7 @@ first_of_four-found-requires-clause-count g c =
 pub loop-four-preserved : goal.loop-four-preserved
 loop-four-preserved g c =
     let n = c.loop-four.four in
-    ScansUp-past g.T.Block.number c.args.skip c.args.blocks.now c.loop-four.blocks
+    ScansUp-past g.T.BitBlock.number c.args.skip c.args.blocks.now c.loop-four.blocks
     c.first_of_four-found.new.blocks c.args.from (c.args.from + 4 * n) (c.args.from + 4 * n + 4) _
     c.first_of_four-found.result (omega arith) (omega arith) (omega arith)
     (sym c.is_some.ensures ∙ c.if-is_some.false) c.loop-four.invariant
@@ -27,7 +27,7 @@ loop-four-preserved g c =
 
 pub returns-then-is_some : goal.returns-then-is_some
 returns-then-is_some g c =
-    let number = g.T.Block.number in
+    let number = g.T.BitBlock.number in
     let m = c.args.from + 4 * c.loop-four.four in
     let end = c.args.from + 4 * c.args.fours in
     ScansUp-on number c.args.skip c.args.blocks.now c.loop-four.blocks

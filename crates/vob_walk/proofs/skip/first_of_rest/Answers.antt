@@ -4,7 +4,7 @@ use Rattle.vob_walk.proofs.SkipLemmas.{ScansUp-start, ScansUp-past, ScansUp-on, 
 use Rattle.vob_walk.proofs.skip.first_of_rest.Goals as goal
 
 pub loop-k-init : goal.loop-k-init
-loop-k-init g c = ScansUp-start g.T.Block.number c.args.skip c.args.blocks.now c.args.from _ refl
+loop-k-init g c = ScansUp-start g.T.BitBlock.number c.args.skip c.args.blocks.now c.args.from _ refl
 
 pub other_at-found-requires : goal.other_at-found-requires
 other_at-found-requires g c =
@@ -12,7 +12,7 @@ other_at-found-requires g c =
 
 pub loop-k-preserved : goal.loop-k-preserved
 loop-k-preserved g c =
-    ScansUp-past g.T.Block.number c.args.skip c.args.blocks.now c.loop-k.blocks
+    ScansUp-past g.T.BitBlock.number c.args.skip c.args.blocks.now c.loop-k.blocks
     c.other_at-found.new.blocks c.args.from c.loop-k.k (c.loop-k.k + 1) _
     c.other_at-found.result c.loop-k.auto.k (omega arith) refl
     (sym c.is_some.ensures ∙ c.if-is_some.false) c.loop-k.invariant
@@ -20,7 +20,7 @@ loop-k-preserved g c =
 
 pub returns-then-is_some : goal.returns-then-is_some
 returns-then-is_some g c =
-    let number = g.T.Block.number in
+    let number = g.T.BitBlock.number in
     let k = c.loop-k.k in
     ScansUp-on number c.args.skip c.args.blocks.now c.loop-k.blocks
     c.other_at-found.new.blocks c.args.from k c.args.end None c.other_at-found.result

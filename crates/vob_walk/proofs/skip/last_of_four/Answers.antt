@@ -5,13 +5,13 @@ use Rattle.vob_walk.proofs.skip.last_of_four.Goals as goal
 
 pub returns-then-is_some : goal.returns-then-is_some
 returns-then-is_some g c =
-    ScansDown-found g.T.Block.number c.args.skip _ _ (c.args.end - 4) (c.args.end - 1) c.args.end _
+    ScansDown-found g.T.BitBlock.number c.args.skip _ _ (c.args.end - 4) (c.args.end - 1) c.args.end _
     (omega arith) (omega arith) (sym c.is_some.ensures ∙ c.if-is_some.true)
     c.other_at-last.ensures.down
 
 pub returns-then-is_some-2 : goal.returns-then-is_some-2
 returns-then-is_some-2 g c =
-    let n = g.T.Block.number in
+    let n = g.T.BitBlock.number in
     let from = c.args.end - 4 in
     ScansDown-before n c.args.skip _ _ _ from (c.args.end - 1) c.args.end _ _ (omega arith)
     (omega arith) (sym c.is_some.ensures ∙ c.if-is_some.false) c.other_at-last.ensures.down
@@ -20,7 +20,7 @@ returns-then-is_some-2 g c =
 
 pub returns-then-is_some-3 : goal.returns-then-is_some-3
 returns-then-is_some-3 g c =
-    let n = g.T.Block.number in
+    let n = g.T.BitBlock.number in
     let from = c.args.end - 4 in
     ScansDown-before n c.args.skip _ _ _ from (c.args.end - 1) c.args.end _ _ (omega arith)
     (omega arith) (sym c.is_some.ensures ∙ c.if-is_some.false) c.other_at-last.ensures.down
@@ -32,7 +32,7 @@ returns-then-is_some-3 g c =
 
 pub returns : goal.returns
 returns g c =
-    let n = g.T.Block.number in
+    let n = g.T.BitBlock.number in
     let from = c.args.end - 4 in
     ScansDown-before n c.args.skip _ _ _ from (c.args.end - 1) c.args.end _ _ (omega arith)
     (omega arith) (sym c.is_some.ensures ∙ c.if-is_some.false) c.other_at-last.ensures.down

@@ -7,5 +7,5 @@ abbrev pub invariant-loop-k : goal.invariant-loop-k
 invariant-loop-k g l = record {
   from : l.fn.from ≤ l.k;
   below : l.k ≤ l.fn.end;
-  scans : ScansDown g.T.Block.number l.fn.skip l.fn.blocks l.blocks l.k l.fn.end None;
+  scans : ScansDown g.T.BitBlock.number l.fn.skip l.fn.blocks l.blocks l.k l.fn.end None;
 }

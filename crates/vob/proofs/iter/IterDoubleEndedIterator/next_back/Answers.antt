@@ -19,7 +19,7 @@ returns-clause-goes g c =
     let before : length c.args.self.now ≡ c.self.inside.end - c.self.inside.next =
     ap length (sym c.self.view_is) ∙ length-bits_between _ _ _ _ in
     let after = length-bits_between c.self.inside.next (c.self.inside.end - 1)
-    (map g.T.Block.number c.self.inside.blocks.now) g.T.Block.BITS in
+    (map g.T.BitBlock.number c.self.inside.blocks.now) g.T.BitBlock.BITS in
     record {
       on = λ finite. (tt, finite, omega (arith, before, after));
       keeps = tt;

@@ -7,7 +7,7 @@ pub returns-then-same_length-clause-lists : goal.returns-then-same_length-clause
 returns-then-same_length-clause-lists g c =
     let test = rw (c.as_slice.ensures.value, c.as_slice-then-same_length.ensures.value) at
     c.same_blocks.ensures in
-    blocks_decide g.T.Block.BITS g.met.T.Block.wide_law _ _ _ _ c.self.invariant c.other.invariant
+    blocks_decide g.T.BitBlock.BITS g.met.T.BitBlock.wide_law _ _ _ _ c.self.invariant c.other.invariant
     _ _ (ap (λ v. v.bits) c.self.view_is) (ap (λ v. v.bits) c.other.view_is)
     c.if-same_length.true _ test
 
@@ -17,7 +17,7 @@ returns-then-same_length-clause-answer g c =
 
 pub returns-else-same_length-clause-lists : goal.returns-else-same_length-clause-lists
 returns-else-same_length-clause-lists g c =
-    lengths_decide g.T.Block.BITS g.met.T.Block.wide_law _ _ _ _ c.self.invariant
+    lengths_decide g.T.BitBlock.BITS g.met.T.BitBlock.wide_law _ _ _ _ c.self.invariant
     c.other.invariant _ _ (ap (λ v. v.bits) c.self.view_is) (ap (λ v. v.bits) c.other.view_is)
     c.if-same_length.false
 

@@ -8,7 +8,7 @@ use Rattle.vob.proofs.runs.RunsIterator.next.Goals as goal
 pub returns-then-self-clause-steps : goal.returns-then-self-clause-steps
 returns-then-self-clause-steps g c =
     let s = c.self.inside in
-    rw (← c.self.view_is) (GivesRun-end g.T.Block.BITS g.met.T.Block.wide_law g.T.Block.number s.len
+    rw (← c.self.view_is) (GivesRun-end g.T.BitBlock.BITS g.met.T.BitBlock.wide_law g.T.BitBlock.number s.len
     s.blocks c.self.invariant c.if-self.true)
 
 pub block_in_hand-hand-requires-clause-count : goal.block_in_hand-hand-requires-clause-count
@@ -17,8 +17,8 @@ block_in_hand-hand-requires-clause-count g c =
     omega (
       arith,
       c.self.invariant.count,
-      length-map s.blocks.items g.T.Block.number,
-      div-lt-need g.T.Block.BITS g.met.T.Block.wide_law s.len s.from
+      length-map s.blocks.items g.T.BitBlock.number,
+      div-lt-need g.T.BitBlock.BITS g.met.T.BitBlock.wide_law s.len s.from
           (omega (arith, c.self.invariant.within, c.if-self.false)),
     )
 
@@ -26,7 +26,7 @@ pub returns-then-start-self-clause-steps : goal.returns-then-start-self-clause-s
 returns-then-start-self-clause-steps g c =
     let s = c.self.inside in
     let hand = c.block_in_hand-hand.ensures in
-    rw (← c.self.view_is) (GivesRun-none g.T.Block.BITS g.met.T.Block.wide_law g.T.Block.number
+    rw (← c.self.view_is) (GivesRun-none g.T.BitBlock.BITS g.met.T.BitBlock.wide_law g.T.BitBlock.number
     s.len s.blocks c.self.invariant c.if-self.false hand.items hand.reads
     c.next_in_hand-start.ensures c.if-start-self.true)
 
@@ -34,15 +34,13 @@ pub returns-clause-steps : goal.returns-clause-steps
 returns-clause-steps g c =
     let s = c.self.inside in
     let hand = c.block_in_hand-hand.ensures in
-    rw (← c.self.view_is) (GivesRun-next g.T.Block.BITS g.met.T.Block.wide_law g.T.Block.number
+    rw (← c.self.view_is) (GivesRun-next g.T.BitBlock.BITS g.met.T.BitBlock.wide_law g.T.BitBlock.number
     s.len s.blocks c.self.invariant c.if-self.false hand.items hand.reads
     c.next_in_hand-start.ensures c.if-start-self.false c.next_in_hand-stop.ensures)
 
 pub returns-clause-goes : goal.returns-clause-goes
-returns-clause-goes g c =
-    let s = c.self.inside in
-    let hand = c.block_in_hand-hand.ensures in
-    let fewer = fewer_left g.T.Block.BITS g.met.T.Block.wide_law g.T.Block.number s.len s.blocks
-    c.self.invariant c.if-self.false hand.items hand.reads c.next_in_hand-start.ensures
-    c.if-start-self.false c.next_in_hand-stop.ensures in
-    rw (← c.self.view_is) record { on = λ finite. (tt, tt, fewer); keeps = tt; rests = λ _. tt }
+returns-clause-goes g c = record {
+  on = λ finite. (tt, tt, fewer_left _ _ _ (returns-clause-steps g c));
+  keeps = tt;
+  rests = λ _. tt;
+}

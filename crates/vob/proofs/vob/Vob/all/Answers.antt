@@ -1,9 +1,12 @@
 -- Every bit has the other value where none with this one was found.
-use Rattle.vob.proofs.SetsLemmas.{HasOnly-none, replicate-none}
+use Rattle.vob.proofs.SetsLemmas.{HasBit-missed, HasOnly-none, replicate-none}
 use Rattle.vob.proofs.vob.Vob.all.Goals as goal
 
 pub returns-clause-answer : goal.returns-clause-answer
-returns-clause-answer g c = HasOnly-none _ _ _ c.first_unset.ensures _ c.is_none.ensures
+returns-clause-answer g c = HasOnly-none _ _ _ c.first_unset.ensures.next _ c.is_none.ensures
 
 pub returns-clause-list : goal.returns-clause-list
-returns-clause-list g c = replicate-none _ _ _ c.first_unset.ensures _ c.is_none.ensures
+returns-clause-list g c = replicate-none _ _ _ c.first_unset.ensures.next _ c.is_none.ensures
+
+pub returns-clause-unset : goal.returns-clause-unset
+returns-clause-unset g c = HasBit-missed _ _ _ c.first_unset.ensures.next _ c.is_none.ensures

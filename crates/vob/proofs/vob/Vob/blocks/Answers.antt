@@ -6,9 +6,9 @@ use Rattle.vob.proofs.vob.Vob.blocks.Goals as goal
 
 pub returns-clause-blocks : goal.returns-clause-blocks
 returns-clause-blocks g c =
-    let w = g.T.Block.BITS in
-    ap (map g.T.Block.number) (c.new.ensures.items ∙ c.as_slice.ensures.value)
-    ∙ sym (packing-unpacking w g.met.T.Block.wide_law c.self.inside.len _ c.self.invariant)
+    let w = g.T.BitBlock.BITS in
+    ap (map g.T.BitBlock.number) (c.new.ensures.items ∙ c.as_slice.ensures.value)
+    ∙ sym (packing-unpacking w g.met.T.BitBlock.wide_law c.self.inside.len _ c.self.invariant)
     ∙ ap (λ v. packing v.bits w) c.self.view_is
 
 pub returns-clause-canonical : goal.returns-clause-canonical

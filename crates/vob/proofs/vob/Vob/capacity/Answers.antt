@@ -8,7 +8,7 @@ use Rattle.vob.proofs.vob.Vob.capacity.Goals as goal
 pub returns-clause-within : goal.returns-clause-within
 returns-clause-within g c =
     let vec = c.self.inside.vec in
-    let count = sym (length-map vec.items g.T.Block.number) ∙ c.self.invariant.count in
+    let count = sym (length-map vec.items g.T.BitBlock.number) ∙ c.self.invariant.count in
     rw (
       c.saturating_mul.ensures,
       c.capacity.ensures,
@@ -16,5 +16,5 @@ returns-clause-within g c =
       ← c.self.view_is,
       length-unpacking,
     )
-    (length-le-room g.T.Block.BITS g.met.T.Block.wide_law c.self.inside.len (length vec.items)
+    (length-le-room g.T.BitBlock.BITS g.met.T.BitBlock.wide_law c.self.inside.len (length vec.items)
     vec.cap count (omega (arith, vec.ok)) (omega arith))

@@ -9,12 +9,12 @@ use Rattle.vob.proofs.vob.Vob.clone.Goals as goal
 
 pub returns-in_err-vec-clause-nothing : goal.returns-in_err-vec-clause-nothing
 returns-in_err-vec-clause-nothing g c =
-    let w = g.T.Block.BITS in
+    let w = g.T.BitBlock.BITS in
     let vec = c.self.inside.vec in
     rw (← c.self.view_is) (λ none.
     let zero_len = sym (length-unpacking _ _ _) ∙ ap length none in
-    let blocks = sym (length-map vec.items g.T.Block.number) ∙ c.self.invariant.count
-    ∙ ap (λ n. need n w) zero_len ∙ need-zero w g.met.T.Block.wide_law in
+    let blocks = sym (length-map vec.items g.T.BitBlock.number) ∙ c.self.invariant.count
+    ∙ ap (λ n. need n w) zero_len ∙ need-zero w g.met.T.BitBlock.wide_law in
     absurd (false≢true (c.in_err-vec.ensures.succeeds
     (omega (arith, blocks, vec.ok, c.len.ensures)))))
 

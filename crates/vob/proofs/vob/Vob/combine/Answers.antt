@@ -6,8 +6,8 @@ use Rattle.vob.proofs.vob.Vob.combine.Goals as goal
 
 pub combine_into-requires : goal.combine_into-requires
 combine_into-requires g c =
-    ap length c.as_mut_slice.ensures.value ∙ as_many g.T.Block.number g.T.Block.BITS
-    g.met.T.Block.wide_law c.self.inside.len c.self.inside.vec.items c.blocks-2.result.items
+    ap length c.as_mut_slice.ensures.value ∙ as_many g.T.BitBlock.number g.T.BitBlock.BITS
+    g.met.T.BitBlock.wide_law c.self.inside.len c.self.inside.vec.items c.blocks-2.result.items
     c.args.self.now.bits c.args.other.now.bits c.self.invariant (ap (λ v. v.bits) c.self.view_is)
     c.requires.same c.blocks-2.ensures.blocks
 
@@ -16,7 +16,7 @@ invariant_of-self g c =
     let left = take_at c.combine_into.new.own
     (drop (length c.combine_into.new.own) c.self.inside.vec.items) c.self.inside.vec.len
     (c.combine_into.auto.own ∙ c.as_mut_slice.ensures.len) in
-    (combined_here g.T.Block.number g.T.Block.BITS g.met.T.Block.wide_law c.self.inside.len
+    (combined_here g.T.BitBlock.number g.T.BitBlock.BITS g.met.T.BitBlock.wide_law c.self.inside.len
     c.self.inside.vec.items c.blocks-2.result.items c.args.self.now.bits c.args.other.now.bits
     c.self.invariant (ap (λ v. v.bits) c.self.view_is) c.requires.same c.blocks-2.ensures.blocks
     g.C.Combine.of_bits c.requires.none c.combine_into.result c.as_mut_slice.ensures.value left
@@ -27,7 +27,7 @@ returns g c =
     let left = take_at c.combine_into.new.own
     (drop (length c.combine_into.new.own) c.self.inside.vec.items) c.self.inside.vec.len
     (c.combine_into.auto.own ∙ c.as_mut_slice.ensures.len) in
-    let after = combined_here g.T.Block.number g.T.Block.BITS g.met.T.Block.wide_law
+    let after = combined_here g.T.BitBlock.number g.T.BitBlock.BITS g.met.T.BitBlock.wide_law
     c.self.inside.len c.self.inside.vec.items c.blocks-2.result.items c.args.self.now.bits
     c.args.other.now.bits c.self.invariant (ap (λ v. v.bits) c.self.view_is) c.requires.same
     c.blocks-2.ensures.blocks g.C.Combine.of_bits c.requires.none c.combine_into.result

@@ -5,7 +5,7 @@ use Rattle.vob.proofs.vob.Vob.combined_count.Goals as goal
 
 pub count_combined-requires-clause-count : goal.count_combined-requires-clause-count
 count_combined-requires-clause-count g c =
-    lent_as_many g.T.Block.number g.T.Block.BITS g.met.T.Block.wide_law c.self.inside.len
+    lent_as_many g.T.BitBlock.number g.T.BitBlock.BITS g.met.T.BitBlock.wide_law c.self.inside.len
     c.self.inside.vec.items c.blocks-2.result.items c.args.self.now.bits c.args.other.now.bits
     c.self.invariant (ap (λ v. v.bits) c.self.view_is) c.requires.same c.blocks-2.ensures.blocks
     g.C.Combine.of_bits c.requires.none c.as_slice.ensures.value
@@ -13,7 +13,7 @@ count_combined-requires-clause-count g c =
 pub count_combined-requires-clause-fits : goal.count_combined-requires-clause-fits
 count_combined-requires-clause-fits g c = omega (
   arith,
-  lent_ones-le g.T.Block.number g.T.Block.BITS g.met.T.Block.wide_law c.self.inside.len
+  lent_ones-le g.T.BitBlock.number g.T.BitBlock.BITS g.met.T.BitBlock.wide_law c.self.inside.len
       c.self.inside.vec.items c.blocks-2.result.items c.args.self.now.bits c.args.other.now.bits
       c.self.invariant (ap (λ v. v.bits) c.self.view_is) c.requires.same c.blocks-2.ensures.blocks
       g.C.Combine.of_bits c.requires.none c.as_slice.ensures.value,
@@ -22,7 +22,7 @@ count_combined-requires-clause-fits g c = omega (
 pub returns : goal.returns
 returns g c =
     c.count_combined.ensures.ones
-    ∙ lent_ones g.T.Block.number g.T.Block.BITS g.met.T.Block.wide_law c.self.inside.len
+    ∙ lent_ones g.T.BitBlock.number g.T.BitBlock.BITS g.met.T.BitBlock.wide_law c.self.inside.len
     c.self.inside.vec.items c.blocks-2.result.items c.args.self.now.bits c.args.other.now.bits
     c.self.invariant (ap (λ v. v.bits) c.self.view_is) c.requires.same c.blocks-2.ensures.blocks
     g.C.Combine.of_bits c.requires.none c.as_slice.ensures.value

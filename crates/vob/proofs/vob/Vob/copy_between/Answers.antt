@@ -6,8 +6,8 @@ use Rattle.vob.proofs.vob.Vob.copy_between.Goals as goal
 
 pub copy_bits-requires-clause-inside : goal.copy_bits-requires-clause-inside
 copy_bits-requires-clause-inside g c =
-    let w = g.T.Block.BITS in
-    let inside = copied_inside g.T.Block.number w g.met.T.Block.wide_law c.self.inside.len
+    let w = g.T.BitBlock.BITS in
+    let inside = copied_inside g.T.BitBlock.number w g.met.T.BitBlock.wide_law c.self.inside.len
     c.args.at c.args.start (c.args.end - c.args.start) c.self.inside.vec.items
     c.blocks-2.result.items c.args.self.now.bits c.args.other.now.bits c.self.invariant
     (ap (λ v. v.bits) c.self.view_is) c.blocks-2.ensures.blocks c.requires.fits in
@@ -15,7 +15,7 @@ copy_bits-requires-clause-inside g c =
 
 pub copy_bits-requires-clause-own : goal.copy_bits-requires-clause-own
 copy_bits-requires-clause-own g c =
-    let inside = copied_fits g.T.Block.number g.T.Block.BITS g.met.T.Block.wide_law
+    let inside = copied_fits g.T.BitBlock.number g.T.BitBlock.BITS g.met.T.BitBlock.wide_law
     c.self.inside.len c.args.at c.args.start (c.args.end - c.args.start) c.self.inside.vec.items
     c.blocks-2.result.items c.args.self.now.bits c.args.other.now.bits c.self.invariant
     (ap (λ v. v.bits) c.self.view_is) c.blocks-2.ensures.blocks c.requires.fits in
@@ -26,7 +26,7 @@ invariant_of-self g c =
     let own = c.copy_bits.new.own in
     let left = take_at own (drop (length own) c.self.inside.vec.items) c.self.inside.vec.len
     (c.copy_bits.auto.own ∙ c.as_mut_slice.ensures.len) in
-    (copied_here g.T.Block.number g.T.Block.BITS g.met.T.Block.wide_law c.self.inside.len
+    (copied_here g.T.BitBlock.number g.T.BitBlock.BITS g.met.T.BitBlock.wide_law c.self.inside.len
     c.args.at c.args.start (c.args.end - c.args.start) c.self.inside.vec.items
     c.blocks-2.result.items c.args.self.now.bits c.args.other.now.bits c.self.invariant
     (ap (λ v. v.bits) c.self.view_is) c.blocks-2.ensures.blocks c.requires.fits
@@ -38,7 +38,7 @@ returns-clause-each g c =
     let own = c.copy_bits.new.own in
     let left = take_at own (drop (length own) c.self.inside.vec.items) c.self.inside.vec.len
     (c.copy_bits.auto.own ∙ c.as_mut_slice.ensures.len) in
-    (copied_here g.T.Block.number g.T.Block.BITS g.met.T.Block.wide_law c.self.inside.len
+    (copied_here g.T.BitBlock.number g.T.BitBlock.BITS g.met.T.BitBlock.wide_law c.self.inside.len
     c.args.at c.args.start (c.args.end - c.args.start) c.self.inside.vec.items
     c.blocks-2.result.items c.args.self.now.bits c.args.other.now.bits c.self.invariant
     (ap (λ v. v.bits) c.self.view_is) c.blocks-2.ensures.blocks c.requires.fits

@@ -11,7 +11,7 @@ returns-in_err-reserve-clause-extended g c =
     let p = err_from_is_err_and c.from_residual.result c.from_residual.ensures.1 in
     let e = c.in_err-reserve.ensures in
     let refused = hint_refused c.args.self.now c.size_hint-hint.result.0
-    (Err c.in_err-reserve.field-0.0) g.T.Block.BITS c.in_err-reserve.field-0.0 refl e.nothing
+    (Err c.in_err-reserve.field-0.0) g.T.BitBlock.BITS c.in_err-reserve.field-0.0 refl e.nothing
     e.refused in (
       c.into_iter-items.result,
       c.size_hint-hint.result.0,

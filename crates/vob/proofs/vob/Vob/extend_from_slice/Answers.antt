@@ -17,8 +17,8 @@ returns-in_err-reserve_bits-clause-refused g c =
     let p = err_from_is_err_and c.from_residual.result c.from_residual.ensures.1 in
     let full = c.in_err-reserve_bits.ensures.full in
     let vec = c.self.inside.vec in
-    let count = sym (length-map vec.items g.T.Block.number) ∙ c.self.invariant.count in
-    let short = no_room g.T.Block.BITS g.met.T.Block.wide_law
+    let count = sym (length-map vec.items g.T.BitBlock.number) ∙ c.self.invariant.count in
+    let short = no_room g.T.BitBlock.BITS g.met.T.BitBlock.wide_law
     (c.self.inside.len + length c.args.other.now) vec.cap full in
     rw (p.1, p.2) (RefusesMore-memory _ _ _
     (rw (← c.self.view_is, length-unpacking) (λ far.

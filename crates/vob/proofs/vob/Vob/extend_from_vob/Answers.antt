@@ -18,8 +18,8 @@ returns-in_err-reserve_bits-clause-refused g c =
     let p = err_from_is_err_and c.from_residual.result c.from_residual.ensures.1 in
     let full = c.in_err-reserve_bits.ensures.full in
     let vec = c.self.inside.vec in
-    let count = sym (length-map vec.items g.T.Block.number) ∙ c.self.invariant.count in
-    let short = no_room g.T.Block.BITS g.met.T.Block.wide_law
+    let count = sym (length-map vec.items g.T.BitBlock.number) ∙ c.self.invariant.count in
+    let short = no_room g.T.BitBlock.BITS g.met.T.BitBlock.wide_law
     (c.self.inside.len + c.other.inside.len) vec.cap full in
     rw (p.1, p.2) (RefusesMore-memory _ _ _
     (rw (← c.self.view_is, ← c.other.view_is, length-unpacking, length-unpacking) (λ far.
@@ -29,7 +29,7 @@ returns-in_err-reserve_bits-clause-refused g c =
 pub join_slice-requires-clause-room : goal.join_slice-requires-clause-room
 join_slice-requires-clause-room g c = omega (
   arith,
-  room_from_need g.T.Block.BITS g.met.T.Block.wide_law (c.self.inside.len + c.other.inside.len) _
+  room_from_need g.T.BitBlock.BITS g.met.T.BitBlock.wide_law (c.self.inside.len + c.other.inside.len) _
       c.in_ok-reserve_bits.ensures.ok (omega (arith, c.if-self-other.false, c.self.ranges)),
 )
 
@@ -39,7 +39,7 @@ returns-clause-refused g c =
     absurd (omega (arith, far, c.if-self-other.false))))
 
 pub returns-in_err-reserve_bits-clause-capacity : goal.returns-in_err-reserve_bits-clause-capacity
-returns-in_err-reserve_bits-clause-capacity g c = capacity-grows g.T.Block.BITS
+returns-in_err-reserve_bits-clause-capacity g c = capacity-grows g.T.BitBlock.BITS
     c.self.inside.vec.cap _ _ _ (ap (λ v. v.capacity) c.self.view_is) c.reserve_bits.ensures.capacity
 
 pub returns-clause-ok : goal.returns-clause-ok
@@ -50,6 +50,6 @@ pub returns-clause-err : goal.returns-clause-err
 returns-clause-err g c = tt
 
 pub returns-clause-capacity : goal.returns-clause-capacity
-returns-clause-capacity g c = capacity-grows g.T.Block.BITS c.self.inside.vec.cap
+returns-clause-capacity g c = capacity-grows g.T.BitBlock.BITS c.self.inside.vec.cap
     c.join_slice.new.blocks.cap _ _ (ap (λ v. v.capacity) c.self.view_is)
     (omega (arith, c.reserve_bits.ensures.capacity, c.join_slice.ensures.capacity))

@@ -1,7 +1,7 @@
 -- The first byte that isn't a digit is named, and none where all are.
 use Rattle.std.proofs.Common.{◌≡◌, All, Err, refl, subst, ap}
 use Rattle.std.proofs.lemmas.Result.{err_from_is_err_and}
-use Rattle.vob.specs.Text.{IsDigit, IsFirstBad}
+use Rattle.vob_block.specs.Digits.{IsDigit, IsFirstBad}
 use Rattle.vob.specs.declared.text.DigitsError.TheVariants.{BadDigit}
 use Rattle.vob.proofs.TextLemmas.{no-bad, no-bad-of-none, one-first-bad}
 use Rattle.vob.proofs.vob.Vob.from_digits.Goals as goal

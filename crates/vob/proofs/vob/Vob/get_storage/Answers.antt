@@ -6,7 +6,7 @@ use Rattle.vob.proofs.vob.Vob.get_storage.Goals as goal
 
 pub returns : goal.returns
 returns g c =
-    let w = g.T.Block.BITS in
-    ap (map g.T.Block.number) c.as_slice.ensures.value
-    ∙ sym (packing-unpacking w g.met.T.Block.wide_law c.self.inside.len _ c.self.invariant)
+    let w = g.T.BitBlock.BITS in
+    ap (map g.T.BitBlock.number) c.as_slice.ensures.value
+    ∙ sym (packing-unpacking w g.met.T.BitBlock.wide_law c.self.inside.len _ c.self.invariant)
     ∙ ap (λ v. packing v.bits w) c.self.view_is

@@ -9,6 +9,6 @@ returns-clause-len g c = sym (length-unpacking _ _ _) ∙ ap (λ v. length v.bit
 
 pub returns-clause-blocks : goal.returns-clause-blocks
 returns-clause-blocks g c =
-    let w = g.T.Block.BITS in
-    sym (packing-unpacking w g.met.T.Block.wide_law c.self.inside.len _ c.self.invariant)
+    let w = g.T.BitBlock.BITS in
+    sym (packing-unpacking w g.met.T.BitBlock.wide_law c.self.inside.len _ c.self.invariant)
     ∙ ap (λ v. packing v.bits w) c.self.view_is

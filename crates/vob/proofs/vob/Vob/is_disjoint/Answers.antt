@@ -1,18 +1,18 @@
 -- By the lemmas on the blocks of two Vobs of one length.
 use Rattle.std.proofs.Common.{◌&&◌, ap, refl}
-use Rattle.vob.proofs.PairLemmas.{lent_as_many, flag_of, flag_of_list, disjoint_is}
+use Rattle.vob.proofs.PairLemmas.{lent_as_many, flag_of, flag_of_list, disjoint_is, HasShared-missed}
 use Rattle.vob.proofs.vob.Vob.is_disjoint.Goals as goal
 
 pub has_none-requires : goal.has_none-requires
 has_none-requires g c =
-    lent_as_many g.T.Block.number g.T.Block.BITS g.met.T.Block.wide_law c.self.inside.len
+    lent_as_many g.T.BitBlock.number g.T.BitBlock.BITS g.met.T.BitBlock.wide_law c.self.inside.len
     c.self.inside.vec.items c.blocks-2.result.items c.args.self.now.bits c.args.other.now.bits
     c.self.invariant (ap (λ v. v.bits) c.self.view_is) c.requires c.blocks-2.ensures.blocks
     ◌&&◌ refl c.as_slice.ensures.value
 
 pub returns-clause-answer : goal.returns-clause-answer
 returns-clause-answer g c =
-    flag_of g.T.Block.number g.T.Block.BITS g.met.T.Block.wide_law c.self.inside.len
+    flag_of g.T.BitBlock.number g.T.BitBlock.BITS g.met.T.BitBlock.wide_law c.self.inside.len
     c.self.inside.vec.items c.blocks-2.result.items c.args.self.now.bits c.args.other.now.bits
     c.self.invariant (ap (λ v. v.bits) c.self.view_is) c.requires c.blocks-2.ensures.blocks
     ◌&&◌ refl c.as_slice.ensures.value c.has_none.result c.has_none.ensures.none _
@@ -20,7 +20,10 @@ returns-clause-answer g c =
 
 pub returns-clause-list : goal.returns-clause-list
 returns-clause-list g c =
-    flag_of_list g.T.Block.number g.T.Block.BITS g.met.T.Block.wide_law c.self.inside.len
+    flag_of_list g.T.BitBlock.number g.T.BitBlock.BITS g.met.T.BitBlock.wide_law c.self.inside.len
     c.self.inside.vec.items c.blocks-2.result.items c.args.self.now.bits c.args.other.now.bits
     c.self.invariant (ap (λ v. v.bits) c.self.view_is) c.requires c.blocks-2.ensures.blocks
     ◌&&◌ refl c.as_slice.ensures.value c.has_none.result c.has_none.ensures.none
+
+pub returns-clause-shared : goal.returns-clause-shared
+returns-clause-shared g c = HasShared-missed _ _ _ (returns-clause-answer g c)

@@ -8,15 +8,15 @@ use Rattle.vob.proofs.vob.Vob.iter.Goals as goal
 
 pub invariant_of-result : goal.invariant_of-result
 invariant_of-result g c =
-    let w = g.T.Block.BITS in
+    let w = g.T.BitBlock.BITS in
     let items = c.self.inside.vec.items in
     let end : c.len.result ≡ c.self.inside.len =
     c.len.ensures.len ∙ ap (λ v. length v.bits) (sym c.self.view_is) ∙ length-unpacking _ _ _ in
-    let count = ap (λ k. k * w) (sym (length-map items g.T.Block.number)
+    let count = ap (λ k. k * w) (sym (length-map items g.T.BitBlock.number)
     ∙ c.self.invariant.count) in (
       omega arith,
       rw c.as_slice.ensures.value
-          (omega (arith, need_enough w g.met.T.Block.wide_law c.self.inside.len, count, end)),
+          (omega (arith, need_enough w g.met.T.BitBlock.wide_law c.self.inside.len, count, end)),
     )
 
 pub returns-clause-bits : goal.returns-clause-bits
@@ -27,8 +27,8 @@ returns-clause-bits g c =
 
 pub returns-clause-longest : goal.returns-clause-longest
 returns-clause-longest g c =
-    let whole = length-bits_between 0 c.len.result (map g.T.Block.number c.as_slice.result.now)
-    g.T.Block.BITS in
+    let whole = length-bits_between 0 c.len.result (map g.T.BitBlock.number c.as_slice.result.now)
+    g.T.BitBlock.BITS in
     omega (arith, whole)
 
 pub returns-clause-runs : goal.returns-clause-runs

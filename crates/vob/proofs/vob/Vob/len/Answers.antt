@@ -11,6 +11,6 @@ returns-clause-len g c = sym (length-unpacking _ _ _) ∙ ap (λ v. length v.bit
 pub returns-clause-within : goal.returns-clause-within
 returns-clause-within g c =
     let vec = c.self.inside.vec in
-    let count = sym (length-map vec.items g.T.Block.number) ∙ c.self.invariant.count in
-    rw (← c.self.view_is) (length-le-room g.T.Block.BITS g.met.T.Block.wide_law c.self.inside.len
+    let count = sym (length-map vec.items g.T.BitBlock.number) ∙ c.self.invariant.count in
+    rw (← c.self.view_is) (length-le-room g.T.BitBlock.BITS g.met.T.BitBlock.wide_law c.self.inside.len
     (length vec.items) vec.cap count (omega (arith, vec.ok)) (omega arith))

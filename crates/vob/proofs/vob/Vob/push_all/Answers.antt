@@ -1,45 +1,59 @@
--- The items so far are added; what is refused is one item more.
-use Rattle.std.proofs.Common.{◌++◌, ◌∷◌, [], ◌∙◌, length, refl, sym, ap, arith, append-nil, append_assoc, length-append}
-use Rattle.std.proofs.lemmas.Result.{err_from_is_err_and}
-use Rattle.vob.proofs.ExtendingLemmas.{push_refused}
-use Rattle.vob.proofs.ItemLemmas.{yields_from}
+-- A turn adds the item that is pushed and those that are gathered behind it.
+use Rattle.std.proofs.Common.{◌++◌, ◌∷◌, [], ◌∙◌, ap, arith}
+use Rattle.vob_store.proofs.GatherLemmas.{goes_further}
+use Rattle.vob.proofs.ExtendingLemmas.{Yields-append, pushed_and_filled}
 use Rattle.vob.proofs.vob.Vob.push_all.Goals as goal
 
-pub loop-bit-init : goal.loop-bit-init
-loop-bit-init g c = record {
-  bits = sym (append-nil c.args.self.now.bits);
-  capacity = omega arith;
-}
-
-pub loop-bit-preserved : goal.loop-bit-preserved
-loop-bit-preserved g c =
-    let h = c.loop-bit.invariant in
-    record {
-      bits = c.in_ok-push.ensures.ok ∙ ap (λ bs. bs ++ c.in-Some.bit ∷ []) h.bits
-          ∙ append_assoc c.args.self.now.bits c.loop-bit.yielded (c.in-Some.bit ∷ []);
-      capacity = omega (arith, h.capacity, c.in_ok-push.ensures.capacity);
-    }
-
-pub returns-in_err-push-clause-err : goal.returns-in_err-push-clause-err
-returns-in_err-push-clause-err g c =
-    let p = err_from_is_err_and c.from_residual.result c.from_residual.ensures.1 in
-    let loop = c.loop-bit in
-    let now = loop.invariant in
-    let e = c.in_err-push.ensures in
-    rw (p.1, p.2) (
-      loop.yielded,
-      c.in-Some.bit,
-      c.next.new.self,
+pub returns-then-fill_last-clause-ok : goal.returns-then-fill_last-clause-ok
+returns-then-fill_last-clause-ok g c =
+    let steps = g.I.Iterator.next_gives in
+    let h = c.turns.invariant.added in
+    let bit = c.in-Some.bit in
+    let more = c.if-fill_last.ensures.added in
+    let gave = more.1 in (
+      h.0 ++ bit ∷ more.0,
       (
-        loop.bit-iterator,
-        yields_from g.I.Iterator.next_gives c.into_iter-bit-iterator.result c.args.items
-            loop.yielded loop.bit-iterator c.into_iter-bit-iterator.ensures.into_iter_gives
-            loop.yielded_by,
-        c.in-Some.ensures.steps,
+        c.fill_last.new.items,
+        (
+          gave.0,
+          Yields-append steps c.args.items h.0 c.turns.items (bit ∷ more.0) gave.0 h.1
+              (c.next.new.self, c.in-Some.ensures.steps, gave.1),
+          gave.2,
+        ),
       ),
-      omega arith,
-      push_refused g.T.Block.BITS _ _ (length loop.yielded) _ _ refl
-          (ap length now.bits ∙ length-append c.args.self.now.bits loop.yielded) now.capacity
-          e.refused,
-      e.err ∙ now.bits,
+      more.2
+          ∙ ap (λ bs. bs ++ more.0) (c.in_ok-push.ensures.ok ∙ ap (λ bs. bs ++ bit ∷ []) h.2)
+          ∙ pushed_and_filled c.args.self.now.bits h.0 more.0 bit,
     )
+
+pub turns-preserved : goal.turns-preserved
+turns-preserved g c =
+    let steps = g.I.Iterator.next_gives in
+    let now = c.turns.invariant in
+    let h = now.added in
+    let bit = c.in-Some.bit in
+    let more = c.if-fill_last.ensures.added in
+    let next = goes_further g.I.Iterator.can_next g.I.Iterator.remaining c.args.items
+    c.turns.items c.next.new.self bit now.goes_on c.in-Some.ensures.goes in
+    let after = c.if-fill_last.ensures.goes_on in
+    record {
+      added = (
+        h.0 ++ bit ∷ more.0,
+        Yields-append steps c.args.items h.0 c.turns.items (bit ∷ more.0)
+            c.fill_last.new.items h.1 (c.next.new.self, c.in-Some.ensures.steps, more.1),
+        more.2
+            ∙ ap (λ bs. bs ++ more.0) (c.in_ok-push.ensures.ok ∙ ap (λ bs. bs ++ bit ∷ []) h.2)
+            ∙ pushed_and_filled c.args.self.now.bits h.0 more.0 bit,
+      );
+      goes_on = record {
+        can_next = after.can_next;
+        finite = after.finite;
+        fewer = omega (arith, after.fewer, next.fewer);
+      };
+      capacity = omega (
+        arith,
+        now.capacity,
+        c.in_ok-push.ensures.capacity,
+        c.if-fill_last.ensures.capacity,
+      );
+    }

@@ -8,14 +8,14 @@ use Rattle.vob.proofs.vob.Vob.rank.Goals as goal
 
 pub count_ones_in-requires-clause-enough : goal.count_ones_in-requires-clause-enough
 count_ones_in-requires-clause-enough g c =
-    let w = g.T.Block.BITS in
-    let wide = g.met.T.Block.wide_law in
+    let w = g.T.BitBlock.BITS in
+    let wide = g.met.T.BitBlock.wide_law in
     let bits = c.args.self.now.bits in
     omega (
       arith,
       need-le-need w wide c.min.result (length bits)
           (omega (arith, c.min.ensures, c.len.ensures.len)),
-      length-map c.blocks-2.result.items g.T.Block.number,
+      length-map c.blocks-2.result.items g.T.BitBlock.number,
       ap length c.blocks-2.ensures.blocks,
       length-packing w wide bits,
     )
@@ -23,6 +23,6 @@ count_ones_in-requires-clause-enough g c =
 pub returns : goal.returns
 returns g c =
     let bits = c.args.self.now.bits in
-    rank_is g.T.Block.BITS g.met.T.Block.wide_law bits c.args.index c.min.result _ _
+    rank_is g.T.BitBlock.BITS g.met.T.BitBlock.wide_law bits c.args.index c.min.result _ _
     (omega (arith, c.min.ensures, c.len.ensures.len)) c.blocks-2.ensures.blocks
     c.count_ones_in.ensures.ones

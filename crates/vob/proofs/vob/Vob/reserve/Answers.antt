@@ -22,8 +22,8 @@ returns-in_err-reserve_bits-clause-refused g c =
     let p = err_from_is_err_and c.from_residual.result c.from_residual.ensures.1 in
     let full = c.in_err-reserve_bits.ensures.full in
     let vec = c.self.inside.vec in
-    let count = sym (length-map vec.items g.T.Block.number) ∙ c.self.invariant.count in
-    let short = no_room g.T.Block.BITS g.met.T.Block.wide_law _ vec.cap full in
+    let count = sym (length-map vec.items g.T.BitBlock.number) ∙ c.self.invariant.count in
+    let short = no_room g.T.BitBlock.BITS g.met.T.BitBlock.wide_law _ vec.cap full in
     rw (p.1, p.2) (rw (← c.self.view_is) (RefusesMore-memory _ _ _
     (rw length-unpacking (λ far.
     absurd (omega (arith, far, c.if-additional-self.false, c.self.ranges))))
@@ -43,15 +43,15 @@ returns-in_err-reserve_bits-clause-nothing g c =
 
 pub returns-clause-ok : goal.returns-clause-ok
 returns-clause-ok g c = rw (← c.self.view_is, length-unpacking) (room_from_need
-    g.T.Block.BITS g.met.T.Block.wide_law _ _ c.in_ok-reserve_bits.ensures.ok
+    g.T.BitBlock.BITS g.met.T.BitBlock.wide_law _ _ c.in_ok-reserve_bits.ensures.ok
     (omega (arith, c.if-additional-self.false, c.self.ranges)))
 
 pub returns-clause-room : goal.returns-clause-room
 returns-clause-room g c =
     rw (← c.self.view_is, length-unpacking) (λ h. (
       refl,
-      ap (λ k. min (k * g.T.Block.BITS) (2 ^ 64 - 1)) (c.in_ok-reserve_bits.ensures.stays
-          (need_from_room g.T.Block.BITS g.met.T.Block.wide_law _ c.self.inside.vec.cap h)),
+      ap (λ k. min (k * g.T.BitBlock.BITS) (2 ^ 64 - 1)) (c.in_ok-reserve_bits.ensures.stays
+          (need_from_room g.T.BitBlock.BITS g.met.T.BitBlock.wide_law _ c.self.inside.vec.cap h)),
     ))
 
 pub returns-clause-refused : goal.returns-clause-refused

@@ -20,8 +20,8 @@ returns-in_err-reserve_bits-clause-memory g c =
     let p = err_from_is_err_and c.from_residual.result c.from_residual.ensures.1 in
     let full = c.in_err-reserve_bits.ensures.full in
     let vec = c.self.inside.vec in
-    let count = sym (length-map vec.items g.T.Block.number) ∙ c.self.invariant.count in
-    let short = no_room g.T.Block.BITS g.met.T.Block.wide_law c.args.new_len vec.cap full in
+    let count = sym (length-map vec.items g.T.BitBlock.number) ∙ c.self.invariant.count in
+    let short = no_room g.T.BitBlock.BITS g.met.T.BitBlock.wide_law c.args.new_len vec.cap full in
     rw (p.1, p.2, ← c.self.view_is, length-unpacking)
     (refl, short, omega (arith, full, count, vec.ok))
 
@@ -29,9 +29,9 @@ pub returns-clause-ok : goal.returns-clause-ok
 returns-clause-ok g c =
     let long : length c.args.self.now.bits ≡ c.self.inside.len =
     ap (λ v. length v.bits) (sym c.self.view_is) ∙ length-unpacking _ _ _ in
-    let own : unpacking c.self.inside.len (map g.T.Block.number c.reserve_bits.new.blocks.items)
-    g.T.Block.BITS ≡ c.args.self.now.bits =
-    ap (λ xs. unpacking c.self.inside.len (map g.T.Block.number xs) g.T.Block.BITS)
+    let own : unpacking c.self.inside.len (map g.T.BitBlock.number c.reserve_bits.new.blocks.items)
+    g.T.BitBlock.BITS ≡ c.args.self.now.bits =
+    ap (λ xs. unpacking c.self.inside.len (map g.T.BitBlock.number xs) g.T.BitBlock.BITS)
     c.in_ok-reserve_bits.ensures.items ∙ ap (λ v. v.bits) c.self.view_is in
     let all = take_all c.args.new_len c.args.self.now.bits
     (omega (arith, long, c.if-new_len-self.false)) in

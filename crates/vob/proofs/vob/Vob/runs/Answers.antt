@@ -1,8 +1,11 @@
 -- No block is in hand, and none is passed.
-use Rattle.std.proofs.Common.{ap, arith}
+use Rattle.std.proofs.Common.{ap, arith, length}
 use Rattle.std.proofs.lemmas.List.{length-map}
 use Rattle.vob_block.specs.Packing.{need}
 use Rattle.vob_block.proofs.PackingLemmas.{unpacking-packing}
+use Rattle.vob.specs.Runs.{runs_from}
+use Rattle.vob.proofs.RunListLemmas.{length-runs_from-le}
+use Rattle.vob.proofs.RunsLemmas.{runs_in_order}
 use Rattle.vob.proofs.SetsLemmas.{enough_blocks}
 use Rattle.vob.proofs.vob.Vob.runs.Goals as goal
 
@@ -12,9 +15,9 @@ invariant_of-result g c =
     record {
       count = omega (
         arith,
-        enough_blocks g.T.Block.BITS g.met.T.Block.wide_law g.T.Block.number items
+        enough_blocks g.T.BitBlock.BITS g.met.T.BitBlock.wide_law g.T.BitBlock.number items
             c.args.self.now.bits c.len.result c.blocks-2.ensures.blocks c.len.ensures.len,
-        length-map items g.T.Block.number,
+        length-map items g.T.BitBlock.number,
       );
       within = omega arith;
       order = omega arith;
@@ -25,7 +28,22 @@ invariant_of-result g c =
 
 pub returns-clause-bits : goal.returns-clause-bits
 returns-clause-bits g c = rw (c.blocks-2.ensures.blocks, c.len.ensures.len)
-    (unpacking-packing g.T.Block.BITS g.met.T.Block.wide_law c.args.self.now.bits)
+    (unpacking-packing g.T.BitBlock.BITS g.met.T.BitBlock.wide_law c.args.self.now.bits)
+
+pub returns-clause-rest : goal.returns-clause-rest
+returns-clause-rest g c = ap (λ bits. runs_from bits 0) (returns-clause-bits g c)
+
+pub returns-clause-longest : goal.returns-clause-longest
+returns-clause-longest g c = omega (
+  arith,
+  ap length (returns-clause-rest g c),
+  length-runs_from-le c.args.self.now.bits 0,
+  c.len.ensures.len,
+  c.len.ensures.greatest,
+)
+
+pub returns-clause-runs : goal.returns-clause-runs
+returns-clause-runs g c = runs_in_order
 
 pub returns-clause-left : goal.returns-clause-left
-returns-clause-left g c = omega (arith, ap (λ n. need n g.T.Block.BITS) c.len.ensures.len)
+returns-clause-left g c = omega (arith, ap (λ n. need n g.T.BitBlock.BITS) c.len.ensures.len)

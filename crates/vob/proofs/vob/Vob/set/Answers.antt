@@ -1,9 +1,10 @@
 -- The index is below the length of the list, which is the length that the fields have.
 use Rattle.std.proofs.Common.{◌∙◌, drop, length, sym, subst}
 use Rattle.std.proofs.lemmas.List.{take_at}
+use Rattle.vob_block.proofs.BoolLemmas.{same_from_differ}
 use Rattle.vob_block.proofs.PackingLemmas.{length-unpacking}
 use Rattle.vob.specs.Bits.{IsWritten}
-use Rattle.vob.proofs.BitsLemmas.{IsWritten-set, differ-at}
+use Rattle.vob.proofs.BitsLemmas.{IsWritten-set, differ-at, set-same}
 use Rattle.vob.proofs.vob.Vob.set.Goals as goal
 
 pub write_bit-requires-clause-in_range : goal.write_bit-requires-clause-in_range
@@ -35,3 +36,9 @@ pub returns-clause-differs : goal.returns-clause-differs
 returns-clause-differs g c =
     differ-at c.args.self.now.bits c.args.index c.args.value _ c.requires.in_range
     (returns-clause-changed g c)
+
+pub returns-clause-same : goal.returns-clause-same
+returns-clause-same g c = λ quiet.
+    returns-clause-bits g c
+    ∙ set-same c.args.self.now.bits c.args.index c.args.value
+    (same_from_differ _ _ (sym (returns-clause-differs g c) ∙ quiet))

@@ -17,7 +17,7 @@ returns-then-at-self-clause-nothing g c = rw (← c.self.view_is, length-unpacki
 
 pub invariant_of-result : goal.invariant_of-result
 invariant_of-result g c = rw c.new.ensures.items
-    (canonical_nothing g.T.Block.BITS g.met.T.Block.wide_law)
+    (canonical_nothing g.T.BitBlock.BITS g.met.T.BitBlock.wide_law)
 
 pub returns-then-at-self-2-clause-rest : goal.returns-then-at-self-2-clause-rest
 returns-then-at-self-2-clause-rest g c =
@@ -38,7 +38,7 @@ returns-then-at-self-2-clause-refused g c = RefusesPastEnd-nothing _ _ _
 
 pub invariant_of-replace : goal.invariant_of-replace
 invariant_of-replace g c = rw c.new-then-at-eq0.ensures.items
-    (canonical_nothing g.T.Block.BITS g.met.T.Block.wide_law)
+    (canonical_nothing g.T.BitBlock.BITS g.met.T.BitBlock.wide_law)
 
 pub returns-then-at-eq0-clause-ok : goal.returns-then-at-eq0-clause-ok
 returns-then-at-eq0-clause-ok g c = ap (λ v. v.bits) c.replace.ensures.after ∙ unpacking-zero _ _

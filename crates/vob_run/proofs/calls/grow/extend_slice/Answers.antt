@@ -18,7 +18,7 @@ returns g c =
     let call = c.extend_from_slice.ensures in
     let reply = c.reply_to.ensures in
     rw (← c.deref.ensures.value)
-    (extended_step g.T.Block.BITS _ _ _ vob (ExtendSlice c.args.which more) more
+    (extended_step g.T.BitBlock.BITS _ _ _ vob (ExtendSlice c.args.which more) more
     (record {
       told = reply.ok;
       refusal = reply.err;

@@ -28,7 +28,7 @@ returns g c =
     let same = either (c.reserve.new.self.bits ≡ old.bits) c.reserve.result call.bits in
     let kept : set (lists items) c.args.which old.bits ≡ lists items =
     sym (lists-set items c.args.which old) ∙ lists-same vob old refl in
-    asked_step g.T.Block.BITS _ _ _ vob (Reserve c.args.which c.args.additional)
+    asked_step g.T.BitBlock.BITS _ _ _ vob (Reserve c.args.which c.args.additional)
     (length old.bits + c.args.additional)
     (record {
       told = reply.ok;

@@ -20,7 +20,7 @@ returns g c =
     let reply = c.reply_to.ensures in
     let long : (c.resize.result ≡ Err TooLong) ↔ (2 ^ 64 - 1 < 0) =
     ((λ e. let wrong = (rw e at memory).0 in cc), (λ e. absurd (omega (arith, e)))) in
-    asked_step g.T.Block.BITS _ _ _ vob (Resize c.args.which c.args.len c.args.value) 0
+    asked_step g.T.BitBlock.BITS _ _ _ vob (Resize c.args.which c.args.len c.args.value) 0
     (record {
       told = reply.ok;
       refusal = reply.err;

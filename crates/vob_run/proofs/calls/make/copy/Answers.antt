@@ -15,7 +15,7 @@ returns g c =
     let which = c.args.which in
     let old = c.index.result.now in
     let vob = lent items which old (omega arith) c.index.ensures in
-    let makes : Makes g.T.Block.BITS items (Copy which) old.bits =
+    let makes : Makes g.T.BitBlock.BITS items (Copy which) old.bits =
     record { is = rw (list_at vob) refl; takes = tt } in
     made_step makes c.clone-copy.result _ c.made.new.vobs.items c.clone-copy.ensures.bits
     c.made.ensures.ok c.made.ensures.err

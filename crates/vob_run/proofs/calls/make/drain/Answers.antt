@@ -26,7 +26,7 @@ returns-in-Ok g c =
     let pushed = c.push_reserved.ensures.items
     ∙ ap (λ xs. set xs which new ++ c.in-Ok.taken ∷ []) room in
     rw (pushed, c.len-count.ensures, c.args.vobs.now.ok.0)
-    (divided_step g.T.Block.BITS vob (Drain which start end) (bits_outside start end old.bits)
+    (divided_step g.T.BitBlock.BITS vob (Drain which start end) (bits_outside start end old.bits)
     (bits_within start end old.bits) (rw (list_at vob) refl) tt new c.in-Ok.taken drained.left
     drained.given)
 
@@ -42,6 +42,6 @@ returns-in-Err g c =
     c.index_mut.ensures.value ∙ ap (λ xs. get_or xs which old) room in
     let vob = lent items which old (omega arith) read in
     rw (c.refused-in-Err.ensures, c.from.ensures, room)
-    (undivided_step g.T.Block.BITS vob (Drain which start end) (bits_outside start end old.bits)
+    (undivided_step g.T.BitBlock.BITS vob (Drain which start end) (bits_outside start end old.bits)
     (bits_within start end old.bits) (rw (list_at vob) refl) tt c.drain.new.self
     c.in-Err.ensures.err)

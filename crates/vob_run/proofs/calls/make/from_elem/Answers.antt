@@ -9,7 +9,7 @@ returns g c =
     let items = c.args.vobs.now.items in
     let len = c.args.len in
     let value = c.args.value in
-    let makes : Makes g.T.Block.BITS items (FromElem value len) (replicate len value) =
+    let makes : Makes g.T.BitBlock.BITS items (FromElem value len) (replicate len value) =
     record { is = refl; takes = tt } in
     made_step makes c.from_elem_with_storage_type.result _ c.made.new.vobs.items
     c.from_elem_with_storage_type.ensures.bits c.made.ensures.ok c.made.ensures.err

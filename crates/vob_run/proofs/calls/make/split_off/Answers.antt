@@ -14,7 +14,7 @@ pub returns-then-index-len : goal.returns-then-index-len
 returns-then-index-len g c =
     let items = c.args.vobs.now.items in
     let vob = lent items c.args.which c.index.result.now (omega arith) c.index.ensures in
-    rw c.refused.ensures (inl (past_end_step g.T.Block.BITS items c.args.which c.args.index
+    rw c.refused.ensures (inl (past_end_step g.T.BitBlock.BITS items c.args.which c.args.index
     c.index.result.now vob (omega (arith, c.if-index-len.true, c.len.ensures.len))))
 
 pub returns-in-Ok : goal.returns-in-Ok
@@ -33,8 +33,8 @@ returns-in-Ok g c =
     let pushed = c.push_reserved.ensures.items
     ∙ ap (λ xs. set xs which c.split_off.new.self ++ c.in-Ok.rest ∷ []) room in
     rw (pushed, c.len-count.ensures, c.args.vobs.now.ok.0)
-    (divided_step g.T.Block.BITS vob (SplitOff which at) (take at old.bits) (drop at old.bits)
-    (step-split g.T.Block.BITS items which at old vob inside) tt c.split_off.new.self c.in-Ok.rest
+    (divided_step g.T.BitBlock.BITS vob (SplitOff which at) (take at old.bits) (drop at old.bits)
+    (step-split g.T.BitBlock.BITS items which at old vob inside) tt c.split_off.new.self c.in-Ok.rest
     c.in-Ok.ensures.ok c.in-Ok.ensures.rest)
 
 pub returns-in-Err : goal.returns-in-Err
@@ -55,5 +55,5 @@ returns-in-Err g c =
     (λ e. call.refused.too_long (ap Err e))
     (λ e. absurd (omega (arith, inside, call.refused.past_end.0 (ap Err e)))) in
     rw (c.refused-in-Err.ensures, memory, room)
-    (undivided_step g.T.Block.BITS vob (SplitOff which at) (take at old.bits) (drop at old.bits)
-    (step-split g.T.Block.BITS items which at old vob inside) tt c.split_off.new.self call.err)
+    (undivided_step g.T.BitBlock.BITS vob (SplitOff which at) (take at old.bits) (drop at old.bits)
+    (step-split g.T.BitBlock.BITS items which at old vob inside) tt c.split_off.new.self call.err)

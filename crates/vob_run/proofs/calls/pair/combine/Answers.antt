@@ -12,7 +12,7 @@ returns-then-not-are_two g c =
     let items = c.args.vobs.now.items in
     let two = rw c.deref.ensures.value at c.if-not-are_two.ensures in
     let none = on_two-missing items c.args.which c.args.other (λ t. let wrong = two.1 t in cc) _ in
-    inl (step-combining g.T.Block.BITS (lists items) c.args.which c.args.other c.args.how
+    inl (step-combining g.T.BitBlock.BITS (lists items) c.args.which c.args.other c.args.how
     ∙ none)
 
 pub returns-then-len : goal.returns-then-len
@@ -27,7 +27,7 @@ returns-then-len g c =
     let lent = are_lent items _ slice (c.if-not-are_two.ensures.0 refl).0 two.first two.second in
     let apart : length old.bits ≢ length c.two_of-vob.result.1.now.bits =
     omega (arith, c.if-len.true, c.len.ensures.len, c.len-2.ensures.len) in
-    let is = step-combining g.T.Block.BITS all which c.args.other how
+    let is = step-combining g.T.BitBlock.BITS all which c.args.other how
     ∙ on_same_length-apart lent (combined all (operator how) which) apart in
     let back = lent_back lent slice c.args.vobs.now.ok.0 old in
     inl (is ∙ rw (back, lists-same lent.first old refl) refl)
@@ -45,7 +45,7 @@ returns g c =
     let lent = are_lent items _ slice (c.if-not-are_two.ensures.0 refl).0 two.first two.second in
     let same : length old.bits ≡ length c.two_of-vob.result.1.now.bits =
     omega (arith, c.if-len.false, c.len.ensures.len, c.len-2.ensures.len) in
-    let is = step-combining g.T.Block.BITS all which c.args.other how
+    let is = step-combining g.T.BitBlock.BITS all which c.args.other how
     ∙ on_same_length-found lent (combined all (operator how) which) same in
     let flag = flag-changed c.change.result _ new.bits c.change.ensures.changed in
     let back = lent_back lent slice c.args.vobs.now.ok.0 new in

@@ -13,7 +13,7 @@ returns-then-not-are_two g c =
     let items = c.args.vobs.now.items in
     let two = rw c.deref.ensures.value at c.if-not-are_two.ensures in
     let none = on_two-missing items c.args.which c.args.other (λ t. let wrong = two.1 t in cc) _ in
-    inl (step-combining_new g.T.Block.BITS (lists items) c.args.which c.args.other c.args.how
+    inl (step-combining_new g.T.BitBlock.BITS (lists items) c.args.which c.args.other c.args.how
     ∙ none)
 
 pub returns-then-len : goal.returns-then-len
@@ -26,7 +26,7 @@ returns-then-len g c =
     c.index-second.ensures in
     let apart : length old.bits ≢ length more.bits =
     omega (arith, c.if-len.true, c.len.ensures.len, c.len-2.ensures.len) in
-    inl (step-combining_new g.T.Block.BITS (lists items) c.args.which c.args.other c.args.how
+    inl (step-combining_new g.T.BitBlock.BITS (lists items) c.args.which c.args.other c.args.how
     ∙ on_same_length-apart two _ apart)
 
 pub returns : goal.returns
@@ -42,10 +42,10 @@ returns g c =
     let same : length old.bits ≡ length more.bits =
     omega (arith, c.if-len.false, c.len.ensures.len, c.len-2.ensures.len) in
     let f = operator how in
-    let is = step-combining_new g.T.Block.BITS all c.args.which c.args.other how
+    let is = step-combining_new g.T.BitBlock.BITS all c.args.which c.args.other how
     ∙ on_same_length-found two (λ bits others. makes all (pointwise f bits others)) same in
-    let takes = takes-combining_new g.T.Block.BITS all c.args.which c.args.other how in
-    let made : Makes g.T.Block.BITS items (combining_new how c.args.which c.args.other)
+    let takes = takes-combining_new g.T.BitBlock.BITS all c.args.which c.args.other how in
+    let made : Makes g.T.BitBlock.BITS items (combining_new how c.args.which c.args.other)
     (pointwise f old.bits more.bits) = record { is = is; takes = takes } in
     made_step made c.made_of-combined.result _ c.made.new.vobs.items
     c.made_of-combined.ensures c.made.ensures.ok c.made.ensures.err

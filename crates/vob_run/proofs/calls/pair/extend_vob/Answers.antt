@@ -27,7 +27,7 @@ returns g c =
     let lent = are_lent items _ slice (c.if-not-are_two.ensures.0 refl).0 two.first two.second in
     let read = get_or_from_slice_get (lists items) c.args.other more [] (list_at lent.second) in
     rw (lent_back lent slice c.args.vobs.now.ok.0 c.extend_from_vob.new.self)
-    (asked_step g.T.Block.BITS items c.args.which old lent.first
+    (asked_step g.T.BitBlock.BITS items c.args.which old lent.first
     (ExtendVob c.args.which c.args.other) (length old.bits + length more)
     (record {
       told = reply.ok;

@@ -5,8 +5,8 @@ use Rattle.vob_run.proofs.calls.raw.can_take.Goals as goal
 
 pub returns-else-not-mask : goal.returns-else-not-mask
 returns-else-not-mask g c =
-    let width = g.T.Block.BITS in
-    let wide = g.met.T.Block.wide_law in
+    let width = g.T.BitBlock.BITS in
+    let wide = g.met.T.BitBlock.wide_law in
     let rounded = need-is-div_ceil width wide c.args.len c.BITS.result c.BITS.ensures in
     let same = ap (nat_eq (length c.args.blocks.now)) (c.div_ceil.ensures ∙ rounded) in
     rw c.if-not-mask.false (ap not same)

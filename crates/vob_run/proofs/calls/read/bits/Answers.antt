@@ -23,5 +23,5 @@ returns-in-Err g c =
     let old = c.in-Some.vob.now in
     let vob = lent c.args.vobs.now c.args.which old found.3.0 found.1 in
     rw (c.refused.ensures, c.from.ensures)
-    (refused_telling g.T.Block.BITS (lists c.args.vobs.now) (Bits c.args.which)
+    (refused_telling g.T.BitBlock.BITS (lists c.args.vobs.now) (Bits c.args.which)
     (bit_list old.bits) (rw (list_at vob) refl) ((λ e. cc), (λ e. cc), (λ e. cc)) tt)

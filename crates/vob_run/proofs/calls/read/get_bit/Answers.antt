@@ -7,7 +7,7 @@ pub returns-in-Some : goal.returns-in-Some
 returns-in-Some g c =
     let found = c.in-Some.ensures.lookup in
     let vob = lent c.args.vobs.now c.args.which c.in-Some.vob.now found.3.0 found.1 in
-    inl (rw (list_at vob, c.get-in-Some.ensures) refl)
+    inl (rw (list_at vob, c.get-in-Some.ensures.bit) refl)
 
 pub returns-in-None : goal.returns-in-None
 returns-in-None g c =

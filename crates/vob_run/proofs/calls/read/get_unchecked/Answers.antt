@@ -21,4 +21,4 @@ pub returns : goal.returns
 returns g c =
     let found = c.in-Some.ensures.lookup in
     let vob = lent c.args.vobs.now c.args.which c.in-Some.vob.now found.3.0 found.1 in
-    inl (rw (list_at vob, c.get_unchecked.ensures) refl)
+    inl (rw (list_at vob, c.get_unchecked.ensures.bit) refl)

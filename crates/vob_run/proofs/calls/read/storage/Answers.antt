@@ -24,5 +24,5 @@ returns-in-Err g c =
     let old = c.in-Some.vob.now in
     let vob = lent c.args.vobs.now c.args.which old found.3.0 found.1 in
     rw (c.refused.ensures, c.from.ensures)
-    (refused_telling g.T.Block.BITS (lists c.args.vobs.now) (Storage c.args.which)
-    (block_list (packing old.bits g.T.Block.BITS)) (rw (list_at vob) refl) ((λ e. cc), (λ e. cc), (λ e. cc)) tt)
+    (refused_telling g.T.BitBlock.BITS (lists c.args.vobs.now) (Storage c.args.which)
+    (block_list (packing old.bits g.T.BitBlock.BITS)) (rw (list_at vob) refl) ((λ e. cc), (λ e. cc), (λ e. cc)) tt)

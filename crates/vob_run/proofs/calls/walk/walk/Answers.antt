@@ -29,6 +29,6 @@ returns-in-Err g c =
     let vob = lent c.args.vobs.now c.args.which old found.3.0 found.1 in
     let told = answers (matches old.bits value bounds.0 bounds.1) pulls in
     rw (c.refused.ensures, c.from.ensures)
-    (refused_telling g.T.Block.BITS (lists c.args.vobs.now)
+    (refused_telling g.T.BitBlock.BITS (lists c.args.vobs.now)
     (Walk c.args.which value bounds.0 bounds.1 pulls) (dealt told) (rw (list_at vob) refl)
     ((λ e. cc), (λ e. cc), (λ e. cc)) tt)

@@ -12,7 +12,7 @@ returns-in_default g c =
 
 pub returns : goal.returns
 returns g c =
-    let width = g.T.Block.BITS in
+    let width = g.T.BitBlock.BITS in
     let item = c.in-Some.ensures.item in
     let vob = lent c.args.vobs.now.items c.args.which c.in-Some.vob.now item.3.0 item.1 in
     let bits = c.in-Some.vob.now.bits in

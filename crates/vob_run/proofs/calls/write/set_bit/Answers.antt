@@ -14,7 +14,7 @@ returns-then-index-len g c =
     let item = c.in-Some.ensures.item in
     let vob = lent c.args.vobs.now.items c.args.which c.in-Some.vob.now item.3.0 item.1 in
     let call = SetBit c.args.which c.args.index c.args.value in
-    written_past g.T.Block.BITS _ _ c.args.index c.args.value _ vob call refl (omega arith)
+    written_past g.T.BitBlock.BITS _ _ c.args.index c.args.value _ vob call refl (omega arith)
 
 pub returns : goal.returns
 returns g c =
@@ -22,5 +22,5 @@ returns g c =
     let vob = lent c.args.vobs.now.items c.args.which c.in-Some.vob.now item.3.0 item.1 in
     let call = SetBit c.args.which c.args.index c.args.value in
     let set = c.set.ensures in
-    written_inside g.T.Block.BITS _ _ c.args.index c.args.value _ vob call refl (omega arith)
+    written_inside g.T.BitBlock.BITS _ _ c.args.index c.args.value _ vob call refl (omega arith)
     c.set.new.self c.set.result set.bits set.changed

@@ -4,6 +4,6 @@ use Rattle.vob_store.proofs.combined.WithoutCombine.block.Goals as goal
 
 pub returns-clause-places : goal.returns-clause-places
 returns-clause-places g c =
-    HasPlaces-without g.T.Block.BITS (g.T.Block.number c.args.own) (g.T.Block.number c.args.other)
-    (g.T.Block.number c.bnot.result) (g.T.Block.number c.band.result) c.bnot.ensures.places
+    HasPlaces-without g.T.BitBlock.BITS (g.T.BitBlock.number c.args.own) (g.T.BitBlock.number c.args.other)
+    (g.T.BitBlock.number c.bnot.result) (g.T.BitBlock.number c.band.result) c.bnot.ensures.places
     c.band.ensures.places

@@ -1,10 +1,15 @@
 -- A range within the other's length holds as many bits as it has indices.
-use Rattle.std.proofs.Common.{arith}
+use Rattle.std.proofs.Common.{arith, inl}
 use Rattle.vob.proofs.BitsLemmas.{length-bits_within}
 use Rattle.vob_vectors.proofs.tests.copies.copy.Goals as goal
 
-pub copy_range-requires-clause-fits : goal.copy_range-requires-clause-fits
-copy_range-requires-clause-fits g c =
+pub copy_range-requires : goal.copy_range-requires
+copy_range-requires g c =
     let few = length-bits_within c.args.other.now.bits c.args.start c.args.end
     c.if-start-end.true (omega (arith, c.if-end-len.true, c.len-then-end-len.ensures.len)) in
-    omega (arith, few, c.if-at-len.true, c.if-end-start.true, c.len-then-at-len.ensures.len)
+    record {
+      fits = inl (
+        tt,
+        omega (arith, few, c.if-at-len.true, c.if-end-start.true, c.len-then-at-len.ensures.len),
+      );
+    }

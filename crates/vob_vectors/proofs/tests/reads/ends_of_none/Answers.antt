@@ -8,7 +8,7 @@ pub returns : goal.returns
 unfolding blocks_met given_count
 returns c = λ first last.
     let walk = c.iter_set_bits-walk.ensures in
-    let met = rw c.requires.none at (walk.fresh tt).left in
+    let met = rw c.requires.none at (walk.fresh tt).whole.left in
     let one = rw first at c.next-first.ensures.steps.reads.bound in
     let two = rw last at c.next_back-last.ensures.steps.reads.bound in
     omega (arith, one, two, met, walk.reads)

@@ -7,12 +7,12 @@ use Rattle.vob_walk.proofs.back_bits.BackBits.block.Goals as goal
 
 pub returns-else-self-clause-bits : goal.returns-else-self-clause-bits
 returns-else-self-clause-bits g c =
-    subst (IsBlockBits g.T.Block.BITS c.self.inside.at)
+    subst (IsBlockBits g.T.BitBlock.BITS c.self.inside.at)
     (mask-held _ _ _ _ c.self.invariant c.if-self.false _ c.low_mask.ensures.within
     c.low_mask.ensures.places) c.self.invariant.bits
 
 pub returns-else-self-clause-same : goal.returns-else-self-clause-same
 returns-else-self-clause-same g c =
-    rw (← c.self.view_is) (ap (block_indices g.T.Block.BITS c.self.inside.at)
+    rw (← c.self.view_is) (ap (block_indices g.T.BitBlock.BITS c.self.inside.at)
     (sym (mask-held _ _ _ _ c.self.invariant c.if-self.false _ c.low_mask.ensures.within
     c.low_mask.ensures.places)))

@@ -7,8 +7,8 @@ use Rattle.vob_walk.proofs.back_bits.BackBits.is_empty.Goals as goal
 pub returns-then-self : goal.returns-then-self
 returns-then-self g c =
     let s = c.self.inside in
-    rw (← c.self.view_is, held-word _ s.at (g.T.Block.number s.word) _ c.if-self.true)
-    (empty_test g.T.Block.BITS s.at (g.T.Block.number s.word) c.is_zero.result c.is_zero.ensures
+    rw (← c.self.view_is, held-word _ s.at (g.T.BitBlock.number s.word) _ c.if-self.true)
+    (empty_test g.T.BitBlock.BITS s.at (g.T.BitBlock.number s.word) c.is_zero.result c.is_zero.ensures
     (IsBlockBits-word c.self.invariant c.if-self.true).within)
 
 pub returns-else-self : goal.returns-else-self

@@ -15,9 +15,9 @@ returns-then-self g c =
 pub returns-then-is_zero : goal.returns-then-is_zero
 returns-then-is_zero g c =
     let s = c.self.inside in
-    let none = held-word g.T.Block.BITS s.at (g.T.Block.number s.word) s.past
+    let none = held-word g.T.BitBlock.BITS s.at (g.T.BitBlock.number s.word) s.past
     c.if-self.false
-    ∙ block_indices-zero g.T.Block.BITS s.at (g.T.Block.number s.word)
+    ∙ block_indices-zero g.T.BitBlock.BITS s.at (g.T.BitBlock.number s.word)
     (c.is_zero.ensures.0 c.if-is_zero.true) in
     rw (← c.self.view_is) (none, none)
 
@@ -47,8 +47,8 @@ returns g c =
     c.is_zero.ensures c.if-is_zero.false in
     rw (
       ← c.self.view_is,
-      held-word g.T.Block.BITS s.at _ s.past c.if-self.false,
-      held-word g.T.Block.BITS s.at _ s.past c.if-self.false,
+      held-word g.T.BitBlock.BITS s.at _ s.past c.if-self.false,
+      held-word g.T.BitBlock.BITS s.at _ s.past c.if-self.false,
     )
     (block_indices-last _ s.at _ _ _ last.1 last.2 c.without_place-self-inside.ensures.places
     c.zeros_high.result c.zeros_high.ensures

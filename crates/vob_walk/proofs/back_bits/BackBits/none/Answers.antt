@@ -5,6 +5,6 @@ use Rattle.vob_walk.proofs.back_bits.BackBits.none.Goals as goal
 
 pub returns : goal.returns
 returns g c =
-    let number = g.T.Block.number in
-    block_indices-zero g.T.Block.BITS 0 (number c.ZERO.result)
-    (ap number c.ZERO.ensures ∙ g.met.T.Block.zero_number_law)
+    let number = g.T.BitBlock.number in
+    block_indices-zero g.T.BitBlock.BITS 0 (number c.ZERO.result)
+    (ap number c.ZERO.ensures ∙ g.met.T.BitBlock.zero_number_law)

@@ -5,7 +5,7 @@ use Rattle.vob_walk.proofs.back_bits.BackBits.of.Goals as goal
 
 pub overflow_add-at : goal.overflow_add-at
 overflow_add-at g c =
-    let number = g.T.Block.number in
-    let full = (g.met.T.Block.equal_law c.args.word c.ONES.result).0 (sym c.eq.ensures ∙ c.if-eq.true)
-    ∙ ap number c.ONES.ensures ∙ g.met.T.Block.ones_number_law in
-    omega (arith, c.BITS.ensures, full-below g.met.T.Block.wide_law full c.requires)
+    let number = g.T.BitBlock.number in
+    let full = (g.met.T.BitBlock.equal_law c.args.word c.ONES.result).0 (sym c.eq.ensures ∙ c.if-eq.true)
+    ∙ ap number c.ONES.ensures ∙ g.met.T.BitBlock.ones_number_law in
+    omega (arith, c.BITS.ensures, full-below g.met.T.BitBlock.wide_law full c.requires)

@@ -38,5 +38,5 @@ returns g c =
     rw (← c.self.view_is, c.self-2.view_is, c.counted.ensures)
     (block_indices-first _ s.at _ _ lowest.0 first.0 first.1
     (c.without_first.ensures.places lowest.0 lowest.1) lowest.1
-    ∙ ap (λ i. i ∷ block_indices g.T.Block.BITS s.at (g.T.Block.number c.without_first.result))
+    ∙ ap (λ i. i ∷ block_indices g.T.BitBlock.BITS s.at (g.T.BitBlock.number c.without_first.result))
     (sym lowest.2))

@@ -5,4 +5,4 @@ use Rattle.vob_walk.proofs.block_bits.BlockBits.of.Goals as goal
 
 pub counted-requires-clause-count : goal.counted-requires-clause-count
 counted-requires-clause-count g c = c.ones_in.ensures ∙ sym
-    (length-block_indices g.T.Block.BITS c.args.at (g.T.Block.number c.args.word))
+    (length-block_indices g.T.BitBlock.BITS c.args.at (g.T.BitBlock.number c.args.word))

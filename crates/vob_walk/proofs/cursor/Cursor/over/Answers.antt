@@ -15,19 +15,17 @@ invariant_of-result g c =
       c.over.ensures.countable,
     )
 
-pub returns-clause-fresh : goal.returns-clause-fresh
-returns-clause-fresh g c = λ in_range.
-    let low = g.R.RangeBounds.start_bound c.args.range in
-    let high = g.R.RangeBounds.end_bound c.args.range in
-    let w = g.T.Block.BITS in
+pub returns-clause-whole : goal.returns-clause-whole
+returns-clause-whole g c = λ low high len range.
+    let w = g.T.BitBlock.BITS in
     let long = ap (λ n. blocks_met low high n w)
-    (length-unpacking c.args.len (map g.T.Block.number c.args.blocks.items) w) in
-    let left = c.over.ensures.left in_range in
+    (length-unpacking len (map g.T.BitBlock.number c.args.blocks.items) w) in
+    let left = c.over.ensures.left low high len range in
     let none = ap has_index c.none.ensures in
     let no_other = ap has_index c.none-2.ensures in
     record {
       rest = rest-fresh c.none.result c.none-2.result c.over.result.rest c.none.ensures
-          c.none-2.ensures ∙ c.over.ensures.rest in_range;
+          c.none-2.ensures ∙ c.over.ensures.rest low high len range;
       left = omega (arith, long, left, none, no_other);
       credit = omega (arith, long, left);
     }

@@ -1,0 +1,124 @@
+//! The worked users: refused, a call leaves what it works on as it was.
+use super::support::{FIRST, given, request, same, same_list, tell};
+use std::alloc::{AllocError, Global};
+use std::process::Abort;
+use vob::{Vob, VobError};
+use vob_users::grammar::{Grammar, GrammarError, Rule, Symbol, first_sets, nullable};
+use vob_users::matrix::BitMatrix;
+use vob_users::rows::{kept_rows, page, page_back, select};
+use vob_users::slots::Slots;
+
+#[test]
+fn matrices_and_slots_are_made_or_refused(rt: HostRuntime) {
+    request(&rt, FIRST);
+    let matrix = given(&rt, BitMatrix::new(rt.alloc(), 1, 2), AllocError);
+    let made = matrix.is_some();
+    if let Some(matrix) = matrix {
+        same(&rt, "an entry", matrix.get(0, 1), Some(false));
+    }
+    let slots = given(&rt, Slots::new(rt.alloc(), 64), AllocError);
+    let all_made = made && slots.is_some();
+    if let Some(slots) = slots {
+        same(&rt, "the free slots", slots.free_count(), 64);
+    }
+    tell(&rt, all_made);
+}
+
+#[test]
+fn slots_grow_by_one_request(rt: HostRuntime) {
+    request(&rt, FIRST - 1);
+    let mut slots = Slots::new(rt.alloc(), 64).expect(&rt, "memory");
+    same(&rt, "a slot", slots.alloc(), Some(0));
+    let grown = given(&rt, slots.grow(64), VobError::Memory).is_some();
+    let (len, free) = if grown { (128, 127) } else { (64, 63) };
+    same(&rt, "the slots", slots.len(), len);
+    same(&rt, "the free slots", slots.free_count(), free);
+    same(&rt, "the next slot", slots.alloc(), Some(1));
+    tell(&rt, grown);
+}
+
+/// A matrix of two rows and a column, true in the second row.
+fn column(alloc: Global) -> Result<BitMatrix, AllocError> {
+    let mut matrix = BitMatrix::new(alloc, 2, 1)?;
+    if matrix.rows() == 2 && matrix.columns() == 1 {
+        matrix.set(1, 0, true);
+    }
+    Ok(matrix)
+}
+
+/// One nonterminal that becomes nothing, or terminal 1 of two and itself.
+fn grammar(alloc: Global) -> Result<Grammar, AllocError> {
+    let mut rules = Vec::new(alloc);
+    rules.push(Rule {
+        left: 0,
+        right: [Symbol::Terminal(1), Symbol::Nonterminal(0)].to_vec(alloc)?,
+    })?;
+    rules.push(Rule {
+        left: 0,
+        right: Vec::new(alloc),
+    })?;
+    Ok(Grammar {
+        terminals: 2,
+        nonterminals: 1,
+        rules,
+    })
+}
+
+#[test]
+fn transposes_and_nullables_are_made_or_refused(rt: HostRuntime) {
+    request(&rt, FIRST - 5);
+    let matrix = column(rt.alloc()).expect(&rt, "memory");
+    let grammar = grammar(rt.alloc()).expect(&rt, "memory");
+    let row = given(&rt, matrix.transpose(rt.alloc()), AllocError);
+    let transposed = row.is_some();
+    if let Some(row) = row {
+        same(&rt, "an entry", row.get(0, 0), Some(false));
+        same(&rt, "an entry", row.get(0, 1), Some(true));
+    }
+    let set = given(&rt, nullable(rt.alloc(), &grammar), GrammarError::Memory);
+    let found = set.is_some();
+    if let Some(set) = set {
+        same(&rt, "nullable", set.get(0), Some(true));
+    }
+    tell(&rt, transposed && found);
+}
+
+#[test]
+fn first_sets_are_found_or_refused(rt: HostRuntime) {
+    request(&rt, FIRST - 2);
+    let grammar = grammar(rt.alloc()).expect(&rt, "memory");
+    let sets = given(&rt, first_sets(rt.alloc(), &grammar), GrammarError::Memory);
+    let found = sets.is_some();
+    if let Some(sets) = sets {
+        same(&rt, "nullable", sets.nullable.get(0), Some(true));
+        same(&rt, "first", sets.first.get(0, 0), Some(false));
+        same(&rt, "first", sets.first.get(0, 1), Some(true));
+    }
+    tell(&rt, found);
+}
+
+/// Whether rows were given, which then are these.
+fn are_given(rt: &impl Abort, rows: Result<Vec<usize>, AllocError>, wanted: &[usize]) -> bool {
+    let Some(rows) = given(rt, rows, AllocError) else {
+        return false;
+    };
+    same_list(rt, "the rows", &rows, wanted);
+    true
+}
+
+// A list that is collected asks for less if its first request is refused, and is whole then.
+#[test]
+fn rows_of_a_filter_are_selected_by_one_request(rt: HostRuntime) {
+    request(&rt, FIRST - 1);
+    let filter = Vob::from_slice(rt.alloc(), &[true, false, true]).expect(&rt, "memory");
+    let none = given(&rt, select(&filter, &filter, &filter), AllocError);
+    let selected = none.is_some();
+    if let Some(none) = none {
+        same_list(&rt, "the rows", none.get_storage(), &[0]);
+    }
+    let kept = are_given(&rt, kept_rows(rt.alloc(), &filter), &[0, 2]);
+    let first = are_given(&rt, page(rt.alloc(), &filter, 0, 1), &[0]);
+    let last = are_given(&rt, page_back(rt.alloc(), &filter, 0, 1), &[2]);
+    same_list(&rt, "the filter", filter.get_storage(), &[0b101]);
+    tell(&rt, selected && kept && first && last);
+}
