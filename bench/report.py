@@ -1,100 +1,133 @@
 #!/usr/bin/env python3
-"""Prints the table of a results file: bench/report.py [FILE ..], by default all of bench/results."""
+"""Merges readings of the benchmark, and draws the table and the plot of its page.
+
+report.py merge FILE .. prints one results file of several readings of one CPU: of each time the median, and the spread,
+which is the greatest reading over the least. report.py table prints the table of README.md, and report.py plot its
+picture, both from bench/results. A ratio is our time over another's: below 1 ours is faster. Ratios within a
+tenth of 1 count as equal."""
 
 import pathlib
+import statistics
 import sys
 
 OURS = "conthiral"
-# our kernels without lanes, which are no peer
-PLAIN = "Vob<u64>"
 ORIGINAL = "vob 4.0.1"
 PEERS = ["fixedbitset", "bit-vec", "bit-set", "smallbitvec", "boost", "vector<bool>"]
+CPUS = ["x86-64-v2", "x86-64-v3"]
+RESULTS = pathlib.Path(__file__).resolve().parent / "results"
+
+# The rows of the page: their name, the call that is read, and its bits, or None for the one size there is.
+ROWS = [
+    ("`push`", "push", None),
+    ("`get` at random", "get at random", None),
+    ("`set` at random", "set at random", None),
+    ("a walk over all bits", "iterate", None),
+    ("`from_bytes`", "from_bytes", None),
+    ("`from_slice`", "from_slice", None),
+    ("`set_all`", "set_all", None),
+    ("`set_range`", "set_range", None),
+    ("`and`, 64 bits", "and", 64),
+    ("`and`, 64K bits", "and", 1 << 16),
+    ("`or`, 1M bits", "or", 1 << 20),
+    ("`and_not`, 64K bits", "and_not", 1 << 16),
+    ("`is_subset`, 1M bits", "is_subset", 1 << 20),
+    ("`count_and`", "count_and", 1 << 20),
+    ("`extend_from_vob` within a block", "extend_from_vob at +13", None),
+    ("`split_off` within a block", "split_off misaligned", None),
+    ("`==`", "equality", None),
+    ("`hash`", "hash", None),
+    ("`iter_set_bits`, 1 in 4096 set", "iter_set_bits, 1 in 4096 set", None),
+    ("`iter_set_bits`, half set", "iter_set_bits, half set", None),
+    ("`iter_unset_bits`, half set", "iter_unset_bits, half set", None),
+    ("`next_set`, 1 in 64 set", "next_set, 1 in 64 set", None),
+    ("count of set bits", "count of set bits", None),
+    ("closure of 1000 nodes", "matrix closure, 1000 nodes", None),
+    ("liveness of 10,000 nodes", "liveness, 10000 nodes", None),
+]
 
 
 def read(path):
     """The head's lines, and each row's times: (name, bits, unit) to library to (kind, mark, ns)."""
     head, rows = [], {}
-    for line in path.read_text().splitlines():
+    for line in path.read_text(encoding="utf-8").splitlines():
         if line.startswith("#"):
-            head.append(line[1:].strip())
+            head.append(line)
             continue
-        name, bits, unit, library, kind, mark, ns = line.split("\t")
+        name, bits, unit, library, kind, mark, ns = line.split("\t")[:7]
         rows.setdefault((name, int(bits), unit), {})[library] = (kind, mark, float(ns))
     return head, rows
 
 
-def ratio(ours, other):
-    if other is None or other <= 0:
-        return ""
-    return f"{ours / other:.2f}"
+def merge(paths):
+    heads, readings = zip(*(read(path) for path in paths))
+    print("\n".join(heads[0]))
+    print(f"# median of {len(paths)} readings, and the greatest over the least")
+    for key, times in readings[0].items():
+        for library, (kind, mark, _) in times.items():
+            found = [rows[key][library][2] for rows in readings if library in rows.get(key, {})]
+            spread = max(found) / min(found) if min(found) > 0 else 0
+            cells = [*map(str, key), library, kind, mark, f"{statistics.median(found):.4g}", f"{spread:.2f}"]
+            print("\t".join(cells))
 
 
-def sized(bits):
-    for unit, size in (("M", 1 << 20), ("K", 1 << 10)):
-        if bits >= size and bits % size == 0:
-            return f"{bits // size}{unit}"
-    return str(bits)
-
-
-def best(times, kinds):
-    """The least time of a peer of such a kind."""
-    found = [times[peer][2] for peer in PEERS if peer in times and times[peer][0] in kinds]
-    return min(found) if found else None
-
-
-def row_of(key, times, notes):
-    name, bits, unit = key
+def ratios(rows, call, bits):
+    """Our time over vob 4.0.1's, and over the best peer's that does no less, with its name."""
+    (times,) = [it for (name, size, _), it in rows.items() if name == call and bits in (None, size)]
     ours = times[OURS][2]
-    cells = [name, sized(bits), unit, f"{ours:.3f}"]
-    for library in [PLAIN, ORIGINAL] + PEERS:
-        if library not in times:
-            cells.append("")
-            continue
-        kind, mark, ns = times[library]
-        sign = ""
-        if mark:
-            notes.setdefault((kind, mark), len(notes) + 1)
-            sign = f" ({notes[(kind, mark)]})"
-        cells.append(f"{ns:.3f}{sign}")
-    again = times.get(f"{OURS} again", (None, None, None))[2]
-    limits = [(library, ns) for library, (kind, _, ns) in times.items() if kind == "limit"]
-    limit, limit_ns = limits[0] if limits else ("", None)
-    cells.append(ratio(ours, again))
-    cells.append(ratio(ours, times.get(ORIGINAL, (None, None, None))[2]))
-    cells.append(ratio(ours, best(times, ("same", "other"))))
-    cells.append(ratio(ours, best(times, ("same", "other", "less"))))
-    cells.append(f"{ratio(ours, limit_ns)} {limit}".strip())
-    return cells
+    original = times.get(ORIGINAL)
+    peers = [(times[peer][2], peer) for peer in PEERS if peer in times and times[peer][0] in ("same", "other")]
+    best = min(peers, default=None)
+    return ours / original[2] if original else None, ours / best[0] if best else None, best[1] if best else ""
 
 
-def table(path):
-    head, rows = read(path)
-    print(f"# {path.stem}\n")
-    for line in head:
-        print(f"- {line}")
-    columns = ["call", "bits", "unit", "Conthiral", PLAIN, ORIGINAL] + PEERS
-    columns += ["to itself", "to vob", "to best peer", "to best, less work too", "to limit"]
-    print("\nTimes are ns a unit. The last five columns are ratios, below 1 where Conthiral is faster; \"to")
-    print("itself\" is to a second time of the same work, so that a row's noise is seen.\n")
-    print("| " + " | ".join(columns) + " |")
-    print("|" + "---|" * len(columns))
-    notes = {}
-    for key, times in rows.items():
-        if OURS in times:
-            print("| " + " | ".join(row_of(key, times, notes)) + " |")
-    print()
-    for (kind, mark), number in notes.items():
-        how = "does less" if kind == "less" else "by other calls"
-        print(f"({number}) {how}: {mark}  ")
-    print()
+def shown(ratio):
+    return "" if ratio is None else f"{ratio:.2g}"
 
 
-def main():
-    folder = pathlib.Path(__file__).parent / "results"
-    paths = [pathlib.Path(word) for word in sys.argv[1:]] or sorted(folder.glob("*.tsv"))
-    for path in paths:
-        table(path)
+def table():
+    of = {cpu: read(RESULTS / f"{cpu}.tsv")[1] for cpu in CPUS}
+    print("| Call | v2: of vob 4.0.1 | of the best peer | v3: of vob 4.0.1 | of the best peer |")
+    print("|---|---|---|---|---|")
+    for label, call, bits in ROWS:
+        cells = [label]
+        for cpu in CPUS:
+            original, best, peer = ratios(of[cpu], call, bits)
+            cells += [shown(original), f"{shown(best)} {peer}".strip()]
+        print(f"| {' | '.join(cells)} |")
 
 
-if __name__ == "__main__":
-    main()
+def plot():
+    rows = read(RESULTS / "x86-64-v3.tsv")[1]
+    left, wide, high, most = 250, 360, 22, 2.0
+    bottom = 40 + high * len(ROWS)
+    at = lambda ratio: left + wide * min(ratio, most) / most
+    print(f'<svg xmlns="http://www.w3.org/2000/svg" width="{left + wide + 60}" height="{bottom + 30}" font-family="sans-serif" font-size="12">')
+    print(f'<rect width="100%" height="100%" fill="white"/>')
+    print(f'<text x="{left}" y="16">our time over vob 4.0.1\'s (dark) and over the best peer\'s (light), x86-64-v3</text>')
+    for tick in (0, 0.5, 1, 1.5, 2):
+        stroke = "#c00" if tick == 1 else "#ddd"
+        print(f'<line x1="{at(tick):.0f}" x2="{at(tick):.0f}" y1="26" y2="{bottom}" stroke="{stroke}"/>')
+        print(f'<text x="{at(tick):.0f}" y="{bottom + 16}" text-anchor="middle">{tick:g}</text>')
+    for k, (label, call, bits) in enumerate(ROWS):
+        top = 30 + high * k
+        print(f'<text x="{left - 8}" y="{top + 13}" text-anchor="end">{label.replace("`", "")}</text>')
+        for row, (ratio, fill) in enumerate(zip(ratios(rows, call, bits), ("#246", "#8ac"))):
+            if ratio is not None:
+                print(f'<rect x="{left}" y="{top + 1 + 8 * row}" width="{at(ratio) - left:.1f}" height="7" fill="{fill}"/>')
+                if ratio > most:
+                    print(f'<text x="{at(ratio) + 4:.0f}" y="{top + 8 + 8 * row}" font-size="9">{ratio:.2g}</text>')
+    print("</svg>")
+
+
+def main(arguments):
+    if arguments[:1] == ["merge"] and arguments[1:]:
+        merge([pathlib.Path(path) for path in arguments[1:]])
+    elif arguments == ["table"]:
+        table()
+    elif arguments == ["plot"]:
+        plot()
+    else:
+        sys.exit(__doc__)
+
+
+main(sys.argv[1:])

@@ -8,13 +8,14 @@
 #
 # Wants rt, cargo, g++ and Debian's packages librust-fixedbitset-dev librust-bit-vec-dev
 # librust-bit-set-dev librust-smallbitvec-dev librust-num-traits-dev libboost-dev. Nothing is
-# downloaded. VOB_SOURCE names src/lib.rs of vob 4.0.1, which isn't part of this repository.
+# downloaded. VOB_SOURCE names src/lib.rs of vob 4.0.1 (bench/vob/lib.rs), which isn't part
+# of this repository.
 set -euo pipefail
 cd "$(dirname "$0")/.."
 cpu=${1:-x86-64-v2}
 filter=${2:-}
 jumps=${JUMPS:-apart}
-source=$(realpath -m "${VOB_SOURCE:-../shared/crate/lib.rs.txt}")
+source=$(realpath -m "${VOB_SOURCE:-bench/vob/lib.rs}")
 registry=${DEBIAN_REGISTRY:-/usr/share/cargo/registry}
 
 case $cpu in
@@ -36,7 +37,7 @@ esac
 cd bench
 out=$PWD/out
 libs=$out/$cpu
-mkdir -p "$libs" "$out/vob/src" results
+mkdir -p "$libs" "$out/vob/src"
 
 # The toolchain's compiler, which is told to keep jumps off 32-byte boundaries: on processors with Intel's jump
 # conditional code erratum a loop isn't kept decoded where one lies across. All libraries are built so, or with
@@ -52,25 +53,23 @@ chmod +x "$toolchain/bin/clang"
 
 # Ours: proved, then built by that compiler for this CPU.
 if [ "$cpu" = x86-64-v2 ]; then flag=(); else flag=("--cpu=$cpu"); fi
-for made in vob_bench vob_limits; do
-    words=(--extern "std=$kit/rlibs/std.rlib" -L "dependency=$kit/rlibs")
-    for library in $(sed -n "s/^$made staticlib://p" ../crates.txt); do
-        words+=(--extern "$library=../$library/out/rlib/$library.rlib")
-    done
-    for library in $(../tools/below "$made"); do
-        words+=(-L "dependency=../$library/out/rlib")
-    done
-    (
-        cd "../crates/$made"
-        rt lib "${flag[@]}"
-        "$kit/bin/rattle" build --crate-name "$made" src/lib.rt "${words[@]}" "${flag[@]}" --crate-type staticlib \
-            --antt-project "$kit/rattle/logic/antt-project.json" --logic-built "$kit/logic_built" \
-            --incremental out/incremental --toolchain "$toolchain" -o "$libs/proved.a"
-    ) | tail -n 1
-    # Each function of each library starts at a cache line: where a short loop lies among them can take
-    # half of its time, and a change elsewhere would move it.
-    objcopy --set-section-alignment '.text.*=64' "$libs/proved.a" "$libs/lib$made.a"
+words=(--extern "std=$kit/rlibs/std.rlib" -L "dependency=$kit/rlibs")
+for library in $(sed -n "s/^vob_bench staticlib://p" ../crates.txt); do
+    words+=(--extern "$library=../$library/out/rlib/$library.rlib")
 done
+for library in $(../tools/below vob_bench); do
+    words+=(-L "dependency=../$library/out/rlib")
+done
+(
+    cd "../crates/vob_bench"
+    rt lib "${flag[@]}"
+    "$kit/bin/rattle" build --crate-name vob_bench src/lib.rt "${words[@]}" "${flag[@]}" --crate-type staticlib \
+        --antt-project "$kit/rattle/logic/antt-project.json" --logic-built "$kit/logic_built" \
+        --incremental out/incremental --toolchain "$toolchain" -o "$libs/proved.a"
+) | tail -n 1
+# Each function of each library starts at a cache line: where a short loop lies among them can take
+# half of its time, and a change elsewhere would move it.
+objcopy --set-section-alignment '.text.*=64' "$libs/proved.a" "$libs/libvob_bench.a"
 gcc -O2 -fno-builtin-malloc -march="$cpu" -c heap/heap.c -o "$libs/heap.o"
 ar rs "$libs/libvob_bench.a" "$libs/heap.o"
 
@@ -115,7 +114,7 @@ RUSTFLAGS="-C target-cpu=$cpu -C llvm-args=-align-all-functions=6 $by_rustc -L n
 turns=${TURNS:-21}
 words=(--turns "$turns")
 if [ -n "${CHECK:-}" ]; then words+=(--check); fi
-if [ -z "${CHECK:-}$filter" ] && [ "$jumps" = apart ]; then table=results/$cpu.tsv; else table=out/$cpu.tsv; fi
+table=out/$cpu.tsv
 {
     echo "# date $(date -u +%F)"
     echo "# machine $(sed -n 's/^model name[^:]*: //p' /proc/cpuinfo | head -n 1)"
@@ -128,4 +127,4 @@ if [ -z "${CHECK:-}$filter" ] && [ "$jumps" = apart ]; then table=results/$cpu.t
 } >"$out/new.tsv"
 if [ -n "${CHECK:-}" ]; then exit 0; fi
 mv "$out/new.tsv" "$table"
-./report.py "$table" | tee "${table%.tsv}.md"
+echo "written to bench/$table" >&2

@@ -39,11 +39,6 @@ extern "C" {
     fn vob_bench_live(numbers: *const usize, count: usize, vars: usize, rounds: usize) -> u64;
 }
 
-#[link(name = "vob_limits", kind = "static")]
-extern "C" {
-    fn vob_limits_hash_words(words: *const usize, count: usize, rounds: usize) -> u64;
-}
-
 /// Runs a workload of `vob_bench`. Its exports require nothing but what slices promise, which the
 /// slices of `input` keep.
 pub fn conthiral(call: Call, input: &Input, rounds: usize) -> u64 {
@@ -147,11 +142,6 @@ pub fn plain_offer(call: Call) -> Offer {
         Call::And | Call::Or | Call::Xor => Offer::Ours,
         _ => Offer::None,
     }
-}
-
-/// Feeds words to the hasher of the toolchain that builds Conthiral.
-pub fn hash_words(words: &[usize], rounds: usize) -> u64 {
-    unsafe { vob_limits_hash_words(words.as_ptr(), words.len(), rounds) }
 }
 
 /// The libraries of the C++ twin, by its numbers.

@@ -10,7 +10,6 @@
 mod bits;
 mod foreign;
 mod input;
-mod limits;
 mod peers;
 mod programs;
 mod quiet;
@@ -21,7 +20,7 @@ use bits::{Bits, Offer};
 use foreign::Twin;
 use input::Input;
 use quiet::{Probe, PATIENCE};
-use rows::{Call, Limit, Row};
+use rows::{Call, Row};
 use std::process::ExitCode;
 use std::time::{Duration, Instant};
 use work::counts_changes;
@@ -212,10 +211,6 @@ fn timed<'a>(row: &'a Row, input: &'a Input, offered: &[&'a Library]) -> Vec<Tim
         let run = ours.run;
         let work = Box::new(move |rounds| run(row.call, input, rounds));
         all.push(new(format!("{} again", ours.name), "again", "", work));
-    }
-    if row.limit != Limit::None {
-        let work = Box::new(move |rounds| limits::run(row.limit, input, rounds));
-        all.push(new(limits::name(row.limit).to_string(), "limit", "", work));
     }
     all
 }

@@ -68,27 +68,6 @@ pub enum Call {
     AndNotDropped,
 }
 
-/// What the machine can do at most, measured on the row's own size.
-#[derive(Clone, Copy, PartialEq, Eq, Debug)]
-pub enum Limit {
-    /// As many bytes copied as the bits take.
-    Copy,
-    /// As many bytes as there are bools copied.
-    CopyBools,
-    /// As many bytes as the bits take made one value.
-    Fill,
-    /// True bits counted by words.
-    Count,
-    /// One byte stored a bit, in order.
-    Store,
-    /// One byte stored at each index.
-    StoreAt,
-    /// Words fed to the hasher of the toolchain that builds Conthiral, with no Vob.
-    Hasher,
-    /// None: the row is a program and not a call.
-    None,
-}
-
 pub struct Row {
     pub name: String,
     pub call: Call,
@@ -96,7 +75,6 @@ pub struct Row {
     pub unit: &'static str,
     /// How many units a round is.
     pub units: f64,
-    pub limit: Limit,
     /// At most so many rounds.
     pub most: usize,
     shape: Shape,
@@ -108,7 +86,7 @@ impl Row {
         format!("{} at {} bits", self.name, self.bits)
     }
 
-    fn over(name: &str, call: Call, bits: usize, unit: Unit, limit: Limit) -> Row {
+    fn over(name: &str, call: Call, bits: usize, unit: Unit) -> Row {
         let (unit, units) = match unit {
             Unit::Bit => ("bit", bits as f64),
             Unit::Word => ("word", (bits as f64 / 64.0).ceil()),
@@ -135,7 +113,6 @@ impl Row {
             bits,
             unit,
             units,
-            limit,
             most,
             shape,
         }
@@ -146,7 +123,7 @@ impl Row {
         let name = format!("{name}, {density}");
         Row {
             shape: Shape::Density(set),
-            ..Row::over(&name, call, MILLION, Unit::Word, Limit::Count)
+            ..Row::over(&name, call, MILLION, Unit::Word)
         }
     }
 
@@ -186,45 +163,21 @@ const DENSITIES: [(&str, u32); 11] = [
 pub fn all() -> Vec<Row> {
     use Unit::{Bit, Index, Round, Word};
     let mut rows = vec![
-        Row::over("push", Call::Push, 1_000_000, Bit, Limit::Store),
-        Row::over("get at random", Call::Get, MILLION, Index, Limit::StoreAt),
-        Row::over("set at random", Call::Set, MILLION, Index, Limit::StoreAt),
-        Row::over("iterate", Call::Iterate, MILLION, Bit, Limit::Count),
-        Row::over("from_bytes", Call::FromBytes, MILLION, Word, Limit::Copy),
-        Row::over(
-            "from_slice",
-            Call::FromSlice,
-            MILLION,
-            Bit,
-            Limit::CopyBools,
-        ),
-        Row::over(
-            "extend_from_slice",
-            Call::ExtendFromSlice,
-            MILLION,
-            Bit,
-            Limit::CopyBools,
-        ),
-        Row::over("resize true", Call::Resize, MILLION, Word, Limit::Fill),
-        Row::over("set_all", Call::SetAll, MILLION, Word, Limit::Fill),
-        Row::over("negate", Call::Negate, MILLION, Word, Limit::Copy),
-        Row::over("set_range", Call::SetRange, MILLION, Word, Limit::Fill),
-        Row::over(
-            "negate_range",
-            Call::NegateRange,
-            MILLION,
-            Word,
-            Limit::Copy,
-        ),
-        Row::over(
-            "from_indices",
-            Call::FromIndices,
-            MILLION,
-            Index,
-            Limit::None,
-        ),
-        Row::over("to_bytes", Call::ToBytes, MILLION, Word, Limit::Copy),
-        Row::over("clone", Call::Clone, MILLION, Word, Limit::Copy),
+        Row::over("push", Call::Push, 1_000_000, Bit),
+        Row::over("get at random", Call::Get, MILLION, Index),
+        Row::over("set at random", Call::Set, MILLION, Index),
+        Row::over("iterate", Call::Iterate, MILLION, Bit),
+        Row::over("from_bytes", Call::FromBytes, MILLION, Word),
+        Row::over("from_slice", Call::FromSlice, MILLION, Bit),
+        Row::over("extend_from_slice", Call::ExtendFromSlice, MILLION, Bit),
+        Row::over("resize true", Call::Resize, MILLION, Word),
+        Row::over("set_all", Call::SetAll, MILLION, Word),
+        Row::over("negate", Call::Negate, MILLION, Word),
+        Row::over("set_range", Call::SetRange, MILLION, Word),
+        Row::over("negate_range", Call::NegateRange, MILLION, Word),
+        Row::over("from_indices", Call::FromIndices, MILLION, Index),
+        Row::over("to_bytes", Call::ToBytes, MILLION, Word),
+        Row::over("clone", Call::Clone, MILLION, Word),
     ];
     for (name, call) in [
         ("and", Call::And),
@@ -235,7 +188,7 @@ pub fn all() -> Vec<Row> {
         ("count_and", Call::CountAnd),
     ] {
         for bits in SIZES {
-            rows.push(Row::over(name, call, bits, Word, Limit::Copy));
+            rows.push(Row::over(name, call, bits, Word));
         }
     }
     for (name, call) in [
@@ -243,7 +196,7 @@ pub fn all() -> Vec<Row> {
         ("and_not, its answer dropped", Call::AndNotDropped),
     ] {
         for bits in [1024, 1 << 16, MILLION] {
-            rows.push(Row::over(name, call, bits, Word, Limit::Copy));
+            rows.push(Row::over(name, call, bits, Word));
         }
     }
     for (name, call) in [
@@ -254,7 +207,7 @@ pub fn all() -> Vec<Row> {
         ("count_xor", Call::CountXor),
     ] {
         for bits in [64, MILLION] {
-            rows.push(Row::over(name, call, bits, Word, Limit::Copy));
+            rows.push(Row::over(name, call, bits, Word));
         }
     }
     rows.extend([
@@ -263,39 +216,14 @@ pub fn all() -> Vec<Row> {
             Call::ExtendAligned,
             MILLION,
             Word,
-            Limit::Copy,
         ),
-        Row::over(
-            "extend_from_vob at +13",
-            Call::ExtendShifted,
-            MILLION,
-            Word,
-            Limit::Copy,
-        ),
-        Row::over(
-            "split_off misaligned",
-            Call::SplitOff,
-            MILLION,
-            Word,
-            Limit::Copy,
-        ),
-        Row::over(
-            "drain aligned",
-            Call::DrainAligned,
-            MILLION,
-            Word,
-            Limit::Copy,
-        ),
-        Row::over(
-            "drain misaligned",
-            Call::DrainShifted,
-            MILLION,
-            Word,
-            Limit::Copy,
-        ),
-        Row::over("copy_range", Call::CopyRange, MILLION, Word, Limit::Copy),
-        Row::over("equality", Call::Equal, MILLION, Word, Limit::Count),
-        Row::over("hash", Call::Hash, MILLION, Word, Limit::Hasher),
+        Row::over("extend_from_vob at +13", Call::ExtendShifted, MILLION, Word),
+        Row::over("split_off misaligned", Call::SplitOff, MILLION, Word),
+        Row::over("drain aligned", Call::DrainAligned, MILLION, Word),
+        Row::over("drain misaligned", Call::DrainShifted, MILLION, Word),
+        Row::over("copy_range", Call::CopyRange, MILLION, Word),
+        Row::over("equality", Call::Equal, MILLION, Word),
+        Row::over("hash", Call::Hash, MILLION, Word),
     ]);
     for (name, call) in [
         ("iter_set_bits", Call::SetBits),
@@ -322,57 +250,20 @@ pub fn all() -> Vec<Row> {
         Row::walk("last_unset", Call::LastUnset, "all set", 65536),
         Row::walk("any", Call::Any, "none set", 0),
         Row::walk("all", Call::All, "all set", 65536),
-        Row::over("deal, half set", Call::Deal, MILLION, Index, Limit::None),
-        Row::over(
-            "count of set bits",
-            Call::Count,
-            MILLION,
-            Word,
-            Limit::Count,
-        ),
-        Row::over("rank in the middle", Call::Rank, MILLION, Word, Limit::None),
-        Row::over(
-            "select in the middle",
-            Call::Select,
-            MILLION,
-            Word,
-            Limit::None,
-        ),
+        Row::over("deal, half set", Call::Deal, MILLION, Index),
+        Row::over("count of set bits", Call::Count, MILLION, Word),
+        Row::over("rank in the middle", Call::Rank, MILLION, Word),
+        Row::over("select in the middle", Call::Select, MILLION, Word),
         Row::over(
             "first unset bit, the last one",
             Call::FirstFree,
             MILLION,
             Word,
-            Limit::Count,
         ),
-        Row::over(
-            "filter over three columns",
-            Call::Filter,
-            MILLION,
-            Word,
-            Limit::Copy,
-        ),
-        Row::over(
-            "closure 1000 x 1000",
-            Call::Closure,
-            1_000_000,
-            Round,
-            Limit::None,
-        ),
-        Row::over(
-            "matrix closure, 1000 nodes",
-            Call::Matrix,
-            1000,
-            Round,
-            Limit::None,
-        ),
-        Row::over(
-            "liveness, 10000 nodes",
-            Call::Live,
-            1000,
-            Round,
-            Limit::None,
-        ),
+        Row::over("filter over three columns", Call::Filter, MILLION, Word),
+        Row::over("closure 1000 x 1000", Call::Closure, 1_000_000, Round),
+        Row::over("matrix closure, 1000 nodes", Call::Matrix, 1000, Round),
+        Row::over("liveness, 10000 nodes", Call::Live, 1000, Round),
     ]);
     rows
 }
