@@ -1,5 +1,6 @@
 -- The runs of a list of bits: where they start and end, and that they are all of the maximal ones.
 use Rattle.std.specs.Prelude.{Any, All, map, slice_index_or}
+use Rattle.std.specs.Iterator.{Drains}
 use Rattle.std.specs.List.{AllPairs, position_or_len}
 use Rattle.std.specs.declared.ops.Range.{Range}
 use Rattle.std.proofs.Common.{◌≡◌, ◌≢◌, ℕ, zero, suc, ◌+◌, ◌-◌, ◌<◌, ◌≤◌, Bool, true, false, ◌&&◌}
@@ -15,7 +16,8 @@ use Rattle.vob_block.specs.Packing.{item}
 use Rattle.vob_walk.specs.Cursor.{indices_where}
 use Rattle.vob_walk.proofs.WhereLemmas.{indices_where-nothing, indices_where-skip, length-indices_where-le}
 use Rattle.vob.specs.Sets.{IsFirstFrom}
-use Rattle.vob.specs.Runs.{AreRuns, IsMaximalRun, IsFirstRun, starts_run, run_end, runs_from, runs_of}
+use Rattle.vob.specs.Runs.{AreRuns, IsMaximalRun, IsFirstRun, RunWalk, GivesRun, starts_run, run_end}
+use Rattle.vob.specs.Runs.{runs_from, runs_of}
 use Rattle.vob.proofs.SelectLemmas.{inside}
 
 set_from : (b : Bool) → b ≢ false → b ≡ true
@@ -356,3 +358,25 @@ AreRuns-only bits runs = (
     all = λ i _ there. are.all i there;
   },
 )
+
+-- ---- a whole walk gives each of them
+
+walk_from : (runs : List (Range ℕ)) (walk : RunWalk) → Drains GivesRun walk runs
+    → AreRunsFrom walk.bits walk.at runs
+walk_from [] walk h =
+    let last = h.1.2.run.0 in
+    let same = h.1.1 in none_from walk.bits walk.at (rw (← same) at last)
+walk_from (run ∷ runs) walk h =
+    let step = h.1.1.1 in
+    let after = h.1.1.0 in
+    let rest = walk_from runs after (h.0, (h.1.0, h.1.1.2, h.1.2)) in
+    one_more walk.bits walk.at run runs step.run.0 (rw (step.bits, step.run.1) at rest)
+
+pub AreRuns-walk : (walk : RunWalk) (runs : List (Range ℕ)) → walk.at ≡ 0
+    → Drains GivesRun walk runs → AreRuns walk.bits runs
+AreRuns-walk walk runs start h =
+    let all = walk_from runs walk h in record {
+      each = λ k d below. (all.each k d below).0;
+      order = all.order;
+      all = λ i there. all.all i (omega (arith, start)) there;
+    }

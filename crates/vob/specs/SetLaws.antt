@@ -1,10 +1,11 @@
 -- What Vobs as sets of indices obey, and their runs.
 use Rattle.std.specs.Prelude.{◌≡◌, ◌↔◌, ℕ, Bool, true, false, not, ◌&&◌, List, length, map, take, replicate, Option, Some, IsTrue}
+use Rattle.std.specs.Iterator.{Drains}
 use Rattle.std.specs.declared.ops.Range.{Range}
 use Rattle.vob_block.specs.Packing.{item}
 use Rattle.vob_block.specs.Pointwise.{pointwise, without}
 use Rattle.vob.specs.Bits.{count_of}
-use Rattle.vob.specs.Runs.{AreRuns, runs_of}
+use Rattle.vob.specs.Runs.{AreRuns, RunWalk, GivesRun, runs_of}
 use Rattle.vob.specs.Sets.{IsIndexOfRank}
 
 -- what a list has and another hasn't is what both the first and the other negated have
@@ -34,3 +35,9 @@ SelectUndoesRank =
 abbrev pub RunsAreMaximal : Type 0
 RunsAreMaximal =
     (bits : List Bool) (runs : List (Range ℕ)) → (runs ≡ runs_of bits) ↔ AreRuns bits runs
+
+-- a walk over runs from the first bit on, up to `None`, gives all of them
+abbrev pub WalkGivesRuns : Type 0
+WalkGivesRuns =
+    (walk : RunWalk) (runs : List (Range ℕ)) → walk.at ≡ 0 → Drains GivesRun walk runs
+    → AreRuns walk.bits runs

@@ -4,7 +4,8 @@ ghost use Rattle.vob.specs.Laws.{EqualWhereStorageIs, UnequalWherePlacesDiffer};
 ghost use Rattle.vob.specs.Laws.{PointwiseChangesBits, SetChangesBit, NegateTwice, XorOfEqual};
 ghost use Rattle.vob.specs.Laws.{DigitsGiveBits, NegatedAnd};
 ghost use Rattle.vob.specs.PackingLaws.{NeedIsLeast, CanonicalIsPacked};
-ghost use Rattle.vob.specs.SetLaws.{DifferenceIsAndNot, NoneIsCounted, RankUndoesSelect, SelectUndoesRank, RunsAreMaximal};
+ghost use Rattle.vob.specs.SetLaws.{DifferenceIsAndNot, NoneIsCounted, RankUndoesSelect};
+ghost use Rattle.vob.specs.SetLaws.{SelectUndoesRank, RunsAreMaximal, WalkGivesRuns};
 ghost use Rattle.vob_walk.specs.Laws.{MatchesShareNoIndex, MatchesFillTheRange, MatchesAddUp};
 ghost use Rattle.vob_walk.specs.Laws.{MatchesExactly, MatchesRise, FirstMatchIsLeast};
 ghost use Rattle.vob_walk.specs.Laws.{NoMatchIsNone, MatchesAreCounted, MatchesAreFew};
@@ -116,6 +117,11 @@ pub fn none_is_counted()
 /// list has. So the set bits are those of its ranges.
 pub fn runs_are_maximal()
     ensures { RunsAreMaximal }
+{}
+
+/// A walk over runs that begins at index 0 and goes on up to `None` gives each run once, in order.
+pub fn walk_gives_runs()
+    ensures { WalkGivesRuns }
 {}
 
 /// No index matches both values, so walks over the set and the unset bits of one range give no index
