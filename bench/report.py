@@ -1,8 +1,9 @@
 #!/usr/bin/env python3
 """Merges readings of the benchmark, and draws the table and the plot of its page.
 
-report.py merge FILE .. prints one results file of several readings of one CPU: of each time the median, and the spread,
-which is the greatest reading over the least. report.py table prints the table of README.md, and report.py plot its
+report.py merge FILE .. prints one results file of several readings of one CPU: a row a line and a library a column, with
+the median time in ns, the spread, which is the greatest reading over the least, whether the library does the same, and
+how. report.py table prints the table of README.md, and report.py plot its
 picture, both from bench/results. A ratio is our time over another's: below 1 ours is faster. Ratios within a
 tenth of 1 count as equal."""
 
@@ -46,28 +47,51 @@ ROWS = [
 ]
 
 
+def lines_of(path):
+    """The head's lines, and the others cut at tabs."""
+    lines = path.read_text(encoding="utf-8").splitlines()
+    return [it for it in lines if it.startswith("#")], [it.split("\t") for it in lines if not it.startswith("#")]
+
+
 def read(path):
-    """The head's lines, and each row's times: (name, bits, unit) to library to (kind, mark, ns)."""
-    head, rows = [], {}
-    for line in path.read_text(encoding="utf-8").splitlines():
-        if line.startswith("#"):
-            head.append(line)
-            continue
-        name, bits, unit, library, kind, mark, ns = line.split("\t")[:7]
+    """A reading's head, and its times: (name, bits, unit) to library to (kind, mark, ns)."""
+    head, lines = lines_of(path)
+    rows = {}
+    for name, bits, unit, library, kind, mark, ns in lines:
         rows.setdefault((name, int(bits), unit), {})[library] = (kind, mark, float(ns))
     return head, rows
 
 
+def read_merged(path):
+    """The same of a results file, without its head."""
+    (titles, *lines) = lines_of(path)[1]
+    rows = {}
+    for name, bits, unit, *cells in lines:
+        times = rows.setdefault((name, int(bits), unit), {})
+        for library, cell in zip(titles[3:], cells):
+            if cell:
+                ns, _, kind, mark = cell.split(" ", 3)
+                times[library] = (kind, mark, float(ns))
+    return rows
+
+
 def merge(paths):
     heads, readings = zip(*(read(path) for path in paths))
+    libraries = list(dict.fromkeys(library for times in readings[0].values() for library in times))
     print("\n".join(heads[0]))
     print(f"# median of {len(paths)} readings, and the greatest over the least")
+    print("\t".join(["row", "bits", "unit", *libraries]))
     for key, times in readings[0].items():
-        for library, (kind, mark, _) in times.items():
+        cells = list(map(str, key))
+        for library in libraries:
             found = [rows[key][library][2] for rows in readings if library in rows.get(key, {})]
+            if not found:
+                cells.append("")
+                continue
+            kind, mark, _ = times[library]
             spread = max(found) / min(found) if min(found) > 0 else 0
-            cells = [*map(str, key), library, kind, mark, f"{statistics.median(found):.4g}", f"{spread:.2f}"]
-            print("\t".join(cells))
+            cells.append(f"{statistics.median(found):.4g} {spread:.2f} {kind} {mark}")
+        print("\t".join(cells))
 
 
 def ratios(rows, call, bits):
@@ -85,7 +109,7 @@ def shown(ratio):
 
 
 def table():
-    of = {cpu: read(RESULTS / f"{cpu}.tsv")[1] for cpu in CPUS}
+    of = {cpu: read_merged(RESULTS / f"{cpu}.tsv") for cpu in CPUS}
     print("| Call | v2: of vob 4.0.1 | of the best peer | v3: of vob 4.0.1 | of the best peer |")
     print("|---|---|---|---|---|")
     for label, call, bits in ROWS:
@@ -97,7 +121,7 @@ def table():
 
 
 def plot():
-    rows = read(RESULTS / "x86-64-v3.tsv")[1]
+    rows = read_merged(RESULTS / "x86-64-v3.tsv")
     left, wide, high, most = 250, 360, 22, 2.0
     bottom = 40 + high * len(ROWS)
     at = lambda ratio: left + wide * min(ratio, most) / most
