@@ -43,7 +43,7 @@ impl<T: Block> Vob<T> {
             ≡ take new_len self.old.bits ++ replicate (new_len - length self.old.bits) value) }
         ensures err { OnErr result (self.new.bits ≡ self.old.bits) }
 
-        // Memory is asked for only where there is no room, and nothing else is refused.
+        // Memory is asked for only if there is no room, and nothing else is refused.
         ensures memory { OnErr result ((result ≡ Err VobError.Memory) × (self.old.capacity < new_len)
             × (need (length self.old.bits) T.BITS < need new_len T.BITS)) }
         ensures capacity { self.old.capacity ≤ self.new.capacity }

@@ -69,10 +69,9 @@ impl<T: Block> Vob<T> {
     }
 
     /// Returns a walk over the indices of the set bits within a range, in rising order. Every
-    /// pair of bounds is accepted, and the range is cut at the length. It reads no block before
-    /// an index is asked for, and at most as many blocks as hold an index of the range. vob 4.0.1
-    /// adds 1 to an included end and to an excluded start unchecked, so `usize::MAX` there panics
-    /// or wraps.
+    /// pair of bounds is accepted, and the range is cut at the length. It reads no block until an
+    /// index is asked for, and at most one a block that holds an index of the range. With
+    /// `usize::MAX` as an included end or an excluded start vob 4.0.1 panics or wraps.
     ///
     /// ```
     /// let vob = vob::vob!(alloc; true, false, true)?;
@@ -95,10 +94,9 @@ impl<T: Block> Vob<T> {
     }
 
     /// Returns a walk over the indices of the unset bits within a range, in rising order. Every
-    /// pair of bounds is accepted, and the range is cut at the length. It reads no block before
-    /// an index is asked for, and at most as many blocks as hold an index of the range. vob 4.0.1
-    /// adds 1 to an included end and to an excluded start unchecked, so `usize::MAX` there panics
-    /// or wraps.
+    /// pair of bounds is accepted, and the range is cut at the length. It reads no block until an
+    /// index is asked for, and at most one a block that holds an index of the range. With
+    /// `usize::MAX` as an included end or an excluded start vob 4.0.1 panics or wraps.
     pub fn iter_unset_bits<R: RangeBounds<usize>>(&self, range: R) -> IterUnsetBits<'_, T>
         ensures fresh { R.has_bounds range
             → IsFresh result self.now.bits false (R.start_bound range) (R.end_bound range) T.BITS }

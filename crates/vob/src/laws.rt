@@ -29,13 +29,13 @@ pub fn join_is_pushes()
     ensures { JoinIsPushes }
 {}
 
-/// The test of two lists is true exactly where they are equal, so `==` of two Vobs is.
+/// The test of two lists is true exactly if they are equal, and so is `==` of two Vobs.
 pub fn equal_where_lists_are()
     ensures { EqualWhereListsAre }
 {}
 
-/// Lists are equal exactly where their lengths and their blocks are, so two Vobs of one block type
-/// are equal exactly where `len` and `get_storage` are.
+/// Lists are equal exactly if their lengths and their blocks are, so two Vobs of one block type are
+/// equal exactly if `len` and `get_storage` are.
 pub fn equal_where_storage_is()
     ensures { EqualWhereStorageIs }
 {}
@@ -51,19 +51,19 @@ pub fn canonical_is_packed()
     ensures { CanonicalIsPacked }
 {}
 
-/// Lists of one length are unequal exactly where they differ at some place.
+/// Lists of one length are unequal exactly if they differ at some index.
 pub fn unequal_where_places_differ()
     ensures { UnequalWherePlacesDiffer }
 {}
 
-/// A list combined with another changes exactly where some bit does, so `and`, `or` and `xor`
-/// answer true exactly there.
+/// A list combined with another changes exactly if some bit does, so `and`, `or` and `xor` return
+/// true exactly then.
 pub fn pointwise_changes_bits()
     ensures { PointwiseChangesBits }
 {}
 
-/// A written bit changes a list exactly where it was another, so `set` answers true exactly where
-/// the list changed.
+/// A written bit changes a list exactly if it was another, so `set` returns true exactly if the list
+/// changed.
 pub fn set_changes_bit()
     ensures { SetChangesBit }
 {}
@@ -73,8 +73,7 @@ pub fn negate_twice()
     ensures { NegateTwice }
 {}
 
-/// Two equal lists, each bit true where they differ, are all false, so `xor` with an equal Vob
-/// leaves no bit true.
+/// Two equal lists differ nowhere, so `xor` with an equal Vob leaves no bit true.
 pub fn xor_of_equal()
     ensures { XorOfEqual }
 {}
@@ -107,8 +106,8 @@ pub fn difference_is_and_not()
     ensures { DifferenceIsAndNot }
 {}
 
-/// Bits are all unset exactly where no set one is counted, so `is_disjoint` answers true exactly
-/// where `count_and` answers 0, and `is_subset` exactly where `count_and_not` does.
+/// Bits are all unset exactly if no set one is counted. So `is_disjoint` returns true exactly if
+/// `count_and` returns 0, and `is_subset` exactly if `count_and_not` does.
 pub fn none_is_counted()
     ensures { NoneIsCounted }
 {}
@@ -140,7 +139,7 @@ pub fn matches_add_up()
     ensures { MatchesAddUp }
 {}
 
-/// An index is given where it is below the length and within the range, and its bit has the value.
+/// An index is given if it is below the length and within the range, and its bit has the value.
 pub fn matches_exactly()
     ensures { MatchesExactly }
 {}
@@ -156,7 +155,7 @@ pub fn first_match_is_least()
     ensures { FirstMatchIsLeast }
 {}
 
-/// Where no index is given, no bit within the range has the value.
+/// If no index is given, no bit within the range has the value.
 pub fn no_match_is_none()
     ensures { NoMatchIsNone }
 {}
@@ -171,14 +170,13 @@ pub fn matches_are_few()
     ensures { MatchesAreFew }
 {}
 
-/// A walk over indices that answered None at either end answers None at both, for good: no pull gives
-/// an index after one that gave none.
+/// A walk over indices that returned `None` at either end returns `None` at both from then on.
 pub fn none_is_for_good()
     ensures { NoneIsForGood }
 {}
 
-/// What the front gave, what is left, and what the back gave, from its last index on, are the list
-/// that a walk is pulled at: each index is given once.
+/// What the front gave, what is left, and what the back gave in reverse are the list of the walk:
+/// each index is given once.
 pub fn each_is_given_once()
     ensures { EachIsGivenOnce }
 {}

@@ -10,7 +10,7 @@ use std::marker::Model;
 use vob_block::Block;
 use vob_store::canonical::{is_canonical, mask};
 
-/// The Vob of `len` bits in these blocks, where they are canonical; otherwise the blocks again.
+/// Returns the Vob of `len` bits in these blocks if they are canonical, and the blocks if not.
 fn vob_of_parts<T: Block>(len: usize, vec: Vec<T>) -> Result<Vob<T>, Vec<T>>
     ensures taken { IsOk result ↔ IsCanonical len (map T.number vec.items) T.BITS }
     ensures bits { IfOk result (λ vob. vob.bits ≡ unpacking len (map T.number vec.items) T.BITS) }

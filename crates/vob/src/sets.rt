@@ -1,6 +1,5 @@
-//! A Vob as a set of indices, those of its set bits: whether there are some, the one that is next
-//! to another, how many stand below one, the one below which so many stand, and two sets of one
-//! length. vob 4.0.1 has none of these calls.
+//! A Vob as a set of indices, those of its set bits: search, rank and select, and comparison with
+//! another set. vob 4.0.1 has none of these calls.
 ghost use Rattle.std.specs.Prelude.{◌≡◌, ◌≢◌, ◌↔◌, ℕ, ◌<◌, ◌≤◌, ◌/◌, ◌*◌, ◌&&◌, ◌||◌, true, false, take};
 ghost use Rattle.std.specs.Prelude.{length, replicate, slice_index_or, All, Err, IfOk, IfSome, IsTrue};
 ghost use Rattle.std.specs.Prelude.{MatchOption, None};
@@ -49,8 +48,8 @@ impl<T: Block> Vob<T> {
         })
     }
 
-    /// Sets the bits at the given indices up to the first one that is past the end, and answers
-    /// whether there is none.
+    /// Sets the bits at the given indices up to the first one that is past the end. Returns true if
+    /// none is.
     fn set_each(&mut self, indices: &[usize]) -> bool
         ensures inside { IsTrue result ↔ All (λ i. i < length self.old.bits) indices.now }
         ensures set { IsTrue result
@@ -89,7 +88,7 @@ impl<T: Block> Vob<T> {
         true
     }
 
-    /// Sets the bit at an index, and answers true, or false where it is past the end.
+    /// Sets the bit at an index and returns true, or returns false if it is past the end.
     #[inline(always)]
     fn set_inside(&mut self, index: usize) -> bool
         ensures inside { IsTrue result ↔ index < length self.old.bits }

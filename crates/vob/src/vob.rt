@@ -230,7 +230,7 @@ impl<T: Block> Vob<T> {
         ensures ok { OnOk result (self.new.bits ≡ self.old.bits ++ value ∷ []) }
         ensures err { OnErr result (self.new.bits ≡ self.old.bits) }
 
-        // The greatest length is refused first, and memory only where there is no room.
+        // The greatest length is refused first, and memory only if there is no room.
         ensures refused { RefusesMore T.BITS self.old 1 result }
         ensures capacity { self.old.capacity ≤ self.new.capacity }
     {
@@ -288,7 +288,7 @@ impl<T: Block> Vob<T> {
         self.truncate(0);
     }
 
-    /// Returns the blocks, the one with bit 0 first. vob 4.0.1 has this behind a cargo feature.
+    /// Returns the blocks, the one with bit 0 first. vob 4.0.1 has this with a cargo feature.
     pub fn get_storage(&self) -> &[T]
         ensures { map T.number result.now ≡ packing self.now.bits T.BITS }
     {

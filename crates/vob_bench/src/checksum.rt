@@ -3,7 +3,7 @@
 use vob::Vob;
 use vob_users::matrix::BitMatrix;
 
-// A digest looks at every bit of so many, and at every second, third .. one of more.
+// A digest looks at every bit of up to this number, and at every second, third .. one of more.
 const MOST: usize = 0x10_0000;
 
 /// A digest of the length and of the bits, below 2^32. One wrong bit that it looks at changes it.

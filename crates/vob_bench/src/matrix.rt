@@ -6,7 +6,7 @@ use std::alloc::{AllocError, Global};
 use vob::{Vob, VobError};
 use vob_users::matrix::BitMatrix;
 
-/// Puts a row behind the others.
+/// Appends a row.
 fn push_row(rows: &mut Vec<Vob>, row: Vob) -> Result<(), AllocError> {
     rows.push(row)?;
     Ok(())
@@ -32,7 +32,7 @@ fn copy_of(alloc: Global, rows: &[Vob]) -> Result<Vec<Vob>, VobError> {
     Ok(copies)
 }
 
-/// Adds the row of node `k` to each row that leads to it, and answers how many rows changed.
+/// Adds the row of node `k` to each row that leads to it, and returns how many rows changed.
 #[inline(never)]
 fn lead_through(rows: &mut [Vob], k: usize, through: &Vob) -> u64 {
     let mut times: u64 = 0;
@@ -45,7 +45,7 @@ fn lead_through(rows: &mut [Vob], k: usize, through: &Vob) -> u64 {
     times
 }
 
-/// Makes each row hold all nodes that it leads to, and answers how many times a row changed.
+/// Makes each row hold all nodes that it leads to, and returns how many times a row changed.
 fn close(rows: &mut [Vob]) -> Result<u64, VobError> {
     let mut times: u64 = 0;
     for k in 0..rows.len() {
@@ -74,7 +74,7 @@ pub(crate) fn closure(
     Ok(checksum_all(&last, times))
 }
 
-/// The graph of so many nodes with steps of two numbers each: from which node, and to which.
+/// The graph of `nodes` nodes with edges of two numbers each: from which node, and to which.
 fn graph_of(alloc: Global, steps: &[usize], nodes: usize) -> Result<BitMatrix, AllocError> {
     let mut matrix = BitMatrix::new(alloc, nodes, nodes)?;
     for step in 0..steps.len() / 2 {

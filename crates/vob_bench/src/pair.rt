@@ -81,7 +81,7 @@ pub(crate) fn and_not(
     Ok(checksum(&vob, times))
 }
 
-/// `or` with a Vob that is as long, whose answer nobody looks at.
+/// `or` with a Vob that is as long, whose result is dropped.
 #[inline(never)]
 pub(crate) fn or_dropped(
     alloc: Global,
@@ -99,7 +99,7 @@ pub(crate) fn or_dropped(
     Ok(checksum(&vob, 0))
 }
 
-/// `and_not` with a Vob that is as long, whose answer nobody looks at.
+/// `and_not` with a Vob that is as long, whose result is dropped.
 #[inline(never)]
 pub(crate) fn and_not_dropped(
     alloc: Global,
@@ -217,7 +217,7 @@ pub(crate) fn count(
     Ok(checksum(&vob, times))
 }
 
-/// The bits from one index to below another written over those from `at` on, where they are there and fit.
+/// The bits of a range written over those from `at` on, if they are there and fit.
 fn copy_bits(vob: &mut Vob, at: usize, other: &Vob, bounds: (usize, usize)) {
     let (start, end) = bounds;
     if start <= end && end <= other.len() && at <= vob.len() && end - start <= vob.len() - at {
@@ -258,7 +258,7 @@ pub(crate) fn equal(alloc: Global, bytes: &[u8], rounds: usize) -> Result<u64, V
     Ok(checksum(&vob, times))
 }
 
-/// Joins the others behind the first `at` bits, in the room that the first round made.
+/// Appends the others to the first `at` bits, in the room that the first round made.
 #[inline(never)]
 pub(crate) fn extend(
     alloc: Global,

@@ -15,7 +15,7 @@ fn true_at(vob: &Vob, indices: &[usize]) -> u64 {
     times
 }
 
-/// Writes a bit at each of these indices, and answers how many changed.
+/// Writes a bit at each of these indices, and returns how many changed.
 #[inline(never)]
 fn write_at(vob: &mut Vob, indices: &[usize], round: usize) -> u64 {
     let mut times: u64 = 0;

@@ -38,7 +38,7 @@ pub(crate) fn from_slice(alloc: Global, bits: &[bool], rounds: usize) -> Result<
     Ok(checksum(&last, times))
 }
 
-/// All bits put behind the first 13 of them, in the room that the first round made.
+/// All bits appended to the first 13 of them, in the room that the first round made.
 #[inline(never)]
 pub(crate) fn extend_from_slice(
     alloc: Global,

@@ -58,7 +58,7 @@ fn set_bits_between(vob: &Vob, from: usize, to: usize) -> u64 {
     sum
 }
 
-/// The sum of the indices of the set bits, each looked for behind the one before.
+/// The sum of the indices of the set bits, each looked for after the one before.
 #[inline(never)]
 fn next_bits(vob: &Vob) -> u64 {
     let mut sum: u64 = 0;
@@ -95,7 +95,7 @@ fn previous_bits(vob: &Vob) -> u64 {
     sum
 }
 
-/// The sum of the indices of the unset bits, each looked for behind the one before.
+/// The sum of the indices of the unset bits, each looked for after the one before.
 #[inline(never)]
 fn next_unset_bits(vob: &Vob) -> u64 {
     let mut sum: u64 = 0;
@@ -132,7 +132,7 @@ fn previous_unset_bits(vob: &Vob) -> u64 {
     sum
 }
 
-/// The sum of the lengths of the runs of set bits, and of where each begins.
+/// The sum of the lengths and the starts of the runs of set bits.
 #[inline(never)]
 fn run_sum(vob: &Vob) -> u64 {
     let mut sum: u64 = 0;
@@ -200,7 +200,7 @@ pub(crate) fn walk(alloc: Global, row: u32, bytes: &[u8], rounds: usize) -> Resu
     Ok(checksum(&vob, times))
 }
 
-/// Asks for indices of set bits as the pulls say, and answers the sum of those that are there.
+/// Asks for indices of set bits as the pulls say, and returns their sum.
 #[inline(never)]
 fn dealt(vob: &Vob, pulls: &[End], answers: &mut Vec<Option<usize>>) -> Result<u64, AllocError> {
     let mut sum: u64 = 0;
@@ -247,7 +247,7 @@ fn first_unset(vob: &Vob) -> usize {
     }
 }
 
-/// A look a round where no bit is set: 12 `any`, 15 `first_set`, 16 `last_set`. It is the rounds in
+/// A look a round if no bit is set: 12 `any`, 15 `first_set`, 16 `last_set`. It is the rounds in
 /// which none is found that are counted.
 #[inline(never)]
 pub(crate) fn miss(alloc: Global, row: u32, bytes: &[u8], rounds: usize) -> Result<u64, VobError> {

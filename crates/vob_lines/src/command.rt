@@ -294,7 +294,7 @@ impl<'a> Words<'a> {
         }))
     }
 
-    /// The command of a keyword and the words behind it.
+    /// Reads the command of a keyword from the words after it.
     fn command(&mut self, alloc: Global, keyword: Keyword) -> Result<UsizeCommand, LineError>
         ensures ok { IfOk result (λ command. IsLine keyword self.old (usize_call_of command)) }
         ensures err { IsErrOf result LineError.Unreadable → Are self.old (kinds_of keyword) → ⊥ }
@@ -334,8 +334,8 @@ impl<'a> Words<'a> {
     }
 }
 
-/// The command that a line reads as. `Unreadable` where it reads as none, and `Memory` where that
-/// was refused for a list in a line that begins as a command with one.
+/// Returns the command that a line reads as. Fails with `Unreadable` if it reads as none, and with
+/// `Memory` if that runs out for a list.
 pub fn read_command(alloc: Global, line: &[u8]) -> Result<UsizeCommand, LineError>
     ensures found { IfOk result (λ command. Reads (words_of line.now) (usize_call_of command)) }
     ensures one { IfOk result (λ command. (other : Call) → Reads (words_of line.now) other →

@@ -1,4 +1,4 @@
-//! The first words of lines, and the command of each with the values behind it.
+//! The first words of lines, and the command of each with the values after it.
 
 ghost use Rattle.std.specs.Prelude.{◌≡◌, [], ◌∷◌};
 ghost use Rattle.vob_run.specs.Commands.{usize_call_of};
@@ -8,7 +8,7 @@ ghost use Rattle.vob_lines.specs.Keywords.{word_of, keyword_named};
 
 use vob_run::{Command, UsizeCommand};
 
-/// The first word of a line, by what stands behind it.
+/// The first word of a line, by the kinds of the words after it.
 #[derive(Clone, Copy)]
 pub enum Keyword {
     Fresh,

@@ -1,4 +1,4 @@
-//! Lines of the input: where they and their words begin and end, and why one gives no command.
+//! Lines of the input: how they and their words are cut, and why one gives no command.
 
 ghost use Rattle.std.specs.Prelude.{◌≡◌, ◌==◌, ◌≤◌, ◌<◌, ◌↔◌, [], ◌∷◌, length, drop, IsTrue};
 ghost use Rattle.std.specs.List.{prefix_len, position_or_len};
@@ -64,7 +64,7 @@ pub fn is_blank(line: &[u8]) -> bool
     past_spaces(line).is_empty()
 }
 
-/// The first line of a text, and the text behind it.
+/// Returns the first line of a text, and the text after it.
 pub fn cut_line(text: &[u8]) -> (&[u8], &[u8])
     requires { 0 < length text.now }
     ensures line { lines_of text.now ≡ result.0.now ∷ lines_of result.1.now }

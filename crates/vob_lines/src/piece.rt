@@ -76,7 +76,7 @@ impl Piece {
         self.len = 0;
     }
 
-    /// Lets a text wait behind what does.
+    /// Appends a text to what waits.
     fn push(&mut self, text: &[u8])
         requires { length self.old + length text.now ≤ 4096 }
         ensures { self.new ≡ self.old ++ text.now }
@@ -97,7 +97,7 @@ pub fn write_out<W: Write>(output: &mut W, piece: &mut Piece) -> io::Result<()>
     Ok(())
 }
 
-/// Adds a text to what waits, which is written before that where both don't fit.
+/// Adds a text to what waits. What waits is written first if both don't fit.
 pub fn add<W: Write>(output: &mut W, piece: &mut Piece, text: &[u8]) -> io::Result<()>
     requires { length text.now ≤ 4096 }
     ensures { Puts result (W.contents output.old) (W.contents output.new)
@@ -124,7 +124,7 @@ pub fn add_number<W: Write>(output: &mut W, piece: &mut Piece, n: usize) -> io::
     add(output, piece, &[b'0' + (n % 10) as u8])
 }
 
-/// Adds a word, and the decimal digits of a number behind it.
+/// Adds a word, and then the decimal digits of a number.
 pub fn add_named<W: Write>(
     output: &mut W,
     piece: &mut Piece,

@@ -165,7 +165,7 @@ fn write_bad_line<W: Write>(output: &mut W, line: usize) -> io::Result<()>
     write_out(output, &mut piece)
 }
 
-/// The status of a conversation whose last text was written, or 1 where it wasn't.
+/// Returns the status of a conversation if its last text was written, and 1 if not.
 fn status_after(written: io::Result<()>, status: u8) -> u8
     ensures ok { OnOk written (result ≡ status) }
     ensures err { OnErr written (result ≡ 1) }

@@ -134,7 +134,7 @@ fn start_of(text: &[u8]) -> Result<Bound<usize>, LineError>
     }
 }
 
-/// Where the range ends whose text stands behind its dots.
+/// Reads the end of a range, from the text after its dots.
 fn end_of(text: &[u8]) -> Result<Bound<usize>, LineError>
     ensures ok { IfOk result (λ end. IsEnd text.now end) }
     ensures err { OnlyUnreadable result ((end : _) → IsEnd text.now end → ⊥) }
@@ -148,7 +148,7 @@ fn end_of(text: &[u8]) -> Result<Bound<usize>, LineError>
     }
 }
 
-/// What stands before the first two dots of a word, and what behind them.
+/// Returns what stands before the first two dots of a word, and what after them.
 fn around_dots(word: &[u8]) -> Result<(&[u8], &[u8]), LineError>
     ensures ok { IfOk result (λ parts. word.now ≡ parts.0.now ++ (codes ".." ++ parts.1.now)) }
     ensures alone { IfOk result (λ parts. (start end : _) → (range : IsRange word.now start end)

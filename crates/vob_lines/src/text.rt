@@ -119,7 +119,7 @@ impl Item for Option<usize> {
     }
 }
 
-/// Adds a word and a list behind it: each item with one space between, or a dash for none.
+/// Adds a word and then a list: its items with one space between, or a dash for none.
 fn add_list<T: Item, W: Write>(
     output: &mut W,
     piece: &mut Piece,
@@ -137,7 +137,7 @@ fn add_list<T: Item, W: Write>(
     add_items(output, piece, *first, others)
 }
 
-/// Adds a first item and the others behind it.
+/// Adds a first item and then the others.
 fn add_items<T: Item, W: Write>(
     output: &mut W,
     piece: &mut Piece,

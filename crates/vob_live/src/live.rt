@@ -11,8 +11,8 @@ use std::alloc::{AllocError, Global};
 use std::{error, fmt};
 use vob::Vob;
 
-/// A node of a flow graph: the variables that it reads, those that it writes behind that, and the
-/// nodes that may come next.
+/// A node of a flow graph: the variables that it reads, those that it then writes, and the nodes
+/// that may come next.
 #[derive(Drop)]
 pub struct Flow {
     pub reads: Vec<usize>,
@@ -29,7 +29,7 @@ pub struct Live {
     pub rounds: u128,
 }
 
-/// Why `liveness` was refused.
+/// Why `liveness` failed.
 #[derive(Clone, Copy, Debug, PartialEq, Eq)]
 pub enum LiveError {
     /// There was no memory for the sets.
@@ -175,7 +175,7 @@ fn empty_sets(alloc: Global, vars: usize, nodes: usize) -> Result<Vec<Vob>, Allo
     Ok(sets)
 }
 
-/// Adds what is live before each node that comes next, and answers whether that added a variable.
+/// Adds what is live before each node that comes next, and returns whether that added a variable.
 fn add_next(after: &mut Vob, next: &[usize], before: &[Vob]) -> bool
     requires nodes { All (λ m. m < length before.now) next.now }
     requires vars { All (λ set. length set.bits ≡ length after.old.bits) before.now }
@@ -190,9 +190,9 @@ fn add_next(after: &mut Vob, next: &[usize], before: &[Vob]) -> bool
     grew
 }
 
-/// Adds what is live after a node and possible before it, and answers whether anything after it
-/// wasn't live before it. What is both read and live after it is live before it already, so that
-/// this adds what isn't written alone.
+/// Adds what is live after a node and possible before it, and returns whether anything after it
+/// wasn't live before it. What is both read and live after it is live before it already, so this
+/// adds only what isn't written.
 fn add_possible(before: &mut Vob, after: &Vob, possible: &Vob) -> bool
     requires after { HaveSameLength before.old after.now }
     requires possible { HaveSameLength before.old possible.now }
@@ -204,7 +204,7 @@ fn add_possible(before: &mut Vob, after: &Vob, possible: &Vob) -> bool
     grew
 }
 
-/// Goes over all nodes once, the last one first, and answers whether there may be more to add.
+/// Goes over all nodes once, the last one first, and returns whether there may be more to add.
 fn pass(vars: usize, nodes: &[Flow], possible: &[Vob], live: &mut Live) -> bool
     requires { AreReady vars nodes.now possible.now live.old }
     ensures { IsPass vars nodes.now live.old live.new result }
@@ -234,7 +234,7 @@ fn settle(vars: usize, nodes: &[Flow], possible: &[Vob], live: &mut Live)
     live.rounds = rounds;
 }
 
-/// The least sets that meet the flow equations. Where there are no nodes, no memory is asked for.
+/// Returns the least sets that meet the flow equations. No nodes take no memory.
 fn solve(alloc: Global, vars: usize, nodes: &[Flow]) -> Result<Live, AllocError>
     requires { All (IsSound vars nodes.now) nodes.now }
     ensures live { IfOk result (AreLive vars nodes.now) }
@@ -257,12 +257,14 @@ fn solve(alloc: Global, vars: usize, nodes: &[Flow]) -> Result<Live, AllocError>
     Ok(live)
 }
 
-/// The least sets that meet the flow equations: after a node is live what is live before a node
-/// that comes next, and before it what it reads and what is live after it and not written there.
+/// Returns the least sets that meet the flow equations. After a node is live what is live before a
+/// node that comes next; before it what it reads, and what is live after it and not written there.
+/// Fails with the first node that names a variable or a node that isn't there, or if memory runs
+/// out.
 pub fn liveness(alloc: Global, vars: usize, nodes: &[Flow]) -> Result<Live, LiveError>
     ensures live { IfOk result (AreLive vars nodes.now) }
 
-    // The nodes are checked first, and memory is asked for only where there are nodes.
+    // The nodes are checked first, and memory is asked for only if there are nodes.
     ensures bad_variable { (node : ℕ)
         → (result ≡ Err (LiveError.BadVariable node)) ↔ IsBadVariable vars nodes.now node }
     ensures bad_next { (node : ℕ)

@@ -23,7 +23,7 @@ fn refused<T>(refusal: VobError) -> Reply<T>
     Reply::Refused(refusal.number())
 }
 
-// The reply to a call that was refused, or has no answer of its own.
+// The reply to a call that failed, or that returns nothing.
 fn reply_to<T: Block>(called: Result<(), VobError>) -> Reply<T>
     ensures ok { OnOk called (answer_of T.number result ≡ done) }
     ensures err { IfErr called (λ refusal.

@@ -21,9 +21,8 @@ pub enum Command<T> {
         which: usize,
     },
     /// Makes a Vob of `len` bits in a copy of these blocks: `RawVob::from_parts` and `into_vob`,
-    /// and where `mask`, `mask_last_block` between them, which is skipped where the blocks are not
-    /// as many as the length needs. `Refused(3)` if the blocks are not the length's canonical
-    /// ones.
+    /// and `mask_last_block` between them if `mask` and the blocks are as many as the length needs.
+    /// `Refused(3)` if the blocks are not the length's canonical ones.
     FromRaw {
         len: usize,
         mask: bool,
@@ -115,7 +114,7 @@ pub enum Command<T> {
         other: usize,
     },
     /// Keeps the bits below `index`, and makes a Vob of the others: `Vob::split_off`. `Refused(4)`
-    /// where `index` is past the end.
+    /// if `index` is past the end.
     SplitOff {
         which: usize,
         index: usize,
@@ -155,8 +154,8 @@ pub enum Command<T> {
         which: usize,
         other: usize,
     },
-    /// Makes a Vob of the bits that one has and the other hasn't: `^` on two references. Skipped
-    /// where the numbers are the same or the lengths differ.
+    /// Makes a Vob of the bits that exactly one has: `^` on two references. Skipped if the numbers
+    /// are the same or the lengths differ.
     XorNew {
         which: usize,
         other: usize,
@@ -218,16 +217,16 @@ pub enum UsizeCommand {
     /// Makes a Vob of these bits, taken one by one: `Vob::from_iter`.
     FromItems { bits: Vec<bool> },
     /// Makes a Vob of `len` bits in a copy of these blocks: `VobRecord::into_vob`. `Refused(3)`
-    /// where the blocks are not the length's canonical ones.
+    /// if the blocks are not the length's canonical ones.
     FromRecord { len: usize, blocks: Vec<usize> },
 }
 
-/// What a command answers.
+/// What a command returns.
 #[derive(Debug, PartialEq, Drop)]
 pub enum Reply<T> {
-    /// The call was made, and has no answer of its own.
+    /// The call was made, and returns nothing.
     Done,
-    /// A bit, or `None` where there is none: the index is past the last one, or nothing to pop.
+    /// A bit, or `None` if the index is past the end or there is nothing to pop.
     Bit(Option<bool>),
     /// The bit at an index that has to be there, whether something is so, or whether a bit changed.
     Flag(bool),
@@ -239,7 +238,7 @@ pub enum Reply<T> {
     BitList(Vec<bool>),
     /// All blocks, the one with bit 0 first.
     BlockList(Vec<T>),
-    /// An index for each pull, or `None` where no index was left.
+    /// An index for each pull, or `None` if no index was left.
     Dealt(Vec<Option<usize>>),
     /// No Vob has that number, or the call's condition doesn't hold; nothing was done.
     Skipped,

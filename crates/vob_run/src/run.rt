@@ -102,9 +102,9 @@ fn run_read<T: Block>(alloc: Global, vobs: &[Vob<T>], command: &Command<T>) -> R
     }
 }
 
-/// Runs the commands in order on the numbered Vobs, and appends one reply for each. Room for the
-/// replies is made first: where it is refused, no command was run. A command that is refused, or
-/// that names no Vob, changes nothing and has its own reply.
+/// Runs the commands in order on the numbered Vobs, and appends one reply for each. Fails if there
+/// is no memory for the replies; then no command was run. A command that fails, or that names no
+/// Vob, changes nothing and has its own reply.
 pub fn run<T: Block>(
     alloc: Global,
     commands: &[Command<T>],

@@ -33,15 +33,15 @@ pub struct Grammar {
     pub rules: Vec<Rule>,
 }
 
-/// A bit for each nonterminal, true where it can become empty; and for each a row with a bit for
-/// each terminal, true where that can begin what the nonterminal stands for.
+/// A bit for each nonterminal, true if it can become empty; and for each a row with a bit for each
+/// terminal, true if that can begin what the nonterminal stands for.
 #[derive(Debug, Drop)]
 pub struct FirstSets {
     pub nullable: Vob<usize>,
     pub first: BitMatrix,
 }
 
-/// Why `nullable` or `first_sets` was refused.
+/// Why `nullable` or `first_sets` failed.
 #[derive(Clone, Copy, Debug, PartialEq, Eq)]
 pub enum GrammarError {
     /// There was no memory for the sets.
@@ -142,7 +142,7 @@ fn all_null(rule: &Rule, nullable: &Vob) -> bool
     rule.right.iter().all(|symbol| is_null(nullable, symbol))
 }
 
-/// Adds the left side of a rule to a set that has all of its right side, and answers whether that
+/// Adds the left side of a rule to a set that has all of its right side, and returns whether that
 /// added it.
 fn add_null(rule: &Rule, nullable: &mut Vob) -> bool
     requires { rule.now.left < length nullable.old.bits }
@@ -152,7 +152,7 @@ fn add_null(rule: &Rule, nullable: &mut Vob) -> bool
     all_null(rule, nullable) && nullable.set(rule.left, true)
 }
 
-/// Goes over all rules once, and answers whether that added a nonterminal.
+/// Goes over all rules once, and returns whether that added a nonterminal.
 fn null_pass(rules: &[Rule], nullable: &mut Vob) -> bool
     requires { All (λ rule. rule.left < length nullable.old.bits) rules.now }
     ensures len { length nullable.new.bits ≡ length nullable.old.bits }
@@ -180,7 +180,7 @@ fn solve_nullable(alloc: Global, grammar: &Grammar) -> Result<Vob, AllocError>
 pub fn nullable(alloc: Global, grammar: &Grammar) -> Result<Vob, GrammarError>
     ensures nullable { IfOk result (λ set. AreNullable grammar.now set.bits) }
 
-    // The rules are checked first, and memory is asked for only where there are nonterminals.
+    // The rules are checked first, and memory is asked for only if there are nonterminals.
     ensures bad_symbol { (rule : ℕ)
         → (result ≡ Err (GrammarError.BadSymbol rule)) ↔ IsBadRule grammar.now rule }
     ensures memory { result ≡ Err GrammarError.Memory → grammar.now.nonterminals ≢ 0 }
@@ -190,7 +190,7 @@ pub fn nullable(alloc: Global, grammar: &Grammar) -> Result<Vob, GrammarError>
     Ok(nullable)
 }
 
-/// Adds what begins a symbol to the row of a nonterminal, and answers whether that added a
+/// Adds what begins a symbol to the row of a nonterminal, and returns whether that added a
 /// terminal.
 fn add_heads(left: usize, symbol: &Symbol, first: &mut BitMatrix) -> bool
     requires left { left < length first.old.rows }
@@ -205,7 +205,7 @@ fn add_heads(left: usize, symbol: &Symbol, first: &mut BitMatrix) -> bool
     }
 }
 
-/// Adds what begins the right side of a rule to the row of its left side, and answers whether that
+/// Adds what begins the right side of a rule to the row of its left side, and returns whether that
 /// added a terminal.
 fn add_first(nullable: &Vob, rule: &Rule, first: &mut BitMatrix) -> bool
     requires left { rule.now.left < length first.old.rows }
@@ -226,7 +226,7 @@ fn add_first(nullable: &Vob, rule: &Rule, first: &mut BitMatrix) -> bool
     grew
 }
 
-/// Goes over all rules once, and answers whether that added a terminal.
+/// Goes over all rules once, and returns whether that added a terminal.
 fn first_pass(nullable: &Vob, rules: &[Rule], first: &mut BitMatrix) -> bool
     requires { All (IsRule first.old.columns (length first.old.rows)) rules.now }
     ensures shape { HaveShapeOf first.old.rows first.new.rows }
@@ -257,7 +257,7 @@ pub fn first_sets(alloc: Global, grammar: &Grammar) -> Result<FirstSets, Grammar
     ensures nullable { IfOk result (λ sets. AreNullable grammar.now sets.nullable.bits) }
     ensures first { IfOk result (λ sets. AreFirst grammar.now sets.nullable.bits sets.first) }
 
-    // The rules are checked first, and memory is asked for only where there are nonterminals.
+    // The rules are checked first, and memory is asked for only if there are nonterminals.
     ensures bad_symbol { (rule : ℕ)
         → (result ≡ Err (GrammarError.BadSymbol rule)) ↔ IsBadRule grammar.now rule }
     ensures memory { result ≡ Err GrammarError.Memory → grammar.now.nonterminals ≢ 0 }

@@ -51,14 +51,14 @@ impl BitMatrix {
         })
     }
 
-    /// The number of rows.
+    /// Returns the number of rows.
     pub fn rows(&self) -> usize
         ensures { result ≡ length self.now.rows }
     {
         self.rows.len()
     }
 
-    /// The number of columns.
+    /// Returns the number of columns.
     pub fn columns(&self) -> usize
         ensures columns { result ≡ self.now.columns }
         ensures long { AreLong result self.now.rows }
@@ -66,14 +66,14 @@ impl BitMatrix {
         self.columns
     }
 
-    /// Entry (`row`, `column`), or `None` past the last row or column.
+    /// Returns entry (`row`, `column`), or `None` past the last row or column.
     pub fn get(&self, row: usize, column: usize) -> Option<bool>
         ensures { result ≡ slice_get (row_of self.now.rows row) column }
     {
         self.rows.get(row)?.get(column)
     }
 
-    /// Writes entry (`row`, `column`), and answers whether it changed.
+    /// Writes entry (`row`, `column`), and returns whether it changed.
     pub fn set(&mut self, row: usize, column: usize, value: bool) -> bool
         requires row { row < length self.old.rows }
         requires column { column < self.old.columns }
@@ -86,7 +86,7 @@ impl BitMatrix {
         self.rows[row].set(column, value)
     }
 
-    /// A row, to be read by the calls of a Vob.
+    /// Returns a row, to be read by the calls of a Vob.
     pub fn row(&self, row: usize) -> &Vob
         requires { row < length self.now.rows }
         ensures bits { result.now.bits ≡ row_of self.now.rows row }
@@ -95,7 +95,7 @@ impl BitMatrix {
         &self.rows[row]
     }
 
-    /// Adds the true entries of row `from` to row `into`, and answers whether that added one.
+    /// Adds the true entries of row `from` to row `into`, and returns whether that added one.
     pub fn or_rows(&mut self, into: usize, from: usize) -> bool
         requires into { into < length self.old.rows }
         requires from { from < length self.old.rows }
@@ -117,7 +117,7 @@ impl BitMatrix {
         close_rows(&mut self.rows);
     }
 
-    /// The matrix with rows and columns exchanged. No columns take no memory.
+    /// Returns the matrix with rows and columns exchanged. No columns take no memory.
     pub fn transpose(&self, alloc: Global) -> Result<BitMatrix, AllocError>
         ensures transposed { IfOk result (λ made. IsTransposed self.now made) }
         ensures nothing { self.now.columns ≡ 0 → IsOk result }
@@ -128,7 +128,7 @@ impl BitMatrix {
     }
 }
 
-/// Adds the true bits of row `from` to row `into`, and answers whether that added one.
+/// Adds the true bits of row `from` to row `into`, and returns whether that added one.
 fn or_row(rows: &mut [Vob], into: usize, from: usize) -> bool
     requires into { into < length rows.old }
     requires from { from < length rows.old }
@@ -161,8 +161,8 @@ fn lead_through(rows: &mut [Vob], through: usize)
     }
 }
 
-/// Makes each row hold all nodes that its node leads to, by Warshall's way: behind turn k, those that
-/// paths through nodes up to k lead to.
+/// Makes each row hold all nodes that its node leads to, by Warshall's algorithm: after turn k, those
+/// that paths through nodes up to k lead to.
 fn close_rows(rows: &mut [Vob])
     requires { HaveOneLength (bits_of rows.old) }
     ensures { IsClosure (bits_of rows.old) (bits_of rows.new) }

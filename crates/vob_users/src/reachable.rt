@@ -17,7 +17,7 @@ pub fn is_square(nodes: &Vob, rows: &[Vob]) -> bool
     rows.len() == nodes.len()
 }
 
-/// Adds the rows of the nodes that are reached, one node after another, and answers whether that
+/// Adds the rows of the nodes that are reached, one node after another, and returns whether that
 /// reached a node more.
 fn reach_on(reached: &mut Vob, rows: &[Vob]) -> bool
     requires { IsMatrix (length reached.old.bits) (map (λ row. row.bits) rows.now) }

@@ -48,7 +48,7 @@ pub fn count_between(filter: &Vob, start: usize, end: usize) -> usize
     count
 }
 
-/// The numbers of at most `count` kept rows, in order, behind the first `skip` of them.
+/// The numbers of at most `count` kept rows, in order, after the first `skip` of them.
 pub fn page(
     alloc: Global,
     filter: &Vob,

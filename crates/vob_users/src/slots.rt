@@ -36,21 +36,21 @@ impl Slots {
         Ok(Slots { taken, free: count })
     }
 
-    /// How many slots there are.
+    /// Returns how many slots there are.
     pub fn len(&self) -> usize
         ensures { result ≡ length self.now }
     {
         self.taken.len()
     }
 
-    /// How many slots are free.
+    /// Returns how many slots are free.
     pub fn free_count(&self) -> usize
         ensures { result ≡ count_of false self.now }
     {
         self.free
     }
 
-    /// Takes the first free slot, if one is free.
+    /// Takes the first free slot and returns it, or `None` if none is free.
     pub fn alloc(&mut self) -> Option<usize>
         ensures first { IsNext false self.old 0 result }
         ensures taken { MatchOption result (self.new ≡ self.old)
@@ -61,7 +61,7 @@ impl Slots {
         Some(slot)
     }
 
-    /// Takes a slot back, and answers whether it was taken. From the number of slots on none is.
+    /// Takes a slot back, and returns whether it was taken. No slot past the last one is.
     pub fn free(&mut self, slot: usize) -> bool
         ensures slots { self.new ≡ slice_set self.old slot false }
         ensures taken { result ≡ item self.old slot }
@@ -73,7 +73,7 @@ impl Slots {
         true
     }
 
-    /// Adds so many free slots behind the others. More than a length can count are refused first.
+    /// Adds free slots after the others. More than a length can count are refused first.
     pub fn grow(&mut self, more: usize) -> Result<(), VobError>
         ensures ok { OnOk result (self.new ≡ self.old ++ replicate more false) }
         ensures err { OnErr result (self.new ≡ self.old) }

@@ -12,7 +12,7 @@ use std::ops::Bound;
 use vob::{Vob, VobError};
 use vob_block::Block;
 
-// Puts a Vob at the end of the list, where there is room for it.
+// Puts a Vob at the end of the list, if there is room for it.
 pub(super) fn placed<T: Block>(vobs: &mut Vec<Vob<T>>, vob: Vob<T>) -> Reply<T>
     ensures { IsPlaced vobs.old.items vob (answer_of T.number result) vobs.new.items }
 {
@@ -75,7 +75,7 @@ pub(crate) fn split_off<T: Block>(vobs: &mut Vec<Vob<T>>, which: usize, index: u
     if which >= count {
         return Reply::Skipped;
     }
-    // This comes before want of memory, also for room in the list.
+    // This is refused before memory is, also before room in the list.
     if index > vobs[which].len() {
         return refused(VobError::PastEnd);
     }

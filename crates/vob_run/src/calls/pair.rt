@@ -23,7 +23,7 @@ pub(crate) enum Connective {
 }
 
 impl Connective {
-    // Puts the bits into the first Vob, and answers whether one changed.
+    // Puts the bits into the first Vob, and returns whether one changed.
     fn change<T: Block>(self, vob: &mut Vob<T>, other: &Vob<T>) -> bool
         requires { length vob.old.bits ≡ length other.now.bits }
         ensures bits { vob.new.bits ≡ pointwise (operator self) vob.old.bits other.now.bits }

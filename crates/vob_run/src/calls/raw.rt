@@ -1,4 +1,4 @@
-//! The commands that take blocks as they come: they are taken only where they are canonical.
+//! The commands that take blocks as they come: they are taken only if they are canonical.
 ghost use Rattle.std.specs.Prelude.{◌≡◌, ◌==◌, ◌&&◌, not, true, map, length, IfOk, OnErr};
 ghost use Rattle.vob_block.specs.Packing.{need};
 ghost use Rattle.vob_run.specs.Answer.{answer_of, refused};
@@ -36,7 +36,7 @@ pub(super) fn taken<T: Block, E: Drop>(vobs: &mut Vec<Vob<T>>, vob: Result<Vob<T
     }
 }
 
-// The storage with its unused bits made 0, where that is asked for.
+// The storage with its unused bits made 0, if that is asked for.
 fn masked_raw<T: Block>(raw: RawVob<T>, mask: bool) -> RawVob<T>
     requires { mask ≡ true → length raw.blocks ≡ need raw.len T.BITS }
     ensures len { result.len ≡ raw.len }

@@ -20,7 +20,7 @@ pub(crate) struct Selection {
     pub bounds: (Bound<usize>, Bound<usize>),
 }
 
-// What the pulls at a fresh walk answer, in a vector that has room for one answer a pull.
+// What the pulls at a fresh walk return, in a vector that has room for one index a pull.
 fn dealt<T: Block>(
     alloc: Global,
     vob: &Vob<T>,
