@@ -6,7 +6,7 @@ ghost use Rattle.vob.specs.Ranges.{replaced, IsChangedWithin};
 use crate::vob::Vob;
 use std::ops::RangeBounds;
 use vob_block::Block;
-use vob_store::range::{Negate, Set, Unset, change_range};
+use vob_store::range::{Change, Negate, Set, Unset, change_range};
 use vob_walk::range::cut_range;
 
 impl<T: Block> Vob<T> {
@@ -32,11 +32,10 @@ impl<T: Block> Vob<T> {
         ensures same { result ≡ false → self.new.bits ≡ self.old.bits }
         ensures capacity { self.new.capacity ≡ self.old.capacity }
     {
-        let (start, stop) = cut_range(&range, self.len);
         if value {
-            change_range::<Set, T>(&mut self.vec, self.len, start, stop)
+            self.change_within::<Set, R>(range)
         } else {
-            change_range::<Unset, T>(&mut self.vec, self.len, start, stop)
+            self.change_within::<Unset, R>(range)
         }
     }
 
@@ -60,7 +59,26 @@ impl<T: Block> Vob<T> {
         ensures len { length self.new.bits ≡ length self.old.bits }
         ensures capacity { self.new.capacity ≡ self.old.capacity }
     {
+        self.change_within::<Negate, R>(range);
+    }
+
+    /// Changes each bit of the range, and returns whether one changed.
+    #[inline(always)]
+    fn change_within<C: Change, R: RangeBounds<usize>>(&mut self, range: R) -> bool
+        ensures each { R.has_bounds range → IsChangedWithin C.of_bit
+            (R.start_bound range) (R.end_bound range) self.old.bits self.new.bits }
+        ensures bits { R.has_bounds range → (start stop : ℕ)
+            → IsRangeOf (R.start_bound range) (R.end_bound range) (length self.old.bits) start stop
+            → self.new.bits ≡ replaced start stop
+            (map C.of_bit (take (stop - start) (drop start self.old.bits))) self.old.bits }
+        ensures some { ForSomeRange (length self.old.bits) (λ low high.
+            IsChangedWithin C.of_bit low high self.old.bits self.new.bits) }
+        ensures len { length self.new.bits ≡ length self.old.bits }
+        ensures changed { IsTrue result ↔ (self.new.bits ≢ self.old.bits) }
+        ensures same { result ≡ false → self.new.bits ≡ self.old.bits }
+        ensures capacity { self.new.capacity ≡ self.old.capacity }
+    {
         let (start, stop) = cut_range(&range, self.len);
-        let _ = change_range::<Negate, T>(&mut self.vec, self.len, start, stop);
+        change_range::<C, T>(&mut self.vec, self.len, start, stop)
     }
 }

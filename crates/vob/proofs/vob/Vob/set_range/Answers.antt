@@ -1,94 +1,23 @@
--- By the lemmas on blocks that are changed from one index to below another.
-use Rattle.std.proofs.Common.{◌∙◌, sym, ap, length, drop}
-use Rattle.std.proofs.lemmas.List.{take_at}
-use Rattle.vob_block.proofs.PackingLemmas.{length-unpacking}
-use Rattle.vob_walk.proofs.WindowLemmas.{IsRangeOf-own}
-use Rattle.vob.proofs.BitsLemmas.{same_by_flag}
-use Rattle.vob.proofs.RangeLemmas.{changed_here, some_changed, IsChangedWithin-value}
+-- The value is known where the bits are changed.
+use Rattle.vob.proofs.RangeLemmas.{IsChangedWithin-value}
 use Rattle.vob.proofs.vob.Vob.set_range.Goals as goal
 
 pub returns-then-value-clause-each : goal.returns-then-value-clause-each
-returns-then-value-clause-each g c = λ in_range.
-    rw c.if-value.true (changed_here g.T.BitBlock.number g.T.BitBlock.BITS g.met.T.BitBlock.wide_law
-    c.self.invariant (ap (λ v. v.bits) c.self.view_is)
-    (c.cut_range-start.ensures.window in_range)
-    c.deref_mut.ensures.value
-    (take_at c.change_range.new.blocks (drop (length c.change_range.new.blocks)
-    c.self.inside.vec.items) c.self.inside.vec.len
-    (c.change_range.auto.blocks ∙ c.deref_mut.ensures.len))
-    c.change_range.ensures.canonical c.change_range.ensures.ranged)
+returns-then-value-clause-each g c = rw c.if-value.true c.change_within.ensures.each
 
 pub returns-then-value-clause-some : goal.returns-then-value-clause-some
-returns-then-value-clause-some g c =
-    let cut = c.cut_range-start in
-    let own = IsRangeOf-own cut.result.0 cut.result.1 c.self.inside.len cut.ensures.ordered
-    cut.ensures.inside in
-    rw c.if-value.true (some_changed cut.result.0 cut.result.1 c.self.inside.len
-    cut.ensures.ordered cut.ensures.inside
-    (ap (λ v. length v.bits) (sym c.self.view_is) ∙ length-unpacking _ _ _)
-    (changed_here g.T.BitBlock.number g.T.BitBlock.BITS g.met.T.BitBlock.wide_law
-    c.self.invariant (ap (λ v. v.bits) c.self.view_is) own
-    c.deref_mut.ensures.value
-    (take_at c.change_range.new.blocks (drop (length c.change_range.new.blocks)
-    c.self.inside.vec.items) c.self.inside.vec.len
-    (c.change_range.auto.blocks ∙ c.deref_mut.ensures.len))
-    c.change_range.ensures.canonical c.change_range.ensures.ranged))
-
-pub returns-then-value-clause-len : goal.returns-then-value-clause-len
-returns-then-value-clause-len g c = (returns-then-value-clause-some g c).4.len
+returns-then-value-clause-some g c = rw c.if-value.true c.change_within.ensures.some
 
 pub returns-then-value-clause-bits : goal.returns-then-value-clause-bits
 returns-then-value-clause-bits g c = λ in_range.
     IsChangedWithin-value (returns-then-value-clause-each g c in_range)
 
-pub returns-clause-each : goal.returns-clause-each
-returns-clause-each g c = λ in_range.
-    let after = c.change_range-else-value in
-    rw c.if-value.false (changed_here g.T.BitBlock.number g.T.BitBlock.BITS g.met.T.BitBlock.wide_law
-    c.self.invariant (ap (λ v. v.bits) c.self.view_is)
-    (c.cut_range-start.ensures.window in_range)
-    c.deref_mut-else-value.ensures.value
-    (take_at after.new.blocks (drop (length after.new.blocks)
-    c.self.inside.vec.items) c.self.inside.vec.len
-    (after.auto.blocks ∙ c.deref_mut-else-value.ensures.len))
-    after.ensures.canonical after.ensures.ranged)
+pub returns-else-value-clause-each : goal.returns-else-value-clause-each
+returns-else-value-clause-each g c = rw c.if-value.false c.change_within-else-value.ensures.each
 
-pub returns-clause-some : goal.returns-clause-some
-returns-clause-some g c =
-    let after = c.change_range-else-value in
-    let cut = c.cut_range-start in
-    let own = IsRangeOf-own cut.result.0 cut.result.1 c.self.inside.len cut.ensures.ordered
-    cut.ensures.inside in
-    rw c.if-value.false (some_changed cut.result.0 cut.result.1 c.self.inside.len
-    cut.ensures.ordered cut.ensures.inside
-    (ap (λ v. length v.bits) (sym c.self.view_is) ∙ length-unpacking _ _ _)
-    (changed_here g.T.BitBlock.number g.T.BitBlock.BITS g.met.T.BitBlock.wide_law
-    c.self.invariant (ap (λ v. v.bits) c.self.view_is) own
-    c.deref_mut-else-value.ensures.value
-    (take_at after.new.blocks (drop (length after.new.blocks)
-    c.self.inside.vec.items) c.self.inside.vec.len
-    (after.auto.blocks ∙ c.deref_mut-else-value.ensures.len))
-    after.ensures.canonical after.ensures.ranged))
+pub returns-else-value-clause-some : goal.returns-else-value-clause-some
+returns-else-value-clause-some g c = rw c.if-value.false c.change_within-else-value.ensures.some
 
-pub returns-clause-len : goal.returns-clause-len
-returns-clause-len g c = (returns-clause-some g c).4.len
-
-pub returns-clause-bits : goal.returns-clause-bits
-returns-clause-bits g c = λ in_range.
-    IsChangedWithin-value (returns-clause-each g c in_range)
-
-pub returns-then-value-clause-same : goal.returns-then-value-clause-same
-returns-then-value-clause-same g c =
-    let after = c.change_range in
-    let left = take_at after.new.blocks (drop (length after.new.blocks) c.self.inside.vec.items)
-    c.self.inside.vec.len (after.auto.blocks ∙ c.deref_mut.ensures.len) in
-    rw (left, ← c.self.view_is)
-    (same_by_flag _ _ _ (rw c.deref_mut.ensures.value at after.ensures.changed))
-
-pub returns-clause-same : goal.returns-clause-same
-returns-clause-same g c =
-    let after = c.change_range-else-value in
-    let left = take_at after.new.blocks (drop (length after.new.blocks) c.self.inside.vec.items)
-    c.self.inside.vec.len (after.auto.blocks ∙ c.deref_mut-else-value.ensures.len) in
-    rw (left, ← c.self.view_is)
-    (same_by_flag _ _ _ (rw c.deref_mut-else-value.ensures.value at after.ensures.changed))
+pub returns-else-value-clause-bits : goal.returns-else-value-clause-bits
+returns-else-value-clause-bits g c = λ in_range.
+    IsChangedWithin-value (returns-else-value-clause-each g c in_range)

@@ -3,8 +3,9 @@ use Rattle.std.proofs.Common.{◌∙◌, sym, ap, length, drop}
 use Rattle.std.proofs.lemmas.List.{take_at}
 use Rattle.vob_block.proofs.PackingLemmas.{length-unpacking}
 use Rattle.vob_walk.proofs.WindowLemmas.{IsRangeOf-own}
+use Rattle.vob.proofs.BitsLemmas.{same_by_flag}
 use Rattle.vob.proofs.RangeLemmas.{changed_here, some_changed, IsChangedWithin-parts}
-use Rattle.vob.proofs.vob.Vob.negate_range.Goals as goal
+use Rattle.vob.proofs.vob.Vob.change_within.Goals as goal
 
 pub returns-clause-each : goal.returns-clause-each
 returns-clause-each g c = λ in_range.
@@ -37,3 +38,11 @@ returns-clause-len g c = (returns-clause-some g c).4.len
 
 pub returns-clause-bits : goal.returns-clause-bits
 returns-clause-bits g c = λ in_range. IsChangedWithin-parts (returns-clause-each g c in_range)
+
+pub returns-clause-same : goal.returns-clause-same
+returns-clause-same g c =
+    let after = c.change_range in
+    let left = take_at after.new.blocks (drop (length after.new.blocks) c.self.inside.vec.items)
+    c.self.inside.vec.len (after.auto.blocks ∙ c.deref_mut.ensures.len) in
+    rw (left, ← c.self.view_is)
+    (same_by_flag _ _ _ (rw c.deref_mut.ensures.value at after.ensures.changed))
