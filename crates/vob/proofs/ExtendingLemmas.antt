@@ -3,7 +3,7 @@ use Rattle.std.specs.Iterator.{Count, Yields, YieldsThen}
 use Rattle.std.specs.Iterator.SizeHint.{IsWithinCount}
 use Rattle.std.proofs.iter.Next.{Yields-more}
 use Rattle.std.proofs.lemmas.List.{length_push}
-use Rattle.std.specs.Prelude.{Ok, Err, Result, ⊤, Option, Some, Bool, List, [], ◌∷◌, IsOk, is_ok, OnOk, IfErr}
+use Rattle.std.specs.Prelude.{Ok, Err, Result, ⊤, Option, Some, Bool, List, ◌∷◌, IsOk, is_ok, OnOk, IfErr, []}
 use Rattle.std.proofs.Common.{◌≡◌, ℕ, ◌+◌, ◌-◌, ◌^◌, ◌<◌, ◌≤◌, ◌++◌, inr, length, zero, suc, refl, sym, ap, ◌∙◌, subst, arith, append_assoc}
 use Rattle.std.proofs.lemmas.Bool.{false≢true}
 use Rattle.vob_block.specs.Packing.{need}
@@ -66,16 +66,6 @@ some_asked : (n : ℕ) (result : Result ⊤ VobError) (r : VobError) → result 
     → (n ≡ 0 → IsOk result) → 0 < n
 some_asked zero result r e nothing = absurd (false≢true (sym (ap is_ok e) ∙ nothing refl))
 some_asked (suc n) result r e nothing = omega arith
-
--- a push that is refused may be refused a bit more
-pub push_refused : (w : ℕ) (before now : BitVector) (added : ℕ) (result : Result ⊤ VobError)
-    (r : VobError) → result ≡ Err r → length now.bits ≡ length before.bits + added
-    → before.capacity ≤ now.capacity → RefusesMore w now 1 result → MayRefuse r before (added + 1)
-push_refused w before now added result TooLong e bits grown h =
-    omega (arith, h.too_long.0 e, bits)
-push_refused w before now added result Memory e bits grown h =
-    omega (arith, (h.memory e).0, bits, grown)
-push_refused w before now added result PastEnd e bits grown h = absurd (h.past_end e)
 
 module _ (before : BitVector) (hint : ℕ) (result : Result ⊤ VobError) where
   -- a reserve that is refused was asked for some bits, and may be refused them

@@ -1,5 +1,5 @@
 -- Lines that are read as calls, one after another.
-use Rattle.std.proofs.Common.{◌≡◌, ◌≢◌, ℕ, ◌+◌, Bool, true, List, [], ◌∷◌, ◌++◌, length, map, refl, ap, sym, ◌∙◌, arith, length-append}
+use Rattle.std.proofs.Common.{◌≡◌, ◌≢◌, ℕ, ◌+◌, Bool, true, List, ◌∷◌, ◌++◌, length, map, refl, ap, sym, ◌∙◌, arith, length-append, []}
 use Rattle.std.proofs.Common.{inl, inr, ◌<◌}
 use Rattle.std.specs.Prelude.{nat_lt, Option, None, Some, Result, Ok, Err, OnOk, OnErr, IsOk, IsOkUnless, IfErr}
 use Rattle.std.specs.Io.KnownBytes.{Consumes, Keeps}
@@ -26,10 +26,6 @@ pub record ReadsSoFar (lines rest : List (List ℕ)) (n : ℕ) (calls : List Cal
 
 abbrev is_sentence : List (List ℕ) → Bool
 is_sentence words = nat_lt 0 (length words)
-
--- no lines, no calls
-pub reads_none : (lines : List (List ℕ)) → ReadsSoFar lines lines 0 []
-reads_none lines = record { before = []; cut = refl; count = refl; read = tt }
 
 sentences_push : (before : List (List ℕ)) (line : List ℕ) →
     sentences (before ++ line ∷ []) ≡ sentences before ++ sentences (line ∷ [])

@@ -18,12 +18,6 @@ not_dash word dash test is fails e =
     λ same. let passes : test ≡ true = rw (same, e) at is in cc
 
 module _ {X : Type 0} (letter : X → ℕ) where
-  -- a word that isn't empty
-  pub letters-some : (word : List ℕ) (xs : List X) → 0 < length word → word ≡ map letter xs →
-      word ≡ letters letter xs
-  letters-some word [] some e = absurd (omega (arith, ap length e))
-  letters-some word (x ∷ xs) some e = e
-
   letter_at : (xs : List X) (k : ℕ) → k < length (map letter xs) →
       (x : X) × (get_or (map letter xs) k 0 ≡ letter x)
   letter_at [] k below = absurd (omega arith)

@@ -1,5 +1,5 @@
 -- Texts that are written one behind the other.
-use Rattle.std.proofs.Common.{Option, None, Some, ◌≡◌, ℕ, ◌+◌, ◌<◌, List, [], ◌∷◌, ◌++◌, length, get_or, map, take, drop, refl, ap, sym, ◌∙◌, take-append-drop}
+use Rattle.std.proofs.Common.{Option, None, Some, ◌≡◌, ℕ, ◌+◌, ◌<◌, List, ◌∷◌, ◌++◌, length, get_or, map, take, drop, refl, ap, sym, ◌∙◌, take-append-drop, []}
 use Rattle.std.specs.Prelude.{Result, Ok, Err, IsErr}
 use Rattle.std.specs.Io.KnownBytes.{Appends, Keeps}
 use Rattle.std.proofs.lemmas.List.{append_assoc, append-nil, map-append, take_more}
@@ -119,10 +119,6 @@ kept_none None new text n none is = tt
 kept_none (Some xs) None text n none is = absurd is
 kept_none (Some xs) (Some ys) text n none is =
     let e : ys ≡ xs ++ take 0 text = rw none at is in e ∙ append-nil xs
-
-pub none_kept : (old new : Option (List ℕ)) (text : List ℕ) → Keeps old new →
-    Appends old new (take 0 text)
-none_kept old new text kept = Appends-kept old new kept
 
 -- a loop that adds one text after another, of a list whose text is put together of its items'
 module _ {X : Type 0} (text : List X → List ℕ)

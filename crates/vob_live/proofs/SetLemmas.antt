@@ -1,10 +1,10 @@
 -- Sets as lists of bits, and lists of sets beside the lists that they come from.
-use Rattle.std.proofs.Common.{◌≡◌, ℕ, zero, suc, ◌+◌, ◌<◌, ◌≤◌, Bool, true, false, not, ◌||◌, ◌⊎◌}
-use Rattle.std.proofs.Common.{◌↔◌, inl, inr, List, [], ◌∷◌, ◌++◌, length, replicate, get_or, take}
+use Rattle.std.proofs.Common.{◌≡◌, ℕ, zero, suc, ◌+◌, ◌<◌, ◌≤◌, Bool, true, false, not, ◌||◌, ◌⊎◌, []}
+use Rattle.std.proofs.Common.{◌↔◌, inl, inr, List, ◌∷◌, ◌++◌, length, replicate, get_or, take}
 use Rattle.std.proofs.Common.{refl, sym, ap, ◌∙◌, subst, arith}
 use Rattle.std.specs.List.{All, Any, AllZip, Contains}
 use Rattle.std.proofs.lemmas.Bool.{cases_eq, cases_lt, false≢true, false_from_ne_true, not-true, not_from_false, or_cases, or_left, or_right}
-use Rattle.std.proofs.lemmas.List.{length-replicate, get_or_past, get_or_append_left, get_or_push, length-append, length_push, take_more}
+use Rattle.std.proofs.lemmas.List.{get_or_past, get_or_append_left, get_or_push, length-append, length_push, take_more}
 use Rattle.std.proofs.lemmas.List.Elements.{All-nil, All-cons, Contains-push, Contains-append_left, Contains-push_cases}
 use Rattle.std.proofs.lemmas.List.Quantifiers.{Any-push}
 use Rattle.vob_block.specs.Packing.{item}
@@ -96,19 +96,6 @@ module _ (start : List Bool) (members : List ℕ) (bits after : List Bool) (k m 
     each = λ v. subst (λ xs. item after v ≡ true ↔ ((item start v ≡ true) ⊎ Contains xs v))
         (sym more) (each_more v);
   }
-
-pub IsSetOf-added : (vars : ℕ) (members : List ℕ) (set : List Bool) →
-    AddsMembers (replicate vars false) members set → IsSetOf vars members set
-IsSetOf-added vars members set h = record {
-  count = h.count ∙ length-replicate vars false;
-  each = λ v. (
-    (λ e. elim ((h.each v).0 e) [
-      | inl old ↦ absurd (false≢true (sym (item-replicate vars v) ∙ old))
-      | inr one ↦ one
-    ]),
-    (λ one. (h.each v).1 (inr one)),
-  );
-}
 
 -- the variables that aren't written, and those that are read
 pub IsPossible-added : (vars : ℕ) (flow : Flow) (written others set : List Bool) →

@@ -1,21 +1,12 @@
 -- A state that grows by one demand after another, and stays within all others that meet them.
-use Rattle.std.proofs.Common.{◌≡◌, ℕ, ◌+◌, ◌<◌, ◌≤◌, Bool, true, false, ◌||◌, List, length, get_or, take, Some, refl, sym, ap, ◌∙◌, subst, arith}
+use Rattle.std.proofs.Common.{◌≡◌, ℕ, ◌+◌, ◌<◌, Bool, true, false, ◌||◌, List, length, get_or, take, Some, refl, sym, ap, ◌∙◌, subst, arith}
 use Rattle.std.specs.List.{All}
 use Rattle.std.proofs.lemmas.Bool.{false≢true}
-use Rattle.std.proofs.lemmas.List.{take_all, take_more}
-use Rattle.std.proofs.lemmas.List.Elements.{All-nil, All-more, All-pop}
+use Rattle.std.proofs.lemmas.List.{take_more}
+use Rattle.std.proofs.lemmas.List.Elements.{All-more, All-pop}
 use Rattle.vob_users.specs.GrammarPass.{Adds}
 
 module _ {S : Type 0} (Within : S → S → Type 0) (places : S → ℕ) where
-  -- a demand that is met
-  pub Adds-still : (Meets : S → Type 0) (s : S) → Meets s → Adds Within places Meets s s false
-  Adds-still Meets s met = record {
-    same = λ _. refl;
-    met = λ _. met;
-    more = λ e. absurd (false≢true e);
-    least = λ others meets within. within;
-  }
-
   -- a demand in other words
   pub Adds-as : (Meets Wants : S → Type 0) {before after : S} {grew : Bool} →
       ((s : S) → Meets s → Wants s) → ((s : S) → Wants s → Meets s) →
@@ -61,9 +52,6 @@ module _ {S : Type 0} (Within : S → S → Type 0) (places : S → ℕ) where
     abbrev pub MeetsBelow : ℕ → S → Type 0
     MeetsBelow k s = All (λ x. Meets x s) (take k xs)
 
-    pub Adds-none : (s : S) → Adds Within places (MeetsBelow 0) s s false
-    Adds-none s = Adds-still (MeetsBelow 0) s (All-nil (λ x. Meets x s))
-
     -- and of one more
     pub Adds-at : (k : ℕ) (d : A) (before mid after : S) (grew flag : Bool) → k < length xs →
         Adds Within places (MeetsBelow k) before mid grew →
@@ -84,11 +72,3 @@ module _ {S : Type 0} (Within : S → S → Type 0) (places : S → ℕ) where
     Adds-more k x before mid after grew flag inside is h g =
         Adds-at k x before mid after grew flag inside h
         (subst (λ y. Adds Within places (Meets y) mid after flag) is g)
-
-    -- and of all
-    pub Adds-all : (k : ℕ) {before after : S} {grew : Bool} → length xs ≤ k →
-        Adds Within places (MeetsBelow k) before after grew →
-        Adds Within places (λ s. All (λ x. Meets x s) xs) before after grew
-    Adds-all k {before} {after} {grew} whole h =
-        subst (λ ys. Adds Within places (λ s. All (λ x. Meets x s) ys) before after grew)
-        (take_all k xs whole) h

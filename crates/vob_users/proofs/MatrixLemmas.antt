@@ -3,7 +3,7 @@ use Rattle.std.specs.declared.ops.Bound.TheVariants.{Unbounded}
 use Rattle.std.specs.List.{Contains}
 use Rattle.std.proofs.Common.{◌≡◌, ◌≢◌, ℕ, ◌+◌, ◌<◌, ◌≤◌, Bool, true, false, ◌||◌, ◌&&◌, List, []}
 use Rattle.std.proofs.Common.{◌∷◌, length, replicate, refl, sym, ap, ◌∙◌, subst, arith, inl, inr}
-use Rattle.std.proofs.lemmas.Bool.{cases_eq, cases_lt, cases_Bool, false≢true}
+use Rattle.std.proofs.lemmas.Bool.{cases_eq, cases_lt, false≢true}
 use Rattle.std.proofs.lemmas.List.{get_or_past, get_or-replicate, length-replicate, length-map}
 use Rattle.std.proofs.lemmas.List.Elements.{Contains-append_right, Contains-append_cases, Contains-push_cases, Contains-get_or}
 use Rattle.vob_block.specs.Packing.{item}
@@ -12,7 +12,7 @@ use Rattle.vob_walk.proofs.IndexLemmas.{matches-exactly}
 use Rattle.vob.specs.Vob.{BitVector}
 use Rattle.vob_live.specs.Live.{bits_of}
 use Rattle.vob_users.specs.Matrix.{Matrix, row_of, entry, AreLong, HaveShapeOf, IsEntryWritten, IsTransposed}
-use Rattle.vob_users.specs.MatrixRows.{IsRowCombined, IsLedThrough, IsColumnMarked, AreColumnsMarked}
+use Rattle.vob_users.specs.MatrixRows.{IsRowCombined, IsColumnMarked, AreColumnsMarked}
 use Rattle.vob_block.proofs.BoolLemmas.{or-false, or-absorbs}
 use Rattle.vob_live.proofs.SetLemmas.{true_within, item-replicate}
 use Rattle.vob_users.proofs.ShapeLemmas.{HaveShapeOf-same, HaveShapeOf-trans, AreLong-kept, AreLong-empty, GetsRow-combined}
@@ -26,28 +26,6 @@ pub record AreLedBefore (rows : List (List Bool)) (k n : ℕ) (after : List (Lis
   pub done : (i j : ℕ) → i < n →
       entry after i j ≡ (entry rows i j || (entry rows i k && entry rows k j))
   pub left : (i j : ℕ) → n ≤ i → entry after i j ≡ entry rows i j
-
-pub AreLedBefore-start : (rows : List (List Bool)) (k : ℕ) → AreLedBefore rows k 0 rows
-AreLedBefore-start rows k = record {
-  shape = HaveShapeOf-same rows;
-  done = λ i j less. absurd (omega (arith, less));
-  left = λ i j past. refl;
-}
-
-pub IsLedThrough-whole : (rows : List (List Bool)) (k n : ℕ) (after : List (List Bool)) →
-    n ≡ length rows → AreLedBefore rows k n after → IsLedThrough rows k after
-IsLedThrough-whole rows k n after whole h = record {
-  shape = h.shape;
-  each = λ i j. elim (cases_lt i n) [
-    | inl less ↦ h.done i j less
-    | inr past ↦
-        let none = λ (l : ℕ).
-        ap (λ r. item r l) (get_or_past rows i [] (omega (arith, past, whole))) in
-        h.left i j past ∙ none j
-        ∙ sym (ap (λ b. b || (entry rows i k && entry rows k j)) (none j)
-        ∙ ap (λ b. false || (b && entry rows k j)) (none k))
-  ];
-}
 
 module _ (rows : List (List Bool)) (k n : ℕ) (before : List (List Bool))
     (h : AreLedBefore rows k n before) where
@@ -151,19 +129,6 @@ module _ (rows : List (List Bool)) (column : ℕ) (bits : List Bool) where
     others = λ k j other. written.others k j (inr other) ∙ h.others k j other;
   }
 
-  pub IsColumnMarked-whole : (after : List (List Bool)) → AreMarkedBut rows column bits [] after →
-      IsColumnMarked rows column bits after
-  IsColumnMarked-whole after h = record {
-    shape = h.shape;
-    there = λ i. elim (cases_Bool (item bits i)) [
-      | inl on ↦
-          h.there i on (λ given. absurd (omega (arith, given.1)))
-          ∙ sym (ap (λ b. b || entry rows i column) on)
-      | inr off ↦ h.off i off ∙ sym (ap (λ b. b || entry rows i column) off)
-    ];
-    others = h.others;
-  }
-
 -- the next index is that of a row
 pub next_inside : (items now : List BitVector) (column : ℕ) (bits : List Bool) (i : ℕ)
     (given rest : List ℕ) → given ≡ i ∷ rest → length bits ≡ length items →
@@ -190,13 +155,6 @@ pub record AreMarkedBefore (rows from : List (List Bool)) (n : ℕ) (after : Lis
   pub left : (i j : ℕ) → n ≤ i → entry after j i ≡ entry rows j i
 
 module _ (rows from : List (List Bool)) where
-  pub AreMarkedBefore-start : AreMarkedBefore rows from 0 rows
-  AreMarkedBefore-start = record {
-    shape = HaveShapeOf-same rows;
-    done = λ i j less. absurd (omega (arith, less));
-    left = λ i j past. refl;
-  }
-
   pub AreMarkedBefore-more : (n : ℕ) (before after : List (List Bool)) →
       AreMarkedBefore rows from n before → IsColumnMarked before n (row_of from n) after →
       AreMarkedBefore rows from (n + 1) after
@@ -211,18 +169,6 @@ module _ (rows from : List (List Bool)) where
     ];
     left = λ i j past.
         marked.others j i (λ here. omega (arith, past, here)) ∙ h.left i j (omega (arith, past));
-  }
-
-  pub AreColumnsMarked-whole : (n : ℕ) (after : List (List Bool)) → n ≡ length from →
-      AreMarkedBefore rows from n after → AreColumnsMarked rows from after
-  AreColumnsMarked-whole n after whole h = record {
-    shape = h.shape;
-    each = λ i j. elim (cases_lt i n) [
-      | inl less ↦ h.done i j less
-      | inr past ↦
-          let none = ap (λ r. item r j) (get_or_past from i [] (omega (arith, past, whole))) in
-          h.left i j past ∙ sym (ap (λ b. b || entry rows j i) none)
-    ];
   }
 
 -- no entry of an empty matrix is true
