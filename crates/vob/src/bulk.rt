@@ -194,30 +194,16 @@ impl<T: Block> Vob<T> {
         ensures capacity { 0 < at → self.new.capacity ≡ self.old.capacity }
         ensures err_capacity { OnErr result (self.new.capacity ≡ self.old.capacity) }
     {
-        if at > self.len {
+        let len = self.len;
+        if at > len {
             return Err(VobError::PastEnd);
         }
-        let alloc = *self.vec.allocator();
-        if at == self.len {
-            return Ok(Vob {
-                len: 0,
-                vec: Vec::new(alloc),
-            });
-        }
         if at == 0 {
-            return Ok(mem::replace(
-                self,
-                Vob {
-                    len: 0,
-                    vec: Vec::new(alloc),
-                },
-            ));
+            let empty = Vob::empty(*self.vec.allocator());
+            return Ok(mem::replace(self, empty));
         }
-        let vec = split_blocks(alloc, self.vec.as_slice(), self.len, at)?;
-        let len = self.len - at;
-        truncate_to(&mut self.vec, self.len, at);
-        self.len = at;
-        Ok(Vob { len, vec })
+        let rest = self.take_between(at, len)?;
+        Ok(rest)
     }
 
     /// Removes the bits of a range and returns them; the others close up in order. Every pair of
@@ -243,17 +229,28 @@ impl<T: Block> Vob<T> {
             (λ _. bits_within low high self.old.bits ≢ [])) }
         ensures capacity { self.new.capacity ≡ self.old.capacity }
     {
-        let (from, to) = cut_range(&range, self.len);
+        let (start, end) = cut_range(&range, self.len);
+        self.take_between(start, end)
+    }
+
+    /// Takes the bits from index `start` to below `end` out, and returns them. No bits take no memory.
+    fn take_between(&mut self, start: usize, end: usize) -> Result<Vob<T>, AllocError>
+        requires order { start ≤ end }
+        requires inside { end ≤ length self.old.bits }
+        ensures taken { IfOk result (λ vob. vob.bits ≡ take (end - start) (drop start self.old.bits)) }
+        ensures left { OnOk result
+            (self.new.bits ≡ take start self.old.bits ++ drop end self.old.bits) }
+        ensures err { OnErr result (self.new.bits ≡ self.old.bits) }
+        ensures nothing { start ≡ end → IsOk result }
+        ensures capacity { self.new.capacity ≡ self.old.capacity }
+    {
         let alloc = *self.vec.allocator();
-        if from == to {
-            return Ok(Vob {
-                len: 0,
-                vec: Vec::new(alloc),
-            });
+        if start == end {
+            return Ok(Vob::empty(alloc));
         }
-        let vec = split_blocks(alloc, self.vec.as_slice(), to, from)?;
-        let len = to - from;
-        remove_bits(&mut self.vec, self.len, from, to);
+        let vec = split_blocks(alloc, self.vec.as_slice(), end, start)?;
+        let len = end - start;
+        remove_bits(&mut self.vec, self.len, start, end);
         self.len -= len;
         Ok(Vob { len, vec })
     }

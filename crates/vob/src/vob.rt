@@ -49,6 +49,16 @@ impl<T: Block> Model for Vob<T> {
 }
 
 impl<T: Block> Vob<T> {
+    /// Makes an empty Vob with no room.
+    pub(crate) fn empty(alloc: Global) -> Vob<T>
+        ensures { result.bits ≡ [] }
+    {
+        Vob {
+            len: 0,
+            vec: Vec::new(alloc),
+        }
+    }
+
     /// Makes an empty Vob with room for `capacity` bits. Fails if memory runs out; capacity 0
     /// takes none. vob 4.0.1 ends the process there.
     pub fn new_with_storage_type(alloc: Global, capacity: usize) -> Result<Vob<T>, AllocError>
@@ -316,10 +326,7 @@ impl Vob<usize> {
     pub fn new(alloc: Global) -> Vob<usize>
         ensures { result.bits ≡ [] }
     {
-        Vob {
-            len: 0,
-            vec: Vec::new(alloc),
-        }
+        Vob::empty(alloc)
     }
 
     /// Makes an empty Vob with room for `capacity` bits. Fails if memory runs out; capacity 0
