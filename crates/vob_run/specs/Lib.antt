@@ -3,7 +3,6 @@ pub mod Blocks
 pub mod Call
 pub mod Changes
 pub mod Commands
-pub mod Groups
 pub mod Memory
 pub mod Outcomes
 pub mod Pairs

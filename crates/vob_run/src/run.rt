@@ -2,7 +2,6 @@
 ghost use Rattle.std.specs.Prelude.{◌≡◌, [], ◌++◌, map, OnOk, OnErr, IsOk};
 ghost use Rattle.vob_run.specs.Answer.{Answer, answer_of, usize_answer_of};
 ghost use Rattle.vob_run.specs.Commands.{call_of, usize_call_of};
-ghost use Rattle.vob_run.specs.Groups.{IsOnOne, IsRead};
 ghost use Rattle.vob_run.specs.Run.{lists, IsStep, IsRun};
 
 use crate::calls::pair::Connective;
@@ -37,17 +36,6 @@ fn run_one<T: Block>(alloc: Global, vobs: &mut Vec<Vob<T>>, command: &Command<T>
         Command::OrNew { which, other } => pair::combine_new(vobs, Connective::Or, which, other),
         Command::XorNew { which, other } => pair::combine_new(vobs, Connective::Xor, which, other),
         Command::Equal { which, other } => pair::equal(vobs, which, other),
-        _ => run_on_one(alloc, vobs, command),
-    }
-}
-
-// Runs one command that changes a Vob, or reads one.
-fn run_on_one<T: Block>(alloc: Global, vobs: &mut Vec<Vob<T>>, command: &Command<T>) -> Reply<T>
-    requires { IsOnOne command.now }
-    ensures { IsStep T.BITS (lists vobs.old.items) (call_of T.number command.now)
-        (answer_of T.number result) (lists vobs.new.items) }
-{
-    match *command {
         Command::Push { which, value } => write::push(vobs, which, value),
         Command::Pop { which } => write::pop(vobs, which),
         Command::SetBit {
@@ -69,17 +57,6 @@ fn run_on_one<T: Block>(alloc: Global, vobs: &mut Vec<Vob<T>>, command: &Command
         Command::ExtendItems { which, ref bits } => grow::extend_items(vobs, which, bits),
         Command::Reserve { which, additional } => grow::reserve(vobs, which, additional),
         Command::Shrink { which } => grow::shrink(vobs, which),
-        _ => run_read(alloc, vobs, command),
-    }
-}
-
-// Runs one command that reads a Vob.
-fn run_read<T: Block>(alloc: Global, vobs: &[Vob<T>], command: &Command<T>) -> Reply<T>
-    requires { IsRead command.now }
-    ensures { IsStep T.BITS (lists vobs.now) (call_of T.number command.now)
-        (answer_of T.number result) (lists vobs.now) }
-{
-    match *command {
         Command::GetBit { which, index } => read::get_bit(vobs, which, index),
         Command::GetUnchecked { which, index } => read::get_unchecked(vobs, which, index),
         Command::IndexBit { which, index } => read::index_bit(vobs, which, index),
@@ -98,7 +75,6 @@ fn run_read<T: Block>(alloc: Global, vobs: &[Vob<T>], command: &Command<T>) -> R
             value,
             bounds,
         } => walk::count(vobs, which, Selection { value, bounds }),
-        _ => unreachable!(),
     }
 }
 
