@@ -7,19 +7,22 @@ use std::ffi::c_char;
 
 #[link(name = "vob_bench", kind = "static")]
 extern "C" {
-    fn vob_bench_slice(row: u32, bits: *const bool, len: usize, rounds: usize) -> u64;
-    fn vob_bench_single(
-        row: u32,
+    fn vob_bench_bits(
+        name: *const u8,
+        name_len: usize,
+        bits: *const bool,
+        bit_count: usize,
         bytes: *const u8,
         len: usize,
         indices: *const usize,
         count: usize,
         rounds: usize,
     ) -> u64;
-    fn vob_bench_whole(row: u32, bytes: *const u8, len: usize, rounds: usize) -> u64;
-    fn vob_bench_walk(row: u32, bytes: *const u8, len: usize, rounds: usize) -> u64;
+    fn vob_bench_whole(name: *const u8, name_len: usize, bytes: *const u8, len: usize, rounds: usize) -> u64;
+    fn vob_bench_walk(name: *const u8, name_len: usize, bytes: *const u8, len: usize, rounds: usize) -> u64;
     fn vob_bench_pair(
-        row: u32,
+        name: *const u8,
+        name_len: usize,
         bytes: *const u8,
         len: usize,
         others: *const u8,
@@ -27,7 +30,8 @@ extern "C" {
         rounds: usize,
     ) -> u64;
     fn vob_bench_plain(
-        row: u32,
+        name: *const u8,
+        name_len: usize,
         bytes: *const u8,
         len: usize,
         others: *const u8,
@@ -39,102 +43,72 @@ extern "C" {
     fn vob_bench_live(numbers: *const usize, count: usize, vars: usize, rounds: usize) -> u64;
 }
 
-/// Runs a workload of `vob_bench`. Its exports require nothing but what slices promise, which the
-/// slices of `input` keep.
+/// Runs the workload of `vob_bench` that has the call's name. Its exports require nothing but what slices
+/// promise, which the slices of `input` keep.
 pub fn conthiral(call: Call, input: &Input, rounds: usize) -> u64 {
-    let (bits, bytes, others) = (&input.bits, &input.bytes, &input.others);
-    let indices = &input.indices;
-    let slice = |row| unsafe { vob_bench_slice(row, bits.as_ptr(), bits.len(), rounds) };
-    let single = |row| unsafe {
-        let (bytes, len) = (bytes.as_ptr(), bytes.len());
-        vob_bench_single(row, bytes, len, indices.as_ptr(), indices.len(), rounds)
-    };
-    let whole = |row| unsafe { vob_bench_whole(row, bytes.as_ptr(), bytes.len(), rounds) };
-    let walk = |row| unsafe { vob_bench_walk(row, bytes.as_ptr(), bytes.len(), rounds) };
-    let pair = |row| unsafe {
-        let (bytes, len) = (bytes.as_ptr(), bytes.len());
-        vob_bench_pair(row, bytes, len, others.as_ptr(), others.len(), rounds)
-    };
+    let name = format!("{call:?}");
+    let (name, name_len) = (name.as_ptr(), name.len());
+    let (bits, bit_count) = (input.bits.as_ptr(), input.bits.len());
+    let (bytes, len) = (input.bytes.as_ptr(), input.bytes.len());
+    let (others, other_len) = (input.others.as_ptr(), input.others.len());
+    let (indices, count) = (input.indices.as_ptr(), input.indices.len());
     match call {
-        Call::Push => slice(0),
-        Call::FromSlice => slice(1),
-        Call::ExtendFromSlice => slice(2),
-        Call::Get => single(0),
-        Call::Set => single(1),
-        Call::FromIndices => single(2),
-        Call::FromBytes => whole(0),
-        Call::Iterate => whole(1),
-        Call::Resize => whole(2),
-        Call::SetAll => whole(3),
-        Call::Negate => whole(4),
-        Call::Clone => whole(5),
-        Call::Hash => whole(6),
-        Call::SplitOff => whole(7),
-        Call::DrainAligned => whole(8),
-        Call::DrainShifted => whole(9),
-        Call::SetRange => whole(10),
-        Call::NegateRange => whole(11),
-        Call::ToBytes => whole(12),
-        Call::And => pair(0),
-        Call::Or => pair(1),
-        Call::Xor => pair(2),
-        Call::Equal => pair(3),
-        Call::ExtendAligned => pair(4),
-        Call::ExtendShifted => pair(5),
-        Call::Filter => pair(6),
-        Call::AndNot => pair(7),
-        Call::Subset => pair(8),
-        Call::CountAnd => pair(9),
-        Call::CopyRange => pair(10),
-        Call::Superset => pair(11),
-        Call::Disjoint => pair(12),
-        Call::CountOr => pair(13),
-        Call::SetBits => walk(0),
-        Call::SetBitsBack => walk(1),
-        Call::UnsetBits => walk(2),
-        Call::Count => walk(3),
-        Call::FirstFree => walk(4),
-        Call::NextSet => walk(5),
-        Call::Runs => walk(6),
-        Call::Select => walk(7),
-        Call::SetBitsBetween => walk(8),
-        Call::UnsetBitsBack => walk(9),
-        Call::Deal => walk(10),
-        Call::PreviousSet => walk(11),
-        Call::Any => walk(12),
-        Call::All => walk(13),
-        Call::CountAndNot => pair(14),
-        Call::CountXor => pair(15),
-        Call::OrDropped => pair(16),
-        Call::AndNotDropped => pair(17),
-        Call::Rank => walk(14),
-        Call::FirstSet => walk(15),
-        Call::LastSet => walk(16),
-        Call::LastUnset => walk(17),
-        Call::NextUnset => walk(18),
-        Call::PreviousUnset => walk(19),
-        Call::Closure => unsafe {
-            vob_bench_closure(bytes.as_ptr(), bytes.len(), input.row_bytes, rounds)
+        Call::Push
+        | Call::FromSlice
+        | Call::ExtendFromSlice
+        | Call::Get
+        | Call::Set
+        | Call::FromIndices => unsafe {
+            vob_bench_bits(name, name_len, bits, bit_count, bytes, len, indices, count, rounds)
         },
-        Call::Matrix => unsafe {
-            vob_bench_matrix(indices.as_ptr(), indices.len(), bits.len(), rounds)
+        Call::FromBytes
+        | Call::Iterate
+        | Call::Resize
+        | Call::SetAll
+        | Call::Negate
+        | Call::Clone
+        | Call::Hash
+        | Call::SplitOff
+        | Call::DrainAligned
+        | Call::DrainShifted
+        | Call::SetRange
+        | Call::NegateRange
+        | Call::ToBytes => unsafe { vob_bench_whole(name, name_len, bytes, len, rounds) },
+        Call::And
+        | Call::Or
+        | Call::Xor
+        | Call::AndNot
+        | Call::OrDropped
+        | Call::AndNotDropped
+        | Call::Equal
+        | Call::ExtendAligned
+        | Call::ExtendShifted
+        | Call::Filter
+        | Call::Subset
+        | Call::Superset
+        | Call::Disjoint
+        | Call::CountAnd
+        | Call::CountOr
+        | Call::CountAndNot
+        | Call::CountXor
+        | Call::CopyRange => unsafe {
+            vob_bench_pair(name, name_len, bytes, len, others, other_len, rounds)
         },
-        Call::Live => unsafe {
-            vob_bench_live(indices.as_ptr(), indices.len(), bits.len(), rounds)
-        },
+        Call::Closure => unsafe { vob_bench_closure(bytes, len, input.row_bytes, rounds) },
+        Call::Matrix => unsafe { vob_bench_matrix(indices, count, bit_count, rounds) },
+        Call::Live => unsafe { vob_bench_live(indices, count, bit_count, rounds) },
+        _ => unsafe { vob_bench_walk(name, name_len, bytes, len, rounds) },
     }
 }
 
 /// Runs `and`, `or` or `xor` on Vobs of `u64`, whose kernels have no lanes.
 pub fn plain(call: Call, input: &Input, rounds: usize) -> u64 {
-    let row = match call {
-        Call::And => 0,
-        Call::Or => 1,
-        _ => 2,
-    };
+    let name = format!("{call:?}");
     let (bytes, others) = (&input.bytes, &input.others);
     let (first, second) = (bytes.as_ptr(), others.as_ptr());
-    unsafe { vob_bench_plain(row, first, bytes.len(), second, others.len(), rounds) }
+    unsafe {
+        vob_bench_plain(name.as_ptr(), name.len(), first, bytes.len(), second, others.len(), rounds)
+    }
 }
 
 pub fn plain_offer(call: Call) -> Offer {

@@ -1,8 +1,8 @@
 //! A workload on a flow graph: which variables are live at its nodes.
 
 use crate::checksum::checksum_all;
+use crate::rounds::Missing;
 use std::alloc::{AllocError, Global};
-use vob::VobError;
 use vob_live::live::{Flow, Live, liveness};
 
 /// A graph of four numbers a node: what it reads, what it writes, and two nodes that may come next.
@@ -29,13 +29,13 @@ pub(crate) fn live(
     numbers: &[usize],
     vars: usize,
     rounds: usize,
-) -> Result<u64, VobError> {
+) -> Result<u64, Missing> {
     let mut times: u64 = 0;
     let mut last = Vec::new(alloc);
     let nodes = nodes_of(alloc, numbers)?;
     for _ in 0..rounds {
         let Ok(found) = liveness(alloc, vars, &nodes) else {
-            return Err(VobError::Memory);
+            return Err(Missing::Memory);
         };
         let Live {
             before,

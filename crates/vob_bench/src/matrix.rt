@@ -2,8 +2,9 @@
 //! by a `BitMatrix`.
 
 use crate::checksum::{checksum_all, checksum_rows};
+use crate::rounds::Missing;
 use std::alloc::{AllocError, Global};
-use vob::{Vob, VobError};
+use vob::Vob;
 use vob_users::matrix::BitMatrix;
 
 /// Appends a row.
@@ -13,7 +14,7 @@ fn push_row(rows: &mut Vec<Vob>, row: Vob) -> Result<(), AllocError> {
 }
 
 /// The rows of a matrix.
-fn rows_of(alloc: Global, bytes: &[u8], row_bytes: usize) -> Result<Vec<Vob>, VobError> {
+fn rows_of(alloc: Global, bytes: &[u8], row_bytes: usize) -> Result<Vec<Vob>, Missing> {
     let mut rows = Vec::new(alloc);
     if row_bytes != 0 {
         for row in bytes.chunks(row_bytes) {
@@ -24,7 +25,7 @@ fn rows_of(alloc: Global, bytes: &[u8], row_bytes: usize) -> Result<Vec<Vob>, Vo
 }
 
 /// A copy of a matrix.
-fn copy_of(alloc: Global, rows: &[Vob]) -> Result<Vec<Vob>, VobError> {
+fn copy_of(alloc: Global, rows: &[Vob]) -> Result<Vec<Vob>, Missing> {
     let mut copies = Vec::with_capacity(alloc, rows.len())?;
     for row in rows.iter() {
         push_row(&mut copies, row.clone()?)?;
@@ -46,7 +47,7 @@ fn lead_through(rows: &mut [Vob], k: usize, through: &Vob) -> u64 {
 }
 
 /// Makes each row hold all nodes that it leads to, and returns how many times a row changed.
-fn close(rows: &mut [Vob]) -> Result<u64, VobError> {
+fn close(rows: &mut [Vob]) -> Result<u64, Missing> {
     let mut times: u64 = 0;
     for k in 0..rows.len() {
         let through = rows[k].clone()?;
@@ -62,7 +63,7 @@ pub(crate) fn closure(
     bytes: &[u8],
     row_bytes: usize,
     rounds: usize,
-) -> Result<u64, VobError> {
+) -> Result<u64, Missing> {
     let mut times: u64 = 0;
     let mut last = Vec::new(alloc);
     let rows = rows_of(alloc, bytes, row_bytes)?;
@@ -94,7 +95,7 @@ pub(crate) fn close_graph(
     steps: &[usize],
     nodes: usize,
     rounds: usize,
-) -> Result<u64, VobError> {
+) -> Result<u64, Missing> {
     let mut times: u64 = 0;
     let mut last = BitMatrix::new(alloc, 0, 0)?;
     for round in 0..rounds {

@@ -1,70 +1,36 @@
 //! Workloads on the indices of set bits and of unset bits.
+ghost use Rattle.std.specs.Iterator.{IsFinite};
 
-use crate::checksum::{checksum, clear, flip, touch};
+use crate::checksum::{clear, flip, touch};
+use crate::rounds::{Missing, each_round};
 use std::alloc::{AllocError, Global};
+use vob::Vob;
 use vob::iter::{End, deal};
-use vob::{Vob, VobError};
 
 /// How many pulls a round of `deal` has.
 const PULLS: usize = 1 << 16;
 
-/// The sum of the indices of the set bits, the first one first.
-#[inline(never)]
-fn set_bits(vob: &Vob) -> u64 {
+/// The sum of the indices that a walk gives.
+#[inline(always)]
+fn sum<I: Iterator<Item = usize>>(indices: I) -> u64
+    requires ends { I.can_next indices × IsFinite (I.remaining indices) }
+{
     let mut sum: u64 = 0;
-    for index in vob.iter_set_bits(..) {
+    for index in indices {
         sum = sum.wrapping_add(index as u64);
     }
     sum
 }
 
-/// The same, the last one first.
-#[inline(never)]
-fn set_bits_back(vob: &Vob) -> u64 {
-    let mut sum: u64 = 0;
-    for index in vob.iter_set_bits(..).rev() {
-        sum = sum.wrapping_add(index as u64);
-    }
-    sum
-}
-
-/// The sum of the indices of the unset bits.
-#[inline(never)]
-fn unset_bits(vob: &Vob) -> u64 {
-    let mut sum: u64 = 0;
-    for index in vob.iter_unset_bits(..) {
-        sum = sum.wrapping_add(index as u64);
-    }
-    sum
-}
-
-/// The same, the last one first.
-#[inline(never)]
-fn unset_bits_back(vob: &Vob) -> u64 {
-    let mut sum: u64 = 0;
-    for index in vob.iter_unset_bits(..).rev() {
-        sum = sum.wrapping_add(index as u64);
-    }
-    sum
-}
-
-/// The sum of the indices of the set bits from one index to below another.
-#[inline(never)]
-fn set_bits_between(vob: &Vob, from: usize, to: usize) -> u64 {
-    let mut sum: u64 = 0;
-    for index in vob.iter_set_bits(from..to) {
-        sum = sum.wrapping_add(index as u64);
-    }
-    sum
-}
-
-/// The sum of the indices of the set bits, each looked for after the one before.
-#[inline(never)]
-fn next_bits(vob: &Vob) -> u64 {
+/// The sum of indices, each found at or above the one after the last.
+#[inline(always)]
+fn sum_up<F: Fn(usize) -> Option<usize>>(len: usize, find: F) -> u64
+    requires { F.IsAlwaysCallable find }
+{
     let mut sum: u64 = 0;
     let mut from: usize = 0;
-    for _ in 0..vob.len() {
-        match vob.next_set(from) {
+    for _ in 0..len {
+        match find(from) {
             Some(index) => {
                 sum = sum.wrapping_add(index as u64);
                 from = index.wrapping_add(1);
@@ -75,50 +41,15 @@ fn next_bits(vob: &Vob) -> u64 {
     sum
 }
 
-/// The same, the last one first, each looked for below the one before.
-#[inline(never)]
-fn previous_bits(vob: &Vob) -> u64 {
+/// The same downwards, each found at or below the one before the last.
+#[inline(always)]
+fn sum_down<F: Fn(usize) -> Option<usize>>(len: usize, find: F) -> u64
+    requires { F.IsAlwaysCallable find }
+{
     let mut sum: u64 = 0;
-    let mut from = vob.len();
-    for _ in 0..vob.len() {
-        match vob.previous_set(from) {
-            Some(index) => {
-                sum = sum.wrapping_add(index as u64);
-                if index == 0 {
-                    break;
-                }
-                from = index - 1;
-            }
-            None => break,
-        }
-    }
-    sum
-}
-
-/// The sum of the indices of the unset bits, each looked for after the one before.
-#[inline(never)]
-fn next_unset_bits(vob: &Vob) -> u64 {
-    let mut sum: u64 = 0;
-    let mut from: usize = 0;
-    for _ in 0..vob.len() {
-        match vob.next_unset(from) {
-            Some(index) => {
-                sum = sum.wrapping_add(index as u64);
-                from = index.wrapping_add(1);
-            }
-            None => break,
-        }
-    }
-    sum
-}
-
-/// The same, the last one first, each looked for below the one before.
-#[inline(never)]
-fn previous_unset_bits(vob: &Vob) -> u64 {
-    let mut sum: u64 = 0;
-    let mut from = vob.len().saturating_sub(1);
-    for _ in 0..vob.len() {
-        match vob.previous_unset(from) {
+    let mut from = len.saturating_sub(1);
+    for _ in 0..len {
+        match find(from) {
             Some(index) => {
                 sum = sum.wrapping_add(index as u64);
                 if index == 0 {
@@ -144,74 +75,42 @@ fn run_sum(vob: &Vob) -> u64 {
     sum
 }
 
-/// The index of the set bit in the middle of them all.
-#[inline(never)]
-fn selected(vob: &Vob, k: usize) -> u64 {
-    match vob.select(k) {
-        Some(index) => index as u64,
-        None => 0,
-    }
+/// A walk a round, over a Vob of which one bit changes before each.
+fn walk<F: Fn(&Vob) -> u64>(vob: Vob, rounds: usize, walked: F) -> Result<u64, Missing>
+    requires { F.IsAlwaysCallable walked }
+{
+    each_round(vob, rounds, |vob, round| {
+        flip(vob, round);
+        Ok(walked(vob))
+    })
 }
 
-/// `select` of a set bit in the middle, once a round.
-#[inline(never)]
-pub(crate) fn select(alloc: Global, bytes: &[u8], rounds: usize) -> Result<u64, VobError> {
-    let mut times: u64 = 0;
-    let mut vob = Vob::from_bytes(alloc, bytes)?;
-    let k = vob.iter_set_bits(..).count() / 2;
-    for round in 0..rounds {
-        touch(&mut vob, round);
-        times = times.wrapping_add(selected(&vob, k));
-    }
-    Ok(checksum(&vob, times))
+/// A look a round, at a Vob of which one bit is set before each.
+fn look<F: Fn(&Vob) -> u64>(vob: Vob, rounds: usize, seen: F) -> Result<u64, Missing>
+    requires { F.IsAlwaysCallable seen }
+{
+    each_round(vob, rounds, |vob, round| {
+        touch(vob, round);
+        Ok(seen(vob))
+    })
 }
 
-/// How many bits are set.
-#[inline(never)]
-fn counted(vob: &Vob) -> u64 {
-    vob.iter_set_bits(..).count() as u64
-}
-
-/// A walk a round: 0 over the set bits, 1 over those from the back, 2 over the unset bits; or 3 a
-/// count; or 5 a call of `next_set` for each set bit, 6 the runs; or 8 a walk over the set bits of a
-/// range that begins and ends within a block, 9 one over the unset bits from the back, 11 a call of
-/// `previous_set` for each set bit, 18 of `next_unset` for each unset one, 19 of `previous_unset`.
-#[inline(never)]
-pub(crate) fn walk(alloc: Global, row: u32, bytes: &[u8], rounds: usize) -> Result<u64, VobError> {
-    let mut times: u64 = 0;
-    let mut vob = Vob::from_bytes(alloc, bytes)?;
-    for round in 0..rounds {
-        flip(&mut vob, round);
-        let sum = match row {
-            0 => set_bits(&vob),
-            1 => set_bits_back(&vob),
-            2 => unset_bits(&vob),
-            5 => next_bits(&vob),
-            6 => run_sum(&vob),
-            8 => set_bits_between(&vob, 13, vob.len().saturating_sub(29)),
-            9 => unset_bits_back(&vob),
-            11 => previous_bits(&vob),
-            18 => next_unset_bits(&vob),
-            19 => previous_unset_bits(&vob),
-            _ => counted(&vob),
-        };
-        times = times.wrapping_add(sum);
-    }
-    Ok(checksum(&vob, times))
+/// A look a round, at a Vob of which one bit is unset before each.
+fn miss<F: Fn(&Vob) -> bool>(vob: Vob, rounds: usize, missed: F) -> Result<u64, Missing>
+    requires { F.IsAlwaysCallable missed }
+{
+    each_round(vob, rounds, |vob, round| {
+        clear(vob, round);
+        Ok(missed(vob) as u64)
+    })
 }
 
 /// Asks for indices of set bits as the pulls say, and returns their sum.
 #[inline(never)]
-fn dealt(vob: &Vob, pulls: &[End], answers: &mut Vec<Option<usize>>) -> Result<u64, AllocError> {
-    let mut sum: u64 = 0;
-    answers.clear();
-    deal(&mut vob.iter_set_bits(..), pulls, answers)?;
-    for answer in answers.iter() {
-        if let Some(index) = answer {
-            sum = sum.wrapping_add(*index as u64);
-        }
-    }
-    Ok(sum)
+fn dealt(vob: &Vob, pulls: &[End], out: &mut Vec<Option<usize>>) -> Result<u64, AllocError> {
+    out.clear();
+    deal(&mut vob.iter_set_bits(..), pulls, out)?;
+    Ok(sum(out.iter().copied().flatten()))
 }
 
 /// Pulls from both ends in turn.
@@ -225,62 +124,49 @@ fn pulls_in_turn(alloc: Global) -> Result<Vec<End>, AllocError> {
 }
 
 /// A list of pulls from both ends in turn, once a round.
-#[inline(never)]
-pub(crate) fn deal_in_turn(alloc: Global, bytes: &[u8], rounds: usize) -> Result<u64, VobError> {
-    let mut times: u64 = 0;
-    let mut vob = Vob::from_bytes(alloc, bytes)?;
+fn deal_in_turn(alloc: Global, vob: Vob, rounds: usize) -> Result<u64, Missing> {
     let pulls = pulls_in_turn(alloc)?;
-    let mut answers = Vec::new(alloc);
-    for round in 0..rounds {
-        flip(&mut vob, round);
-        times = times.wrapping_add(dealt(&vob, &pulls, &mut answers)?);
-    }
-    Ok(checksum(&vob, times))
+    let mut out = Vec::new(alloc);
+    each_round(vob, rounds, |vob, round| {
+        flip(vob, round);
+        Ok(dealt(vob, &pulls, &mut out)?)
+    })
 }
 
-/// The index of the first unset bit, or the length.
-#[inline(never)]
-fn first_unset(vob: &Vob) -> usize {
-    match vob.first_unset() {
-        Some(index) => index,
-        None => vob.len(),
+/// Runs the workload of a name.
+pub(crate) fn run(alloc: Global, name: &[u8], bytes: &[u8], rounds: usize) -> Result<u64, Missing> {
+    let vob = Vob::from_bytes(alloc, bytes)?;
+    let len = vob.len();
+    let end = len.saturating_sub(29);
+    let middle = (len / 2).saturating_add(13);
+    let k = vob.iter_set_bits(..).count() / 2;
+    match name {
+        b"SetBits" => walk(vob, rounds, |vob| sum(vob.iter_set_bits(..))),
+        b"SetBitsBack" => walk(vob, rounds, |vob| sum(vob.iter_set_bits(..).rev())),
+        b"SetBitsBetween" => walk(vob, rounds, |vob| sum(vob.iter_set_bits(13..end))),
+        b"UnsetBits" => walk(vob, rounds, |vob| sum(vob.iter_unset_bits(..))),
+        b"UnsetBitsBack" => walk(vob, rounds, |vob| sum(vob.iter_unset_bits(..).rev())),
+        b"Count" => walk(vob, rounds, |vob| vob.iter_set_bits(..).count() as u64),
+        b"NextSet" => walk(vob, rounds, |vob| sum_up(len, |from| vob.next_set(from))),
+        b"PreviousSet" => walk(
+            vob,
+            rounds,
+            |vob| sum_down(len, |from| vob.previous_set(from)),
+        ),
+        b"NextUnset" => walk(vob, rounds, |vob| sum_up(len, |from| vob.next_unset(from))),
+        b"PreviousUnset" => walk(vob, rounds, |vob| {
+            sum_down(len, |from| vob.previous_unset(from))
+        }),
+        b"Runs" => walk(vob, rounds, run_sum),
+        b"Deal" => deal_in_turn(alloc, vob, rounds),
+        b"FirstFree" => look(vob, rounds, |vob| vob.first_unset().unwrap_or(len) as u64),
+        b"All" => look(vob, rounds, |vob| vob.all() as u64),
+        b"Rank" => look(vob, rounds, |vob| vob.rank(middle) as u64),
+        b"Select" => look(vob, rounds, |vob| vob.select(k).unwrap_or(0) as u64),
+        b"LastUnset" => look(vob, rounds, |vob| (vob.last_unset() == None) as u64),
+        b"Any" => miss(vob, rounds, |vob| !vob.any()),
+        b"FirstSet" => miss(vob, rounds, |vob| vob.first_set() == None),
+        b"LastSet" => miss(vob, rounds, |vob| vob.last_set() == None),
+        _ => Err(Missing::Name),
     }
-}
-
-/// A look a round if no bit is set: 12 `any`, 15 `first_set`, 16 `last_set`. It is the rounds in
-/// which none is found that are counted.
-#[inline(never)]
-pub(crate) fn miss(alloc: Global, row: u32, bytes: &[u8], rounds: usize) -> Result<u64, VobError> {
-    let mut times: u64 = 0;
-    let mut vob = Vob::from_bytes(alloc, bytes)?;
-    for round in 0..rounds {
-        clear(&mut vob, round);
-        let none = match row {
-            12 => !vob.any(),
-            15 => vob.first_set() == None,
-            _ => vob.last_set() == None,
-        };
-        times = times.wrapping_add(none as u64);
-    }
-    Ok(checksum(&vob, times))
-}
-
-/// A look a round: 4 the first unset bit, or the length, 13 `all`, 14 `rank` of an index in the
-/// middle, 17 whether there is no last unset bit.
-#[inline(never)]
-pub(crate) fn look(alloc: Global, row: u32, bytes: &[u8], rounds: usize) -> Result<u64, VobError> {
-    let mut times: u64 = 0;
-    let mut vob = Vob::from_bytes(alloc, bytes)?;
-    let middle = (vob.len() / 2).saturating_add(13);
-    for round in 0..rounds {
-        touch(&mut vob, round);
-        let found = match row {
-            4 => first_unset(&vob) as u64,
-            13 => vob.all() as u64,
-            14 => vob.rank(middle) as u64,
-            _ => (vob.last_unset() == None) as u64,
-        };
-        times = times.wrapping_add(found);
-    }
-    Ok(checksum(&vob, times))
 }
