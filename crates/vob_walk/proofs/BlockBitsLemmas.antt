@@ -125,12 +125,6 @@ full-below {w} {at} {x} wide full h =
     let last : w - 1 < w = omega (arith, wide) in
     omega (arith, wide, h.fits (w - 1) last (ap (place (w - 1)) full ∙ place-ones w (w - 1) last))
 
-pub IsBlockBits-zero : (w at x : ℕ) → x ≡ 0 → IsBlockBits w at x
-IsBlockBits-zero w at x e = record {
-  within = subst (λ (n : ℕ). n < 2 ^ w) (sym e) (pow_pos w);
-  fits = λ j below there. absurd (false≢true (sym (ap (place j) e ∙ place-zero j) ∙ there));
-}
-
 -- a block is 0 by a test exactly where it has no index
 pub empty_test : (w at x : ℕ) (answer : Bool) → (answer ≡ true) ↔ (x ≡ 0) → x < 2 ^ w
     → (answer ≡ true) ↔ (block_indices w at x ≡ [])

@@ -328,20 +328,6 @@ module _ (w : ℕ) (wide : 0 < w) {start stop first end : ℕ}
           (omega (arith, between, short)) in
           omega (arith, head, tail, rest, all)
 
--- what both ends and the unread blocks between them have left
-pub length-left : (w front_at front back_at back : ℕ) (between : List ℕ)
-    → true_places w front + length between + true_places w back
-    ≡ length (block_indices w front_at front ++ (between ++ block_indices w back_at back))
-length-left w front_at front back_at back between =
-    omega (
-      arith,
-      length-append (block_indices w front_at front)
-          (between ++ block_indices w back_at back),
-      length-append between (block_indices w back_at back),
-      length-block_indices w front_at front,
-      length-block_indices w back_at back,
-    )
-
 -- ---- blocks as they are read
 
 -- one block more of those before block `to`

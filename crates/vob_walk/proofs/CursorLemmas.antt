@@ -12,9 +12,10 @@ use Rattle.std.proofs.lemmas.List.{nil_from_length, length-append}
 use Rattle.vob_block.specs.Packing.{need, unpacking}
 use Rattle.vob_block.proofs.NeedLemmas.{mul-lt_from_need}
 use Rattle.vob_walk.specs.Matches.{matches, blocks_met}
-use Rattle.vob_walk.specs.Cursor.{unread, UnreadBlocks, has_index, AreBlocksOf}
-use Rattle.vob_walk.proofs.WindowLemmas.{IsWindow, matches-hits, matches-nothing, blocks_met-window, blocks_met-nothing, unread-nothing, div-le-need}
-use Rattle.vob_walk.specs.Walk.{Walk, IsPulled, given_count}
+use Rattle.vob_walk.specs.Cursor.{unread, UnreadBlocks, has_index, walk_of, AreBlocksOf}
+use Rattle.vob_walk.proofs.WindowLemmas.{IsWindow, matches-hits, matches-nothing, blocks_met-window, blocks_met-nothing, div-le-need}
+use Rattle.vob_walk.proofs.ScanLemmas.{unread-none}
+use Rattle.vob_walk.specs.Walk.{Walk, IsWhole, IsPulled, given_count}
 
 nil_left : (xs ys : List ℕ) → xs ++ ys ≡ [] → xs ≡ []
 nil_left xs ys none = nil_from_length xs (omega (arith, length-append xs ys, ap length none))
@@ -136,7 +137,7 @@ module _ (w : ℕ) (wide : 0 < w) where
           ∙ sym (matches-hits w wide window xs value)
       | inr none ↦
           let empty : start ≡ stop = let ordered = window.ordered in omega arith in
-          unread-nothing w xs value start stop next end (omega (arith, spans.none empty))
+          unread-none w xs value start stop next end (omega (arith, spans.none empty))
           ∙ sym (matches-nothing w wide window xs value empty)
     ]
 
@@ -151,10 +152,21 @@ module _ (w : ℕ) (wide : 0 < w) where
     ]
 
 -- where nothing is in hand at either end, all is in the unread blocks
-pub rest-fresh : (front back indices : List ℕ) → front ≡ [] → back ≡ []
-    → front ++ (indices ++ back) ≡ indices
-rest-fresh front back indices none no_other =
-    ap (λ xs. xs ++ (indices ++ back)) none ∙ ap (λ xs. indices ++ xs) no_other ∙ append-nil indices
+module _ {front back : List ℕ} (none : front ≡ []) (no_other : back ≡ []) where
+  pub rest-fresh : (indices : List ℕ) → front ++ (indices ++ back) ≡ indices
+  rest-fresh indices = ap (λ xs. xs ++ (indices ++ back)) none ∙ ap (λ xs. indices ++ xs) no_other
+      ∙ append-nil indices
+
+  pub IsWhole-fresh : (unread : UnreadBlocks) {bits : List Bool} {value : Bool} {low high : Bound ℕ}
+      {n w : ℕ} → length bits ≡ n → unread.rest ≡ matches bits value low high
+      → unread.left ≡ blocks_met low high n w
+      → IsWhole (walk_of front unread back) bits value low high w
+  IsWhole-fresh unread {bits} {value} {low} {high} {n} {w} long rest left =
+      let met = ap (λ m. blocks_met low high m w) long in record {
+        rest = rest-fresh unread.rest ∙ rest;
+        left = omega (arith, met, left, ap has_index none, ap has_index no_other);
+        credit = omega (arith, met, left);
+      }
 
 -- what gives the last of a list has less left
 pub goes-last : (answer : Option ℕ) (walk after : Walk)

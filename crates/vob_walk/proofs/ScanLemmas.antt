@@ -225,34 +225,3 @@ module _ (w : ℕ) (xs : List ℕ) (value : Bool) (start stop : ℕ) where
           unread-last_all a a (b - a)
           (λ i from below. skipped_there a b h.found i from (omega (arith, below, more)))
           (omega arith) ∙ ap (left a) more
-
--- ---- the indices in hand at both ends, and those in the unread blocks between
-
-module _ (front old new got back : List ℕ) where
-  -- the front gets those of the first block that has some, or else all that the back has
-  pub filled_front : front ≡ [] → got ++ new ≡ old → got ++ (new ++ back) ≡ front ++ (old ++ back)
-  filled_front none e = sym (append_assoc got new back) ∙ ap (λ l. l ++ back) e
-      ∙ ap (λ l. l ++ (old ++ back)) (sym none)
-
-  pub swapped_front : front ≡ [] → got ++ new ≡ old → got ≡ [] → new ≡ [] → back ++ (new ++ got)
-      ≡ front ++ (old ++ back)
-  swapped_front none e f n =
-      ap (λ l. back ++ (l ++ got)) n ∙ ap (λ l. back ++ l) f ∙ append-nil back
-      ∙ ap (λ l. l ++ back) (sym n ∙ ap (λ l. l ++ new) (sym f) ∙ e)
-      ∙ ap (λ l. l ++ (old ++ back)) (sym none)
-
-  -- and the back those of the last, or else all that the front has
-  pub filled_back : back ≡ [] → new ++ got ≡ old → front ++ (new ++ got) ≡ front ++ (old ++ back)
-  filled_back none e = ap (λ l. front ++ l) (e ∙ sym (append-nil old)
-      ∙ ap (λ l. old ++ l) (sym none))
-
-  pub swapped_back : back ≡ [] → new ++ got ≡ old → got ≡ [] → new ≡ [] → got ++ (new ++ front)
-      ≡ front ++ (old ++ back)
-  swapped_back none e f n =
-      ap (λ l. l ++ (new ++ front)) f ∙ ap (λ l. l ++ front) n ∙ sym (append-nil front)
-      ∙ ap (λ l. front ++ l) (sym f ∙ ap (λ l. l ++ got) (sym n) ∙ e ∙ sym (append-nil old)
-      ∙ ap (λ l. old ++ l) (sym none))
-
--- nothing and nothing is nothing
-pub append-none : (xs ys : List ℕ) → xs ≡ [] → ys ≡ [] → xs ++ ys ≡ []
-append-none xs ys none no_other = ap (λ l. l ++ ys) none ∙ no_other

@@ -98,18 +98,6 @@ module _ (w : ℕ) (wide : 0 < w) where
       (omega (arith, need_enough w wide stop)) in
       omega arith
 
-  -- each block but the first has no index before start
-  pub le-mul_from_div : (start k : ℕ) → start / w < k → start ≤ k * w
-  le-mul_from_div start k h =
-      let more : (start / w + 1) * w ≡ start / w * w + w =
-      ap (λ q. q * w) (add-one (start / w)) ∙ suc-mul (start / w) w in
-      omega (
-        arith,
-        mul-le (start / w + 1) w k w (omega arith) (omega arith),
-        div-add-mod' start w,
-        mod-lt start wide,
-      )
-
   product_between : (k end : ℕ) → k ≤ end → k * w + (end - k) * w ≡ end * w
   product_between k end h =
       let whole : k + (end - k) ≡ end = omega arith in
@@ -124,13 +112,6 @@ module _ (w : ℕ) (xs : List ℕ) (value : Bool) (start stop : ℕ) where
       holds in
       let both = and_parts (nat_le start i) (nat_lt i stop) first.0 in
       (leb-true start i both.0, ltb-true i stop both.1)
-
-  pub unread-nothing : (k end : ℕ) → end ≤ k → unread w xs value start stop k end ≡ []
-  unfolding unread
-  unread-nothing k end h =
-      let none : (end - k) * w ≡ 0 * w = ap (λ m. m * w) (omega arith) in
-      indices_where-nothing (λ i. is_hit w xs value start stop i) (k * w) ((end - k) * w)
-      (λ i from below. absurd (omega arith))
 
   pub length-unread-le : (k end : ℕ) → length (unread w xs value start stop k end) ≤ stop
   unfolding unread
