@@ -2,7 +2,7 @@
 use Rattle.std.specs.Cmp.{both_ways}
 use Rattle.std.specs.declared.ops.Bound.TheVariants.{Included, Excluded}
 use Rattle.std.proofs.Common.{◌≡◌, ◌≢◌, ℕ, zero, suc, ◌+◌, ◌-◌, ◌*◌, ◌/◌, ◌^◌, ◌<◌, ◌≤◌, min, max}
-use Rattle.std.proofs.Common.{Bool, true, false, not, ◌&&◌, nat_le, nat_lt, cond, List, ◌∷◌, ◌++◌}
+use Rattle.std.proofs.Common.{Bool, true, false, not, ◌&&◌, nat_le, nat_lt, cond, List, ◌∷◌}
 use Rattle.std.proofs.Common.{length, map, get_or, Some, refl, sym, ap, ◌∙◌, arith, inl, inr}
 use Rattle.std.proofs.Common.{length-append, add-mul, mod-lt, div-add-mod', div-mul-le_self}
 use Rattle.std.proofs.Math.Bool.{and_self}

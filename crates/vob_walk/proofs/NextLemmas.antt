@@ -4,18 +4,19 @@ use Rattle.std.proofs.Common.{◌≡◌, ◌≢◌, ℕ, ◌+◌, ◌-◌, ◌*�
 use Rattle.std.proofs.Common.{false, ◌&&◌, nat_lt, leb, cond, List, map, get_or, Some, None, refl}
 use Rattle.std.proofs.Common.{sym, ap, ◌∙◌, arith, inl, inr, mod-lt, div-add-mod'}
 use Rattle.std.proofs.lemmas.Bool.{cases_lt, and_from, and_parts, le-leb, leb-true, lt-ltb, ltb-true, false≢true}
-use Rattle.std.proofs.lemmas.Nat.{div-mul-add, div_below, le-div, mul-le, pow_pos}
+use Rattle.std.proofs.lemmas.Nat.{div-mul-add, div_below, mul-le, pow_pos}
 use Rattle.vob_block.specs.Places.{place, HasPlaces, HasZerosLow, HasZerosHigh}
 use Rattle.vob_block.specs.Packing.{need, bit_at}
 use Rattle.vob_block.specs.Reading.{Reading}
 use Rattle.vob_block.proofs.NeedLemmas.{need_enough, need_least, lt-need, div-lt-need, mul-lt_from_need}
-use Rattle.vob_block.proofs.PackingLemmas.{bit_at-in_block, bit_at-is_place}
+use Rattle.vob_block.proofs.PackingLemmas.{bit_at-in_block}
 use Rattle.vob_block.proofs.PlaceLemmas.{place-zero, place-ones, same_from_places}
+use Rattle.vob_walk.specs.declared.walk.End.TheVariants.{Front, Back}
 use Rattle.vob_walk.specs.Matches.{has_value}
 use Rattle.vob_walk.specs.Next.{HasNoBit, IsFirstPlace, IsLastPlace, FindsUp, FindsDown}
-use Rattle.vob_walk.specs.Skip.{AreSkipped, ScansUp, ScansDown}
+use Rattle.vob_walk.specs.Skip.{AreSkipped, Scans}
 use Rattle.vob_walk.proofs.IndexLemmas.{value_is, has_value-same}
-use Rattle.vob_walk.proofs.ScanLemmas.{HasPlaces-from_part, without_value, product-more}
+use Rattle.vob_walk.proofs.ScanLemmas.{HasPlaces-from_part, without_value, bit_at-skipped, product-more}
 
 pub beq-true : (a b : Bool) → beq a b ≡ true → a ≡ b
 beq-true true true h = refl
@@ -177,12 +178,10 @@ module _ (w : ℕ) (wide : 0 < w) (xs : List ℕ) (value : Bool) where
         none (i - k * w) (omega arith) (omega arith) (sym (bit-place (i - k * w) (omega arith))
         ∙ ap (bit_at xs w) back ∙ same)
 
-  none_skipped : (skip a b : ℕ) → skip ≡ cond value 0 (2 ^ w - 1) → AreSkipped skip xs a b
+  none_skipped : (skip a b : ℕ) → skip ≡ cond value 0 (2 ^ w - 1) → AreSkipped skip (λ q. get_or xs q 0) a b
       → HasNoBit w xs value (a * w) (b * w)
   none_skipped skip a b is all i from below same =
-      let here : get_or xs (i / w) 0 ≡ skip =
-      all (i / w) (le-div a i w wide from) (div_below i w b wide below) in
-      let there = sym (bit_at-is_place xs w i ∙ ap (place (i % w)) here) ∙ same in
+      let there = sym (bit_at-skipped w wide xs skip a b all i from below) ∙ same in
       false≢true (sym (without_value w skip (i % w) value is (mod-lt i wide))
       ∙ has_value-same value (place (i % w) skip) there)
 
@@ -256,7 +255,7 @@ module _ {X : Type 0} (w : ℕ) (wide : 0 < w) (number : X → ℕ) (value : Boo
         ))
 
         -- in none
-        pub FindsUp-none : (found : X) → ScansUp number skip x y a b None
+        pub FindsUp-none : (found : X) → Scans Front number skip x y a b None
             → FindsUp w number value x y from stop (stop, found)
         FindsUp-none found scan = record {
           above = omega arith;
@@ -266,17 +265,24 @@ module _ {X : Type 0} (w : ℕ) (wide : 0 < w) (number : X → ℕ) (value : Boo
               (none_skipped w wide xs value (number skip) a b without scan.found) i low
               (omega (arith, high, need_enough w wide stop, ap (λ k. k * w) end));
           block = λ below. absurd (omega arith);
-          reads = omega (arith, scan.reads, begin, end, need_most w wide stop);
+          reads = omega (
+            arith,
+            scan.reads,
+            begin,
+            end,
+            need_most w wide stop,
+            div-lt-need w wide stop from some,
+          );
           items = scan.items;
         }
 
         -- in one behind it
-        pub FindsUp-behind : (p : ℕ × X) (m i : ℕ) → ScansUp number skip x y a b (Some p)
+        pub FindsUp-behind : (p : ℕ × X) (m i : ℕ) → Scans Front number skip x y a b (Some p)
             → number p.1 < 2 ^ w → IsFirstPlace w (number p.1) value 0 m
             → i ≡ min (p.0 * w + m) stop → FindsUp w number value x y from stop (i, p.1)
         FindsUp-behind p m i scan within head is =
             let k = p.0 in
-            let read = scan.found.0.block in
+            let read = scan.found.0.same in
             let inside = first-inside w (number p.1) (number skip) value within without
             scan.found.0.other m head in
             let below : k < need stop w = omega (arith, scan.found.0.below, end) in
@@ -342,13 +348,13 @@ module _ {X : Type 0} (w : ℕ) (wide : 0 < w) (number : X → ℕ) (value : Boo
         passed_all : HasNoBit w xs value (k * w) (upto + 1)
         passed_all i low high = passed_down i (omega (arith, low, none)) high
 
-        skipped_there : (c d : ℕ) → AreSkipped (number skip) (map number z.items) c d
-            → AreSkipped (number skip) xs c d
+        skipped_there : (c d : ℕ) → AreSkipped (number skip) (λ q. get_or (map number z.items) q 0) c d
+            → AreSkipped (number skip) (λ q. get_or xs q 0) c d
         skipped_there c d h i from below =
             ap (λ l. get_or (map number l) i 0) (sym items) ∙ h i from below
 
         -- in none
-        pub FindsDown-none : ScansDown number skip z y 0 k None
+        pub FindsDown-none : Scans Back number skip z y 0 k None
             → FindsDown w number value x y upto 0
         FindsDown-none scan =
             let empty : 0 * w ≡ 0 = omega arith in
@@ -364,13 +370,13 @@ module _ {X : Type 0} (w : ℕ) (wide : 0 < w) (number : X → ℕ) (value : Boo
             }
 
         -- in one before it
-        pub FindsDown-before : (p : ℕ × X) (m c i : ℕ) → ScansDown number skip z y 0 k (Some p)
+        pub FindsDown-before : (p : ℕ × X) (m c i : ℕ) → Scans Back number skip z y 0 k (Some p)
             → number p.1 < 2 ^ w → c ≡ w → IsLastPlace (number p.1) value c m → i ≡ p.0 * w + m
             → FindsDown w number value x y upto i
         FindsDown-before p m c i scan within full tail is =
             let q = p.0 in
             let read : number p.1 ≡ get_or xs q 0 =
-            scan.found.0.block ∙ ap (λ l. get_or (map number l) q 0) items in
+            scan.found.0.same ∙ ap (λ l. get_or (map number l) q 0) items in
             let some = last-some w (number p.1) (number skip) value within without
             scan.found.0.other c m full tail in
             let less : q + 1 ≤ k = omega (arith, scan.found.0.below) in

@@ -1,18 +1,19 @@
 -- Blocks that a scan reads one after another, from either end, over a plain width.
-use Rattle.std.proofs.Common.{◌≡◌, ℕ, zero, suc, ◌+◌, ◌-◌, ◌*◌, ◌^◌, ◌<◌, ◌≤◌, Bool, true, false}
-use Rattle.std.proofs.Common.{not, ◌&&◌, List, [], ◌++◌, append-nil, append_assoc, cond, get_or}
-use Rattle.std.proofs.Common.{map, Some, None, add-zero, ltb, leb, refl, sym, ap, ◌∙◌, arith}
-use Rattle.std.proofs.Common.{add-mul, suc-mul, zero-mul, add-one, inl, inr}
+use Rattle.std.proofs.Common.{◌≡◌, ℕ, ◌+◌, ◌-◌, ◌*◌, ◌/◌, ◌%◌, ◌^◌, ◌<◌, ◌≤◌, Bool, true, false}
+use Rattle.std.proofs.Common.{not, ◌&&◌, List, [], ◌++◌, append-nil, cond, get_or, ltb, leb, refl, sym, ap, ◌∙◌, arith}
+use Rattle.std.proofs.Common.{add-mul, suc-mul, zero-mul, add-one, mod-lt, inl, inr}
 use Rattle.std.proofs.Math.Bool.{and-true}
 use Rattle.std.proofs.lemmas.Bool.{cases_lt, and_left, and_right, false≢true, le-leb, lt-leb}
+use Rattle.std.proofs.lemmas.Nat.{div_below, le-div}
 use Rattle.vob_block.specs.Places.{place, HasPlaces}
 use Rattle.vob_block.specs.Packing.{bit_at}
-use Rattle.vob_block.specs.Reading.{Reading}
 use Rattle.vob_block.proofs.PlaceLemmas.{place-ones, place-zero}
-use Rattle.vob_block.proofs.PackingLemmas.{bit_at-in_block}
+use Rattle.vob_block.proofs.PackingLemmas.{bit_at-in_block, bit_at-is_place}
+use Rattle.vob_walk.specs.declared.walk.End.{End}
+use Rattle.vob_walk.specs.declared.walk.End.TheVariants.{Front, Back}
 use Rattle.vob_walk.specs.Matches.{has_value}
 use Rattle.vob_walk.specs.Cursor.{indices_where, block_indices, indices_in, is_hit, unread}
-use Rattle.vob_walk.specs.Skip.{AreSkipped, ScansUp, ScansDown}
+use Rattle.vob_walk.specs.Skip.{AreSkipped, side_start, side_end, other_end, beside}
 use Rattle.vob_walk.proofs.WhereLemmas.{indices_where-split, indices_where-same, indices_where-nothing}
 
 -- ---- the bits of a block that have a value, and are cut at the start
@@ -54,13 +55,6 @@ pub without_value : (w x j : ℕ) (value : Bool) → x ≡ cond value 0 (2 ^ w -
 without_value w x j true is inside = ap (place j) is ∙ place-zero j
 without_value w x j false is inside = ap not (ap (place j) is ∙ place-ones w j inside)
 
-pub indices_in-nothing : (w x at start stop : ℕ) (value : Bool) → x ≡ cond value 0 (2 ^ w - 1)
-    → indices_in w x at value start stop ≡ []
-indices_in-nothing w x at start stop value is = indices_where-nothing
-    (λ i. leb start i && ltb i stop && has_value value (place (i - at) x)) at w
-    (λ i low high. and_right (leb start i && ltb i stop) (has_value value (place (i - at) x))
-    (without_value w x (i - at) value is (omega (arith, low, high))))
-
 -- a masked block in hand holds those of its bits that are looked for
 pub block_indices-in : (w x y at start stop : ℕ) (value : Bool)
     → HasPlaces w y (λ j. leb start (at + j) && ltb (at + j) stop && has_value value (place j x))
@@ -78,6 +72,14 @@ block_indices-in w x y at start stop value places = indices_where-same (λ i. pl
 pub product-more : (w q : ℕ) → (q + 1) * w ≡ q * w + w
 product-more w q = ap (λ k. k * w) (add-one q) ∙ suc-mul q w
 
+-- a bit of blocks that are all `skip` is one of its places
+pub bit_at-skipped : (w : ℕ) → 0 < w → (xs : List ℕ) (skip a b : ℕ)
+    → AreSkipped skip (λ k. get_or xs k 0) a b → (i : ℕ) → a * w ≤ i → i < b * w
+    → bit_at xs w i ≡ place (i % w) skip
+bit_at-skipped w wide xs skip a b all i from below =
+    bit_at-is_place xs w i
+    ∙ ap (place (i % w)) (all (i / w) (le-div a i w wide from) (div_below i w b wide below))
+
 module _ (w : ℕ) (xs : List ℕ) (value : Bool) (start stop : ℕ) where
   abbrev hit : ℕ → Bool
   hit = is_hit w xs value start stop
@@ -91,37 +93,21 @@ module _ (w : ℕ) (xs : List ℕ) (value : Bool) (start stop : ℕ) where
       let none : end - k ≡ 0 = omega arith in
       ap (λ n. indices_where hit (k * w) (n * w)) none ∙ ap (indices_where hit (k * w)) (zero-mul w)
 
-  -- the first block, and then the others
-  pub unread-first : (k end : ℕ) → k < end → left k end
-      ≡ indices_where hit (k * w) w ++ left (k + 1) end
+  -- two parts of some blocks
+  pub unread-split : (k m end : ℕ) → k ≤ m → m ≤ end → left k end ≡ left k m ++ left m end
   unfolding unread
-  unread-first k end some =
-      let one : end - k ≡ end - (k + 1) + 1 = omega arith in
-      let parts : (end - k) * w ≡ w + (end - (k + 1)) * w =
-      omega (arith, ap (λ n. n * w) one, product-more w (end - (k + 1))) in
-      ap (indices_where hit (k * w)) parts ∙ indices_where-split hit (k * w) w ((end - (k + 1)) * w)
-      ∙ ap (λ a. indices_where hit (k * w) w ++ indices_where hit a ((end - (k + 1)) * w))
-      (sym (product-more w k))
-
-  -- the others, and then the last block
-  pub unread-last : (next k : ℕ) → next ≤ k → left next (k + 1)
-      ≡ left next k ++ indices_where hit (k * w) w
-  unfolding unread
-  unread-last next k some =
-      let one : k + 1 - next ≡ k - next + 1 = omega arith in
-      let whole : next + (k - next) ≡ k = omega arith in
-      let at : next * w + (k - next) * w ≡ k * w =
-      sym (add-mul next (k - next) w) ∙ ap (λ n. n * w) whole in
-      ap (λ n. indices_where hit (next * w) n) (ap (λ n. n * w) one ∙ product-more w (k - next))
-      ∙ indices_where-split hit (next * w) ((k - next) * w) w
-      ∙ ap (λ a. indices_where hit (next * w) ((k - next) * w) ++ indices_where hit a w) at
+  unread-split k m end low high =
+      let parts : (end - k) * w ≡ (m - k) * w + (end - m) * w =
+      ap (λ n. n * w) (omega arith) ∙ add-mul (m - k) (end - m) w in
+      let there : k * w + (m - k) * w ≡ m * w =
+      sym (add-mul k (m - k) w) ∙ ap (λ n. n * w) (omega arith) in
+      ap (indices_where hit (k * w)) parts
+      ∙ indices_where-split hit (k * w) ((m - k) * w) ((end - m) * w)
+      ∙ ap (λ a. indices_where hit (k * w) ((m - k) * w) ++ indices_where hit a ((end - m) * w)) there
 
   module _ (k x : ℕ) (read : x ≡ get_or xs k 0) where
-    abbrev found : List ℕ
-    found = indices_in w x (k * w) value start stop
-
     -- what is looked for in block k is exactly what is to be found there
-    indices_in-hits : found ≡ indices_where hit (k * w) w
+    indices_in-hits : indices_in w x (k * w) value start stop ≡ indices_where hit (k * w) w
     indices_in-hits = indices_where-same
         (λ i. leb start i && ltb i stop && has_value value (place (i - k * w) x)) hit (k * w) w
         (λ i low high.
@@ -138,90 +124,38 @@ module _ (w : ℕ) (xs : List ℕ) (value : Bool) (start stop : ℕ) where
     block_indices-masked y places =
         block_indices-in w x y (k * w) start stop value places ∙ indices_in-hits
 
-    pub unread-first_found : (end : ℕ) → k < end → found ++ left (k + 1) end ≡ left k end
-    unread-first_found end some = ap (λ l. l ++ left (k + 1) end) indices_in-hits
-        ∙ sym (unread-first k end some)
+    unread-block : indices_in w x (k * w) value start stop ≡ left k (k + 1)
+    unfolding unread
+    unread-block =
+        let same : 1 * w ≡ w = omega arith in
+        let one : (k + 1 - k) * w ≡ w = ap (λ n. n * w) (omega arith) ∙ same in
+        indices_in-hits ∙ ap (indices_where hit (k * w)) (sym one)
 
-    pub unread-last_found : (next end : ℕ) → next ≤ k → k + 1 ≡ end
-        → left next k ++ found ≡ left next end
-    unread-last_found next end some last =
-        ap (λ l. left next k ++ l) indices_in-hits ∙ sym (unread-last next k some)
-        ∙ ap (left next) last
+  module _ (wide : 0 < w) {skip : ℕ} (without : skip ≡ cond value 0 (2 ^ w - 1)) where
+    -- blocks without a bit of the value have none that is looked for
+    pub unread-skipped : (a b : ℕ) → a ≤ b → AreSkipped skip (λ k. get_or xs k 0) a b
+        → left a b ≡ []
+    unfolding unread
+    unread-skipped a b order all =
+        let ends : a * w + (b - a) * w ≡ b * w =
+        sym (add-mul a (b - a) w) ∙ ap (λ n. n * w) (omega arith) in
+        indices_where-nothing hit (a * w) ((b - a) * w) (λ i from below.
+        and_right (leb start i && ltb i stop) (has_value value (bit_at xs w i))
+        (ap (has_value value) (bit_at-skipped w wide xs skip a b all i from (omega arith))
+        ∙ without_value w skip (i % w) value without (mod-lt i wide)))
 
-    -- so a block where nothing is found adds nothing
-    pub unread-first_skipped : (end : ℕ) → k < end → found ≡ [] → left (k + 1) end ≡ left k end
-    unread-first_skipped end some none = ap (λ l. l ++ left (k + 1) end) (sym none)
-        ∙ unread-first_found end some
-
-    pub unread-last_skipped : (next end : ℕ) → next ≤ k → k + 1 ≡ end → found ≡ []
-        → left next k ≡ left next end
-    unread-last_skipped next end some last none = sym (append-nil (left next k))
-        ∙ ap (λ l. left next k ++ l) (sym none) ∙ unread-last_found next end some last
-
-  -- nor do blocks without a bit of the value
-  module _ (skip : ℕ) (without : skip ≡ cond value 0 (2 ^ w - 1)) where
-    pub unread-first_all : (a n b : ℕ) → AreSkipped skip xs a (a + n) → a + n ≤ b
-        → left (a + n) b ≡ left a b
-    unread-first_all a zero b all within = ap (λ k. left k b) (add-zero a)
-    unread-first_all a (suc n) b all within =
-        let next : a + suc n ≡ a + n + 1 = omega arith in
-        ap (λ k. left k b) next
-        ∙ unread-first_skipped (a + n) skip (sym (all (a + n) (omega arith) (omega arith))) b
-        (omega (arith, within)) (indices_in-nothing w skip ((a + n) * w) start stop value without)
-        ∙ unread-first_all a n b (λ k from below. all k from (omega (arith, below)))
-        (omega (arith, within))
-
-    pub unread-last_all : (next a n : ℕ) → AreSkipped skip xs a (a + n) → next ≤ a
-        → left next a ≡ left next (a + n)
-    unread-last_all next a zero all within = ap (left next) (sym (add-zero a))
-    unread-last_all next a (suc n) all within =
-        unread-last_all next a n (λ k from below. all k from (omega (arith, below))) within
-        ∙ unread-last_skipped (a + n) skip (sym (all (a + n) (omega arith) (omega arith))) next
-        (a + suc n) (omega (arith, within)) (omega arith)
-        (indices_in-nothing w skip ((a + n) * w) start stop value without)
-
-    -- so a scan over such blocks leaves what is unread
-    module _ {X : Type 0} (number : X → ℕ) (block : X) (x y : Reading X) (a b : ℕ)
-        (is : number block ≡ skip) (same : map number x.items ≡ xs) where
-      skipped_there : (c d : ℕ) → AreSkipped (number block) (map number x.items) c d
-          → AreSkipped skip xs c d
-      skipped_there c d h k from below = ap (λ l. get_or l k 0) (sym same) ∙ h k from below ∙ is
-
-      -- the block that was found, by its number
-      pub found_up : (k : ℕ) (got : X) → ScansUp number block x y a b (Some (k, got))
-          → number got ≡ get_or xs k 0
-      found_up k got h = h.found.0.block ∙ ap (λ l. get_or l k 0) same
-
-      pub found_down : (k : ℕ) (got : X) → ScansDown number block x y a b (Some (k, got))
-          → number got ≡ get_or xs k 0
-      found_down k got h = h.found.0.block ∙ ap (λ l. get_or l k 0) same
-
-      pub unread-up : (k : ℕ) (got : X) → ScansUp number block x y a b (Some (k, got))
-          → left k b ≡ left a b
-      unread-up k got h =
-          let more : a + (k - a) ≡ k = omega (arith, h.found.0.from) in
-          ap (λ i. left i b) (sym more) ∙ unread-first_all a (k - a) b
-          (λ i from below. skipped_there a k h.found.1 i from (omega (arith, below, more)))
-          (omega (arith, more, h.found.0.below))
-
-      pub unread-up_none : a ≤ b → ScansUp number block x y a b None → left b b ≡ left a b
-      unread-up_none order h =
-          let more : a + (b - a) ≡ b = omega (arith, order) in
-          ap (λ i. left i b) (sym more) ∙ unread-first_all a (b - a) b
-          (λ i from below. skipped_there a b h.found i from (omega (arith, below, more)))
-          (omega (arith, more))
-
-      pub unread-down : (k : ℕ) (got : X) → ScansDown number block x y a b (Some (k, got))
-          → left a (k + 1) ≡ left a b
-      unread-down k got h =
-          let more : k + 1 + (b - (k + 1)) ≡ b = omega (arith, h.found.0.below) in
-          unread-last_all a (k + 1) (b - (k + 1))
-          (λ i from below. skipped_there (k + 1) b h.found.1 i from (omega (arith, below, more)))
-          (omega (arith, h.found.0.from)) ∙ ap (left a) more
-
-      pub unread-down_none : a ≤ b → ScansDown number block x y a b None → left a a ≡ left a b
-      unread-down_none order h =
-          let more : a + (b - a) ≡ b = omega (arith, order) in
-          unread-last_all a a (b - a)
-          (λ i from below. skipped_there a b h.found i from (omega (arith, below, more)))
-          (omega arith) ∙ ap (left a) more
+    -- so behind them block k gives what is looked for there, and the others are left
+    pub unread-found : (side : End) (a k b x : ℕ) → a ≤ k → k < b → x ≡ get_or xs k 0
+        → AreSkipped skip (λ k. get_or xs k 0) (side_start side a k) (side_end side b k)
+        → beside side (indices_in w x (k * w) value start stop)
+        (left (side_start (other_end side) a k) (side_end (other_end side) b k)) ≡ left a b
+    unread-found Front a k b x low high read all =
+        ap (λ l. l ++ left (k + 1) b) (unread-block k x read)
+        ∙ sym (unread-split k (k + 1) b (omega arith) (omega arith))
+        ∙ ap (λ l. l ++ left k b) (sym (unread-skipped a k low all))
+        ∙ sym (unread-split a k b low (omega arith))
+    unread-found Back a k b x low high read all =
+        ap (λ l. left a k ++ l) (unread-block k x read)
+        ∙ sym (unread-split a k (k + 1) low (omega arith)) ∙ sym (append-nil (left a (k + 1)))
+        ∙ ap (λ l. left a (k + 1) ++ l) (sym (unread-skipped (k + 1) b (omega arith) all))
+        ∙ sym (unread-split a (k + 1) b (omega arith) (omega arith))

@@ -4,7 +4,7 @@ use Rattle.std.specs.declared.ops.Bound.{Bound}
 use Rattle.std.specs.declared.ops.Bound.TheVariants.{Included, Excluded}
 use Rattle.std.proofs.Common.{◌≡◌, ℕ, ◌+◌, ◌-◌, ◌*◌, ◌/◌, ◌<◌, ◌≤◌, Bool, true, false, ◌&&◌, nat_le}
 use Rattle.std.proofs.Common.{nat_lt, ◌==◌, List, [], length, refl, sym, ap, ◌∙◌, arith, inl, inr}
-use Rattle.std.proofs.Common.{add-mul, suc-mul, add-one, div-add-mod', mod-lt, div-mul-le_self}
+use Rattle.std.proofs.Common.{add-mul, suc-mul, add-one, div-mul-le_self}
 use Rattle.std.proofs.Common.{mul-div_cancel}
 use Rattle.std.proofs.lemmas.Bool.{cases_lt, and_from, and_left, and_right, and_parts, ltb-true}
 use Rattle.std.proofs.lemmas.Bool.{leb-true, lt-ltb, le-ltb, le-leb, eqb-true, eq-eqb, false_from_ne_true}
