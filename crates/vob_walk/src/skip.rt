@@ -15,16 +15,39 @@ pub(crate) struct Span {
 }
 
 impl Span {
-    /// The number of the block that is taken after `i` others.
+    /// The number of the block that is taken after `i` others and `j` more.
     #[inline(always)]
-    fn nth(self, i: usize) -> usize
-        requires { self.start + i < self.end }
-        ensures number { result ≡ from_end self.side self.start self.end i }
+    fn nth(self, i: usize, j: usize) -> usize
+        requires { self.start + (i + j) < self.end }
+        ensures number { result ≡ from_end self.side self.start self.end (i + j) }
         ensures below { result < self.end }
     {
         match self.side {
-            End::Front => self.start + i,
-            End::Back => self.end - 1 - i,
+            End::Front => self.start + i + j,
+            End::Back => self.end - 1 - i - j,
+        }
+    }
+
+    /// The block after `i` others and `j` more, with how many these are, if it isn't `skip`. Where `j`
+    /// is a constant, it is part of an address.
+    #[inline(always)]
+    fn other_at<T: BitBlock>(
+        self,
+        blocks: &mut Blocks<'_, T>,
+        skip: T,
+        i: usize,
+        j: usize,
+    ) -> Option<(usize, T)>
+        requires inside { self.start + (i + j) < self.end }
+        requires count { self.end ≤ length blocks.old.items }
+        ensures { Steps T.number skip (from_end self.side self.start self.end) blocks.old blocks.new
+            (i + j) (i + j + 1) result }
+    {
+        let block = blocks.block(self.nth(i, j));
+        if block == skip {
+            None
+        } else {
+            Some((i + j, block))
         }
     }
 
@@ -43,27 +66,6 @@ impl Span {
     }
 }
 
-/// The block after `i` others, with `i`, if it isn't `skip`.
-#[inline(always)]
-fn other_at<T: BitBlock>(
-    blocks: &mut Blocks<'_, T>,
-    skip: T,
-    span: Span,
-    i: usize,
-) -> Option<(usize, T)>
-    requires inside { span.start + i < span.end }
-    requires count { span.end ≤ length blocks.old.items }
-    ensures { Steps T.number skip (from_end span.side span.start span.end) blocks.old blocks.new i
-        (i + 1) result }
-{
-    let block = blocks.block(span.nth(i));
-    if block == skip {
-        None
-    } else {
-        Some((i, block))
-    }
-}
-
 /// The first of four blocks after `i` others that isn't `skip`, with how many are before it.
 #[inline(always)]
 fn first_of_four<T: BitBlock>(
@@ -77,19 +79,19 @@ fn first_of_four<T: BitBlock>(
     ensures { Steps T.number skip (from_end span.side span.start span.end) blocks.old blocks.new i
         (i + 4) result }
 {
-    let first = other_at(blocks, skip, span, i);
+    let first = span.other_at(blocks, skip, i, 0);
     if first.is_some() {
         return first;
     }
-    let second = other_at(blocks, skip, span, i + 1);
+    let second = span.other_at(blocks, skip, i, 1);
     if second.is_some() {
         return second;
     }
-    let third = other_at(blocks, skip, span, i + 2);
+    let third = span.other_at(blocks, skip, i, 2);
     if third.is_some() {
         return third;
     }
-    other_at(blocks, skip, span, i + 3)
+    span.other_at(blocks, skip, i, 3)
 }
 
 /// The first of `fours` times four blocks.
@@ -128,7 +130,7 @@ fn first_of_rest<T: BitBlock>(
         (span.end - span.start) result }
 {
     for i in from..span.end - span.start {
-        let found = other_at(blocks, skip, span, i);
+        let found = span.other_at(blocks, skip, i, 0);
         if found.is_some() {
             return found;
         }
@@ -167,5 +169,5 @@ pub(crate) fn next_other<T: BitBlock>(
     let Some(found) = first_other(blocks, skip, span) else {
         return None;
     };
-    Some((span.nth(found.0), found.1))
+    Some((span.nth(found.0, 0), found.1))
 }

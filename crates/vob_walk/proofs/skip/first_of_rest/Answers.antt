@@ -1,5 +1,5 @@
 -- One block more, behind those where none was found.
-use Rattle.std.proofs.Common.{◌+◌, ◌-◌, ◌∙◌, refl, sym, arith}
+use Rattle.std.proofs.Common.{◌+◌, ◌-◌, ◌∙◌, add-zero, refl, sym, arith}
 use Rattle.vob_walk.proofs.SkipLemmas.{Steps-on, Steps-past}
 use Rattle.vob_walk.proofs.skip.first_of_rest.Goals as goal
 
@@ -7,11 +7,11 @@ pub loop-i-preserved : goal.loop-i-preserved
 loop-i-preserved g c =
     let i = c.loop-i.i in
     Steps-past _ _ _ c.args.from i (i + 1) c.loop-i.auto.i (omega arith) refl refl
-    (sym c.is_some.ensures ∙ c.if-is_some.false) c.loop-i.invariant c.other_at-found.ensures
+    (sym c.is_some.ensures ∙ c.if-is_some.false) c.loop-i.invariant (rw add-zero at c.other_at-found.ensures)
 
 pub returns-then-is_some : goal.returns-then-is_some
 returns-then-is_some g c =
     let i = c.loop-i.i in
     Steps-on _ _ _ c.args.from i (i + 1) (c.args.span.end - c.args.span.start) c.loop-i.auto.i
     (omega arith) (omega (arith, c.loop-i-test.true)) refl
-    (sym c.is_some.ensures ∙ c.if-is_some.true) c.loop-i.invariant c.other_at-found.ensures
+    (sym c.is_some.ensures ∙ c.if-is_some.true) c.loop-i.invariant (rw add-zero at c.other_at-found.ensures)

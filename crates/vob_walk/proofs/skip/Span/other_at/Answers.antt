@@ -2,7 +2,7 @@
 use Rattle.std.proofs.Common.{◌∙◌, sym}
 use Rattle.std.proofs.lemmas.Bool.{false≢true}
 use Rattle.vob_walk.proofs.SkipLemmas.{Steps-skipped, Steps-other}
-use Rattle.vob_walk.proofs.skip.other_at.Goals as goal
+use Rattle.vob_walk.proofs.skip.Span.other_at.Goals as goal
 
 pub returns-then-eq : goal.returns-then-eq
 returns-then-eq g c =
