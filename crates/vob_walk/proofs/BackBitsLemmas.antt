@@ -2,7 +2,8 @@
 use Rattle.std.proofs.Common.{◌≡◌, ◌≢◌, ℕ, zero, suc, ◌+◌, ◌-◌, ◌^◌, ◌<◌, ◌≤◌, Bool, true, false}
 use Rattle.std.proofs.Common.{cond, [], ◌∷◌, ◌++◌, ◌↔◌, ltb, eqb, refl, sym, ap, ◌∙◌, subst, arith}
 use Rattle.std.proofs.Common.{inl, inr}
-use Rattle.std.proofs.lemmas.Bool.{cases_eq, cases_lt, false≢true, lt-ltb, le-ltb, eq-eqb, ne_eqb, cond-true, cond-false}
+use Rattle.std.proofs.lemmas.Bool.{cases_lt, false≢true, lt-ltb, le-ltb, ne_eqb, cond-false}
+use Rattle.std.proofs.lemmas.Bool.Decides.{nat_tests}
 use Rattle.std.proofs.lemmas.Nat.{pow_pos}
 use Rattle.std.proofs.Math.Pow.{pow_mono}
 use Rattle.vob_block.specs.Places.{place, HasPlaces, HasZerosHigh}
@@ -35,20 +36,8 @@ HasZerosHigh-run w n inside = record {
 HasPlaces-shorter : (w n : ℕ)
     → HasPlaces w (2 ^ n - 1) (λ i. cond (eqb i n) false (place i (2 ^ (n + 1) - 1)))
 HasPlaces-shorter w n = record {
-  each = λ i h. place-run n i ∙ elim (cases_eq i n) [
-    | inl same ↦ le-ltb i n (omega (arith, same))
-        ∙ sym (cond-true (eqb i n) false (place i (2 ^ (n + 1) - 1)) (eq-eqb i n same))
-    | inr other ↦ shorter i other
-        ∙ sym (place-run (n + 1) i)
-        ∙ sym (cond-false (eqb i n) false (place i (2 ^ (n + 1) - 1)) (ne_eqb i n other))
-  ];
+  each = λ i h. rw (place-run, place-run) (grind (arith, nat_tests));
 }
-  where
-    shorter : (i : ℕ) → i ≢ n → ltb i n ≡ ltb i (n + 1)
-    shorter i other = elim (cases_lt i n) [
-      | inl below ↦ lt-ltb i n below ∙ sym (lt-ltb i (n + 1) (omega (arith, below)))
-      | inr above ↦ le-ltb i n above ∙ sym (le-ltb i (n + 1) (omega (arith, above, other)))
-    ]
 
 pub run-last : (w at n : ℕ) → n < w → block_indices w at (2 ^ (n + 1) - 1)
     ≡ block_indices w at (2 ^ n - 1) ++ (at + n) ∷ []

@@ -13,12 +13,6 @@ use Rattle.vob_walk.specs.Cursor.{indices_where, block_indices}
 use Rattle.vob_walk.specs.InHand.{IsBlockBits}
 use Rattle.vob_walk.proofs.WhereLemmas.{indices_where-split, indices_where-same, indices_where-nothing, nothing_there}
 
-cond_cons-true : (b : Bool) (x : ℕ) (xs : List ℕ) → b ≡ true → cond b (x ∷ xs) xs ≡ x ∷ xs
-cond_cons-true b x xs e = ap (λ t. cond t (x ∷ xs) xs) e
-
-cond_cons-false : (b : Bool) (x : ℕ) (xs : List ℕ) → b ≡ false → cond b (x ∷ xs) xs ≡ xs
-cond_cons-false b x xs e = ap (λ t. cond t (x ∷ xs) xs) e
-
 -- ---- a test that one number is taken off
 
 -- q is p without k, which p holds of
@@ -41,13 +35,13 @@ module _ (p q : ℕ → Bool) (k a n : ℕ) (h : Lacks p q k a n) where
   with_it : indices_where p a n ≡ indices_where p a (k - a) ++ k ∷ indices_where p (k + 1)
       (a + n - (k + 1))
   with_it = split p ∙ ap (λ xs. indices_where p a (k - a) ++ xs)
-      (cond_cons-true (p k) k (indices_where p (k + 1) (a + n - (k + 1))) h.at)
+      (cond-true (p k) _ (indices_where p (k + 1) (a + n - (k + 1))) h.at)
 
   without_it : indices_where q a n ≡ indices_where p a (k - a) ++ indices_where p (k + 1)
       (a + n - (k + 1))
   without_it =
       split q ∙ ap (λ xs. indices_where q a (k - a) ++ xs)
-      (cond_cons-false (q k) k (indices_where q (k + 1) (a + n - (k + 1))) h.gone)
+      (cond-false (q k) _ (indices_where q (k + 1) (a + n - (k + 1))) h.gone)
       ∙ ap (λ xs. xs ++ indices_where q (k + 1) (a + n - (k + 1)))
       (indices_where-same q p a (k - a) (λ i low high.
       h.other i low (omega (arith, h.low, h.high)) (λ e. absurd (omega (arith, h.low)))))

@@ -1,12 +1,12 @@
 -- How many bits are true in a window, over its blocks.
 use Rattle.std.specs.Cmp.{both_ways}
 use Rattle.std.specs.declared.ops.Bound.TheVariants.{Included, Excluded}
-use Rattle.std.proofs.Common.{◌≡◌, ◌≢◌, ℕ, zero, suc, ◌+◌, ◌-◌, ◌*◌, ◌/◌, ◌^◌, ◌<◌, ◌≤◌, min, max}
+use Rattle.std.proofs.Common.{◌≡◌, ◌≢◌, ℕ, zero, suc, ◌+◌, ◌-◌, ◌*◌, ◌/◌, ◌<◌, ◌≤◌, min, max}
 use Rattle.std.proofs.Common.{Bool, true, false, not, ◌&&◌, nat_le, nat_lt, cond, List, ◌∷◌}
 use Rattle.std.proofs.Common.{length, map, get_or, Some, refl, sym, ap, ◌∙◌, arith, inl, inr}
 use Rattle.std.proofs.Common.{length-append, add-mul, mod-lt, div-add-mod', div-mul-le_self}
 use Rattle.std.proofs.Math.Bool.{and_self}
-use Rattle.std.proofs.lemmas.Bool.{cases_lt, and_from, and_parts, lt-ltb, le-leb, ltb-true, leb-true}
+use Rattle.std.proofs.lemmas.Bool.{cases_lt}
 use Rattle.std.specs.List.{range_with_len, slice_get}
 use Rattle.std.proofs.lemmas.List.Sums.{length-filter}
 use Rattle.std.proofs.lemmas.Nat.{mul-le}
@@ -18,7 +18,7 @@ use Rattle.vob_block.proofs.PackingLemmas.{bit_at-in_block}
 use Rattle.vob_walk.specs.Matches.{has_value, blocks_met}
 use Rattle.vob_walk.specs.Count.{ones_between}
 use Rattle.vob_walk.specs.Cursor.{indices_where, block_indices, is_hit, unread, AreBlocksOf}
-use Rattle.vob_walk.proofs.WhereLemmas.{indices_where-split, indices_where-same, indices_where-both, length-indices_where-le}
+use Rattle.vob_walk.proofs.WhereLemmas.{indices_where-split, indices_where-same, indices_where-both, length-indices_where-le, between_parts, between_from}
 use Rattle.vob_walk.proofs.BlockBitsLemmas.{length-block_indices}
 use Rattle.vob_walk.proofs.ScanLemmas.{product-more, block_indices-masked}
 use Rattle.vob_walk.proofs.WindowLemmas.{IsWindow, IsWindow-cut}
@@ -26,39 +26,22 @@ use Rattle.vob_walk.proofs.CursorLemmas.{blocks_met-blocks}
 
 -- ---- tests that hold of the same numbers
 
--- whether a test holds of a number of a stretch
-abbrev held_within : (ℕ → Bool) → ℕ → ℕ → ℕ → Bool
-held_within p a n i = (nat_le a i && nat_lt i (a + n)) && p i
-
-module _ (p : ℕ → Bool) (a n : ℕ) where
-  held_from : (i : ℕ) → a ≤ i → i < a + n → p i ≡ true → held_within p a n i ≡ true
-  held_from i from below holds =
-      and_from (nat_le a i && nat_lt i (a + n)) (p i)
-      (and_from (nat_le a i) (nat_lt i (a + n)) (le-leb a i from) (lt-ltb i (a + n) below))
-      holds
-
-  held_parts : (i : ℕ) → held_within p a n i ≡ true → (a ≤ i) × (i < a + n) × (p i ≡ true)
-  held_parts i h =
-      let both = and_parts (nat_le a i && nat_lt i (a + n)) (p i) h in
-      let ends = and_parts (nat_le a i) (nat_lt i (a + n)) both.0 in
-      (leb-true a i ends.0, ltb-true i (a + n) ends.1, both.1)
-
 -- they find the same where each of these is in both stretches
 pub indices_where-alike : (p q : ℕ → Bool) (a n b m : ℕ)
     → ((i : ℕ) → a ≤ i → i < a + n → p i ≡ true → (b ≤ i) × (i < b + m) × (q i ≡ true))
     → ((i : ℕ) → b ≤ i → i < b + m → q i ≡ true → (a ≤ i) × (i < a + n) × (p i ≡ true))
     → indices_where p a n ≡ indices_where q b m
 indices_where-alike p q a n b m there back =
-    let r = held_within p a n in
+    let r = λ (i : ℕ). nat_le a i && nat_lt i (a + n) && p i in
+    let parts = λ (i : ℕ) (h : r i ≡ true). between_parts a (a + n) i (p i) h in
+    let other = λ (i : ℕ) (h : r i ≡ true).
+    let own = parts i h in there i own.0 own.1 own.2 in
     indices_where-same p r a n (λ i from below.
-    both_ways (p i) (r i) (held_from p a n i from below) (λ h. (held_parts p a n i h).2))
-    ∙ indices_where-both r a n b m
-    (λ i h. let parts = held_parts p a n i h in (parts.0, parts.1))
-    (λ i h. let parts = held_parts p a n i h in let other =
-    there i parts.0 parts.1 parts.2 in (other.0, other.1))
-    ∙ indices_where-same r q b m (λ i from below. both_ways (r i) (q i)
-    (λ h. let parts = held_parts p a n i h in (there i parts.0 parts.1 parts.2).2)
-    (λ h. let parts = back i from below h in held_from p a n i parts.0 parts.1 parts.2))
+    both_ways (p i) (r i) (between_from a (a + n) i from below) (λ h. (parts i h).2))
+    ∙ indices_where-both r a n b m (λ i h. ((parts i h).0, (parts i h).1))
+    (λ i h. ((other i h).0, (other i h).1))
+    ∙ indices_where-same r q b m (λ i from below. both_ways (r i) (q i) (λ h. (other i h).2)
+    (λ h. let own = back i from below h in between_from a (a + n) i own.0 own.1 own.2))
 
 -- ---- a test and its contrary
 
@@ -114,24 +97,20 @@ module _ (w : ℕ) (xs : List ℕ) where
         ap (λ k. length (indices_where (bit_at xs w) k (stop - middle))) there,
       )
 
-  -- the bits of a block are its places
-  block_indices-block : (k x : ℕ) → x ≡ get_or xs k 0 → indices_where (bit_at xs w) (k * w) w
-      ≡ block_indices w (k * w) x
+  -- the first bits of a block are its places
+  pub ones-part : (k x : ℕ) → x ≡ get_or xs k 0 → (j : ℕ) → j ≤ w
+      → ones_between w xs (k * w) (k * w + j) ≡ true_places j x
   unfolding block_indices
-  block_indices-block k x read = indices_where-same (bit_at xs w) (λ i. place (i - k * w) x)
-      (k * w) w (λ i low high.
+  ones-part k x read j inside =
+      let long : k * w + j - k * w ≡ j = omega arith in
+      ones-indices_where (k * w) (k * w + j)
+      ∙ ap (λ n. length (indices_where (bit_at xs w) (k * w) n)) long
+      ∙ ap length (indices_where-same (bit_at xs w) (λ i. place (i - k * w) x) (k * w) j
+      (λ i from below.
       let back : k * w + (i - k * w) ≡ i = omega arith in
-      let inside : i - k * w < w = omega arith in
-      ap (bit_at xs w) (sym back) ∙ bit_at-in_block xs w k (i - k * w) inside
-      ∙ ap (place (i - k * w)) (sym read))
-
-  ones-block : (k x : ℕ) → x ≡ get_or xs k 0 → ones_between w xs (k * w) ((k + 1) * w)
-      ≡ true_places w x
-  ones-block k x read =
-      let wide : (k + 1) * w - k * w ≡ w = omega (arith, product-more w k) in
-      ones-indices_where (k * w) ((k + 1) * w)
-      ∙ ap (λ n. length (indices_where (bit_at xs w) (k * w) n)) wide
-      ∙ ap length (block_indices-block k x read) ∙ length-block_indices w (k * w) x
+      ap (bit_at xs w) (sym back) ∙ bit_at-in_block xs w k (i - k * w) (omega arith)
+      ∙ ap (place (i - k * w)) (sym read)))
+      ∙ length-block_indices j (k * w) x
 
   -- one block more
   pub ones-more : (from k x : ℕ) → from ≤ k → x ≡ get_or xs k 0
@@ -140,7 +119,8 @@ module _ (w : ℕ) (xs : List ℕ) where
   ones-more from k x h read =
       ones-split (from * w) (k * w) ((k + 1) * w) (mul-le from w k w h (omega arith))
       (omega (arith, product-more w k))
-      ∙ ap (λ n. ones_between w xs (from * w) (k * w) + n) (ones-block k x read)
+      ∙ ap (λ n. ones_between w xs (from * w) (k * w) + n)
+      (ap (ones_between w xs (k * w)) (product-more w k) ∙ ones-part k x read w (omega arith))
 
   -- those of two halves, each counted up to where it ends
   pub ones-halves : (from half k : ℕ) {low high : ℕ} → k ≡ from + half
@@ -162,21 +142,6 @@ module _ (w : ℕ) (xs : List ℕ) where
 
   -- ---- within a window
 
-  hit_parts : (value : Bool) (start stop i : ℕ) → is_hit w xs value start stop i ≡ true
-      → (start ≤ i) × (i < stop) × (has_value value (bit_at xs w i) ≡ true)
-  hit_parts value start stop i holds =
-      let both = and_parts (nat_le start i && nat_lt i stop) (has_value value (bit_at xs w i))
-      holds in
-      let ends = and_parts (nat_le start i) (nat_lt i stop) both.0 in
-      (leb-true start i ends.0, ltb-true i stop ends.1, both.1)
-
-  hit_from : (value : Bool) (start stop i : ℕ) → start ≤ i → i < stop
-      → has_value value (bit_at xs w i) ≡ true → is_hit w xs value start stop i ≡ true
-  hit_from value start stop i from below holds =
-      and_from (nat_le start i && nat_lt i stop) (has_value value (bit_at xs w i))
-      (and_from (nat_le start i) (nat_lt i stop) (le-leb start i from) (lt-ltb i stop below))
-      holds
-
   -- the places of one block, masked, are the bits of the part of the window in it
   pub ones-masked : (start stop k low high x y : ℕ) → x ≡ get_or xs k 0
       → HasPlaces w y (λ j. nat_le start (k * w + j) && nat_lt (k * w + j) stop && has_value true
@@ -188,12 +153,12 @@ module _ (w : ℕ) (xs : List ℕ) where
       (block_indices-masked w xs true start stop k x read y places)
       ∙ ap length (indices_where-alike (is_hit w xs true start stop) (bit_at xs w) (k * w) w low
       (high - low)
-      (λ i from below holds. let hit = hit_parts true start stop i holds in
+      (λ i from below holds. let hit = between_parts start stop i (bit_at xs w i) holds in
       (omega arith, omega arith, hit.2))
       (λ i from below holds. (
         omega arith,
         omega arith,
-        hit_from true start stop i (omega arith) (omega arith) holds,
+        between_from start stop i (omega arith) (omega arith) holds,
       )))
       ∙ sym (ones-indices_where low high)
 
@@ -208,12 +173,12 @@ module _ (w : ℕ) (xs : List ℕ) where
         sym (add-mul next (end - next) w) ∙ ap (λ k. k * w) (omega arith) in
         ap length (indices_where-alike (is_hit w xs value start stop)
         (λ i. has_value value (bit_at xs w i)) (next * w) ((end - next) * w) low (high - low)
-        (λ i from below holds. let hit = hit_parts value start stop i holds in
+        (λ i from below holds. let hit = between_parts start stop i (has_value value (bit_at xs w i)) holds in
         (omega arith, omega (arith, blocks), hit.2))
         (λ i from below holds. (
           omega arith,
           omega (arith, blocks),
-          hit_from value start stop i (omega arith) (omega arith) holds,
+          between_from start stop i (omega arith) (omega arith) holds,
         )))
 
     pub length-unread-set : value ≡ true → length (unread w xs value start stop next end)
@@ -232,18 +197,6 @@ module _ (w : ℕ) (xs : List ℕ) where
           indices_where-not (bit_at xs w) low (high - low),
           ones-indices_where low high,
         )
-
--- ---- ends of blocks, by products that are cut off at the greatest number; v is the width as the code read it
-
-pub cut-last : (stop k w v product high : ℕ) → stop < 2 ^ 64 → v ≡ w → product
-    ≡ min (k * v) (2 ^ 64 - 1) → high ≡ min stop product → high ≡ min stop (k * w)
-cut-last stop k w v product high fits width is cut = omega (arith, ap (λ u. k * u) width)
-
-pub cut-first : (start k w v product later low high : ℕ) → high < 2 ^ 64 → v ≡ w → product
-    ≡ min (k * v) (2 ^ 64 - 1) → later ≡ max start product → low ≡ min later high
-    → low ≡ min (max start (k * w)) high
-cut-first start k w v product later low high fits width is more cut =
-    omega (arith, ap (λ u. k * u) width)
 
 -- ---- a window over the blocks that it meets
 

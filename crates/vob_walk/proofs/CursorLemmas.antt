@@ -41,11 +41,10 @@ last-steps (Some i) full bits front between old same empty taken =
     ∙ sym (append_assoc front (between ++ bits) (i ∷ []))
 
 has_index-le : (xs : List ℕ) → has_index xs ≤ 1
-has_index-le xs = elim (cases_lt 0 (length xs)) [ inl some ↦ omega arith | inr none ↦ omega arith ]
+has_index-le xs = omega arith
 
 has_index-falls : (xs ys : List ℕ) → length xs ≤ length ys → has_index xs ≤ has_index ys
-has_index-falls xs ys less = elim (cases_lt 0 (length xs))
-    [ inl some ↦ omega arith | inr none ↦ omega arith ]
+has_index-falls xs ys less = omega arith
 
 -- ---- a pull at either end: the indices in hand there and at the other end, before it and after it
 

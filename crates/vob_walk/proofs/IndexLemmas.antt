@@ -10,7 +10,7 @@ use Rattle.std.proofs.Common.{zero, false, not, ◌&&◌, ◌||◌, cond, IsTrue
 use Rattle.std.proofs.Common.{All, count_by, Contains, refl, sym, ap, ◌∙◌, arith, inl, inr}
 use Rattle.std.proofs.lemmas.Iterator.{YieldsList}
 use Rattle.std.proofs.lemmas.Iterator.Consumers.{YieldsList-from_shown}
-use Rattle.std.proofs.lemmas.Bool.{cases_eq, false≢true}
+use Rattle.std.proofs.lemmas.Bool.{cases_eq, and_parts, false≢true}
 use Rattle.std.proofs.lemmas.List.{length-reverse, reverse-append}
 use Rattle.std.proofs.lemmas.List.Elements.{All-head, All-tail, All-pop, All-contains, Contains-get_or}
 use Rattle.std.proofs.lemmas.List.FromFn.{get_or-range_with_len, length-range_with_len}
@@ -228,25 +228,17 @@ pub ruleset loop_steps = (
 -- ---- indices of a range
 
 -- an index of a range with an end is below it, and one of a range with a start is at or above it
-and_first : (a b : Bool) → (a && b) ≡ true → a ≡ true
-and_first true b h = refl
-and_first false b h = h
-
-and_second : (a b : Bool) → (a && b) ≡ true → b ≡ true
-and_second true b h = h
-and_second false b h = absurd (false≢true h)
-
 pub first_below : (bits : List Bool) (value : Bool) (low : Bound ℕ) (stop i : ℕ) (rest : List ℕ)
     → AreMatches bits value low (Excluded stop) (i ∷ rest) → i < stop
 first_below bits value low stop i rest all =
-    ltb-true i stop (and_second (from_start low i) (nat_lt i stop)
-    (first_within bits value low (Excluded stop) i rest all))
+    ltb-true i stop (and_parts (from_start low i) (nat_lt i stop)
+    (first_within bits value low (Excluded stop) i rest all)).1
 
 pub first_above : (bits : List Bool) (value : Bool) (start : ℕ) (high : Bound ℕ) (i : ℕ)
     (rest : List ℕ) → AreMatches bits value (Included start) high (i ∷ rest) → start ≤ i
 first_above bits value start high i rest all =
-    leb-true start i (and_first (nat_le start i) (up_to_end high i)
-    (first_within bits value (Included start) high i rest all))
+    leb-true start i (and_parts (nat_le start i) (up_to_end high i)
+    (first_within bits value (Included start) high i rest all)).0
 
 -- no more indices rise within a range than it has
 rising_few : (start stop : ℕ) (xs : List ℕ) → AllPairs (λ i j. i < j) xs
@@ -267,10 +259,9 @@ matches_at_most bits value start stop =
     rising_few start stop (matches bits value (Included start) (Excluded stop))
     (matches-rise bits value (Included start) (Excluded stop)) (λ k d inside.
     let there = (matches-exactly bits value (Included start) (Excluded stop) _).0
-    (Contains-get_or _ k d inside) in (
-      leb-true start _ (and_first (nat_le start _) (nat_lt _ stop) there.1),
-      ltb-true _ stop (and_second (nat_le start _) (nat_lt _ stop) there.1),
-    ))
+    (Contains-get_or _ k d inside) in
+    let ends = and_parts (nat_le start _) (nat_lt _ stop) there.1 in
+    (leb-true start _ ends.0, ltb-true _ stop ends.1))
 
 -- ---- the same under names that `using` takes
 

@@ -7,7 +7,25 @@ use Rattle.std.proofs.lemmas.Bool.{cases_Bool, cond-true, cond-false, cases_lt, 
 use Rattle.std.proofs.lemmas.List.Elements.{filter-append, Contains-append_right, Contains-append_cases}
 use Rattle.std.proofs.lemmas.List.Sums.{length-filter, count_by-le-length}
 use Rattle.std.proofs.lemmas.List.FromFn.{length-range_with_len}
+use Rattle.std.proofs.Common.{◌&&◌, nat_le, nat_lt}
+use Rattle.std.proofs.lemmas.Bool.{and_from, and_parts, le-leb, lt-ltb, leb-true, ltb-true}
 use Rattle.vob_walk.specs.Cursor.{indices_where}
+
+-- ---- a test between two numbers
+
+pub between_from : (a b i : ℕ) {p : Bool} → a ≤ i → i < b → p ≡ true
+    → (nat_le a i && nat_lt i b && p) ≡ true
+between_from a b i {p} from below holds = and_from (nat_le a i && nat_lt i b) p
+    (and_from (nat_le a i) (nat_lt i b) (le-leb a i from) (lt-ltb i b below)) holds
+
+pub between_parts : (a b i : ℕ) (p : Bool) → (nat_le a i && nat_lt i b && p) ≡ true
+    → (a ≤ i) × (i < b) × (p ≡ true)
+between_parts a b i p h =
+    let both = and_parts (nat_le a i && nat_lt i b) p h in
+    let ends = and_parts (nat_le a i) (nat_lt i b) both.0 in
+    (leb-true a i ends.0, ltb-true i b ends.1, both.1)
+
+-- ---- the numbers of a stretch
 
 range_with_len-split : (a n m : ℕ) → range_with_len a (n + m)
     ≡ range_with_len a n ++ range_with_len (a + n) m

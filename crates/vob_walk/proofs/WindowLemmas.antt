@@ -16,7 +16,7 @@ use Rattle.vob_block.proofs.NeedLemmas.{need_enough, need_least, mul-lt_from_nee
 use Rattle.vob_block.proofs.PackingLemmas.{length-unpacking, get_or-unpacking}
 use Rattle.vob_walk.specs.Matches.{from_start, up_to_end, within, has_value, matches, blocks_met, IsRangeOf}
 use Rattle.vob_walk.specs.Cursor.{indices_where, is_hit, unread}
-use Rattle.vob_walk.proofs.WhereLemmas.{indices_where-same, indices_where-nothing}
+use Rattle.vob_walk.proofs.WhereLemmas.{indices_where-same, indices_where-nothing, between_parts}
 use Rattle.vob_walk.proofs.WhereLemmas.{indices_where-both, length-indices_all}
 use Rattle.vob_walk.proofs.WhereLemmas.{length-indices_below, any-indices_where, any-nothing}
 
@@ -106,17 +106,10 @@ module _ (w : ℕ) (wide : 0 < w) where
 -- ---- what is left of some blocks
 
 module _ (w : ℕ) (xs : List ℕ) (value : Bool) (start stop : ℕ) where
-  hit_between : (i : ℕ) → is_hit w xs value start stop i ≡ true → (start ≤ i) × (i < stop)
-  hit_between i holds =
-      let first = and_parts (nat_le start i && nat_lt i stop) (has_value value (bit_at xs w i))
-      holds in
-      let both = and_parts (nat_le start i) (nat_lt i stop) first.0 in
-      (leb-true start i both.0, ltb-true i stop both.1)
-
   pub length-unread-le : (k end : ℕ) → length (unread w xs value start stop k end) ≤ stop
   unfolding unread
   length-unread-le k end = length-indices_below (λ i. is_hit w xs value start stop i) (k * w)
-      ((end - k) * w) stop (λ i holds. (hit_between i holds).1)
+      ((end - k) * w) stop (λ i holds. (between_parts start stop i (has_value value (bit_at xs w i)) holds).1)
 
 -- ---- a window over the first n bits of some blocks
 
@@ -134,7 +127,8 @@ module _ (w : ℕ) (wide : 0 < w) {low high : Bound ℕ} {n start stop : ℕ}
       ap (λ b. b && has_value value (item bits i)) (within-window window i (omega arith))
       ∙ ap (λ b. (nat_le start i && nat_lt i stop) && has_value value b)
       (get_or-unpacking n xs w i false (omega arith)) in
-      let between = hit_between w xs value start stop in
+      let between = λ (i : ℕ) (holds : hit i ≡ true).
+      between_parts start stop i (has_value value (bit_at xs w i)) holds in
       let first = div-mul-le_self start w in
       let last = need_enough w wide stop in
       let blocks = product_between w wide (start / w) (need stop w)
