@@ -12,33 +12,39 @@ use Rattle.vob_walk.specs.Skip.{from_end, side_start, side_end, Steps, Scans}
 -- ---- steps, of which step i reads block `at i`
 
 module _ {X : Type 0} (number : X → ℕ) (skip : X) (at : ℕ → ℕ) where
-  abbrev steps : Reading X → Reading X → ℕ → ℕ → Option (ℕ × X) → Type 0
+  abbrev steps : Reading X → Reading X → ℕ → ℕ → Option (ℕ × ℕ × X) → Type 0
   steps = Steps number skip at
 
   abbrev block_of : List X → ℕ → ℕ
   block_of items i = get_or (map number items) (at i) 0
 
   -- one block read
-  module _ {x y : Reading X} {i : ℕ} {block : X} (read : slice_get x.items (at i) ≡ Some block)
+  read_at : (items : List X) {i k : ℕ} {block : X} → k ≡ at i → slice_get items k ≡ Some block
+      → number block ≡ block_of items i
+  read_at items {i} {k} {block} here read =
+      number_read number items k block read ∙ ap (λ n. get_or (map number items) n 0) here
+
+  module _ {x y : Reading X} {i k : ℕ} {block : X} (here : k ≡ at i)
+      (read : slice_get x.items k ≡ Some block)
       (reads : y.reads ≡ x.reads + 1) (items : y.items ≡ x.items) where
     pub Steps-skipped : number block ≡ number skip → steps x y i (i + 1) None
     Steps-skipped same = record {
       found = λ j from below.
-          let here : j ≡ i = omega (arith, from, below) in
-          ap (block_of x.items) here ∙ sym (number_read number x.items (at i) block read) ∙ same;
+          let own : j ≡ i = omega (arith, from, below) in ap (block_of x.items) own ∙ sym (read_at x.items here read) ∙ same;
       reads = omega (arith, reads);
       items = items;
     }
 
-    pub Steps-other : number block ≢ number skip → steps x y i (i + 1) (Some (i, block))
+    pub Steps-other : number block ≢ number skip → steps x y i (i + 1) (Some (i, k, block))
     Steps-other differs = record {
       found = (
         record {
           from = omega arith;
           below = omega arith;
-          same = number_read number x.items (at i) block read;
+          same = read_at x.items here read;
           other = differs;
         },
+        here,
         λ j from below. absurd (omega (arith, from, below)),
       );
       reads = omega (arith, reads);
@@ -54,7 +60,7 @@ module _ {X : Type 0} (number : X → ℕ) (skip : X) (at : ℕ → ℕ) where
   }
 
   -- behind steps that found none a scan goes on; what it found before the end is what is found up to there
-  pub Steps-on : {x y z : Reading X} {first found : Option (ℕ × X)} (a m c b : ℕ) → a ≤ m → m ≤ c
+  pub Steps-on : {x y z : Reading X} {first found : Option (ℕ × ℕ × X)} (a m c b : ℕ) → a ≤ m → m ≤ c
       → c ≤ b → is_some first ≡ false → is_some found ≡ true → steps x y a m first
       → steps y z m c found → steps x z a b found
   Steps-on {first = None} {found = Some p} a m c b low some high nothing there h k = record {
@@ -65,9 +71,10 @@ module _ {X : Type 0} (number : X → ℕ) (skip : X) (at : ℕ → ℕ) where
         same = k.found.0.same ∙ ap (λ l. block_of l p.0) h.items;
         other = k.found.0.other;
       },
+      k.found.1,
       λ i from below. elim (cases_lt i m) [
         | inl before ↦ h.found i from before
-        | inr behind ↦ ap (λ l. block_of l i) (sym h.items) ∙ k.found.1 i behind below
+        | inr behind ↦ ap (λ l. block_of l i) (sym h.items) ∙ k.found.2 i behind below
       ],
     );
     reads = omega (arith, h.reads, k.reads);
@@ -79,7 +86,7 @@ module _ {X : Type 0} (number : X → ℕ) (skip : X) (at : ℕ → ℕ) where
       absurd (false≢true (sym nothing))
 
   -- and where none was found behind them either, that is a scan of them all
-  pub Steps-past : {x y z : Reading X} {first found : Option (ℕ × X)} (a m b : ℕ) {end : ℕ} → a ≤ m → m ≤ b
+  pub Steps-past : {x y z : Reading X} {first found : Option (ℕ × ℕ × X)} (a m b : ℕ) {end : ℕ} → a ≤ m → m ≤ b
       → end ≡ b → is_some first ≡ false → is_some found ≡ false → steps x y a m first
       → steps y z m b found → steps x z a end None
   Steps-past {first = None} {found = None} a m b low high same nothing no_other h k = record {
@@ -96,7 +103,7 @@ module _ {X : Type 0} (number : X → ℕ) (skip : X) (at : ℕ → ℕ) where
       absurd (false≢true (sym nothing))
 
   -- so it is all that a scan up to there found
-  pub Steps-after : {x y z : Reading X} {first found : Option (ℕ × X)} (a m b : ℕ) → a ≤ m → m ≤ b
+  pub Steps-after : {x y z : Reading X} {first found : Option (ℕ × ℕ × X)} (a m b : ℕ) → a ≤ m → m ≤ b
       → is_some first ≡ false → steps x y a m first → steps y z m b found → steps x z a b found
   Steps-after {found = None} a m b low high nothing h k =
       Steps-past a m b low high refl nothing refl h k
@@ -137,13 +144,13 @@ module _ {X : Type 0} {number : X → ℕ} {skip : X} {x y : Reading X} (side : 
     items = h.items;
   }
 
-  pub Scans-some : (i k : ℕ) (block : X) → k ≡ from_end side a b i
-      → Steps number skip (from_end side a b) x y 0 (b - a) (Some (i, block))
+  pub Scans-some : (i k : ℕ) (block : X)
+      → Steps number skip (from_end side a b) x y 0 (b - a) (Some (i, k, block))
       → Scans side number skip x y a b (Some (k, block))
-  Scans-some i k block is h =
+  Scans-some i k block h =
       let inside = h.found.0.below in
       let here = at_step side a b i inside in
-      subst (λ (n : ℕ). Scans side number skip x y a b (Some (n, block))) (sym is) (record {
+      subst (λ (n : ℕ). Scans side number skip x y a b (Some (n, block))) (sym h.found.1) (record {
         found = (
           record {
             from = here.0;
@@ -154,7 +161,7 @@ module _ {X : Type 0} {number : X → ℕ} {skip : X} {x y : Reading X} (side : 
           λ j low high.
               let step = before_step side a b i j inside low high in
               ap (λ n. get_or (map number x.items) n 0) (sym step.2)
-              ∙ h.found.1 step.0 (omega arith) step.1,
+              ∙ h.found.2 step.0 (omega arith) step.1,
         );
         reads = omega (arith, h.reads, here.2);
         items = h.items;

@@ -34,13 +34,14 @@ pub record IsOther (skip : ℕ) (block : ℕ → ℕ) (a b k x : ℕ) : Type 0 w
   pub other : x ≢ skip
 
 -- steps from m to below n, of which step i reads block `at i`, found the first block that isn't
--- `skip`, or none. Each block was read once, and none behind the one that was found
+-- `skip`, with the step and its number, or none. Each block was read once, and none behind the one that was found
 pub record Steps {X : Type 0} (number : X → ℕ) (skip : X) (at : ℕ → ℕ) (before after : Reading X)
-    (m n : ℕ) (answer : Option (ℕ × X)) : Type 0 where
+    (m n : ℕ) (answer : Option (ℕ × ℕ × X)) : Type 0 where
   pub found : MatchOption answer
       (AreSkipped (number skip) (λ i. slice_index_or (map number before.items) (at i) 0) m n)
       (λ p. IsOther (number skip) (λ i. slice_index_or (map number before.items) (at i) 0) m n p.0
-      (number p.1)
+      (number p.2)
+      × (p.1 ≡ at p.0)
       × AreSkipped (number skip) (λ i. slice_index_or (map number before.items) (at i) 0) m p.0)
   pub reads : after.reads + m ≡ before.reads + unwrap_or (option_map (λ p. p.0 + 1) answer) n
   pub items : after.items ≡ before.items

@@ -28,8 +28,8 @@ impl Span {
         }
     }
 
-    /// The block after `i` others and `j` more, with how many these are, if it isn't `skip`. Where `j`
-    /// is a constant, it is part of an address.
+    /// The block after `i` others and `j` more, if it isn't `skip`: how many these are, its number and
+    /// the block. If `j` is a constant, it is part of an address.
     #[inline(always)]
     fn other_at<T: BitBlock>(
         self,
@@ -37,17 +37,18 @@ impl Span {
         skip: T,
         i: usize,
         j: usize,
-    ) -> Option<(usize, T)>
+    ) -> Option<(usize, usize, T)>
         requires inside { self.start + (i + j) < self.end }
         requires count { self.end ≤ length blocks.old.items }
         ensures { Steps T.number skip (from_end self.side self.start self.end) blocks.old blocks.new
             (i + j) (i + j + 1) result }
     {
-        let block = blocks.block(self.nth(i, j));
+        let k = self.nth(i, j);
+        let block = blocks.block(k);
         if block == skip {
             None
         } else {
-            Some((i + j, block))
+            Some((i + j, k, block))
         }
     }
 
@@ -66,14 +67,14 @@ impl Span {
     }
 }
 
-/// The first of four blocks after `i` others that isn't `skip`, with how many are before it.
+/// The first of four blocks after `i` others that isn't `skip`.
 #[inline(always)]
 fn first_of_four<T: BitBlock>(
     blocks: &mut Blocks<'_, T>,
     skip: T,
     span: Span,
     i: usize,
-) -> Option<(usize, T)>
+) -> Option<(usize, usize, T)>
     requires inside { span.start + i + 4 ≤ span.end }
     requires count { span.end ≤ length blocks.old.items }
     ensures { Steps T.number skip (from_end span.side span.start span.end) blocks.old blocks.new i
@@ -101,7 +102,7 @@ fn first_of_fours<T: BitBlock>(
     skip: T,
     span: Span,
     fours: usize,
-) -> Option<(usize, T)>
+) -> Option<(usize, usize, T)>
     requires inside { span.start + 4 * fours ≤ span.end }
     requires count { span.end ≤ length blocks.old.items }
     ensures { Steps T.number skip (from_end span.side span.start span.end) blocks.old blocks.new 0
@@ -123,7 +124,7 @@ fn first_of_rest<T: BitBlock>(
     skip: T,
     span: Span,
     from: usize,
-) -> Option<(usize, T)>
+) -> Option<(usize, usize, T)>
     requires inside { span.start + from ≤ span.end }
     requires count { span.end ≤ length blocks.old.items }
     ensures { Steps T.number skip (from_end span.side span.start span.end) blocks.old blocks.new from
@@ -138,9 +139,13 @@ fn first_of_rest<T: BitBlock>(
     None
 }
 
-/// The first of all blocks, with how many are before it.
+/// The first of all blocks.
 #[inline(always)]
-fn first_other<T: BitBlock>(blocks: &mut Blocks<'_, T>, skip: T, span: Span) -> Option<(usize, T)>
+fn first_other<T: BitBlock>(
+    blocks: &mut Blocks<'_, T>,
+    skip: T,
+    span: Span,
+) -> Option<(usize, usize, T)>
     requires order { span.start ≤ span.end }
     requires count { span.end ≤ length blocks.old.items }
     ensures { Steps T.number skip (from_end span.side span.start span.end) blocks.old blocks.new 0
@@ -169,5 +174,5 @@ pub(crate) fn next_other<T: BitBlock>(
     let Some(found) = first_other(blocks, skip, span) else {
         return None;
     };
-    Some((span.nth(found.0, 0), found.1))
+    Some((found.1, found.2))
 }

@@ -1,5 +1,4 @@
 -- The block of the step that found one.
-use Rattle.std.proofs.Common.{add-zero}
 use Rattle.vob_walk.proofs.SkipLemmas.{Scans-none, Scans-some, none_found}
 use Rattle.vob_walk.proofs.skip.next_other.Goals as goal
 
@@ -12,5 +11,4 @@ returns-in_default g c =
 pub returns : goal.returns
 returns g c =
     let span = c.args.span in
-    Scans-some span.side span.start span.end c.in-Some.found.0 _ c.in-Some.found.1 (rw add-zero at c.nth.ensures.number)
-    (rw c.in-Some.is at c.first_other.ensures)
+    Scans-some span.side span.start span.end _ _ _ (rw c.in-Some.is at c.first_other.ensures)
