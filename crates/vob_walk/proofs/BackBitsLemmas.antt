@@ -28,9 +28,9 @@ run-lt w n inside = omega (arith, pow_pos n, pow_mono inside)
 HasZerosHigh-run : (w n : ℕ) → n < w → HasZerosHigh w (2 ^ (n + 1) - 1) (w - 1 - n)
 HasZerosHigh-run w n inside = record {
   bound = omega arith;
-  zeros = λ j h. place-run (n + 1) (w - 1 - j) ∙ le-ltb (w - 1 - j) (n + 1) (omega (arith, h));
+  zeros = λ j h. place-run (n + 1) (w - 1 - j) ∙ le-ltb (w - 1 - j) (n + 1) (omega arith);
   last = λ h. place-run (n + 1) (w - 1 - (w - 1 - n))
-      ∙ lt-ltb (w - 1 - (w - 1 - n)) (n + 1) (omega (arith, inside));
+      ∙ lt-ltb (w - 1 - (w - 1 - n)) (n + 1) (omega arith);
 }
 
 HasPlaces-shorter : (w n : ℕ)
@@ -45,14 +45,14 @@ run-last w at n inside =
     let there : place n (2 ^ (n + 1) - 1) ≡ true =
     place-run (n + 1) n ∙ lt-ltb n (n + 1) (omega arith) in
     block_indices-last w at _ _ n inside there (HasPlaces-shorter w n) (w - 1 - n)
-    (HasZerosHigh-run w n inside) (omega (arith, inside))
+    (HasZerosHigh-run w n inside) (omega arith)
 
 pub IsBlockBits-shorter : (w at n : ℕ) → n < w → IsBlockBits w at (2 ^ (n + 1) - 1)
     → IsBlockBits w at (2 ^ n - 1)
 IsBlockBits-shorter w at n inside h = record {
-  within = run-lt w n (omega (arith, inside));
+  within = run-lt w n (omega arith);
   fits = λ j k there. h.fits j k (elim (cases_lt j n) [
-    | inl below ↦ place-run (n + 1) j ∙ lt-ltb j (n + 1) (omega (arith, below))
+    | inl below ↦ place-run (n + 1) j ∙ lt-ltb j (n + 1) (omega arith)
     | inr above ↦ absurd (false≢true (sym (place-run n j ∙ le-ltb j n above) ∙ there))
   ]);
 }
@@ -71,30 +71,30 @@ held-run run word some = cond-false (eqb run 0) word (2 ^ run - 1)
 -- beside a run the word is 0, so this is so where none of it is left too
 held-alone : (run word : ℕ) → word ≡ 0 → held run word ≡ 2 ^ run - 1
 held-alone zero word none = none
-held-alone (suc n) word none = held-run (suc n) word (λ e. absurd (omega (arith, e)))
+held-alone (suc n) word none = held-run (suc n) word (λ e. absurd (omega arith))
 
 -- without a run it is the word
 held-none : (run word : ℕ) → run ≡ 0 → held run word ≡ word
 held-none zero word none = refl
-held-none (suc n) word none = absurd (omega (arith, none))
+held-none (suc n) word none = absurd (omega arith)
 
 pub held-word : (w at word past : ℕ) → past ≡ at
     → block_indices w at (held (past - at) word) ≡ block_indices w at word
 held-word w at word past none =
-    ap (block_indices w at) (held-none (past - at) word (omega (arith, none)))
+    ap (block_indices w at) (held-none (past - at) word (omega arith))
 
 pub IsBlockBits-word : {w at word past : ℕ} → IsBackBits w at word past → past ≡ at
     → IsBlockBits w at word
 IsBlockBits-word {w} {at} {word} {past} h none =
-    subst (IsBlockBits w at) (held-none (past - at) word (omega (arith, none))) h.bits
+    subst (IsBlockBits w at) (held-none (past - at) word (omega arith)) h.bits
 
 pub IsBackBits-word : (w at word past : ℕ) → past ≡ at → IsBlockBits w at word
     → IsBackBits w at word past
 IsBackBits-word w at word past none h = record {
-  bits = subst (IsBlockBits w at) (sym (held-none (past - at) word (omega (arith, none)))) h;
-  order = omega (arith, none);
-  inside = omega (arith, none);
-  alone = λ some. absurd (omega (arith, none, some));
+  bits = subst (IsBlockBits w at) (sym (held-none (past - at) word (omega arith))) h;
+  order = omega arith;
+  inside = omega arith;
+  alone = λ some. absurd (omega arith);
 }
 
 -- so its last true place is the last one
@@ -108,16 +108,16 @@ word-last {w} {at} {word} u n answer h none e high test differs =
 -- a run
 module _ (w at word past : ℕ) (h : IsBackBits w at word past) (some : past ≢ at) where
   back : past - at ≡ past - 1 - at + 1
-  back = omega (arith, some, h.order)
+  back = omega arith
 
   more : past - at ≢ 0
-  more none = absurd (omega (arith, none, some, h.order))
+  more none = absurd (omega arith)
 
   whole : held (past - at) word ≡ 2 ^ (past - 1 - at + 1) - 1
   whole = held-run (past - at) word more ∙ ap (λ m. 2 ^ m - 1) back
 
   shorter : held (past - 1 - at) word ≡ 2 ^ (past - 1 - at) - 1
-  shorter = held-alone (past - 1 - at) word (h.alone (omega (arith, some, h.order)))
+  shorter = held-alone (past - 1 - at) word (h.alone (omega arith))
 
   bits : IsBlockBits w at (2 ^ (past - 1 - at + 1) - 1)
   bits = subst (IsBlockBits w at) whole h.bits
@@ -131,24 +131,23 @@ module _ (w at word past : ℕ) (h : IsBackBits w at word past) (some : past ≢
         zero_block_indices w at _ h.bits.within none,
         whole,
         pow_pos (past - 1 - at),
-        two,
       ))
 
   pub IsBackBits-shorter : IsBackBits w at word (past - 1)
   IsBackBits-shorter = record {
     bits = subst (IsBlockBits w at) (sym shorter)
-        (IsBlockBits-shorter w at (past - 1 - at) (omega (arith, h.inside, some, h.order)) bits);
-    order = omega (arith, some, h.order);
-    inside = omega (arith, h.inside);
-    alone = λ less. h.alone (omega (arith, less));
+        (IsBlockBits-shorter w at (past - 1 - at) (omega arith) bits);
+    order = omega arith;
+    inside = omega arith;
+    alone = λ less. h.alone (omega arith);
   }
 
   pub run-taken : block_indices w at (held (past - at) word)
       ≡ block_indices w at (held (past - 1 - at) word) ++ (past - 1) ∷ []
   run-taken =
-      let last : at + (past - 1 - at) ≡ past - 1 = omega (arith, some, h.order) in
+      let last : at + (past - 1 - at) ≡ past - 1 = omega arith in
       ap (block_indices w at) whole
-      ∙ run-last w at (past - 1 - at) (omega (arith, h.inside, some, h.order))
+      ∙ run-last w at (past - 1 - at) (omega arith)
       ∙ ap (λ x. block_indices w at x ++ (at + (past - 1 - at)) ∷ []) (sym shorter)
       ∙ ap (λ i. block_indices w at (held (past - 1 - at) word) ++ i ∷ []) last
 
@@ -156,4 +155,4 @@ module _ (w at word past : ℕ) (h : IsBackBits w at word past) (some : past ≢
   pub mask-held : (m : ℕ) → m < 2 ^ w → HasPlaces w m (λ j. ltb j (past - at))
       → held (past - at) word ≡ m
   mask-held m within places = held-run (past - at) word more
-      ∙ sym (mask-run w (past - at) m (omega (arith, h.inside)) within places)
+      ∙ sym (mask-run w (past - at) m (omega arith) within places)

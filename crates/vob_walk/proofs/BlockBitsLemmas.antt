@@ -27,8 +27,8 @@ module _ (p q : ℕ → Bool) (k a n : ℕ) (h : Lacks p q k a n) where
   split : (r : ℕ → Bool) → indices_where r a n
       ≡ indices_where r a (k - a) ++ indices_where r k (suc (a + n - (k + 1)))
   split r =
-      let all : n ≡ k - a + suc (a + n - (k + 1)) = omega (arith, h.low, h.high) in
-      let here : a + (k - a) ≡ k = omega (arith, h.low) in
+      let all : n ≡ k - a + suc (a + n - (k + 1)) = omega arith in
+      let here : a + (k - a) ≡ k = omega arith in
       ap (indices_where r a) all ∙ indices_where-split r a (k - a) (suc (a + n - (k + 1)))
       ∙ ap (λ i. indices_where r a (k - a) ++ indices_where r i (suc (a + n - (k + 1)))) here
 
@@ -44,10 +44,10 @@ module _ (p q : ℕ → Bool) (k a n : ℕ) (h : Lacks p q k a n) where
       (cond-false (q k) _ (indices_where q (k + 1) (a + n - (k + 1))) h.gone)
       ∙ ap (λ xs. xs ++ indices_where q (k + 1) (a + n - (k + 1)))
       (indices_where-same q p a (k - a) (λ i low high.
-      h.other i low (omega (arith, h.low, h.high)) (λ e. absurd (omega (arith, h.low)))))
+      h.other i low (omega arith) (λ e. absurd (omega arith))))
       ∙ ap (λ xs. indices_where p a (k - a) ++ xs)
       (indices_where-same q p (k + 1) (a + n - (k + 1))
-      (λ i low high. h.other i (omega (arith, h.low)) (omega (arith, h.high))
+      (λ i low high. h.other i (omega arith) (omega arith)
       (λ e. absurd (omega arith))))
 
   -- the first that p holds of
@@ -55,7 +55,7 @@ module _ (p q : ℕ → Bool) (k a n : ℕ) (h : Lacks p q k a n) where
       ≡ k ∷ indices_where q a n
   indices_where-first none =
       let empty = indices_where-nothing p a (k - a)
-      (λ i low high. none i low (omega (arith, h.low))) in
+      (λ i low high. none i low (omega arith)) in
       with_it ∙ ap (λ xs. xs ++ k ∷ indices_where p (k + 1) (a + n - (k + 1))) empty
       ∙ ap (λ xs. k ∷ xs) (sym (without_it ∙ ap
       (λ xs. xs ++ indices_where p (k + 1) (a + n - (k + 1))) empty))
@@ -65,7 +65,7 @@ module _ (p q : ℕ → Bool) (k a n : ℕ) (h : Lacks p q k a n) where
       ≡ indices_where q a n ++ k ∷ []
   indices_where-last none =
       let empty = indices_where-nothing p (k + 1) (a + n - (k + 1))
-      (λ i low high. none i (omega arith) (omega (arith, h.high))) in
+      (λ i low high. none i (omega arith) (omega arith)) in
       with_it ∙ ap (λ xs. indices_where p a (k - a) ++ k ∷ xs) empty
       ∙ ap (λ xs. xs ++ k ∷ []) (sym (without_it
       ∙ ap (λ xs. indices_where p a (k - a) ++ xs) empty
@@ -116,8 +116,8 @@ zero_block_indices w at x within e = same_from_places w x 0 within (pow_pos w) (
 -- behind a block whose places are all true there is a length still
 pub full-below : {w at x : ℕ} → 0 < w → x ≡ 2 ^ w - 1 → IsBlockBits w at x → at + w < 2 ^ 64
 full-below {w} {at} {x} wide full h =
-    let last : w - 1 < w = omega (arith, wide) in
-    omega (arith, wide, h.fits (w - 1) last (ap (place (w - 1)) full ∙ place-ones w (w - 1) last))
+    let last : w - 1 < w = omega arith in
+    omega (arith, h.fits (w - 1) last (ap (place (w - 1)) full ∙ place-ones w (w - 1) last))
 
 -- a block is 0 by a test exactly where it has no index
 pub empty_test : (w at x : ℕ) (answer : Bool) → (answer ≡ true) ↔ (x ≡ 0) → x < 2 ^ w
@@ -158,7 +158,7 @@ length-block_indices w at x = length-indices_at (λ j. place j x) at at 0 w (ome
 
 -- where some of a list are left there is one, and where the first is taken one less is
 pub some_left : {xs : List ℕ} {left : ℕ} → left ≡ length xs → 0 < left → xs ≢ []
-some_left count some none = absurd (omega (arith, count ∙ ap length none, some))
+some_left count some none = absurd (omega (arith, count ∙ ap length none))
 
 pub left-first : {xs ys : List ℕ} {left i : ℕ} → left ≡ length xs → xs ≡ i ∷ ys
     → left - 1 ≡ length ys

@@ -132,8 +132,6 @@ module _ (w : ℕ) (xs : List ℕ) where
       let to = middle + half in
       omega (
         arith,
-        first,
-        second,
         ap (λ n. ones_between w xs (from * w) (n * w)) last,
         ap (λ n. ones_between w xs (middle * w) ((n + half) * w)) last,
         ones-split (from * w) (middle * w) (to * w) (mul-le from w middle w (omega arith)
@@ -173,11 +171,12 @@ module _ (w : ℕ) (xs : List ℕ) where
         sym (add-mul next (end - next) w) ∙ ap (λ k. k * w) (omega arith) in
         ap length (indices_where-alike (is_hit w xs value start stop)
         (λ i. has_value value (bit_at xs w i)) (next * w) ((end - next) * w) low (high - low)
-        (λ i from below holds. let hit = between_parts start stop i (has_value value (bit_at xs w i)) holds in
-        (omega arith, omega (arith, blocks), hit.2))
+        (λ i from below holds.
+        let hit = between_parts start stop i (has_value value (bit_at xs w i)) holds in
+        (omega arith, omega arith, hit.2))
         (λ i from below holds. (
           omega arith,
-          omega (arith, blocks),
+          omega arith,
           between_from start stop i (omega arith) (omega arith) holds,
         )))
 
@@ -216,7 +215,7 @@ module _ (w : ℕ) (wide : 0 < w) {start stop first end : ℕ}
       | inl some ↦
           let at = spans.some some in
           let empty : start / w * w ≡ need stop w * w = ap (λ k. k * w) (sym at.0 ∙ none ∙ at.1) in
-          absurd (omega (arith, need_enough w wide stop, div-mul-le_self start w, empty))
+          absurd (omega (arith, need_enough w wide stop, div-mul-le_self start w))
       | inr past ↦ ones-none w xs start stop past
     ]
 
@@ -236,12 +235,12 @@ module _ (w : ℕ) (wide : 0 < w) {start stop first end : ℕ}
             let product = ap (λ k. k * w) at.0 in
             let room = ap (λ k. k * w) at.1 in
             record {
-              some = omega (arith, spans.order, apart);
-              from = omega (arith, parts, product);
-              within = omega (arith, parts, product, mod-lt start wide);
-              enough = omega (arith, need_enough w wide stop, room);
+              some = omega arith;
+              from = omega arith;
+              within = omega (arith, mod-lt start wide);
+              enough = omega (arith, need_enough w wide stop);
             }
-        | inr past ↦ absurd (omega (arith, spans.order, apart, spans.none (omega arith)))
+        | inr past ↦ absurd (omega (arith, spans.none (omega arith)))
       ]
 
       -- the part of the window in block k
@@ -258,7 +257,7 @@ module _ (w : ℕ) (wide : 0 < w) {start stop first end : ℕ}
       pub ones-alone : first ≡ end - 1 → part first ≡ ones_between w xs start stop
       ones-alone alone =
           let whole : end * w ≡ first * w + w =
-          ap (λ k. k * w) (omega (arith, ends.some)) ∙ product-more w first in
+          ap (λ k. k * w) (omega arith) ∙ product-more w first in
           part-is first start stop (omega (arith, ends.from)) (omega (arith, ends.enough, whole))
 
       -- two blocks or more have a part in them at each end, and whole blocks between them
@@ -269,17 +268,17 @@ module _ (w : ℕ) (wide : 0 < w) {start stop first end : ℕ}
           let last = end - 1 in
           let after = product-more w first in
           let whole : end * w ≡ last * w + w =
-          ap (λ k. k * w) (omega (arith, ends.some)) ∙ product-more w last in
-          let between = mul-le (first + 1) w last w (omega (arith, ends.some, more)) (omega arith) in
-          let short = spans.below last (omega (arith, ends.some)) in
+          ap (λ k. k * w) (omega arith) ∙ product-more w last in
+          let between = mul-le (first + 1) w last w (omega arith) (omega arith) in
+          let short = spans.below last (omega arith) in
           let head = part-is first start ((first + 1) * w) (omega (arith, ends.from))
-          (omega (arith, after, between, short)) in
+          (omega arith) in
           let tail = part-is last (last * w) stop (omega (arith, after, between, ends.within))
           (omega (arith, ends.enough, whole)) in
-          let rest = ones-split w xs ((first + 1) * w) (last * w) stop between (omega (arith, short)) in
+          let rest = ones-split w xs ((first + 1) * w) (last * w) stop between (omega arith) in
           let all = ones-split w xs start ((first + 1) * w) stop (omega (arith, after, ends.within))
-          (omega (arith, between, short)) in
-          omega (arith, head, tail, rest, all)
+          (omega arith) in
+          omega arith
 
 -- ---- blocks as they are read
 
@@ -295,4 +294,4 @@ ones-next w number items {from} {k} {x} next to read so_far here low is_next hig
     let same = ap (λ n. ones_between w xs (from * w) (n * w)) is_next in
     let few = ones-le w xs (from * w) (next * w) in
     let within = mul-le next w to w high (omega arith) in
-    (omega (arith, so_far, here, all, same), omega (arith, so_far, here, all, same, few, within))
+    (omega arith, omega (arith, within))

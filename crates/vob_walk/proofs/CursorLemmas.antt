@@ -61,38 +61,14 @@ module _ (before after : UnreadBlocks) (taken left other other_after : List ℕ)
   reads-pulled None walk walk_after r l k ra la ka empty =
       let none = empty refl in
       record {
-        bound = omega (
-          arith,
-          r,
-          l,
-          k,
-          ra,
-          la,
-          ka,
-          reads,
-          falls,
-          ap has_index none.0,
-          ap has_index none.1,
-        );
-        rises = omega (arith, r, ra, reads, falls);
-        credit = omega (arith, r, k, ra, ka, reads);
+        bound = omega (arith, ap has_index none.0, ap has_index none.1);
+        rises = omega arith;
+        credit = omega arith;
       }
   reads-pulled (Some i) walk walk_after r l k ra la ka empty = record {
-    bound = omega (
-      arith,
-      r,
-      l,
-      k,
-      ra,
-      la,
-      ka,
-      reads,
-      falls,
-      has_index-le left,
-      has_index-falls other_after other fewer,
-    );
-    rises = omega (arith, r, ra, reads, falls);
-    credit = omega (arith, r, k, ra, ka, reads);
+    bound = omega (arith, has_index-le left, has_index-falls other_after other fewer);
+    rises = omega arith;
+    credit = omega arith;
   }
 
 -- a pull that gave nothing left nothing at either end
@@ -116,9 +92,9 @@ module _ (w : ℕ) (wide : 0 < w) where
   pub AreBlocksOf-window : (start stop next end : ℕ) → start < stop → next ≡ start / w → end
       ≡ need stop w → AreBlocksOf w start stop next end
   AreBlocksOf-window start stop next end some first last = record {
-    order = omega (arith, first, last, div-le-need w wide start stop (omega arith));
-    count = omega (arith, last);
-    below = λ k h. mul-lt_from_need w wide stop k (omega (arith, last));
+    order = omega (arith, div-le-need w wide start stop (omega arith));
+    count = omega arith;
+    below = λ k h. mul-lt_from_need w wide stop k (omega arith);
     some = λ _. (first, last);
     none = λ empty. absurd (omega arith);
   }
@@ -163,8 +139,8 @@ module _ {front back : List ℕ} (none : front ≡ []) (no_other : back ≡ []) 
   IsWhole-fresh unread {bits} {value} {low} {high} {n} {w} long rest left =
       let met = ap (λ m. blocks_met low high m w) long in record {
         rest = rest-fresh unread.rest ∙ rest;
-        left = omega (arith, met, left, ap has_index none, ap has_index no_other);
-        credit = omega (arith, met, left);
+        left = omega (arith, ap has_index none, ap has_index no_other);
+        credit = omega arith;
       }
 
 -- what gives the last of a list has less left

@@ -38,9 +38,9 @@ first_least : (xs : List ℕ) → AllPairs (λ i j. i < j) xs → (i : ℕ) (res
 first_least xs rise i rest e j h =
     let first : get_or xs 0 j ≡ i = ap (λ ys. get_or ys 0 j) e in
     elim (cases_eq h.0 0) [
-      | inl here ↦ omega (arith, first, ap (λ k. get_or xs k j) here, h.2)
+      | inl here ↦ omega (arith, ap (λ k. get_or xs k j) here)
       | inr later ↦
-          let less = rise 0 h.0 j (omega (arith, later)) h.1 in omega (arith, less, first, h.2)
+          let less = rise 0 h.0 j (omega arith) h.1 in omega arith
     ]
 
 -- ---- how many bits have a value
@@ -72,7 +72,6 @@ rising a n i j d less inside =
     let long = length-range_with_len a n in
     omega (
       arith,
-      less,
       get_or-range_with_len a n i d (omega (arith, less, inside, long)),
       get_or-range_with_len a n j d (omega (arith, inside, long)),
     )
@@ -102,14 +101,21 @@ module _ (bits : List Bool) (value : Bool) (low high : Bound ℕ) where
       × ((j : ℕ) → j < i → IsTrue (within low high j) → item bits j ≢ value)
   matches-first i rest e =
       let all = matches bits value low high in
-      let there = (matches-exactly i).0 (0, omega (arith, ap length e), ap (λ xs. get_or xs 0 i) e) in (
+      let there = (matches-exactly i).0 (
+        0,
+        omega (
+          arith,
+          ap length e,
+        ),
+        ap (λ xs. get_or xs 0 i) e,
+      ) in (
         there.0,
         there.1,
         there.2,
         (λ j less in_range equal.
             let least = first_least all matches-rise i rest e j
-            ((matches-exactly j).1 (omega (arith, less, there.0), in_range, equal)) in
-            absurd (omega (arith, least, less))),
+            ((matches-exactly j).1 (omega arith, in_range, equal)) in
+            absurd (omega arith)),
       )
 
   -- where none is given, no bit within the range has the value
@@ -117,7 +123,7 @@ module _ (bits : List Bool) (value : Bool) (low high : Bound ℕ) where
       → IsTrue (within low high i) → item bits i ≢ value
   matches-none e i inside in_range equal =
       let there = (matches-exactly i).1 (inside, in_range, equal) in
-      omega (arith, there.1, ap length e)
+      omega (arith, ap length e)
 
 -- the first index of a walk of which nothing was given yet
 pub IsFresh-first : {walk after : Walk} {bits : List Bool} {value : Bool} {low high : Bound ℕ}
@@ -204,7 +210,7 @@ unfolding is_left
 left_at [] k j inside here = absurd (omega arith)
 left_at (x ∷ xs) zero j inside here = ap (λ b. b || is_left xs j) (eq-eqb x j here)
 left_at (x ∷ xs) (suc k) j inside here =
-    ap (λ b. nat_eq x j || b) (left_at xs k j (omega (arith, inside)) here) ∙ or_true (nat_eq x j)
+    ap (λ b. nat_eq x j || b) (left_at xs k j (omega arith) here) ∙ or_true (nat_eq x j)
 
 -- each index that matches is left of a walk of which nothing was given yet
 pub left_all : (bits : List Bool) (value : Bool) (low high : Bound ℕ) (j : ℕ) → j < length bits
@@ -247,11 +253,11 @@ rising_few start stop [] rise within = omega arith
 rising_few start stop (i ∷ xs) rise within =
     let here = within 0 i (omega arith) in
     let rest = rising_few (i + 1) stop xs
-    (λ j k d less inside. rise (suc j) (suc k) d (omega (arith, less)) (omega (arith, inside)))
+    (λ j k d less inside. rise (suc j) (suc k) d (omega arith) (omega arith))
     (λ k d inside.
-    let less = rise 0 (suc k) d (omega arith) (omega (arith, inside)) in
-    (omega (arith, less), (within (suc k) d (omega (arith, inside))).1)) in
-    omega (arith, here.0, here.1, rest)
+    let less = rise 0 (suc k) d (omega arith) (omega arith) in
+    (omega arith, (within (suc k) d (omega arith)).1)) in
+    omega arith
 
 pub matches_at_most : (bits : List Bool) (value : Bool) (start stop : ℕ)
     → length (matches bits value (Included start) (Excluded stop)) ≤ stop - start

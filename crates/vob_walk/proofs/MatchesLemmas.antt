@@ -19,7 +19,7 @@ module _ (bits : List Bool) (low high : Bound ℕ) where
       let there = indices_where-only (λ j. within low high j && has_value value (item bits j)) 0
       (length bits) i h in
       let both = and_parts (within low high i) (has_value value (item bits i)) there.2 in
-      (omega (arith, there.1), both.0, both.1)
+      (omega arith, both.0, both.1)
 
   pub matches-has : (value : Bool) (i : ℕ) → i < length bits → IsTrue (within low high i)
       → IsTrue (has_value value (item bits i)) → Contains (matches bits value low high) i

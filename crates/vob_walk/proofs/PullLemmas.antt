@@ -69,9 +69,9 @@ module _ (walk between after : Walk) (pulls : List End) (k : ℕ) (d : End)
         let sum = ap given_count answers-more
         ∙ given_count-append (answers walk.rest (take k pulls)) (answer ∷ []) in
         record {
-          bound = omega (arith, h.reads.bound, pulled.bound, sum);
-          rises = omega (arith, h.reads.rises, pulled.rises);
-          credit = omega (arith, h.reads.credit, pulled.credit);
+          bound = omega arith;
+          rises = omega arith;
+          credit = omega arith;
         };
   }
 

@@ -55,14 +55,14 @@ module _ (w : ℕ) (wide : 0 < w) (value : Bool) (start stop : ℕ) where
           let other = scan.found.0 in
           let rest = rest_order side m k n other.from other.below in
           record {
-            low = omega (arith, so_far.low, first, rest.0);
-            order = omega (arith, first, last, rest.1);
-            high = omega (arith, so_far.high, last, rest.2);
+            low = omega arith;
+            order = omega arith;
+            high = omega arith;
             rest = rw (gives, first, last, ← so_far.items)
                 (unread-found w (map number y.items) value start stop wide without side m k n
                 (number block) other.from other.below other.same scan.found.1
                 ∙ still_left side so_far);
-            reads = omega (arith, so_far.reads, so_far.order, scan.reads, first, last, rest.3);
+            reads = omega arith;
             items = scan.items ∙ so_far.items;
           }
 
@@ -70,7 +70,7 @@ module _ (w : ℕ) (wide : 0 < w) (value : Bool) (start stop : ℕ) where
       pub Reads-end : {given : List ℕ} → Scans side number skip y z m n None → given ≡ []
           → Reads side number left x z a b n n given
       Reads-end {given} scan gives = record {
-        low = omega (arith, so_far.low, so_far.order);
+        low = omega arith;
         order = omega arith;
         high = so_far.high;
         rest = rw (gives, ← so_far.items)
@@ -78,6 +78,6 @@ module _ (w : ℕ) (wide : 0 < w) (value : Bool) (start stop : ℕ) where
             ∙ unread-none w (map number y.items) value start stop n n (omega arith)
             ∙ sym (unread-skipped w (map number y.items) value start stop wide without m n
             so_far.order scan.found) ∙ still_left side so_far);
-        reads = omega (arith, so_far.reads, so_far.order, scan.reads);
+        reads = omega arith;
         items = scan.items ∙ so_far.items;
       }

@@ -63,8 +63,8 @@ unfolding block_indices
 block_indices-in w x y at start stop value places = indices_where-same (λ i. place (i - at) y)
     (λ i. leb start i && ltb i stop && has_value value (place (i - at) x)) at w
     (λ i low high.
-    let back : at + (i - at) ≡ i = omega (arith, low) in
-    places.each (i - at) (omega (arith, low, high))
+    let back : at + (i - at) ≡ i = omega arith in
+    places.each (i - at) (omega arith)
     ∙ ap (λ m. leb start m && ltb m stop && has_value value (place (i - at) x)) back)
 
 -- ---- the blocks that are not read yet
@@ -103,7 +103,8 @@ module _ (w : ℕ) (xs : List ℕ) (value : Bool) (start stop : ℕ) where
       sym (add-mul k (m - k) w) ∙ ap (λ n. n * w) (omega arith) in
       ap (indices_where hit (k * w)) parts
       ∙ indices_where-split hit (k * w) ((m - k) * w) ((end - m) * w)
-      ∙ ap (λ a. indices_where hit (k * w) ((m - k) * w) ++ indices_where hit a ((end - m) * w)) there
+      ∙ ap (λ a. indices_where hit (k * w) ((m - k) * w) ++ indices_where hit a ((end - m) * w))
+      there
 
   module _ (k x : ℕ) (read : x ≡ get_or xs k 0) where
     -- what is looked for in block k is exactly what is to be found there
@@ -111,8 +112,8 @@ module _ (w : ℕ) (xs : List ℕ) (value : Bool) (start stop : ℕ) where
     indices_in-hits = indices_where-same
         (λ i. leb start i && ltb i stop && has_value value (place (i - k * w) x)) hit (k * w) w
         (λ i low high.
-        let back : k * w + (i - k * w) ≡ i = omega (arith, low) in
-        let inside : i - k * w < w = omega (arith, low, high) in
+        let back : k * w + (i - k * w) ≡ i = omega arith in
+        let inside : i - k * w < w = omega arith in
         let bit : place (i - k * w) x ≡ bit_at xs w i =
         ap (place (i - k * w)) read ∙ sym (bit_at-in_block xs w k (i - k * w) inside)
         ∙ ap (bit_at xs w) back in

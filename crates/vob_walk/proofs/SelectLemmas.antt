@@ -37,7 +37,7 @@ true_places-masked w n x mask y order below both =
     (λ j from inside holds.
     let parts = and_parts (place j x) (place j mask) (sym (both.each j (omega arith)) ∙ holds) in
     let less = ltb-true j n (sym (below.each j (omega arith)) ∙ parts.1) in
-    (omega arith, omega (arith, less), parts.0))
+    (omega arith, omega arith, parts.0))
     (λ j from inside holds. (
       omega arith,
       omega arith,
@@ -54,8 +54,8 @@ place_between x low high rank some few least most =
     let next : high ≡ low + 1 = omega arith in
     let more = ap (λ n. true_places n x) next ∙ true_places-more low x in
     elim (cases_Bool (place low x)) [
-      | inl t ↦ (t, omega (arith, least, most, more, ap {B = ℕ} (λ b. cond b 1 0) t))
-      | inr f ↦ absurd (omega (arith, least, most, more, ap {B = ℕ} (λ b. cond b 1 0) f))
+      | inl t ↦ (t, omega (arith, ap {B = ℕ} (λ b. cond b 1 0) t))
+      | inr f ↦ absurd (omega (arith, ap {B = ℕ} (λ b. cond b 1 0) f))
     ]
 
 -- ---- the true bits below one
@@ -81,8 +81,6 @@ module _ (w : ℕ) (xs : List ℕ) (k x : ℕ) (read : x ≡ get_or xs k 0) wher
       there = bit_at-place j inside there;
       below = omega (
         arith,
-        before,
-        ones,
         ones-split w xs 0 (k * w) (k * w + j) (omega arith) (omega arith),
         ones-part w xs k x read j (omega arith),
       );

@@ -30,8 +30,9 @@ module _ {X : Type 0} (number : X → ℕ) (skip : X) (at : ℕ → ℕ) where
     pub Steps-skipped : number block ≡ number skip → steps x y i (i + 1) None
     Steps-skipped same = record {
       found = λ j from below.
-          let own : j ≡ i = omega (arith, from, below) in ap (block_of x.items) own ∙ sym (read_at x.items here read) ∙ same;
-      reads = omega (arith, reads);
+          let own : j ≡ i = omega arith in
+          ap (block_of x.items) own ∙ sym (read_at x.items here read) ∙ same;
+      reads = omega arith;
       items = items;
     }
 
@@ -45,29 +46,29 @@ module _ {X : Type 0} (number : X → ℕ) (skip : X) (at : ℕ → ℕ) where
           other = differs;
         },
         here,
-        λ j from below. absurd (omega (arith, from, below)),
+        λ j from below. absurd (omega arith),
       );
-      reads = omega (arith, reads);
+      reads = omega arith;
       items = items;
     }
 
   -- none read
   pub Steps-start : (x : Reading X) (m n : ℕ) → m ≡ n → steps x x m n None
   Steps-start x m n same = record {
-    found = λ k from below. absurd (omega (arith, from, below, same));
+    found = λ k from below. absurd (omega arith);
     reads = ap (λ i. x.reads + i) same;
     items = refl;
   }
 
-  -- behind steps that found none a scan goes on; what it found before the end is what is found up to there
-  pub Steps-on : {x y z : Reading X} {first found : Option (ℕ × ℕ × X)} (a m c b : ℕ) → a ≤ m → m ≤ c
-      → c ≤ b → is_some first ≡ false → is_some found ≡ true → steps x y a m first
+  -- behind steps that found none a scan goes on; what it found is what is found up to the end
+  pub Steps-on : {x y z : Reading X} {first found : Option (ℕ × ℕ × X)} (a m c b : ℕ) → a ≤ m
+      → m ≤ c → c ≤ b → is_some first ≡ false → is_some found ≡ true → steps x y a m first
       → steps y z m c found → steps x z a b found
   Steps-on {first = None} {found = Some p} a m c b low some high nothing there h k = record {
     found = (
       record {
-        from = omega (arith, low, k.found.0.from);
-        below = omega (arith, high, k.found.0.below);
+        from = omega arith;
+        below = omega arith;
         same = k.found.0.same ∙ ap (λ l. block_of l p.0) h.items;
         other = k.found.0.other;
       },
@@ -77,7 +78,7 @@ module _ {X : Type 0} (number : X → ℕ) (skip : X) (at : ℕ → ℕ) where
         | inr behind ↦ ap (λ l. block_of l i) (sym h.items) ∙ k.found.2 i behind below
       ],
     );
-    reads = omega (arith, h.reads, k.reads);
+    reads = omega arith;
     items = k.items ∙ h.items;
   }
   Steps-on {first = None} {found = None} a m c b low some high nothing there h k =
@@ -86,15 +87,15 @@ module _ {X : Type 0} (number : X → ℕ) (skip : X) (at : ℕ → ℕ) where
       absurd (false≢true (sym nothing))
 
   -- and where none was found behind them either, that is a scan of them all
-  pub Steps-past : {x y z : Reading X} {first found : Option (ℕ × ℕ × X)} (a m b : ℕ) {end : ℕ} → a ≤ m → m ≤ b
-      → end ≡ b → is_some first ≡ false → is_some found ≡ false → steps x y a m first
+  pub Steps-past : {x y z : Reading X} {first found : Option (ℕ × ℕ × X)} (a m b : ℕ) {end : ℕ}
+      → a ≤ m → m ≤ b → end ≡ b → is_some first ≡ false → is_some found ≡ false → steps x y a m first
       → steps y z m b found → steps x z a end None
   Steps-past {first = None} {found = None} a m b low high same nothing no_other h k = record {
     found = λ i from below. elim (cases_lt i m) [
       | inl before ↦ h.found i from before
-      | inr behind ↦ ap (λ l. block_of l i) (sym h.items) ∙ k.found i behind (omega (arith, same, below))
+      | inr behind ↦ ap (λ l. block_of l i) (sym h.items) ∙ k.found i behind (omega arith)
     ];
-    reads = omega (arith, h.reads, k.reads);
+    reads = omega arith;
     items = k.items ∙ h.items;
   }
   Steps-past {first = None} {found = Some p} a m b low high same nothing no_other h k =
@@ -103,8 +104,8 @@ module _ {X : Type 0} (number : X → ℕ) (skip : X) (at : ℕ → ℕ) where
       absurd (false≢true (sym nothing))
 
   -- so it is all that a scan up to there found
-  pub Steps-after : {x y z : Reading X} {first found : Option (ℕ × ℕ × X)} (a m b : ℕ) → a ≤ m → m ≤ b
-      → is_some first ≡ false → steps x y a m first → steps y z m b found → steps x z a b found
+  pub Steps-after : {x y z : Reading X} {first found : Option (ℕ × ℕ × X)} (a m b : ℕ) → a ≤ m
+      → m ≤ b → is_some first ≡ false → steps x y a m first → steps y z m b found → steps x z a b found
   Steps-after {found = None} a m b low high nothing h k =
       Steps-past a m b low high refl nothing refl h k
   Steps-after {found = Some p} a m b low high nothing h k =
@@ -139,8 +140,9 @@ module _ {X : Type 0} {number : X → ℕ} {skip : X} {x y : Reading X} (side : 
   Scans-none h = record {
     found = λ k low high.
         let step = step_of side a b k low high in
-        ap (λ j. get_or (map number x.items) j 0) (sym step.2) ∙ h.found step.0 (omega arith) step.1;
-    reads = omega (arith, h.reads);
+        ap (λ j. get_or (map number x.items) j 0) (sym step.2)
+        ∙ h.found step.0 (omega arith) step.1;
+    reads = omega arith;
     items = h.items;
   }
 
@@ -163,7 +165,7 @@ module _ {X : Type 0} {number : X → ℕ} {skip : X} {x y : Reading X} (side : 
               ap (λ n. get_or (map number x.items) n 0) (sym step.2)
               ∙ h.found.2 step.0 (omega arith) step.1,
         );
-        reads = omega (arith, h.reads, here.2);
+        reads = omega arith;
         items = h.items;
       })
 

@@ -175,7 +175,7 @@ module _ (p : ℕ → Bool) where
       not_in_nothing : Contains {X = ℕ} [] i → ⊥
       not_in_nothing h = let inside = h.1 in omega arith
   indices_where-only a (suc n) i h = elim (split (p a) refl h) [
-    | inl here ↦ (omega (arith, here.0), omega (arith, here.0), here.1)
+    | inl here ↦ (omega arith, omega arith, here.1)
     | inr later ↦ let rest = indices_where-only (a + 1) n i later in
         (omega arith, omega arith, rest.2)
   ]

@@ -54,7 +54,10 @@ IsWindow-range {low} {high} {len} {start} {stop} range =
       each = λ i. elim (cases_lt i len) [
         | inl below ↦ sym (range.each i below)
             ∙ sym (ap (λ b. b && within low high i) (lt-ltb i len below))
-        | inr past ↦ and_right (nat_le start i) (nat_lt i stop) (le-ltb i stop (omega (arith, past, inside)))
+        | inr past ↦ and_right (nat_le start i) (nat_lt i stop) (le-ltb i stop (omega (
+          arith,
+          inside,
+        )))
             ∙ sym (and_left (nat_lt i len) (within low high i) (le-ltb i len past))
       ];
     }
@@ -109,7 +112,8 @@ module _ (w : ℕ) (xs : List ℕ) (value : Bool) (start stop : ℕ) where
   pub length-unread-le : (k end : ℕ) → length (unread w xs value start stop k end) ≤ stop
   unfolding unread
   length-unread-le k end = length-indices_below (λ i. is_hit w xs value start stop i) (k * w)
-      ((end - k) * w) stop (λ i holds. (between_parts start stop i (has_value value (bit_at xs w i)) holds).1)
+      ((end - k) * w) stop
+      (λ i holds. (between_parts start stop i (has_value value (bit_at xs w i)) holds).1)
 
 -- ---- a window over the first n bits of some blocks
 

@@ -9,13 +9,12 @@ count_ones-ones-requires-clause-enough g c =
     let w = g.T.BitBlock.BITS in
     let product = rw c.BITS.ensures at c.saturating_mul.ensures in
     let few = need_least w g.met.T.BitBlock.wide_law c.min-below.result c.args.end (omega arith) in
-    omega (arith, c.requires.count)
+    omega arith
 
 pub overflow_sub-result-else-window : goal.overflow_sub-result-else-window
 overflow_sub-result-else-window g c =
     omega (
       arith,
-      c.count_ones-ones.ensures.ones,
       ones-le g.T.BitBlock.BITS (map g.T.BitBlock.number c.args.blocks.now.items)
           c.min-from.result c.min-below.result,
     )
@@ -33,7 +32,6 @@ returns-else-window g c =
     let first = rw c.BITS-2.ensures at c.saturating_mul-2.ensures in
     omega (
       arith,
-      c.count_ones-ones.ensures.ones,
       length-unread-unset g.T.BitBlock.BITS (map g.T.BitBlock.number c.args.blocks.now.items)
           c.args.window.value c.args.window.start c.args.window.stop c.args.next c.args.end
           c.min-from.result c.min-below.result c.requires.order (omega arith) (omega arith)

@@ -12,7 +12,7 @@ pub returns-then-first-end-clause-reads : goal.returns-then-first-end-clause-rea
 returns-then-first-end-clause-reads g c =
     let spans = c.blocks_of-first.ensures in
     let met = blocks_met-own g.T.BitBlock.BITS g.met.T.BitBlock.wide_law spans c.requires.order in
-    omega (arith, c.if-first-end.true, met)
+    omega arith
 
 pub returns-then-first-last-clause-ones : goal.returns-then-first-last-clause-ones
 returns-then-first-last-clause-ones g c =
@@ -25,7 +25,7 @@ returns-then-first-last-clause-reads g c =
     let spans = c.blocks_of-first.ensures in
     let met = blocks_met-own g.T.BitBlock.BITS g.met.T.BitBlock.wide_law spans c.requires.order in
     let head = c.ones_in_block-head.ensures.reads in
-    omega (arith, spans.order, c.if-first-end.false, c.if-first-last.true, head, met)
+    omega arith
 
 pub returns-clause-ones : goal.returns-clause-ones
 returns-clause-ones g c =
@@ -36,7 +36,7 @@ returns-clause-ones g c =
     let middle = rw head.items at c.ones_in_blocks-middle.ensures.ones in
     let tail = rw (c.ones_in_blocks-middle.ensures.items, head.items) at
     c.ones_in_block-tail.ensures.ones in
-    omega (arith, parts, head.ones, middle, tail)
+    omega arith
 
 pub overflow_add-result : goal.overflow_add-result
 overflow_add-result g c =
@@ -55,4 +55,4 @@ returns-clause-reads g c =
     let head = c.ones_in_block-head.ensures.reads in
     let middle = c.ones_in_blocks-middle.ensures.reads in
     let tail = c.ones_in_block-tail.ensures.reads in
-    omega (arith, spans.order, c.if-first-end.false, c.if-first-last.false, head, middle, tail, met)
+    omega arith

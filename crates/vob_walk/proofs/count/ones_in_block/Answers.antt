@@ -14,4 +14,4 @@ returns-clause-ones g c =
     (max c.args.start at) (min c.args.stop (at + w)) (number c.block.result)
     (number c.masked.result) (number_read number items c.args.k c.block.result
     c.block.ensures.block) c.masked.ensures.places refl refl
-    (omega (arith, c.requires.order, c.requires.begins, c.requires.ends))
+    (omega arith)

@@ -15,8 +15,8 @@ returns-then-last-to-clause-ones g c =
     let read = number_read number c.args.blocks.now.items last c.block.result
     (rw c.ones_in_halves-ones.ensures.items at c.block.ensures.block) in
     let more = ones-more w xs c.args.from last (number c.block.result) (omega arith) read in
-    let all : last + 1 ≡ c.args.to = omega (arith, c.if-last-to.true, c.requires.order) in
-    omega (arith, c.ones_in_halves-ones.ensures.ones, c.ones_in.ensures, more)
+    let all : last + 1 ≡ c.args.to = omega arith in
+    omega arith
     ∙ ap (λ k. ones_between w xs (c.args.from * w) (k * w)) all
 
 pub overflow_add-result : goal.overflow_add-result
@@ -26,5 +26,4 @@ overflow_add-result g c =
       arith,
       returns-then-last-to-clause-ones g c,
       ones-le w (map g.T.BitBlock.number c.args.blocks.now.items) (c.args.from * w) (c.args.to * w),
-      c.requires.fits,
     )

@@ -12,14 +12,14 @@ returns-then-place-BITS g c =
     cc in
     FindsUp-here w g.met.T.BitBlock.wide_law g.T.BitBlock.number c.args.value _ _ c.args.from.0 c.args.len
     c.requires.inside c.args.from.1 (ap (λ u. c.args.from.0 % u) c.BITS-2.ensures) c.requires.hand
-    c.first_place-place.ensures _ (omega (arith, c.if-place-BITS.true, c.BITS-3.ensures)) refl refl
-    (omega (arith, c.min.ensures, at, c.requires.inside))
+    c.first_place-place.ensures _ (omega arith) refl refl
+    (omega arith)
 
 pub next_other-requires-clause-count : goal.next_other-requires-clause-count
 next_other-requires-clause-count g c =
     let wide = g.met.T.BitBlock.wide_law in
     let end = need-is-div_ceil g.T.BitBlock.BITS wide c.args.len _ c.BITS-4.ensures in
-    omega (arith, c.div_ceil.ensures, end, c.requires.count)
+    omega arith
 
 pub returns-in_default : goal.returns-in_default
 returns-in_default g c =
@@ -30,7 +30,7 @@ returns-in_default g c =
     FindsUp-none w g.met.T.BitBlock.wide_law number c.args.value x y c.args.from.0 c.args.len
     c.requires.inside c.args.from.1 (ap (λ u. c.args.from.0 % u) c.BITS-2.ensures) c.requires.hand
     c.first_place-place.ensures c.block_without.result c.block_without.ensures
-    (omega (arith, c.if-place-BITS.false, c.BITS-3.ensures))
+    (omega arith)
     (ap (λ u. c.args.from.0 / u + 1) c.BITS.ensures)
     (c.div_ceil.ensures ∙ need-is-div_ceil w g.met.T.BitBlock.wide_law c.args.len _
     c.BITS-4.ensures) c.args.from.1
@@ -48,10 +48,10 @@ returns g c =
     c.BITS-4.result c.BITS-4.ensures in
     let scan = rw c.in-Some.is at c.next_other.ensures in
     let begins = mul-lt_from_need w g.met.T.BitBlock.wide_law c.args.len found.0
-    (omega (arith, scan.found.0.below, end)) in
+    (omega arith) in
     FindsUp-behind w g.met.T.BitBlock.wide_law number c.args.value x y c.args.from.0 c.args.len
     c.requires.inside c.args.from.1 (ap (λ u. c.args.from.0 % u) c.BITS-2.ensures) c.requires.hand
     c.first_place-place.ensures c.block_without.result c.block_without.ensures
-    (omega (arith, c.if-place-BITS.false, c.BITS-3.ensures))
+    (omega arith)
     (ap (λ u. c.args.from.0 / u + 1) c.BITS.ensures) end found c.first_place.result _ scan
-    c.in_range.ensures c.first_place.ensures (omega (arith, c.min-2.ensures, at, begins))
+    c.in_range.ensures c.first_place.ensures (omega arith)

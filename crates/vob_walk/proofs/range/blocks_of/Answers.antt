@@ -9,7 +9,7 @@ returns g c =
     let w = g.T.BitBlock.BITS in
     AreBlocksOf-window w g.met.T.BitBlock.wide_law c.args.start c.args.stop
     (c.args.start / c.BITS.result) c.div_ceil.result
-    (omega (arith, c.requires, c.if-start-stop.false))
+    (omega arith)
     (ap (λ v. c.args.start / v) c.BITS.ensures)
     (c.div_ceil.ensures ∙ need-is-div_ceil w g.met.T.BitBlock.wide_law c.args.stop _
     c.BITS-2.ensures)

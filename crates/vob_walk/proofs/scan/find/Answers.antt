@@ -40,4 +40,5 @@ returns-clause-reads g c =
     Reads-end g.T.BitBlock.BITS g.met.T.BitBlock.wide_law window.value window.start window.stop
     c.block_without-skip.ensures c.args.span.now.side h.reads
     (rw (h.side, none_found _ c.in_default.not-Some) at c.next_other.ensures)
-    (block_indices-zero _ 0 _ (ap g.T.BitBlock.number c.ZERO.ensures ∙ g.met.T.BitBlock.zero_number_law))
+    (block_indices-zero _ 0 _ (ap g.T.BitBlock.number c.ZERO.ensures
+    ∙ g.met.T.BitBlock.zero_number_law))

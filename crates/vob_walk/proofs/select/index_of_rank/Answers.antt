@@ -25,9 +25,9 @@ loop-k-preserved g c =
     let more = ones-whole g.T.BitBlock.BITS (map g.T.BitBlock.number items) c.loop-k.k
     (g.T.BitBlock.number c.block-block.result) read in
     record {
-      ones = omega (arith, h.ones, c.ones_in-ones.ensures, c.if-left-ones.false, more);
+      ones = omega (arith, c.ones_in-ones.ensures, c.if-left-ones.false);
       items = c.block-block.ensures.items ∙ h.items;
-      reads = omega (arith, c.block-block.ensures.reads, h.reads);
+      reads = omega (arith, c.block-block.ensures.reads);
     }
 
 pub returns-then-left-ones-clause-found : goal.returns-then-left-ones-clause-found

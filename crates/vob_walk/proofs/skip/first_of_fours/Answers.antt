@@ -14,5 +14,5 @@ pub returns-then-is_some : goal.returns-then-is_some
 returns-then-is_some g c =
     let m = 4 * c.loop-four.four in
     Steps-on _ _ _ 0 m (m + 4) (4 * c.args.fours) (omega arith) (omega arith)
-    (omega (arith, c.loop-four-test.true)) refl (sym c.is_some.ensures ∙ c.if-is_some.true)
+    (omega arith) refl (sym c.is_some.ensures ∙ c.if-is_some.true)
     c.loop-four.invariant c.first_of_four-found.ensures

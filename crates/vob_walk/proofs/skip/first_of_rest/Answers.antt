@@ -7,11 +7,13 @@ pub loop-i-preserved : goal.loop-i-preserved
 loop-i-preserved g c =
     let i = c.loop-i.i in
     Steps-past _ _ _ c.args.from i (i + 1) c.loop-i.auto.i (omega arith) refl refl
-    (sym c.is_some.ensures ∙ c.if-is_some.false) c.loop-i.invariant (rw add-zero at c.other_at-found.ensures)
+    (sym c.is_some.ensures ∙ c.if-is_some.false) c.loop-i.invariant
+    (rw add-zero at c.other_at-found.ensures)
 
 pub returns-then-is_some : goal.returns-then-is_some
 returns-then-is_some g c =
     let i = c.loop-i.i in
     Steps-on _ _ _ c.args.from i (i + 1) (c.args.span.end - c.args.span.start) c.loop-i.auto.i
-    (omega arith) (omega (arith, c.loop-i-test.true)) refl
-    (sym c.is_some.ensures ∙ c.if-is_some.true) c.loop-i.invariant (rw add-zero at c.other_at-found.ensures)
+    (omega arith) (omega arith) refl
+    (sym c.is_some.ensures ∙ c.if-is_some.true) c.loop-i.invariant
+    (rw add-zero at c.other_at-found.ensures)

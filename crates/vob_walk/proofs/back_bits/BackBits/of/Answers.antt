@@ -8,4 +8,4 @@ overflow_add-at g c =
     let number = g.T.BitBlock.number in
     let full = (g.met.T.BitBlock.equal_law c.args.word c.ONES.result).0 (sym c.eq.ensures ∙ c.if-eq.true)
     ∙ ap number c.ONES.ensures ∙ g.met.T.BitBlock.ones_number_law in
-    omega (arith, c.BITS.ensures, full-below g.met.T.BitBlock.wide_law full c.requires)
+    omega (arith, full-below g.met.T.BitBlock.wide_law full c.requires)

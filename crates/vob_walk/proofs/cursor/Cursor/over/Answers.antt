@@ -11,18 +11,13 @@ over-requires-clause-enough g c =
     let cut = c.cut_range-start in
     omega (
       arith,
-      c.requires,
       need-le-need g.T.BitBlock.BITS g.met.T.BitBlock.wide_law cut.result.1 c.args.len
           cut.ensures.inside,
     )
 
 pub invariant_of-result : goal.invariant_of-result
 invariant_of-result g c =
-    omega (
-      arith,
-      ap length (rest-fresh c.none.ensures c.none-2.ensures c.over.result.rest),
-      c.over.ensures.countable,
-    )
+    omega (arith, ap length (rest-fresh c.none.ensures c.none-2.ensures c.over.result.rest))
 
 pub returns-clause-whole : goal.returns-clause-whole
 returns-clause-whole g c = λ known.

@@ -14,4 +14,5 @@ pub returns-else-eq : goal.returns-else-eq
 returns-else-eq g c =
     let read = c.block-block.ensures in
     Steps-other _ _ _ c.nth-k.ensures.number read.block read.reads read.items (λ same.
-    false≢true (sym c.if-eq.false ∙ c.eq.ensures ∙ (g.met.T.BitBlock.equal_law _ c.args.skip).1 same))
+    false≢true (sym c.if-eq.false ∙ c.eq.ensures
+    ∙ (g.met.T.BitBlock.equal_law _ c.args.skip).1 same))
