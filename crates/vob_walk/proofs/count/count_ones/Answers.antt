@@ -4,27 +4,22 @@ use Rattle.vob_walk.proofs.CountLemmas.{ones-le, ones-nothing, ones-alone, ones-
 use Rattle.vob_walk.proofs.count.count_ones.Goals as goal
 
 pub returns-then-first-end-clause-ones : goal.returns-then-first-end-clause-ones
-returns-then-first-end-clause-ones g c = sym (ones-nothing g.T.BitBlock.BITS
-    g.met.T.BitBlock.wide_law c.blocks_of-first.ensures c.requires.order
-    (map g.T.BitBlock.number c.args.blocks.now.items) c.if-first-end.true)
+returns-then-first-end-clause-ones g c = sym (ones-nothing _
+    g.met.T.BitBlock.wide_law c.blocks_of-first.ensures c.requires.order _ c.if-first-end.true)
 
 pub returns-then-first-end-clause-reads : goal.returns-then-first-end-clause-reads
 returns-then-first-end-clause-reads g c =
-    let spans = c.blocks_of-first.ensures in
-    let met = blocks_met-own g.T.BitBlock.BITS g.met.T.BitBlock.wide_law spans c.requires.order in
+    let met = blocks_met-own _ g.met.T.BitBlock.wide_law c.blocks_of-first.ensures c.requires.order in
     omega arith
 
 pub returns-then-first-last-clause-ones : goal.returns-then-first-last-clause-ones
 returns-then-first-last-clause-ones g c =
-    c.ones_in_block-head.ensures.ones ∙ ones-alone g.T.BitBlock.BITS g.met.T.BitBlock.wide_law
-    c.blocks_of-first.ensures c.requires.order (map g.T.BitBlock.number c.args.blocks.now.items)
-    c.if-first-end.false c.if-first-last.true
+    c.ones_in_block-head.ensures.ones ∙ ones-alone _ g.met.T.BitBlock.wide_law
+    c.blocks_of-first.ensures c.requires.order _ c.if-first-end.false c.if-first-last.true
 
 pub returns-then-first-last-clause-reads : goal.returns-then-first-last-clause-reads
 returns-then-first-last-clause-reads g c =
-    let spans = c.blocks_of-first.ensures in
-    let met = blocks_met-own g.T.BitBlock.BITS g.met.T.BitBlock.wide_law spans c.requires.order in
-    let head = c.ones_in_block-head.ensures.reads in
+    let met = blocks_met-own _ g.met.T.BitBlock.wide_law c.blocks_of-first.ensures c.requires.order in
     omega arith
 
 pub returns-clause-ones : goal.returns-clause-ones
@@ -50,9 +45,5 @@ overflow_add-result-2 g c =
 
 pub returns-clause-reads : goal.returns-clause-reads
 returns-clause-reads g c =
-    let spans = c.blocks_of-first.ensures in
-    let met = blocks_met-own g.T.BitBlock.BITS g.met.T.BitBlock.wide_law spans c.requires.order in
-    let head = c.ones_in_block-head.ensures.reads in
-    let middle = c.ones_in_blocks-middle.ensures.reads in
-    let tail = c.ones_in_block-tail.ensures.reads in
+    let met = blocks_met-own _ g.met.T.BitBlock.wide_law c.blocks_of-first.ensures c.requires.order in
     omega arith

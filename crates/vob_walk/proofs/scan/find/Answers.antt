@@ -11,8 +11,8 @@ loop-found-preserved g c =
     let window = c.args.window in
     record {
       side = c.pass.ensures.side ∙ h.side;
-      reads = Reads-found g.T.BitBlock.BITS g.met.T.BitBlock.wide_law window.value window.start
-          window.stop c.block_without-skip.ensures c.args.span.now.side h.reads
+      reads = Reads-found _ g.met.T.BitBlock.wide_law window.value window.start window.stop
+          c.block_without-skip.ensures c.args.span.now.side h.reads
           (rw (h.side, c.in-Some.is) at c.next_other.ensures) (rw h.side at c.pass.ensures.start)
           (rw h.side at c.pass.ensures.end)
           (sym (block_indices-zero _ _ _ (c.is_zero.ensures.0 c.if-not-is_zero.false))
@@ -23,7 +23,7 @@ pub returns-then-not-is_zero-clause-reads : goal.returns-then-not-is_zero-clause
 returns-then-not-is_zero-clause-reads g c =
     let h = c.loop-found.invariant in
     let window = c.args.window in
-    Reads-found g.T.BitBlock.BITS g.met.T.BitBlock.wide_law window.value window.start window.stop
+    Reads-found _ g.met.T.BitBlock.wide_law window.value window.start window.stop
     c.block_without-skip.ensures c.args.span.now.side h.reads
     (rw (h.side, c.in-Some.is) at c.next_other.ensures) (rw h.side at c.pass.ensures.start)
     (rw h.side at c.pass.ensures.end) c.bits_in-word.ensures.indices
@@ -37,7 +37,7 @@ pub returns-clause-reads : goal.returns-clause-reads
 returns-clause-reads g c =
     let h = c.loop-found.invariant in
     let window = c.args.window in
-    Reads-end g.T.BitBlock.BITS g.met.T.BitBlock.wide_law window.value window.start window.stop
+    Reads-end _ g.met.T.BitBlock.wide_law window.value window.start window.stop
     c.block_without-skip.ensures c.args.span.now.side h.reads
     (rw (h.side, none_found _ c.in_default.not-Some) at c.next_other.ensures)
     (block_indices-zero _ 0 _ (ap g.T.BitBlock.number c.ZERO.ensures
