@@ -27,7 +27,7 @@ between_parts a b i p h =
 
 -- ---- the numbers of a stretch
 
-range_with_len-split : (a n m : ℕ) → range_with_len a (n + m)
+pub range_with_len-split : (a n m : ℕ) → range_with_len a (n + m)
     ≡ range_with_len a n ++ range_with_len (a + n) m
 range_with_len-split a zero m =
     let all : 0 + m ≡ m = omega arith in
