@@ -1,11 +1,10 @@
 -- How many bits are true in a window, over its blocks.
 use Rattle.std.specs.Cmp.{both_ways}
 use Rattle.std.specs.declared.ops.Bound.TheVariants.{Included, Excluded}
-use Rattle.std.proofs.Common.{◌≡◌, ◌≢◌, ℕ, zero, suc, ◌+◌, ◌-◌, ◌*◌, ◌/◌, ◌<◌, ◌≤◌, min, max}
-use Rattle.std.proofs.Common.{Bool, true, false, not, ◌&&◌, nat_le, nat_lt, cond, List, ◌∷◌}
+use Rattle.std.proofs.Common.{◌≡◌, ◌≢◌, ℕ, ◌+◌, ◌-◌, ◌*◌, ◌/◌, ◌<◌, ◌≤◌, min, max}
+use Rattle.std.proofs.Common.{Bool, true, false, not, ◌&&◌, nat_le, nat_lt, List}
 use Rattle.std.proofs.Common.{length, map, get_or, Some, refl, sym, ap, ◌∙◌, arith, inl, inr}
 use Rattle.std.proofs.Common.{length-append, add-mul, mod-lt, div-add-mod', div-mul-le_self}
-use Rattle.std.proofs.Math.Bool.{and_self}
 use Rattle.std.proofs.lemmas.Bool.{cases_lt}
 use Rattle.std.specs.List.{range_with_len, slice_get}
 use Rattle.std.proofs.lemmas.List.Sums.{length-filter}
@@ -18,10 +17,11 @@ use Rattle.vob_block.proofs.PackingLemmas.{bit_at-in_block}
 use Rattle.vob_walk.specs.Matches.{has_value, blocks_met}
 use Rattle.vob_walk.specs.Count.{ones_between}
 use Rattle.vob_walk.specs.Cursor.{indices_where, block_indices, is_hit, unread, AreBlocksOf}
-use Rattle.vob_walk.proofs.WhereLemmas.{indices_where-split, indices_where-same, indices_where-both, length-indices_where-le, between_parts, between_from}
+use Rattle.vob_walk.proofs.WhereLemmas.{indices_where-split, indices_where-same, indices_where-both, length-indices_where-le, length-indices_all, between_parts, between_from}
+use Rattle.vob_walk.proofs.MatchesLemmas.{length-filter_both}
 use Rattle.vob_walk.proofs.BlockBitsLemmas.{length-block_indices}
 use Rattle.vob_walk.proofs.ScanLemmas.{product-more, block_indices-masked}
-use Rattle.vob_walk.proofs.WindowLemmas.{IsWindow, IsWindow-cut}
+use Rattle.vob_walk.proofs.WindowLemmas.{IsRangeOf-own}
 use Rattle.vob_walk.proofs.CursorLemmas.{blocks_met-blocks}
 
 -- ---- tests that hold of the same numbers
@@ -45,17 +45,11 @@ indices_where-alike p q a n b m there back =
 
 -- ---- a test and its contrary
 
-counted : (b : Bool) (x : ℕ) (us vs : List ℕ) (n : ℕ) → length us + length vs ≡ n
-    → length (cond b (x ∷ us) us) + length (cond (not b) (x ∷ vs) vs) ≡ suc n
-counted true x us vs n h = omega arith
-counted false x us vs n h = omega arith
-
 -- together they hold of every number
 indices_where-not : (p : ℕ → Bool) (a n : ℕ) → length (indices_where p a n) + length
     (indices_where (λ i. not (p i)) a n) ≡ n
-indices_where-not p a zero = refl
-indices_where-not p a (suc n) = counted (p a) a (indices_where p (a + 1) n)
-    (indices_where (λ i. not (p i)) (a + 1) n) n (indices_where-not p (a + 1) n)
+indices_where-not p a n = length-filter_both (λ i. true) p (range_with_len a n)
+    ∙ length-indices_all (λ i. true) a n (λ i from below. refl)
 
 -- ---- the true bits of some blocks
 
@@ -199,15 +193,10 @@ module _ (w : ℕ) (xs : List ℕ) where
 
 -- ---- a window over the blocks that it meets
 
-IsWindow-self : (start stop : ℕ) → start ≤ stop
-    → IsWindow (Included start) (Excluded stop) stop start stop
-IsWindow-self start stop ordered = IsWindow-cut (Included start) (Excluded stop) stop start stop
-    (omega arith) ordered (λ i. sym (and_self (nat_lt i stop))) (λ i below. refl)
-
 module _ (w : ℕ) (wide : 0 < w) {start stop first end : ℕ}
     (spans : AreBlocksOf w start stop first end) (ordered : start ≤ stop) where
   pub blocks_met-own : end - first ≡ blocks_met (Included start) (Excluded stop) stop w
-  blocks_met-own = blocks_met-blocks w wide (IsWindow-self start stop ordered) spans
+  blocks_met-own = blocks_met-blocks w wide (IsRangeOf-own start stop stop ordered (omega arith)) spans
 
   module _ (xs : List ℕ) where
     pub ones-nothing : first ≡ end → ones_between w xs start stop ≡ 0

@@ -11,16 +11,16 @@ use Rattle.std.proofs.lemmas.Option.{MatchOption-at_none}
 use Rattle.std.proofs.lemmas.List.{nil_from_length, length-append}
 use Rattle.vob_block.specs.Packing.{need, unpacking}
 use Rattle.vob_block.proofs.NeedLemmas.{mul-lt_from_need}
-use Rattle.vob_walk.specs.Matches.{matches, blocks_met}
+use Rattle.vob_walk.specs.Matches.{matches, blocks_met, IsRangeOf}
 use Rattle.vob_walk.specs.Cursor.{unread, UnreadBlocks, has_index, walk_of, AreBlocksOf}
-use Rattle.vob_walk.proofs.WindowLemmas.{IsWindow, matches-hits, matches-nothing, blocks_met-window, blocks_met-nothing, div-le-need}
+use Rattle.vob_walk.proofs.WindowLemmas.{matches-hits, matches-nothing, blocks_met-window, blocks_met-nothing, div-le-need}
 use Rattle.vob_walk.proofs.ScanLemmas.{unread-none}
 use Rattle.vob_walk.specs.Walk.{Walk, IsWhole, IsPulled, given_count}
 
-nil_left : (xs ys : List ℕ) → xs ++ ys ≡ [] → xs ≡ []
+pub nil_left : (xs ys : List ℕ) → xs ++ ys ≡ [] → xs ≡ []
 nil_left xs ys none = nil_from_length xs (omega (arith, length-append xs ys, ap length none))
 
-nil_right : (xs ys : List ℕ) → xs ++ ys ≡ [] → ys ≡ []
+pub nil_right : (xs ys : List ℕ) → xs ++ ys ≡ [] → ys ≡ []
 nil_right xs ys none = nil_from_length ys (omega (arith, length-append xs ys, ap length none))
 
 pub nil_both : (xs ys zs : List ℕ) → zs ≡ [] → xs ++ ys ≡ [] → xs ++ (ys ++ zs) ≡ []
@@ -72,19 +72,12 @@ module _ (before after : UnreadBlocks) (taken left other other_after : List ℕ)
   }
 
 -- a pull that gave nothing left nothing at either end
-pub first-none : (answer : Option ℕ) (filled left between other : List ℕ) (Q : ℕ → Type 0)
-    → answer ≡ None → (filled ≡ [] → between ++ other ≡ [])
-    → MatchOption answer ((filled ≡ []) × (left ≡ [])) Q → (left ≡ []) × (other ≡ [])
-first-none answer filled left between other Q none empty taken =
+pub none-left : {answer : Option ℕ} {filled left other : List ℕ} (Q : ℕ → Type 0) → answer ≡ None
+    → (filled ≡ [] → other ≡ []) → MatchOption answer ((filled ≡ []) × (left ≡ [])) Q
+    → (left ≡ []) × (other ≡ [])
+none-left {filled = filled} {left = left} Q none empty taken =
     let nothing = MatchOption-at_none ((filled ≡ []) × (left ≡ [])) Q none taken in
-    (nothing.1, nil_right between other (empty nothing.0))
-
-pub last-none : (answer : Option ℕ) (filled left between other : List ℕ) (Q : ℕ → Type 0) → answer
-    ≡ None → (filled ≡ [] → other ++ between ≡ [])
-    → MatchOption answer ((filled ≡ []) × (left ≡ [])) Q → (left ≡ []) × (other ≡ [])
-last-none answer filled left between other Q none empty taken =
-    let nothing = MatchOption-at_none ((filled ≡ []) × (left ≡ [])) Q none taken in
-    (nothing.1, nil_left other between (empty nothing.0))
+    (nothing.1, empty nothing.0)
 
 -- ---- the walk over a window, before the first pull
 
@@ -100,7 +93,7 @@ module _ (w : ℕ) (wide : 0 < w) where
   }
 
   module _ {low high : Bound ℕ} {n start stop next end : ℕ}
-      (window : IsWindow low high n start stop) (spans : AreBlocksOf w start stop next end) where
+      (window : IsRangeOf low high n start stop) (spans : AreBlocksOf w start stop next end) where
     -- all that matches is in unread blocks
     pub unread-window : (xs : List ℕ) (value : Bool) → unread w xs value start stop next end
         ≡ matches (unpacking n xs w) value low high
@@ -111,7 +104,7 @@ module _ (w : ℕ) (wide : 0 < w) where
           ∙ ap (λ k. unread w xs value start stop (start / w) k) ends.1
           ∙ sym (matches-hits w wide window xs value)
       | inr none ↦
-          let empty : start ≡ stop = let ordered = window.ordered in omega arith in
+          let empty : start ≡ stop = let ordered = window.order in omega arith in
           unread-none w xs value start stop next end (omega (arith, spans.none empty))
           ∙ sym (matches-nothing w wide window xs value empty)
     ]
@@ -122,7 +115,7 @@ module _ (w : ℕ) (wide : 0 < w) where
       | inl some ↦ let ends = spans.some some in omega
           (arith, ends.0, ends.1, blocks_met-window w wide window some)
       | inr none ↦
-          let empty : start ≡ stop = let ordered = window.ordered in omega arith in
+          let empty : start ≡ stop = let ordered = window.order in omega arith in
           omega (arith, spans.none empty, blocks_met-nothing w wide window empty)
     ]
 
