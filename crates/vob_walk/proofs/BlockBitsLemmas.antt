@@ -42,23 +42,19 @@ module _ (p q : ℕ → Bool) (k a n : ℕ) (h : Lacks p q k a n) where
   without_it =
       split q ∙ ap (λ xs. indices_where q a (k - a) ++ xs)
       (cond-false (q k) _ (indices_where q (k + 1) (a + n - (k + 1))) h.gone)
-      ∙ ap (λ xs. xs ++ indices_where q (k + 1) (a + n - (k + 1)))
-      (indices_where-same q p a (k - a) (λ i low high.
-      h.other i low (omega arith) (λ e. absurd (omega arith))))
-      ∙ ap (λ xs. indices_where p a (k - a) ++ xs)
-      (indices_where-same q p (k + 1) (a + n - (k + 1))
-      (λ i low high. h.other i (omega arith) (omega arith)
-      (λ e. absurd (omega arith))))
+      ∙ rw (
+        indices_where-same q p a (k - a) (λ i low high.
+            h.other i low (omega arith) (λ e. absurd (omega arith))),
+        indices_where-same q p (k + 1) (a + n - (k + 1)) (λ i low high.
+            h.other i (omega arith) (omega arith) (λ e. absurd (omega arith))),
+      ) refl
 
   -- the first that p holds of
   indices_where-first : ((i : ℕ) → a ≤ i → i < k → p i ≡ false) → indices_where p a n
       ≡ k ∷ indices_where q a n
   indices_where-first none =
-      let empty = indices_where-nothing p a (k - a)
-      (λ i low high. none i low (omega arith)) in
-      with_it ∙ ap (λ xs. xs ++ k ∷ indices_where p (k + 1) (a + n - (k + 1))) empty
-      ∙ ap (λ xs. k ∷ xs) (sym (without_it ∙ ap
-      (λ xs. xs ++ indices_where p (k + 1) (a + n - (k + 1))) empty))
+      let empty = indices_where-nothing p a (k - a) (λ i low high. none i low (omega arith)) in
+      rw (with_it, without_it, empty) refl
 
   -- and the last
   indices_where-last : ((i : ℕ) → k < i → i < a + n → p i ≡ false) → indices_where p a n
@@ -66,10 +62,7 @@ module _ (p q : ℕ → Bool) (k a n : ℕ) (h : Lacks p q k a n) where
   indices_where-last none =
       let empty = indices_where-nothing p (k + 1) (a + n - (k + 1))
       (λ i low high. none i (omega arith) (omega arith)) in
-      with_it ∙ ap (λ xs. indices_where p a (k - a) ++ k ∷ xs) empty
-      ∙ ap (λ xs. xs ++ k ∷ []) (sym (without_it
-      ∙ ap (λ xs. indices_where p a (k - a) ++ xs) empty
-      ∙ append-nil (indices_where p a (k - a))))
+      rw (with_it, without_it, empty, append-nil) refl
 
 -- ---- a block in hand
 
