@@ -1,5 +1,4 @@
 -- How many bits are true in a window, over its blocks.
-use Rattle.std.specs.Cmp.{both_ways}
 use Rattle.std.specs.declared.ops.Bound.TheVariants.{Included, Excluded}
 use Rattle.std.proofs.Common.{◌≡◌, ◌≢◌, ℕ, ◌+◌, ◌-◌, ◌*◌, ◌/◌, ◌<◌, ◌≤◌, min, max}
 use Rattle.std.proofs.Common.{Bool, true, false, not, ◌&&◌, nat_le, nat_lt, List}
@@ -17,39 +16,21 @@ use Rattle.vob_block.proofs.PackingLemmas.{bit_at-in_block}
 use Rattle.vob_walk.specs.Matches.{has_value, blocks_met}
 use Rattle.vob_walk.specs.Count.{ones_between}
 use Rattle.vob_walk.specs.Cursor.{indices_where, block_indices, is_hit, unread, AreBlocksOf}
-use Rattle.vob_walk.proofs.WhereLemmas.{indices_where-split, indices_where-same, indices_where-both, length-indices_where-le, length-indices_all, between_parts, between_from}
-use Rattle.vob_walk.proofs.MatchesLemmas.{length-filter_both}
+use Rattle.vob_walk.proofs.WhereLemmas.{indices_where-split, indices_where-same, length-indices_where-le, between_parts, between_from, indices_where-alike}
+use Rattle.std.proofs.lemmas.List.Filters.{length-filter_both}
+use Rattle.std.proofs.lemmas.List.FromFn.{length-range_with_len}
 use Rattle.vob_walk.proofs.BlockBitsLemmas.{length-block_indices}
 use Rattle.vob_walk.proofs.ScanLemmas.{product-more, block_indices-masked}
 use Rattle.vob_walk.proofs.WindowLemmas.{IsRangeOf-own}
 use Rattle.vob_walk.proofs.CursorLemmas.{blocks_met-blocks}
-
--- ---- tests that hold of the same numbers
-
--- they find the same where each of these is in both stretches
-pub indices_where-alike : (p q : ℕ → Bool) (a n b m : ℕ)
-    → ((i : ℕ) → a ≤ i → i < a + n → p i ≡ true → (b ≤ i) × (i < b + m) × (q i ≡ true))
-    → ((i : ℕ) → b ≤ i → i < b + m → q i ≡ true → (a ≤ i) × (i < a + n) × (p i ≡ true))
-    → indices_where p a n ≡ indices_where q b m
-indices_where-alike p q a n b m there back =
-    let r = λ (i : ℕ). nat_le a i && nat_lt i (a + n) && p i in
-    let parts = λ (i : ℕ) (h : r i ≡ true). between_parts a (a + n) i (p i) h in
-    let other = λ (i : ℕ) (h : r i ≡ true).
-    let own = parts i h in there i own.0 own.1 own.2 in
-    indices_where-same p r a n (λ i from below.
-    both_ways (p i) (r i) (between_from a (a + n) i from below) (λ h. (parts i h).2))
-    ∙ indices_where-both r a n b m (λ i h. ((parts i h).0, (parts i h).1))
-    (λ i h. ((other i h).0, (other i h).1))
-    ∙ indices_where-same r q b m (λ i from below. both_ways (r i) (q i) (λ h. (other i h).2)
-    (λ h. let own = back i from below h in between_from a (a + n) i own.0 own.1 own.2))
 
 -- ---- a test and its contrary
 
 -- together they hold of every number
 indices_where-not : (p : ℕ → Bool) (a n : ℕ) → length (indices_where p a n) + length
     (indices_where (λ i. not (p i)) a n) ≡ n
-indices_where-not p a n = length-filter_both (λ i. true) p (range_with_len a n)
-    ∙ length-indices_all (λ i. true) a n (λ i from below. refl)
+indices_where-not p a n = length-filter_both p (λ i. not (p i)) (λ i. refl) (range_with_len a n)
+    ∙ length-range_with_len a n
 
 -- ---- the true bits of some blocks
 
@@ -80,16 +61,12 @@ module _ (w : ℕ) (xs : List ℕ) where
   ones-split start middle stop first second =
       let parts : stop - start ≡ (middle - start) + (stop - middle) = omega arith in
       let there : start + (middle - start) ≡ middle = omega arith in
-      ones-indices_where start stop ∙ ap (λ n. length (indices_where (bit_at xs w) start n)) parts
-      ∙ ap length (indices_where-split (bit_at xs w) start (middle - start) (stop - middle))
-      ∙ length-append (indices_where (bit_at xs w) start (middle - start))
-      (indices_where (bit_at xs w) (start + (middle - start)) (stop - middle))
-      ∙ omega (
-        arith,
-        ones-indices_where start middle,
-        ones-indices_where middle stop,
-        ap (λ k. length (indices_where (bit_at xs w) k (stop - middle))) there,
-      )
+      simp ones-indices_where (rw (
+        parts,
+        indices_where-split (bit_at xs w) start (middle - start) (stop - middle),
+        length-append,
+        there,
+      ) refl)
 
   -- the first bits of a block are its places
   pub ones-part : (k x : ℕ) → x ≡ get_or xs k 0 → (j : ℕ) → j ≤ w

@@ -18,12 +18,12 @@ one_more true false j us vs ws e = omega arith
 one_more false b j us vs ws e = e
 
 -- a test of what another holds of, and its contrary
-pub length-filter_both : (p q : ℕ → Bool) (is : List ℕ)
+filtered : (p q : ℕ → Bool) (is : List ℕ)
     → length (filter (λ j. p j && q j) is) + length (filter (λ j. p j && not (q j)) is)
     ≡ length (filter p is)
-length-filter_both p q [] = refl
-length-filter_both p q (j ∷ is) = one_more (p j) (q j) j (filter (λ j. p j && q j) is)
-    (filter (λ j. p j && not (q j)) is) (filter p is) (length-filter_both p q is)
+filtered p q [] = refl
+filtered p q (j ∷ is) = one_more (p j) (q j) j (filter (λ j. p j && q j) is)
+    (filter (λ j. p j && not (q j)) is) (filter p is) (filtered p q is)
 
 module _ (bits : List Bool) (low high : Bound ℕ) where
   -- what matches is an index within the range whose bit has the value
@@ -78,5 +78,5 @@ module _ (bits : List Bool) (low high : Bound ℕ) where
   pub length-matches_both : length (matches bits true low high) + length
       (matches bits false low high) ≡ count_by (within low high) (range_with_len 0 (length bits))
   unfolding matches
-  length-matches_both = length-filter_both (within low high) (item bits) (range_with_len 0 (length bits))
+  length-matches_both = filtered (within low high) (item bits) (range_with_len 0 (length bits))
       ∙ length-filter (within low high) (range_with_len 0 (length bits))

@@ -10,7 +10,8 @@ use Rattle.vob_block.proofs.ValueLemmas.{range-more}
 use Rattle.vob_walk.specs.Count.{ones_between}
 use Rattle.vob_walk.specs.Select.{HasRank}
 use Rattle.vob_walk.specs.Cursor.{indices_where}
-use Rattle.vob_walk.proofs.CountLemmas.{indices_where-alike, ones-part, ones-more, ones-split}
+use Rattle.vob_walk.proofs.WhereLemmas.{indices_where-alike}
+use Rattle.vob_walk.proofs.CountLemmas.{ones-part, ones-more, ones-split}
 
 -- ---- the true places below one
 
