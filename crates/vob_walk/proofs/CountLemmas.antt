@@ -111,7 +111,22 @@ module _ (w : ℕ) (xs : List ℕ) where
 
   -- ---- within a window
 
-  -- the places of one block, masked, are the bits of the part of the window in it
+  -- the hits of a stretch are the bits of the value in the part of the window in it
+  hits-cut : (value : Bool) (start stop a n low high : ℕ) → high ≡ min stop (a + n)
+      → low ≡ min (max start a) high → indices_where (is_hit w xs value start stop) a n
+      ≡ indices_where (λ i. has_value value (bit_at xs w i)) low (high - low)
+  hits-cut value start stop a n low high last first =
+      let bit = λ (i : ℕ). has_value value (bit_at xs w i) in
+      indices_where-alike (is_hit w xs value start stop) bit a n low (high - low)
+      (λ i from below holds. let hit = between_parts start stop i (bit i) holds in
+      (omega arith, omega arith, hit.2))
+      (λ i from below holds. (
+        omega arith,
+        omega arith,
+        between_from start stop i (omega arith) (omega arith) holds,
+      ))
+
+  -- so are the places of one block, masked
   pub ones-masked : (start stop k low high x y : ℕ) → x ≡ get_or xs k 0
       → HasPlaces w y (λ j. nat_le start (k * w + j) && nat_lt (k * w + j) stop && has_value true
       (place j x))
@@ -119,19 +134,11 @@ module _ (w : ℕ) (xs : List ℕ) where
       ≡ ones_between w xs low high
   ones-masked start stop k low high x y read places first last ordered =
       sym (length-block_indices w (k * w) y) ∙ ap length
-      (block_indices-masked w xs true start stop k x read y places)
-      ∙ ap length (indices_where-alike (is_hit w xs true start stop) (bit_at xs w) (k * w) w low
-      (high - low)
-      (λ i from below holds. let hit = between_parts start stop i (bit_at xs w i) holds in
-      (omega arith, omega arith, hit.2))
-      (λ i from below holds. (
-        omega arith,
-        omega arith,
-        between_from start stop i (omega arith) (omega arith) holds,
-      )))
+      (block_indices-masked w xs true start stop k x read y places
+      ∙ hits-cut true start stop (k * w) w low high last (omega arith))
       ∙ sym (ones-indices_where low high)
 
-  -- the unread blocks, cut to the window
+  -- and the unread blocks
   module _ (value : Bool) (start stop next end low high : ℕ) (ordered : next ≤ end)
       (last : high ≡ min stop (end * w)) (first : low ≡ min (max start (next * w)) high) where
     length-unread : length (unread w xs value start stop next end)
@@ -140,16 +147,7 @@ module _ (w : ℕ) (xs : List ℕ) where
     length-unread =
         let blocks : next * w + (end - next) * w ≡ end * w =
         sym (add-mul next (end - next) w) ∙ ap (λ k. k * w) (omega arith) in
-        ap length (indices_where-alike (is_hit w xs value start stop)
-        (λ i. has_value value (bit_at xs w i)) (next * w) ((end - next) * w) low (high - low)
-        (λ i from below holds.
-        let hit = between_parts start stop i (has_value value (bit_at xs w i)) holds in
-        (omega arith, omega arith, hit.2))
-        (λ i from below holds. (
-          omega arith,
-          omega arith,
-          between_from start stop i (omega arith) (omega arith) holds,
-        )))
+        ap length (hits-cut value start stop (next * w) ((end - next) * w) low high (omega arith) first)
 
     pub length-unread-set : value ≡ true → length (unread w xs value start stop next end)
         ≡ ones_between w xs low high

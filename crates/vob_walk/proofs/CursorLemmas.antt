@@ -122,8 +122,7 @@ module _ (w : ℕ) (wide : 0 < w) where
 -- where nothing is in hand at either end, all is in the unread blocks
 module _ {front back : List ℕ} (none : front ≡ []) (no_other : back ≡ []) where
   pub rest-fresh : (indices : List ℕ) → front ++ (indices ++ back) ≡ indices
-  rest-fresh indices = ap (λ xs. xs ++ (indices ++ back)) none ∙ ap (λ xs. indices ++ xs) no_other
-      ∙ append-nil indices
+  rest-fresh indices = rw (none, no_other, append-nil) refl
 
   pub IsWhole-fresh : (unread : UnreadBlocks) {bits : List Bool} {value : Bool} {low high : Bound ℕ}
       {n w : ℕ} → length bits ≡ n → unread.rest ≡ matches bits value low high

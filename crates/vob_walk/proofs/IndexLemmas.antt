@@ -10,7 +10,7 @@ use Rattle.std.proofs.Common.{zero, false, not, ◌&&◌, ◌||◌, cond, IsTrue
 use Rattle.std.proofs.Common.{All, count_by, Contains, refl, sym, ap, ◌∙◌, arith, inl, inr}
 use Rattle.std.proofs.lemmas.Iterator.{YieldsList}
 use Rattle.std.proofs.lemmas.Iterator.Consumers.{YieldsList-from_shown}
-use Rattle.std.proofs.lemmas.Bool.{cases_eq, and_parts, false≢true}
+use Rattle.std.proofs.lemmas.Bool.{cases_eq, and_parts, or_left, or_right, false_from_ne_true, false≢true}
 use Rattle.std.proofs.lemmas.List.{length-reverse, reverse-append}
 use Rattle.std.proofs.lemmas.List.Elements.{All-head, All-tail, All-pop, All-contains, Contains-get_or}
 use Rattle.std.proofs.lemmas.List.FromFn.{get_or-range_with_len, length-range_with_len}
@@ -191,26 +191,19 @@ pub left_none : (j : ℕ) → is_left [] j ≡ false
 unfolding is_left
 left_none j = refl
 
-other_or : (b c : Bool) → b ≢ true → (b || c) ≡ c
-other_or true c other = absurd (other refl)
-other_or false c other = refl
-
-or_true : (b : Bool) → (b || true) ≡ true
-or_true true = refl
-or_true false = refl
-
 -- the first is no longer left behind it
 pub left_other : (i : ℕ) (rest : List ℕ) (j : ℕ) → j ≢ i → is_left (i ∷ rest) j ≡ is_left rest j
 unfolding is_left
 left_other i rest j other =
-    other_or (nat_eq i j) (is_left rest j) (λ same. other (sym (eqb-true i j same)))
+    ap (λ b. b || is_left rest j)
+    (false_from_ne_true (nat_eq i j) (λ same. other (sym (eqb-true i j same))))
 
 left_at : (xs : List ℕ) (k j : ℕ) → k < length xs → get_or xs k j ≡ j → is_left xs j ≡ true
 unfolding is_left
 left_at [] k j inside here = absurd (omega arith)
-left_at (x ∷ xs) zero j inside here = ap (λ b. b || is_left xs j) (eq-eqb x j here)
+left_at (x ∷ xs) zero j inside here = or_left (nat_eq x j) (is_left xs j) (eq-eqb x j here)
 left_at (x ∷ xs) (suc k) j inside here =
-    ap (λ b. nat_eq x j || b) (left_at xs k j (omega arith) here) ∙ or_true (nat_eq x j)
+    or_right (nat_eq x j) (is_left xs j) (left_at xs k j (omega arith) here)
 
 -- each index that matches is left of a walk of which nothing was given yet
 pub left_all : (bits : List Bool) (value : Bool) (low high : Bound ℕ) (j : ℕ) → j < length bits

@@ -150,13 +150,16 @@ module _ (w : ℕ) (xs : List ℕ) (value : Bool) (start stop : ℕ) where
         → AreSkipped skip (λ k. get_or xs k 0) (side_start side a k) (side_end side b k)
         → beside side (indices_in w x (k * w) value start stop)
         (left (side_start (other_end side) a k) (side_end (other_end side) b k)) ≡ left a b
-    unread-found Front a k b x low high read all =
-        ap (λ l. l ++ left (k + 1) b) (unread-block k x read)
-        ∙ sym (unread-split k (k + 1) b (omega arith) (omega arith))
-        ∙ ap (λ l. l ++ left k b) (sym (unread-skipped a k low all))
-        ∙ sym (unread-split a k b low (omega arith))
-    unread-found Back a k b x low high read all =
-        ap (λ l. left a k ++ l) (unread-block k x read)
-        ∙ sym (unread-split a k (k + 1) low (omega arith)) ∙ sym (append-nil (left a (k + 1)))
-        ∙ ap (λ l. left a (k + 1) ++ l) (sym (unread-skipped (k + 1) b (omega arith) all))
-        ∙ sym (unread-split a (k + 1) b (omega arith) (omega arith))
+    unread-found Front a k b x low high read all = rw (
+      unread-block k x read,
+      unread-split a k b low (omega arith),
+      unread-skipped a k low all,
+      unread-split k (k + 1) b (omega arith) (omega arith),
+    ) refl
+    unread-found Back a k b x low high read all = rw (
+      unread-block k x read,
+      unread-split a (k + 1) b (omega arith) (omega arith),
+      unread-skipped (k + 1) b (omega arith) all,
+      append-nil,
+      unread-split a k (k + 1) low (omega arith),
+    ) refl
