@@ -169,9 +169,8 @@ pub HasPlaces-cleared : (w x y m j : ℕ) → place j x ≡ true → m ≡ 2 ^ j
     → HasPlaces w y (λ i. differ (place i x) (place i m))
     → HasPlaces w y (λ i. cond (eqb i j) false (place i x))
 HasPlaces-cleared w x y m j there alone h = record {
-  each = λ i k.
-      h.each i k ∙ ap (differ (place i x)) (ap (place i) alone ∙ place-pow j i)
-      ∙ differ-cleared (place i x) (eqb i j) (λ e. ap (λ n. place n x) (eqb-true i j e) ∙ there);
+  each = λ i k. h.each i k ∙ rw (alone, place-pow)
+      (differ-cleared (place i x) (eqb i j) (λ e. ap (λ n. place n x) (eqb-true i j e) ∙ there));
 }
 
 -- y is x with the true place j made false

@@ -36,15 +36,7 @@ last-steps None full bits front between old same empty taken =
     let none = empty taken.0 in
     (none, ap (λ xs. front ++ (between ++ xs)) (taken.1 ∙ sym taken.0) ∙ same ∙ none)
 last-steps (Some i) full bits front between old same empty taken =
-    sym same ∙ ap (λ xs. front ++ (between ++ xs)) taken
-    ∙ ap (λ xs. front ++ xs) (sym (append_assoc between bits (i ∷ [])))
-    ∙ sym (append_assoc front (between ++ bits) (i ∷ []))
-
-has_index-le : (xs : List ℕ) → has_index xs ≤ 1
-has_index-le xs = omega arith
-
-has_index-falls : (xs ys : List ℕ) → length xs ≤ length ys → has_index xs ≤ has_index ys
-has_index-falls xs ys less = omega arith
+    rw (← same, taken) (simp append_assoc)
 
 -- ---- a pull at either end: the indices in hand there and at the other end, before it and after it
 
@@ -66,7 +58,7 @@ module _ (before after : UnreadBlocks) (taken left other other_after : List ℕ)
         credit = omega arith;
       }
   reads-pulled (Some i) walk walk_after r l k ra la ka empty = record {
-    bound = omega (arith, has_index-le left, has_index-falls other_after other fewer);
+    bound = omega arith;
     rises = omega arith;
     credit = omega arith;
   }
@@ -100,9 +92,7 @@ module _ (w : ℕ) (wide : 0 < w) where
     unread-window xs value = elim (cases_lt start stop) [
       | inl some ↦
           let ends = spans.some some in
-          ap (λ k. unread w xs value start stop k end) ends.0
-          ∙ ap (λ k. unread w xs value start stop (start / w) k) ends.1
-          ∙ sym (matches-hits w wide window xs value)
+          rw (ends.0, ends.1) (sym (matches-hits w wide window xs value))
       | inr none ↦
           let empty : start ≡ stop = let ordered = window.order in omega arith in
           unread-none w xs value start stop next end (omega (arith, spans.none empty))

@@ -2,8 +2,8 @@
 use Rattle.std.proofs.Common.{◌≡◌, ℕ, ◌+◌, ◌-◌, ◌*◌, ◌/◌, ◌%◌, ◌^◌, ◌<◌, ◌≤◌, Bool, true, false}
 use Rattle.std.proofs.Common.{not, ◌&&◌, List, [], ◌++◌, append-nil, cond, get_or, ltb, leb, refl, sym, ap, ◌∙◌, arith}
 use Rattle.std.proofs.Common.{add-mul, suc-mul, zero-mul, add-one, mod-lt, inl, inr}
-use Rattle.std.proofs.Math.Bool.{and-true}
-use Rattle.std.proofs.lemmas.Bool.{cases_lt, and_left, and_right, false≢true, le-leb, lt-leb}
+use Rattle.std.proofs.lemmas.Bool.{cases_lt, and_right, false≢true}
+use Rattle.std.proofs.lemmas.Bool.Decides.{nat_tests}
 use Rattle.std.proofs.lemmas.Nat.{div_below, le-div}
 use Rattle.vob_block.specs.Places.{place, HasPlaces}
 use Rattle.vob_block.specs.Packing.{bit_at}
@@ -35,18 +35,12 @@ pub HasPlaces-from_part : (w a start n x y ones mask : ℕ) → n ≡ start - a 
     → HasPlaces w y (λ j. place j x && place j mask)
     → HasPlaces w y (λ j. leb start (a + j) && place j x)
 HasPlaces-from_part w a start n x y ones mask far within all p q = record {
-  each = λ j inside. q.each j inside ∙ elim (cases_lt j n) [
-    | inl low ↦
-        and_right (place j x) (place j mask) (p.each j inside
-        ∙ and_left (leb n j) (place (j - n) ones) (lt-leb n j low))
-        ∙ sym (and_left (leb start (a + j)) (place j x) (lt-leb start (a + j) (omega arith)))
+  each = λ j inside. q.each j inside ∙ rw (p.each j inside) (elim (cases_lt j n) [
+    | inl low ↦ grind (arith, nat_tests)
     | inr high ↦
-        let kept : place j mask ≡ true =
-        p.each j inside ∙ ap (λ b. b && place (j - n) ones) (le-leb n j high)
-        ∙ ap (place (j - n)) all ∙ place-ones w (j - n) (omega arith) in
-        ap (λ b. place j x && b) kept ∙ and-true (place j x)
-        ∙ ap (λ b. b && place j x) (sym (le-leb start (a + j) (omega arith)))
-  ];
+        let kept = ap (place (j - n)) all ∙ place-ones w (j - n) (omega arith) in
+        grind (arith, nat_tests)
+  ]);
 }
 
 -- no place of a block without a bit of the value is looked for

@@ -3,7 +3,7 @@ use Rattle.std.specs.List.{list_any, range_with_len}
 use Rattle.std.proofs.Common.{◌≡◌, ℕ, zero, suc, ◌+◌, ◌-◌, ◌<◌, ◌≤◌, Bool, true, false, cond, List}
 use Rattle.std.proofs.Common.{[], ◌∷◌, ◌++◌, length, filter, All, Contains, refl, sym, ap, ◌∙◌, subst}
 use Rattle.std.proofs.Common.{arith, inl, inr, append-nil, get_or}
-use Rattle.std.proofs.lemmas.Bool.{cases_lt, cases_eq, false_from_ne_true, or_from}
+use Rattle.std.proofs.lemmas.Bool.{cases_lt, false_from_ne_true, or_from}
 use Rattle.std.proofs.lemmas.List.Elements.{filter-append, filter_passes, All-filter, All-contains, Contains-append_right}
 use Rattle.std.proofs.lemmas.List.Folds.{list_any_at}
 use Rattle.std.proofs.lemmas.List.Sums.{length-filter, count_by-le-length}
@@ -132,20 +132,16 @@ module _ (p : ℕ → Bool) where
   -- what is found is in the stretch, and the test holds of it
   pub indices_where-has : (a n i : ℕ) → a ≤ i → i < a + n → p i ≡ true
       → Contains (indices_where p a n) i
-  indices_where-has a zero i from to holds = absurd (omega arith)
-  indices_where-has a (suc n) i from to holds = elim (cases_eq a i) [
-    | inl here ↦
-        let kept : indices_where p a (suc n) ≡ a ∷ indices_where p (a + 1) n =
-        ap (λ b. cond b (a ∷ indices_where p (a + 1) n) (indices_where p (a + 1) n))
-        (ap p here ∙ holds) in
-        subst (λ (l : List ℕ). Contains l i) (sym kept) (0, omega arith, here)
-    | inr later ↦ either (p a) (indices_where-has (a + 1) n i (omega arith) (omega arith) holds)
-  ]
-    where
-      either : (b : Bool) → Contains (indices_where p (a + 1) n) i
-          → Contains (cond b (a ∷ indices_where p (a + 1) n) (indices_where p (a + 1) n)) i
-      either true h = Contains-append_right (a ∷ []) (indices_where p (a + 1) n) i h
-      either false h = h
+  indices_where-has a n i from to holds =
+      let others = a + n - (i + 1) in
+      let parts : n ≡ i - a + suc others = omega arith in
+      let here : a + (i - a) ≡ i = omega arith in
+      let whole : indices_where p a n
+      ≡ indices_where p a (i - a) ++ i ∷ indices_where p (i + 1) others =
+      ap (indices_where p a) parts ∙ indices_where-split a (i - a) (suc others)
+      ∙ rw (here, holds) refl in
+      subst (λ (l : List ℕ). Contains l i) (sym whole)
+      (Contains-append_right (indices_where p a (i - a)) _ i (0, omega arith, refl))
 
   pub indices_where-only : (a n i : ℕ) → Contains (indices_where p a n) i → (a ≤ i) × (i < a + n)
       × (p i ≡ true)
