@@ -7,7 +7,7 @@ use Rattle.std.specs.declared.ops.Bound.{Bound}
 use Rattle.std.specs.declared.ops.Bound.TheVariants.{Included, Excluded, Unbounded}
 use Rattle.std.proofs.Common.{◌≡◌, ◌≢◌, reverse, subst, ◌↔◌, ℕ, suc, ◌+◌, ◌-◌, ◌<◌, ◌≤◌, nat_eq, nat_le, nat_lt, eq-eqb, eqb-true, leb-true, ltb-true, Bool, true}
 use Rattle.std.proofs.Common.{zero, false, not, ◌&&◌, ◌||◌, cond, IsTrue, List, [], ◌∷◌, ◌++◌, length, get_or}
-use Rattle.std.proofs.Common.{All, count_by, Contains, refl, sym, ap, ◌∙◌, arith, inl, inr}
+use Rattle.std.proofs.Common.{count_by, Contains, refl, sym, ap, ◌∙◌, arith, inl, inr}
 use Rattle.std.proofs.lemmas.Iterator.{YieldsList}
 use Rattle.std.proofs.lemmas.Iterator.Consumers.{YieldsList-from_shown}
 use Rattle.std.proofs.lemmas.Bool.{cases_eq, and_parts, or_left, or_right, false_from_ne_true, false≢true}
@@ -20,6 +20,7 @@ use Rattle.vob_block.specs.Packing.{item}
 use Rattle.vob_walk.specs.Matches.{from_start, up_to_end, within, has_value, matches}
 use Rattle.vob_walk.specs.Left.{IsMatch, AreMatches, is_left}
 use Rattle.vob_walk.specs.Walk.{Walk, IsFresh, GivesFirst, GivesLast}
+use Rattle.vob_walk.proofs.WhereLemmas.{length-indices_within, between_parts}
 use Rattle.vob_walk.proofs.MatchesLemmas.{matches-only, matches-has}
 
 pub value_is : (value bit : Bool) → IsTrue (has_value value bit) → bit ≡ value
@@ -239,28 +240,15 @@ first_above bits value start high i rest all =
     leb-true start i (and_parts (nat_le start i) (up_to_end high i)
     (first_within bits value (Included start) high i rest all)).0
 
--- no more indices rise within a range than it has
-rising_few : (start stop : ℕ) (xs : List ℕ) → AllPairs (λ i j. i < j) xs
-    → All (λ i. (start ≤ i) × (i < stop)) xs → length xs ≤ stop - start
-rising_few start stop [] rise within = omega arith
-rising_few start stop (i ∷ xs) rise within =
-    let here = within 0 i (omega arith) in
-    let rest = rising_few (i + 1) stop xs
-    (λ j k d less inside. rise (suc j) (suc k) d (omega arith) (omega arith))
-    (λ k d inside.
-    let less = rise 0 (suc k) d (omega arith) (omega arith) in
-    (omega arith, (within (suc k) d (omega arith)).1)) in
-    omega arith
-
+-- no more match within a range than it has indices
 pub matches_at_most : (bits : List Bool) (value : Bool) (start stop : ℕ)
     → length (matches bits value (Included start) (Excluded stop)) ≤ stop - start
-matches_at_most bits value start stop =
-    rising_few start stop (matches bits value (Included start) (Excluded stop))
-    (matches-rise bits value (Included start) (Excluded stop)) (λ k d inside.
-    let there = (matches-exactly bits value (Included start) (Excluded stop) _).0
-    (Contains-get_or _ k d inside) in
-    let ends = and_parts (nat_le start _) (nat_lt _ stop) there.1 in
-    (leb-true start _ ends.0, ltb-true _ stop ends.1))
+unfolding matches
+matches_at_most bits value start stop = length-indices_within
+    (λ i. within (Included start) (Excluded stop) i && has_value value (item bits i)) 0
+    (length bits) start (stop - start) (λ i from below holds.
+    let own = between_parts start stop i (has_value value (item bits i)) holds in
+    (omega arith, omega arith))
 
 -- ---- the same under names that `using` takes
 

@@ -172,31 +172,39 @@ module _ (p : ℕ → Bool) where
       (h a (omega arith) (omega arith)) (any-nothing (a + 1) n
       (λ i from to. h i (omega arith) (omega arith)))
 
--- they find the same where each of these is in both stretches
+-- what a test holds of in one stretch is found in another that has all of it
+indices_where-moved : (p : ℕ → Bool) (a n b m : ℕ)
+    → ((i : ℕ) → a ≤ i → i < a + n → p i ≡ true → (b ≤ i) × (i < b + m))
+    → indices_where p a n ≡ indices_where (λ i. nat_le a i && nat_lt i (a + n) && p i) b m
+indices_where-moved p a n b m there =
+    let r = λ (i : ℕ). nat_le a i && nat_lt i (a + n) && p i in
+    let parts = λ (i : ℕ) (h : r i ≡ true). between_parts a (a + n) i (p i) h in
+    indices_where-same p r a n (λ i from below.
+    both_ways (p i) (r i) (between_from a (a + n) i from below) (λ h. (parts i h).2))
+    ∙ indices_where-both r a n b m (λ i h. ((parts i h).0, (parts i h).1))
+    (λ i h. let own = parts i h in there i own.0 own.1 own.2)
+
+pub length-indices_within : (p : ℕ → Bool) (a n b m : ℕ)
+    → ((i : ℕ) → a ≤ i → i < a + n → p i ≡ true → (b ≤ i) × (i < b + m))
+    → length (indices_where p a n) ≤ m
+length-indices_within p a n b m there = omega (
+  arith,
+  ap length (indices_where-moved p a n b m there),
+  length-indices_where-le (λ i. nat_le a i && nat_lt i (a + n) && p i) b m,
+)
+
+-- two tests find the same where each number is in both stretches, and both hold of it
 pub indices_where-alike : (p q : ℕ → Bool) (a n b m : ℕ)
     → ((i : ℕ) → a ≤ i → i < a + n → p i ≡ true → (b ≤ i) × (i < b + m) × (q i ≡ true))
     → ((i : ℕ) → b ≤ i → i < b + m → q i ≡ true → (a ≤ i) × (i < a + n) × (p i ≡ true))
     → indices_where p a n ≡ indices_where q b m
 indices_where-alike p q a n b m there back =
-    let r = λ (i : ℕ). nat_le a i && nat_lt i (a + n) && p i in
-    let parts = λ (i : ℕ) (h : r i ≡ true). between_parts a (a + n) i (p i) h in
-    let other = λ (i : ℕ) (h : r i ≡ true).
-    let own = parts i h in there i own.0 own.1 own.2 in
-    indices_where-same p r a n (λ i from below.
-    both_ways (p i) (r i) (between_from a (a + n) i from below) (λ h. (parts i h).2))
-    ∙ indices_where-both r a n b m (λ i h. ((parts i h).0, (parts i h).1))
-    (λ i h. ((other i h).0, (other i h).1))
-    ∙ indices_where-same r q b m (λ i from below. both_ways (r i) (q i) (λ h. (other i h).2)
+    indices_where-moved p a n b m (λ i from below h.
+    let other = there i from below h in (other.0, other.1))
+    ∙ indices_where-same (λ i. nat_le a i && nat_lt i (a + n) && p i) q b m (λ i from below.
+    both_ways _ (q i)
+    (λ h. let own = between_parts a (a + n) i (p i) h in (there i own.0 own.1 own.2).2)
     (λ h. let own = back i from below h in between_from a (a + n) i own.0 own.1 own.2))
-
-pub length-indices_below : (p : ℕ → Bool) (a n m : ℕ) → ((i : ℕ) → p i ≡ true → i < m)
-    → length (indices_where p a n) ≤ m
-length-indices_below p a n m below =
-    let r = λ (i : ℕ). nat_le a i && nat_lt i (a + n) && p i in
-    let same = indices_where-alike p r a n 0 m (λ i low high holds.
-    (omega arith, omega (arith, below i holds), between_from a (a + n) i low high holds))
-    (λ i low high holds. between_parts a (a + n) i (p i) holds) in
-    omega (arith, ap length same, length-indices_where-le r 0 m)
 
 -- where nothing is found the test holds nowhere
 pub nothing_there : (p : ℕ → Bool) (a n : ℕ) → indices_where p a n ≡ [] → (i : ℕ) → a ≤ i

@@ -19,7 +19,7 @@ use Rattle.vob_walk.specs.Cursor.{indices_where, is_hit, unread}
 use Rattle.vob_walk.proofs.WhereLemmas.{indices_where-same, indices_where-nothing, between_parts}
 use Rattle.vob_walk.proofs.ScanLemmas.{product-more}
 use Rattle.vob_walk.proofs.WhereLemmas.{indices_where-both, length-indices_all}
-use Rattle.vob_walk.proofs.WhereLemmas.{length-indices_below, any-indices_where, any-nothing}
+use Rattle.vob_walk.proofs.WhereLemmas.{length-indices_within, any-indices_where, any-nothing}
 
 cut_tests : (s a f : Bool) → (s ≡ true → a ≡ f) → (f && s) ≡ (a && s)
 cut_tests true a f same = ap (λ t. t && true) (sym (same refl))
@@ -83,9 +83,11 @@ module _ (w : ℕ) (wide : 0 < w) where
 module _ (w : ℕ) (xs : List ℕ) (value : Bool) (start stop : ℕ) where
   pub length-unread-le : (k end : ℕ) → length (unread w xs value start stop k end) ≤ stop
   unfolding unread
-  length-unread-le k end = length-indices_below (λ i. is_hit w xs value start stop i) (k * w)
-      ((end - k) * w) stop
-      (λ i holds. (between_parts start stop i (has_value value (bit_at xs w i)) holds).1)
+  length-unread-le k end =
+      length-indices_within (is_hit w xs value start stop) (k * w) ((end - k) * w) 0 stop
+      (λ i from below holds.
+      let hit = between_parts start stop i (has_value value (bit_at xs w i)) holds in
+      (omega arith, omega arith))
 
 -- ---- a window over the first n bits of some blocks
 
