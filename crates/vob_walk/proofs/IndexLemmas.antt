@@ -102,21 +102,15 @@ module _ (bits : List Bool) (value : Bool) (low high : Bound ℕ) where
       × ((j : ℕ) → j < i → IsTrue (within low high j) → item bits j ≢ value)
   matches-first i rest e =
       let all = matches bits value low high in
-      let there = (matches-exactly i).0 (
-        0,
-        omega (
-          arith,
-          ap length e,
-        ),
-        ap (λ xs. get_or xs 0 i) e,
-      ) in (
+      let there =
+      (matches-exactly i).0 (0, omega (arith, ap length e), ap (λ xs. get_or xs 0 i) e) in (
         there.0,
         there.1,
         there.2,
-        (λ j less in_range equal.
+        λ j less in_range equal.
             let least = first_least all matches-rise i rest e j
             ((matches-exactly j).1 (omega arith, in_range, equal)) in
-            absurd (omega arith)),
+            absurd (omega arith),
       )
 
   -- where none is given, no bit within the range has the value

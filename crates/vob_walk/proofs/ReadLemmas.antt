@@ -1,4 +1,4 @@
--- What is unread behind a scan for a block that isn't the one without a bit of the value.
+-- What is unread after a scan for a block that isn't the one without a bit of the value.
 use Rattle.std.proofs.Common.{◌≡◌, ℕ, ◌+◌, ◌-◌, ◌*◌, ◌^◌, ◌<◌, ◌≤◌, Bool, List, [], cond, map, Some, None, refl, sym, ◌∙◌, arith, append-nil}
 use Rattle.vob_block.specs.Reading.{Reading}
 use Rattle.vob_walk.specs.declared.walk.End.{End}

@@ -139,7 +139,7 @@ module _ (w : ℕ) (xs : List ℕ) (value : Bool) (start stop : ℕ) where
         (ap (has_value value) (bit_at-skipped w wide xs skip a b all i from (omega arith))
         ∙ without_value w skip (i % w) value without (mod-lt i wide)))
 
-    -- so behind them block k gives what is looked for there, and the others are left
+    -- so after them block k gives what is looked for there, and the others are left
     pub unread-found : (side : End) (a k b x : ℕ) → a ≤ k → k < b → x ≡ get_or xs k 0
         → AreSkipped skip (λ k. get_or xs k 0) (side_start side a k) (side_end side b k)
         → beside side (indices_in w x (k * w) value start stop)

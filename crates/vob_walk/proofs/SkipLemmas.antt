@@ -1,4 +1,4 @@
--- A scan of one block, one that goes on behind another, and which blocks its steps read.
+-- A scan of one block, one that goes on after another, and which blocks its steps read.
 use Rattle.std.proofs.Common.{◌≡◌, ◌≢◌, ℕ, ◌+◌, ◌-◌, ◌<◌, ◌≤◌, true, false, List, map, get_or, slice_get}
 use Rattle.std.proofs.Common.{is_some, Option, Some, None, refl, sym, ap, ◌∙◌, subst, arith, inl}
 use Rattle.std.proofs.Common.{inr}
@@ -60,7 +60,7 @@ module _ {X : Type 0} (number : X → ℕ) (skip : X) (at : ℕ → ℕ) where
     items = refl;
   }
 
-  -- behind steps that found none a scan goes on; what it found is what is found up to the end
+  -- after steps that found none a scan goes on; what it found is what is found up to the end
   pub Steps-on : {x y z : Reading X} {first found : Option (ℕ × ℕ × X)} (a m c b : ℕ) → a ≤ m
       → m ≤ c → c ≤ b → is_some first ≡ false → is_some found ≡ true → steps x y a m first
       → steps y z m c found → steps x z a b found
@@ -86,7 +86,7 @@ module _ {X : Type 0} (number : X → ℕ) (skip : X) (at : ℕ → ℕ) where
   Steps-on {first = Some p} {found = found} a m c b low some high nothing there h k =
       absurd (false≢true (sym nothing))
 
-  -- and where none was found behind them either, that is a scan of them all
+  -- and if none was found after them either, that is a scan of them all
   pub Steps-past : {x y z : Reading X} {first found : Option (ℕ × ℕ × X)} (a m b : ℕ) {end : ℕ}
       → a ≤ m → m ≤ b → end ≡ b → is_some first ≡ false → is_some found ≡ false → steps x y a m first
       → steps y z m b found → steps x z a end None

@@ -22,6 +22,10 @@ abbrev pub side_end : End → ℕ → ℕ → ℕ
 side_end Front b k = k
 side_end Back b k = b
 
+-- block k of some blocks, by its number
+abbrev pub number_at : {X : Type 0} → (X → ℕ) → List X → ℕ → ℕ
+number_at number items k = slice_index_or (map number items) k 0
+
 -- each block from a to below b is `skip`
 abbrev pub AreSkipped : ℕ → (ℕ → ℕ) → ℕ → ℕ → Type 0
 AreSkipped skip block a b = (k : ℕ) → a ≤ k → k < b → block k ≡ skip
@@ -34,15 +38,14 @@ pub record IsOther (skip : ℕ) (block : ℕ → ℕ) (a b k x : ℕ) : Type 0 w
   pub other : x ≢ skip
 
 -- steps from m to below n, of which step i reads block `at i`, found the first block that isn't
--- `skip`, with the step and its number, or none. Each block was read once, and none behind the one that was found
+-- `skip`, with the step and its number, or none. Each block was read once, and none after that one
 pub record Steps {X : Type 0} (number : X → ℕ) (skip : X) (at : ℕ → ℕ) (before after : Reading X)
     (m n : ℕ) (answer : Option (ℕ × ℕ × X)) : Type 0 where
   pub found : MatchOption answer
-      (AreSkipped (number skip) (λ i. slice_index_or (map number before.items) (at i) 0) m n)
-      (λ p. IsOther (number skip) (λ i. slice_index_or (map number before.items) (at i) 0) m n p.0
-      (number p.2)
+      (AreSkipped (number skip) (λ i. number_at number before.items (at i)) m n)
+      (λ p. IsOther (number skip) (λ i. number_at number before.items (at i)) m n p.0 (number p.2)
       × (p.1 ≡ at p.0)
-      × AreSkipped (number skip) (λ i. slice_index_or (map number before.items) (at i) 0) m p.0)
+      × AreSkipped (number skip) (λ i. number_at number before.items (at i)) m p.0)
   pub reads : after.reads + m ≡ before.reads + unwrap_or (option_map (λ p. p.0 + 1) answer) n
   pub items : after.items ≡ before.items
 
@@ -50,11 +53,10 @@ pub record Steps {X : Type 0} (number : X → ℕ) (skip : X) (at : ℕ → ℕ)
 pub record Scans {X : Type 0} (side : End) (number : X → ℕ) (skip : X) (before after : Reading X)
     (a b : ℕ) (answer : Option (ℕ × X)) : Type 0 where
   pub found : MatchOption answer
-      (AreSkipped (number skip) (λ k. slice_index_or (map number before.items) k 0) a b)
-      (λ p. IsOther (number skip) (λ k. slice_index_or (map number before.items) k 0) a b p.0
-      (number p.1)
-      × AreSkipped (number skip) (λ k. slice_index_or (map number before.items) k 0)
-      (side_start side a p.0) (side_end side b p.0))
+      (AreSkipped (number skip) (number_at number before.items) a b)
+      (λ p. IsOther (number skip) (number_at number before.items) a b p.0 (number p.1)
+      × AreSkipped (number skip) (number_at number before.items) (side_start side a p.0)
+      (side_end side b p.0))
   pub reads : after.reads ≡ before.reads
       + unwrap_or (option_map (λ p. side_end side b p.0 + 1 - side_start side a p.0) answer) (b - a)
   pub items : after.items ≡ before.items

@@ -159,8 +159,8 @@ fn first_other<T: BitBlock>(
     first_of_rest(blocks, skip, span, 4 * fours)
 }
 
-/// The first block, from the end of the span that it is taken from, that isn't `skip`, with its
-/// number. No block behind it is read.
+/// The first block, from the end that the span is taken from, that isn't `skip`, with its number. No
+/// block after it is read.
 #[inline(always)]
 pub(crate) fn next_other<T: BitBlock>(
     blocks: &mut Blocks<'_, T>,

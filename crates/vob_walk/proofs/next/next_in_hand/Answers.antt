@@ -1,4 +1,4 @@
--- The block in hand, and behind it the scan.
+-- The block in hand, and after it the scan.
 use Rattle.std.proofs.Common.{◌≡◌, ◌+◌, ◌*◌, ◌/◌, ◌%◌, ◌∙◌, refl, ap, arith}
 use Rattle.vob_block.proofs.NeedLemmas.{need-is-div_ceil, mul-lt_from_need}
 use Rattle.vob_walk.proofs.NextLemmas.{FindsUp-here, FindsUp-none, FindsUp-behind}

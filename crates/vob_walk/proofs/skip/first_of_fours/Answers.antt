@@ -1,4 +1,4 @@
--- Four blocks more, behind those where none was found.
+-- Four blocks more, after those that had none.
 use Rattle.std.proofs.Common.{◌*◌, ◌+◌, ◌∙◌, refl, sym, arith}
 use Rattle.vob_walk.proofs.SkipLemmas.{Steps-on, Steps-past}
 use Rattle.vob_walk.proofs.skip.first_of_fours.Goals as goal

@@ -1,4 +1,4 @@
--- One block more, behind those where none was found.
+-- One block more, after those that had none.
 use Rattle.std.proofs.Common.{◌+◌, ◌-◌, ◌∙◌, add-zero, refl, sym, arith}
 use Rattle.vob_walk.proofs.SkipLemmas.{Steps-on, Steps-past}
 use Rattle.vob_walk.proofs.skip.first_of_rest.Goals as goal

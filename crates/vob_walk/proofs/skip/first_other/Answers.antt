@@ -1,4 +1,4 @@
--- The rest behind the fours.
+-- The rest after the fours.
 use Rattle.std.proofs.Common.{◌∙◌, ◌-◌, ◌*◌, ◌/◌, sym, refl, arith}
 use Rattle.vob_walk.proofs.SkipLemmas.{Steps-start, Steps-on, Steps-after}
 use Rattle.vob_walk.proofs.skip.first_other.Goals as goal
