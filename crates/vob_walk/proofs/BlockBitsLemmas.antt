@@ -67,7 +67,7 @@ module _ (p q : ℕ → Bool) (k a n : ℕ) (h : Lacks p q k a n) where
 -- ---- a block in hand
 
 -- no place is true
-pub block_indices-none : (w at x : ℕ) → ((j : ℕ) → j < w → place j x ≡ false)
+block_indices-none : (w at x : ℕ) → ((j : ℕ) → j < w → place j x ≡ false)
     → block_indices w at x ≡ []
 unfolding block_indices
 block_indices-none w at x none = indices_where-nothing (λ i. place (i - at) x) at w
@@ -99,7 +99,7 @@ last_there w u at x n e h some = elim (cases_lt n w) [
 pub block_indices-zero : (w at x : ℕ) → x ≡ 0 → block_indices w at x ≡ []
 block_indices-zero w at x e = block_indices-none w at x (λ j h. ap (place j) e ∙ place-zero j)
 
-pub zero_block_indices : (w at x : ℕ) → x < 2 ^ w → block_indices w at x ≡ [] → x ≡ 0
+zero_block_indices : (w at x : ℕ) → x < 2 ^ w → block_indices w at x ≡ [] → x ≡ 0
 unfolding block_indices
 zero_block_indices w at x within e = same_from_places w x 0 within (pow_pos w) (λ j h.
     let back : at + j - at ≡ j = omega arith in

@@ -35,7 +35,7 @@ indices_where-not p a n = length-filter_both p (λ i. not (p i)) (λ i. refl) (r
 -- ---- the true bits of some blocks
 
 module _ (w : ℕ) (xs : List ℕ) where
-  pub ones-indices_where : (start stop : ℕ) → ones_between w xs start stop
+  ones-indices_where : (start stop : ℕ) → ones_between w xs start stop
       ≡ length (indices_where (bit_at xs w) start (stop - start))
   unfolding ones_between
   ones-indices_where start stop = sym (length-filter (bit_at xs w)

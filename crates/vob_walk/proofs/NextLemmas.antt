@@ -136,7 +136,7 @@ module _ (w x skip : ℕ) (value : Bool) (within : x < 2 ^ w)
     | inr past ↦ absurd (some_place (λ i inside. first.between i (omega arith) (omega arith)))
   ]
 
-  pub last-some : (n j : ℕ) → n ≡ w → IsLastPlace x value n j → 0 < j
+  last-some : (n j : ℕ) → n ≡ w → IsLastPlace x value n j → 0 < j
   last-some n j whole last = elim (cases_lt 0 j) [
     | inl some ↦ some
     | inr none ↦ absurd (some_place (λ i inside. last.between i (omega arith) (omega arith)))
@@ -160,7 +160,7 @@ module _ (w : ℕ) (wide : 0 < w) (n : ℕ) where
   )
 
 module _ (w : ℕ) (wide : 0 < w) (xs : List ℕ) (value : Bool) where
-  pub none_joined : (a m b : ℕ) → HasNoBit w xs value a m → HasNoBit w xs value m b
+  none_joined : (a m b : ℕ) → HasNoBit w xs value a m → HasNoBit w xs value m b
       → HasNoBit w xs value a b
   none_joined a m b low high i from below = elim (cases_lt i m) [
     | inl h ↦ low i from h

@@ -26,18 +26,6 @@ module _ (w : ℕ) (wide : 0 < w) (value : Bool) (start stop : ℕ) where
   left xs = unread w xs value start stop
 
   module _ {X : Type 0} {number : X → ℕ} where
-    -- nothing is read yet
-    pub Reads-start : (side : End) (x : Reading X) (a b : ℕ) → a ≤ b
-        → Reads side number left x x a b a b []
-    Reads-start side x a b order = record {
-      low = omega arith;
-      order = order;
-      high = omega arith;
-      rest = beside-nil side (left (map number x.items) a b);
-      reads = refl;
-      items = refl;
-    }
-
     still_left : (side : End) {x y : Reading X} {a b m n : ℕ}
         → Reads side number left x y a b m n []
         → left (map number y.items) m n ≡ left (map number y.items) a b

@@ -88,7 +88,7 @@ module _ (w : ℕ) (xs : List ℕ) (value : Bool) (start stop : ℕ) where
       ap (λ n. indices_where hit (k * w) (n * w)) none ∙ ap (indices_where hit (k * w)) (zero-mul w)
 
   -- two parts of some blocks
-  pub unread-split : (k m end : ℕ) → k ≤ m → m ≤ end → left k end ≡ left k m ++ left m end
+  unread-split : (k m end : ℕ) → k ≤ m → m ≤ end → left k end ≡ left k m ++ left m end
   unfolding unread
   unread-split k m end low high =
       let parts : (end - k) * w ≡ (m - k) * w + (end - m) * w =

@@ -62,7 +62,7 @@ place_between x low high rank some few least most =
 -- ---- the true bits below one
 
 module _ (w : ℕ) (xs : List ℕ) (k x : ℕ) (read : x ≡ get_or xs k 0) where
-  pub bit_at-place : (j : ℕ) → j < w → place j x ≡ true → bit_at xs w (k * w + j) ≡ true
+  bit_at-place : (j : ℕ) → j < w → place j x ≡ true → bit_at xs w (k * w + j) ≡ true
   bit_at-place j inside there =
       bit_at-in_block xs w k j inside ∙ ap (place j) (sym read) ∙ there
 
