@@ -2,7 +2,7 @@
 use Rattle.std.specs.List.{range_with_len}
 use Rattle.std.proofs.Common.{◌≡◌, ◌≢◌, ℕ, zero, suc, ◌+◌, ◌-◌, ◌^◌, ◌<◌, ◌≤◌, Bool, true, false}
 use Rattle.std.proofs.Common.{cond, List, [], ◌∷◌, ◌++◌, length, ◌↔◌, eqb, refl, sym, ap, ◌∙◌}
-use Rattle.std.proofs.Common.{subst, arith, inl, inr, append-nil}
+use Rattle.std.proofs.Common.{arith, inl, inr, append-nil}
 use Rattle.std.proofs.lemmas.Bool.{cases_eq, cases_lt, false≢true, eq-eqb, eqb-true, ne_eqb, cond-true, cond-false}
 use Rattle.std.proofs.lemmas.List.Sums.{length-filter}
 use Rattle.std.proofs.lemmas.Nat.{pow_pos}
@@ -12,12 +12,6 @@ use Rattle.vob_block.proofs.PlaceLemmas.{place-ones, place-pow, place-zero, same
 use Rattle.vob_walk.specs.Cursor.{indices_where, block_indices}
 use Rattle.vob_walk.specs.InHand.{IsBlockBits}
 use Rattle.vob_walk.proofs.WhereLemmas.{indices_where-split, indices_where-same, indices_where-nothing, nothing_there}
-
-cond_cons-true : (b : Bool) (x : ℕ) (xs : List ℕ) → b ≡ true → cond b (x ∷ xs) xs ≡ x ∷ xs
-cond_cons-true b x xs e = ap (λ t. cond t (x ∷ xs) xs) e
-
-cond_cons-false : (b : Bool) (x : ℕ) (xs : List ℕ) → b ≡ false → cond b (x ∷ xs) xs ≡ xs
-cond_cons-false b x xs e = ap (λ t. cond t (x ∷ xs) xs) e
 
 -- ---- a test that one number is taken off
 
@@ -33,54 +27,47 @@ module _ (p q : ℕ → Bool) (k a n : ℕ) (h : Lacks p q k a n) where
   split : (r : ℕ → Bool) → indices_where r a n
       ≡ indices_where r a (k - a) ++ indices_where r k (suc (a + n - (k + 1)))
   split r =
-      let all : n ≡ k - a + suc (a + n - (k + 1)) = omega (arith, h.low, h.high) in
-      let here : a + (k - a) ≡ k = omega (arith, h.low) in
+      let all : n ≡ k - a + suc (a + n - (k + 1)) = omega arith in
+      let here : a + (k - a) ≡ k = omega arith in
       ap (indices_where r a) all ∙ indices_where-split r a (k - a) (suc (a + n - (k + 1)))
       ∙ ap (λ i. indices_where r a (k - a) ++ indices_where r i (suc (a + n - (k + 1)))) here
 
   with_it : indices_where p a n ≡ indices_where p a (k - a) ++ k ∷ indices_where p (k + 1)
       (a + n - (k + 1))
   with_it = split p ∙ ap (λ xs. indices_where p a (k - a) ++ xs)
-      (cond_cons-true (p k) k (indices_where p (k + 1) (a + n - (k + 1))) h.at)
+      (cond-true (p k) _ (indices_where p (k + 1) (a + n - (k + 1))) h.at)
 
   without_it : indices_where q a n ≡ indices_where p a (k - a) ++ indices_where p (k + 1)
       (a + n - (k + 1))
   without_it =
       split q ∙ ap (λ xs. indices_where q a (k - a) ++ xs)
-      (cond_cons-false (q k) k (indices_where q (k + 1) (a + n - (k + 1))) h.gone)
-      ∙ ap (λ xs. xs ++ indices_where q (k + 1) (a + n - (k + 1)))
-      (indices_where-same q p a (k - a) (λ i low high.
-      h.other i low (omega (arith, h.low, h.high)) (λ e. absurd (omega (arith, h.low)))))
-      ∙ ap (λ xs. indices_where p a (k - a) ++ xs)
-      (indices_where-same q p (k + 1) (a + n - (k + 1))
-      (λ i low high. h.other i (omega (arith, h.low)) (omega (arith, h.high))
-      (λ e. absurd (omega arith))))
+      (cond-false (q k) _ (indices_where q (k + 1) (a + n - (k + 1))) h.gone)
+      ∙ rw (
+        indices_where-same q p a (k - a) (λ i low high.
+            h.other i low (omega arith) (λ e. absurd (omega arith))),
+        indices_where-same q p (k + 1) (a + n - (k + 1)) (λ i low high.
+            h.other i (omega arith) (omega arith) (λ e. absurd (omega arith))),
+      ) refl
 
   -- the first that p holds of
   indices_where-first : ((i : ℕ) → a ≤ i → i < k → p i ≡ false) → indices_where p a n
       ≡ k ∷ indices_where q a n
   indices_where-first none =
-      let empty = indices_where-nothing p a (k - a)
-      (λ i low high. none i low (omega (arith, h.low))) in
-      with_it ∙ ap (λ xs. xs ++ k ∷ indices_where p (k + 1) (a + n - (k + 1))) empty
-      ∙ ap (λ xs. k ∷ xs) (sym (without_it ∙ ap
-      (λ xs. xs ++ indices_where p (k + 1) (a + n - (k + 1))) empty))
+      let empty = indices_where-nothing p a (k - a) (λ i low high. none i low (omega arith)) in
+      rw (with_it, without_it, empty) refl
 
   -- and the last
   indices_where-last : ((i : ℕ) → k < i → i < a + n → p i ≡ false) → indices_where p a n
       ≡ indices_where q a n ++ k ∷ []
   indices_where-last none =
       let empty = indices_where-nothing p (k + 1) (a + n - (k + 1))
-      (λ i low high. none i (omega arith) (omega (arith, h.high))) in
-      with_it ∙ ap (λ xs. indices_where p a (k - a) ++ k ∷ xs) empty
-      ∙ ap (λ xs. xs ++ k ∷ []) (sym (without_it
-      ∙ ap (λ xs. indices_where p a (k - a) ++ xs) empty
-      ∙ append-nil (indices_where p a (k - a))))
+      (λ i low high. none i (omega arith) (omega arith)) in
+      rw (with_it, without_it, empty, append-nil) refl
 
 -- ---- a block in hand
 
 -- no place is true
-pub block_indices-none : (w at x : ℕ) → ((j : ℕ) → j < w → place j x ≡ false)
+block_indices-none : (w at x : ℕ) → ((j : ℕ) → j < w → place j x ≡ false)
     → block_indices w at x ≡ []
 unfolding block_indices
 block_indices-none w at x none = indices_where-nothing (λ i. place (i - at) x) at w
@@ -112,7 +99,7 @@ last_there w u at x n e h some = elim (cases_lt n w) [
 pub block_indices-zero : (w at x : ℕ) → x ≡ 0 → block_indices w at x ≡ []
 block_indices-zero w at x e = block_indices-none w at x (λ j h. ap (place j) e ∙ place-zero j)
 
-pub zero_block_indices : (w at x : ℕ) → x < 2 ^ w → block_indices w at x ≡ [] → x ≡ 0
+zero_block_indices : (w at x : ℕ) → x < 2 ^ w → block_indices w at x ≡ [] → x ≡ 0
 unfolding block_indices
 zero_block_indices w at x within e = same_from_places w x 0 within (pow_pos w) (λ j h.
     let back : at + j - at ≡ j = omega arith in
@@ -122,14 +109,8 @@ zero_block_indices w at x within e = same_from_places w x 0 within (pow_pos w) (
 -- behind a block whose places are all true there is a length still
 pub full-below : {w at x : ℕ} → 0 < w → x ≡ 2 ^ w - 1 → IsBlockBits w at x → at + w < 2 ^ 64
 full-below {w} {at} {x} wide full h =
-    let last : w - 1 < w = omega (arith, wide) in
-    omega (arith, wide, h.fits (w - 1) last (ap (place (w - 1)) full ∙ place-ones w (w - 1) last))
-
-pub IsBlockBits-zero : (w at x : ℕ) → x ≡ 0 → IsBlockBits w at x
-IsBlockBits-zero w at x e = record {
-  within = subst (λ (n : ℕ). n < 2 ^ w) (sym e) (pow_pos w);
-  fits = λ j below there. absurd (false≢true (sym (ap (place j) e ∙ place-zero j) ∙ there));
-}
+    let last : w - 1 < w = omega arith in
+    omega (arith, h.fits (w - 1) last (ap (place (w - 1)) full ∙ place-ones w (w - 1) last))
 
 -- a block is 0 by a test exactly where it has no index
 pub empty_test : (w at x : ℕ) (answer : Bool) → (answer ≡ true) ↔ (x ≡ 0) → x < 2 ^ w
@@ -170,7 +151,7 @@ length-block_indices w at x = length-indices_at (λ j. place j x) at at 0 w (ome
 
 -- where some of a list are left there is one, and where the first is taken one less is
 pub some_left : {xs : List ℕ} {left : ℕ} → left ≡ length xs → 0 < left → xs ≢ []
-some_left count some none = absurd (omega (arith, count ∙ ap length none, some))
+some_left count some none = absurd (omega (arith, count ∙ ap length none))
 
 pub left-first : {xs ys : List ℕ} {left i : ℕ} → left ≡ length xs → xs ≡ i ∷ ys
     → left - 1 ≡ length ys
@@ -188,9 +169,8 @@ pub HasPlaces-cleared : (w x y m j : ℕ) → place j x ≡ true → m ≡ 2 ^ j
     → HasPlaces w y (λ i. differ (place i x) (place i m))
     → HasPlaces w y (λ i. cond (eqb i j) false (place i x))
 HasPlaces-cleared w x y m j there alone h = record {
-  each = λ i k.
-      h.each i k ∙ ap (differ (place i x)) (ap (place i) alone ∙ place-pow j i)
-      ∙ differ-cleared (place i x) (eqb i j) (λ e. ap (λ n. place n x) (eqb-true i j e) ∙ there);
+  each = λ i k. h.each i k ∙ rw (alone, place-pow)
+      (differ-cleared (place i x) (eqb i j) (λ e. ap (λ n. place n x) (eqb-true i j e) ∙ there));
 }
 
 -- y is x with the true place j made false

@@ -1,12 +1,10 @@
 -- How many bits are true in a window, over its blocks.
-use Rattle.std.specs.Cmp.{both_ways}
 use Rattle.std.specs.declared.ops.Bound.TheVariants.{Included, Excluded}
-use Rattle.std.proofs.Common.{◌≡◌, ◌≢◌, ℕ, zero, suc, ◌+◌, ◌-◌, ◌*◌, ◌/◌, ◌^◌, ◌<◌, ◌≤◌, min, max}
-use Rattle.std.proofs.Common.{Bool, true, false, not, ◌&&◌, nat_le, nat_lt, cond, List, ◌∷◌, ◌++◌}
+use Rattle.std.proofs.Common.{◌≡◌, ◌≢◌, ℕ, ◌+◌, ◌-◌, ◌*◌, ◌/◌, ◌<◌, ◌≤◌, min, max}
+use Rattle.std.proofs.Common.{Bool, true, false, not, ◌&&◌, nat_le, nat_lt, List}
 use Rattle.std.proofs.Common.{length, map, get_or, Some, refl, sym, ap, ◌∙◌, arith, inl, inr}
 use Rattle.std.proofs.Common.{length-append, add-mul, mod-lt, div-add-mod', div-mul-le_self}
-use Rattle.std.proofs.Math.Bool.{and_self}
-use Rattle.std.proofs.lemmas.Bool.{cases_lt, and_from, and_parts, lt-ltb, le-leb, ltb-true, leb-true}
+use Rattle.std.proofs.lemmas.Bool.{cases_lt}
 use Rattle.std.specs.List.{range_with_len, slice_get}
 use Rattle.std.proofs.lemmas.List.Sums.{length-filter}
 use Rattle.std.proofs.lemmas.Nat.{mul-le}
@@ -18,66 +16,26 @@ use Rattle.vob_block.proofs.PackingLemmas.{bit_at-in_block}
 use Rattle.vob_walk.specs.Matches.{has_value, blocks_met}
 use Rattle.vob_walk.specs.Count.{ones_between}
 use Rattle.vob_walk.specs.Cursor.{indices_where, block_indices, is_hit, unread, AreBlocksOf}
-use Rattle.vob_walk.proofs.WhereLemmas.{indices_where-split, indices_where-same, indices_where-both, length-indices_where-le}
+use Rattle.vob_walk.proofs.WhereLemmas.{indices_where-split, indices_where-same, length-indices_where-le, between_parts, between_from, indices_where-alike}
+use Rattle.std.proofs.lemmas.List.Filters.{length-filter_both}
+use Rattle.std.proofs.lemmas.List.FromFn.{length-range_with_len}
 use Rattle.vob_walk.proofs.BlockBitsLemmas.{length-block_indices}
 use Rattle.vob_walk.proofs.ScanLemmas.{product-more, block_indices-masked}
-use Rattle.vob_walk.proofs.WindowLemmas.{IsWindow, IsWindow-cut}
+use Rattle.vob_walk.proofs.WindowLemmas.{IsRangeOf-own}
 use Rattle.vob_walk.proofs.CursorLemmas.{blocks_met-blocks}
 
--- ---- tests that hold of the same numbers
-
--- whether a test holds of a number of a stretch
-abbrev held_within : (ℕ → Bool) → ℕ → ℕ → ℕ → Bool
-held_within p a n i = (nat_le a i && nat_lt i (a + n)) && p i
-
-module _ (p : ℕ → Bool) (a n : ℕ) where
-  held_from : (i : ℕ) → a ≤ i → i < a + n → p i ≡ true → held_within p a n i ≡ true
-  held_from i from below holds =
-      and_from (nat_le a i && nat_lt i (a + n)) (p i)
-      (and_from (nat_le a i) (nat_lt i (a + n)) (le-leb a i from) (lt-ltb i (a + n) below))
-      holds
-
-  held_parts : (i : ℕ) → held_within p a n i ≡ true → (a ≤ i) × (i < a + n) × (p i ≡ true)
-  held_parts i h =
-      let both = and_parts (nat_le a i && nat_lt i (a + n)) (p i) h in
-      let ends = and_parts (nat_le a i) (nat_lt i (a + n)) both.0 in
-      (leb-true a i ends.0, ltb-true i (a + n) ends.1, both.1)
-
--- they find the same where each of these is in both stretches
-pub indices_where-alike : (p q : ℕ → Bool) (a n b m : ℕ)
-    → ((i : ℕ) → a ≤ i → i < a + n → p i ≡ true → (b ≤ i) × (i < b + m) × (q i ≡ true))
-    → ((i : ℕ) → b ≤ i → i < b + m → q i ≡ true → (a ≤ i) × (i < a + n) × (p i ≡ true))
-    → indices_where p a n ≡ indices_where q b m
-indices_where-alike p q a n b m there back =
-    let r = held_within p a n in
-    indices_where-same p r a n (λ i from below.
-    both_ways (p i) (r i) (held_from p a n i from below) (λ h. (held_parts p a n i h).2))
-    ∙ indices_where-both r a n b m
-    (λ i h. let parts = held_parts p a n i h in (parts.0, parts.1))
-    (λ i h. let parts = held_parts p a n i h in let other =
-    there i parts.0 parts.1 parts.2 in (other.0, other.1))
-    ∙ indices_where-same r q b m (λ i from below. both_ways (r i) (q i)
-    (λ h. let parts = held_parts p a n i h in (there i parts.0 parts.1 parts.2).2)
-    (λ h. let parts = back i from below h in held_from p a n i parts.0 parts.1 parts.2))
-
 -- ---- a test and its contrary
-
-counted : (b : Bool) (x : ℕ) (us vs : List ℕ) (n : ℕ) → length us + length vs ≡ n
-    → length (cond b (x ∷ us) us) + length (cond (not b) (x ∷ vs) vs) ≡ suc n
-counted true x us vs n h = omega arith
-counted false x us vs n h = omega arith
 
 -- together they hold of every number
 indices_where-not : (p : ℕ → Bool) (a n : ℕ) → length (indices_where p a n) + length
     (indices_where (λ i. not (p i)) a n) ≡ n
-indices_where-not p a zero = refl
-indices_where-not p a (suc n) = counted (p a) a (indices_where p (a + 1) n)
-    (indices_where (λ i. not (p i)) (a + 1) n) n (indices_where-not p (a + 1) n)
+indices_where-not p a n = length-filter_both p (λ i. not (p i)) (λ i. refl) (range_with_len a n)
+    ∙ length-range_with_len a n
 
 -- ---- the true bits of some blocks
 
 module _ (w : ℕ) (xs : List ℕ) where
-  pub ones-indices_where : (start stop : ℕ) → ones_between w xs start stop
+  ones-indices_where : (start stop : ℕ) → ones_between w xs start stop
       ≡ length (indices_where (bit_at xs w) start (stop - start))
   unfolding ones_between
   ones-indices_where start stop = sym (length-filter (bit_at xs w)
@@ -103,35 +61,27 @@ module _ (w : ℕ) (xs : List ℕ) where
   ones-split start middle stop first second =
       let parts : stop - start ≡ (middle - start) + (stop - middle) = omega arith in
       let there : start + (middle - start) ≡ middle = omega arith in
-      ones-indices_where start stop ∙ ap (λ n. length (indices_where (bit_at xs w) start n)) parts
-      ∙ ap length (indices_where-split (bit_at xs w) start (middle - start) (stop - middle))
-      ∙ length-append (indices_where (bit_at xs w) start (middle - start))
-      (indices_where (bit_at xs w) (start + (middle - start)) (stop - middle))
-      ∙ omega (
-        arith,
-        ones-indices_where start middle,
-        ones-indices_where middle stop,
-        ap (λ k. length (indices_where (bit_at xs w) k (stop - middle))) there,
-      )
+      simp ones-indices_where (rw (
+        parts,
+        indices_where-split (bit_at xs w) start (middle - start) (stop - middle),
+        length-append,
+        there,
+      ) refl)
 
-  -- the bits of a block are its places
-  block_indices-block : (k x : ℕ) → x ≡ get_or xs k 0 → indices_where (bit_at xs w) (k * w) w
-      ≡ block_indices w (k * w) x
+  -- the first bits of a block are its places
+  pub ones-part : (k x : ℕ) → x ≡ get_or xs k 0 → (j : ℕ) → j ≤ w
+      → ones_between w xs (k * w) (k * w + j) ≡ true_places j x
   unfolding block_indices
-  block_indices-block k x read = indices_where-same (bit_at xs w) (λ i. place (i - k * w) x)
-      (k * w) w (λ i low high.
+  ones-part k x read j inside =
+      let long : k * w + j - k * w ≡ j = omega arith in
+      ones-indices_where (k * w) (k * w + j)
+      ∙ ap (λ n. length (indices_where (bit_at xs w) (k * w) n)) long
+      ∙ ap length (indices_where-same (bit_at xs w) (λ i. place (i - k * w) x) (k * w) j
+      (λ i from below.
       let back : k * w + (i - k * w) ≡ i = omega arith in
-      let inside : i - k * w < w = omega arith in
-      ap (bit_at xs w) (sym back) ∙ bit_at-in_block xs w k (i - k * w) inside
-      ∙ ap (place (i - k * w)) (sym read))
-
-  ones-block : (k x : ℕ) → x ≡ get_or xs k 0 → ones_between w xs (k * w) ((k + 1) * w)
-      ≡ true_places w x
-  ones-block k x read =
-      let wide : (k + 1) * w - k * w ≡ w = omega (arith, product-more w k) in
-      ones-indices_where (k * w) ((k + 1) * w)
-      ∙ ap (λ n. length (indices_where (bit_at xs w) (k * w) n)) wide
-      ∙ ap length (block_indices-block k x read) ∙ length-block_indices w (k * w) x
+      ap (bit_at xs w) (sym back) ∙ bit_at-in_block xs w k (i - k * w) (omega arith)
+      ∙ ap (place (i - k * w)) (sym read)))
+      ∙ length-block_indices j (k * w) x
 
   -- one block more
   pub ones-more : (from k x : ℕ) → from ≤ k → x ≡ get_or xs k 0
@@ -140,7 +90,8 @@ module _ (w : ℕ) (xs : List ℕ) where
   ones-more from k x h read =
       ones-split (from * w) (k * w) ((k + 1) * w) (mul-le from w k w h (omega arith))
       (omega (arith, product-more w k))
-      ∙ ap (λ n. ones_between w xs (from * w) (k * w) + n) (ones-block k x read)
+      ∙ ap (λ n. ones_between w xs (from * w) (k * w) + n)
+      (ap (ones_between w xs (k * w)) (product-more w k) ∙ ones-part k x read w (omega arith))
 
   -- those of two halves, each counted up to where it ends
   pub ones-halves : (from half k : ℕ) {low high : ℕ} → k ≡ from + half
@@ -152,8 +103,6 @@ module _ (w : ℕ) (xs : List ℕ) where
       let to = middle + half in
       omega (
         arith,
-        first,
-        second,
         ap (λ n. ones_between w xs (from * w) (n * w)) last,
         ap (λ n. ones_between w xs (middle * w) ((n + half) * w)) last,
         ones-split (from * w) (middle * w) (to * w) (mul-le from w middle w (omega arith)
@@ -162,22 +111,22 @@ module _ (w : ℕ) (xs : List ℕ) where
 
   -- ---- within a window
 
-  hit_parts : (value : Bool) (start stop i : ℕ) → is_hit w xs value start stop i ≡ true
-      → (start ≤ i) × (i < stop) × (has_value value (bit_at xs w i) ≡ true)
-  hit_parts value start stop i holds =
-      let both = and_parts (nat_le start i && nat_lt i stop) (has_value value (bit_at xs w i))
-      holds in
-      let ends = and_parts (nat_le start i) (nat_lt i stop) both.0 in
-      (leb-true start i ends.0, ltb-true i stop ends.1, both.1)
+  -- the hits of a stretch are the bits of the value in the part of the window in it
+  hits-cut : (value : Bool) (start stop a n low high : ℕ) → high ≡ min stop (a + n)
+      → low ≡ min (max start a) high → indices_where (is_hit w xs value start stop) a n
+      ≡ indices_where (λ i. has_value value (bit_at xs w i)) low (high - low)
+  hits-cut value start stop a n low high last first =
+      let bit = λ (i : ℕ). has_value value (bit_at xs w i) in
+      indices_where-alike (is_hit w xs value start stop) bit a n low (high - low)
+      (λ i from below holds. let hit = between_parts start stop i (bit i) holds in
+      (omega arith, omega arith, hit.2))
+      (λ i from below holds. (
+        omega arith,
+        omega arith,
+        between_from start stop i (omega arith) (omega arith) holds,
+      ))
 
-  hit_from : (value : Bool) (start stop i : ℕ) → start ≤ i → i < stop
-      → has_value value (bit_at xs w i) ≡ true → is_hit w xs value start stop i ≡ true
-  hit_from value start stop i from below holds =
-      and_from (nat_le start i && nat_lt i stop) (has_value value (bit_at xs w i))
-      (and_from (nat_le start i) (nat_lt i stop) (le-leb start i from) (lt-ltb i stop below))
-      holds
-
-  -- the places of one block, masked, are the bits of the part of the window in it
+  -- so are the places of one block, masked
   pub ones-masked : (start stop k low high x y : ℕ) → x ≡ get_or xs k 0
       → HasPlaces w y (λ j. nat_le start (k * w + j) && nat_lt (k * w + j) stop && has_value true
       (place j x))
@@ -185,19 +134,11 @@ module _ (w : ℕ) (xs : List ℕ) where
       ≡ ones_between w xs low high
   ones-masked start stop k low high x y read places first last ordered =
       sym (length-block_indices w (k * w) y) ∙ ap length
-      (block_indices-masked w xs true start stop k x read y places)
-      ∙ ap length (indices_where-alike (is_hit w xs true start stop) (bit_at xs w) (k * w) w low
-      (high - low)
-      (λ i from below holds. let hit = hit_parts true start stop i holds in
-      (omega arith, omega arith, hit.2))
-      (λ i from below holds. (
-        omega arith,
-        omega arith,
-        hit_from true start stop i (omega arith) (omega arith) holds,
-      )))
+      (block_indices-masked w xs true start stop k x read y places
+      ∙ hits-cut true start stop (k * w) w low high last (omega arith))
       ∙ sym (ones-indices_where low high)
 
-  -- the unread blocks, cut to the window
+  -- and the unread blocks
   module _ (value : Bool) (start stop next end low high : ℕ) (ordered : next ≤ end)
       (last : high ≡ min stop (end * w)) (first : low ≡ min (max start (next * w)) high) where
     length-unread : length (unread w xs value start stop next end)
@@ -206,15 +147,7 @@ module _ (w : ℕ) (xs : List ℕ) where
     length-unread =
         let blocks : next * w + (end - next) * w ≡ end * w =
         sym (add-mul next (end - next) w) ∙ ap (λ k. k * w) (omega arith) in
-        ap length (indices_where-alike (is_hit w xs value start stop)
-        (λ i. has_value value (bit_at xs w i)) (next * w) ((end - next) * w) low (high - low)
-        (λ i from below holds. let hit = hit_parts value start stop i holds in
-        (omega arith, omega (arith, blocks), hit.2))
-        (λ i from below holds. (
-          omega arith,
-          omega (arith, blocks),
-          hit_from value start stop i (omega arith) (omega arith) holds,
-        )))
+        ap length (hits-cut value start stop (next * w) ((end - next) * w) low high (omega arith) first)
 
     pub length-unread-set : value ≡ true → length (unread w xs value start stop next end)
         ≡ ones_between w xs low high
@@ -233,29 +166,12 @@ module _ (w : ℕ) (xs : List ℕ) where
           ones-indices_where low high,
         )
 
--- ---- ends of blocks, by products that are cut off at the greatest number; v is the width as the code read it
-
-pub cut-last : (stop k w v product high : ℕ) → stop < 2 ^ 64 → v ≡ w → product
-    ≡ min (k * v) (2 ^ 64 - 1) → high ≡ min stop product → high ≡ min stop (k * w)
-cut-last stop k w v product high fits width is cut = omega (arith, ap (λ u. k * u) width)
-
-pub cut-first : (start k w v product later low high : ℕ) → high < 2 ^ 64 → v ≡ w → product
-    ≡ min (k * v) (2 ^ 64 - 1) → later ≡ max start product → low ≡ min later high
-    → low ≡ min (max start (k * w)) high
-cut-first start k w v product later low high fits width is more cut =
-    omega (arith, ap (λ u. k * u) width)
-
 -- ---- a window over the blocks that it meets
-
-IsWindow-self : (start stop : ℕ) → start ≤ stop
-    → IsWindow (Included start) (Excluded stop) stop start stop
-IsWindow-self start stop ordered = IsWindow-cut (Included start) (Excluded stop) stop start stop
-    (omega arith) ordered (λ i. sym (and_self (nat_lt i stop))) (λ i below. refl)
 
 module _ (w : ℕ) (wide : 0 < w) {start stop first end : ℕ}
     (spans : AreBlocksOf w start stop first end) (ordered : start ≤ stop) where
   pub blocks_met-own : end - first ≡ blocks_met (Included start) (Excluded stop) stop w
-  blocks_met-own = blocks_met-blocks w wide (IsWindow-self start stop ordered) spans
+  blocks_met-own = blocks_met-blocks w wide (IsRangeOf-own start stop stop ordered (omega arith)) spans
 
   module _ (xs : List ℕ) where
     pub ones-nothing : first ≡ end → ones_between w xs start stop ≡ 0
@@ -263,7 +179,7 @@ module _ (w : ℕ) (wide : 0 < w) {start stop first end : ℕ}
       | inl some ↦
           let at = spans.some some in
           let empty : start / w * w ≡ need stop w * w = ap (λ k. k * w) (sym at.0 ∙ none ∙ at.1) in
-          absurd (omega (arith, need_enough w wide stop, div-mul-le_self start w, empty))
+          absurd (omega (arith, need_enough w wide stop, div-mul-le_self start w))
       | inr past ↦ ones-none w xs start stop past
     ]
 
@@ -283,12 +199,12 @@ module _ (w : ℕ) (wide : 0 < w) {start stop first end : ℕ}
             let product = ap (λ k. k * w) at.0 in
             let room = ap (λ k. k * w) at.1 in
             record {
-              some = omega (arith, spans.order, apart);
-              from = omega (arith, parts, product);
-              within = omega (arith, parts, product, mod-lt start wide);
-              enough = omega (arith, need_enough w wide stop, room);
+              some = omega arith;
+              from = omega arith;
+              within = omega (arith, mod-lt start wide);
+              enough = omega (arith, need_enough w wide stop);
             }
-        | inr past ↦ absurd (omega (arith, spans.order, apart, spans.none (omega arith)))
+        | inr past ↦ absurd (omega (arith, spans.none (omega arith)))
       ]
 
       -- the part of the window in block k
@@ -305,7 +221,7 @@ module _ (w : ℕ) (wide : 0 < w) {start stop first end : ℕ}
       pub ones-alone : first ≡ end - 1 → part first ≡ ones_between w xs start stop
       ones-alone alone =
           let whole : end * w ≡ first * w + w =
-          ap (λ k. k * w) (omega (arith, ends.some)) ∙ product-more w first in
+          ap (λ k. k * w) (omega arith) ∙ product-more w first in
           part-is first start stop (omega (arith, ends.from)) (omega (arith, ends.enough, whole))
 
       -- two blocks or more have a part in them at each end, and whole blocks between them
@@ -316,31 +232,17 @@ module _ (w : ℕ) (wide : 0 < w) {start stop first end : ℕ}
           let last = end - 1 in
           let after = product-more w first in
           let whole : end * w ≡ last * w + w =
-          ap (λ k. k * w) (omega (arith, ends.some)) ∙ product-more w last in
-          let between = mul-le (first + 1) w last w (omega (arith, ends.some, more)) (omega arith) in
-          let short = spans.below last (omega (arith, ends.some)) in
+          ap (λ k. k * w) (omega arith) ∙ product-more w last in
+          let between = mul-le (first + 1) w last w (omega arith) (omega arith) in
+          let short = spans.below last (omega arith) in
           let head = part-is first start ((first + 1) * w) (omega (arith, ends.from))
-          (omega (arith, after, between, short)) in
+          (omega arith) in
           let tail = part-is last (last * w) stop (omega (arith, after, between, ends.within))
           (omega (arith, ends.enough, whole)) in
-          let rest = ones-split w xs ((first + 1) * w) (last * w) stop between (omega (arith, short)) in
+          let rest = ones-split w xs ((first + 1) * w) (last * w) stop between (omega arith) in
           let all = ones-split w xs start ((first + 1) * w) stop (omega (arith, after, ends.within))
-          (omega (arith, between, short)) in
-          omega (arith, head, tail, rest, all)
-
--- what both ends and the unread blocks between them have left
-pub length-left : (w front_at front back_at back : ℕ) (between : List ℕ)
-    → true_places w front + length between + true_places w back
-    ≡ length (block_indices w front_at front ++ (between ++ block_indices w back_at back))
-length-left w front_at front back_at back between =
-    omega (
-      arith,
-      length-append (block_indices w front_at front)
-          (between ++ block_indices w back_at back),
-      length-append between (block_indices w back_at back),
-      length-block_indices w front_at front,
-      length-block_indices w back_at back,
-    )
+          (omega arith) in
+          omega arith
 
 -- ---- blocks as they are read
 
@@ -356,4 +258,4 @@ ones-next w number items {from} {k} {x} next to read so_far here low is_next hig
     let same = ap (λ n. ones_between w xs (from * w) (n * w)) is_next in
     let few = ones-le w xs (from * w) (next * w) in
     let within = mul-le next w to w high (omega arith) in
-    (omega (arith, so_far, here, all, same), omega (arith, so_far, here, all, same, few, within))
+    (omega arith, omega (arith, within))

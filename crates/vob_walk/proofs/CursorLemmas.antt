@@ -11,15 +11,16 @@ use Rattle.std.proofs.lemmas.Option.{MatchOption-at_none}
 use Rattle.std.proofs.lemmas.List.{nil_from_length, length-append}
 use Rattle.vob_block.specs.Packing.{need, unpacking}
 use Rattle.vob_block.proofs.NeedLemmas.{mul-lt_from_need}
-use Rattle.vob_walk.specs.Matches.{matches, blocks_met}
-use Rattle.vob_walk.specs.Cursor.{unread, UnreadBlocks, has_index, AreBlocksOf}
-use Rattle.vob_walk.proofs.WindowLemmas.{IsWindow, matches-hits, matches-nothing, blocks_met-window, blocks_met-nothing, unread-nothing, div-le-need}
-use Rattle.vob_walk.specs.Walk.{Walk, IsPulled, given_count}
+use Rattle.vob_walk.specs.Matches.{matches, blocks_met, IsRangeOf}
+use Rattle.vob_walk.specs.Cursor.{unread, UnreadBlocks, has_index, walk_of, AreBlocksOf}
+use Rattle.vob_walk.proofs.WindowLemmas.{matches-hits, matches-nothing, blocks_met-window, blocks_met-nothing, div-le-need}
+use Rattle.vob_walk.proofs.ScanLemmas.{unread-none}
+use Rattle.vob_walk.specs.Walk.{Walk, IsWhole, IsPulled, given_count}
 
-nil_left : (xs ys : List ℕ) → xs ++ ys ≡ [] → xs ≡ []
+pub nil_left : (xs ys : List ℕ) → xs ++ ys ≡ [] → xs ≡ []
 nil_left xs ys none = nil_from_length xs (omega (arith, length-append xs ys, ap length none))
 
-nil_right : (xs ys : List ℕ) → xs ++ ys ≡ [] → ys ≡ []
+pub nil_right : (xs ys : List ℕ) → xs ++ ys ≡ [] → ys ≡ []
 nil_right xs ys none = nil_from_length ys (omega (arith, length-append xs ys, ap length none))
 
 pub nil_both : (xs ys zs : List ℕ) → zs ≡ [] → xs ++ ys ≡ [] → xs ++ (ys ++ zs) ≡ []
@@ -35,16 +36,7 @@ last-steps None full bits front between old same empty taken =
     let none = empty taken.0 in
     (none, ap (λ xs. front ++ (between ++ xs)) (taken.1 ∙ sym taken.0) ∙ same ∙ none)
 last-steps (Some i) full bits front between old same empty taken =
-    sym same ∙ ap (λ xs. front ++ (between ++ xs)) taken
-    ∙ ap (λ xs. front ++ xs) (sym (append_assoc between bits (i ∷ [])))
-    ∙ sym (append_assoc front (between ++ bits) (i ∷ []))
-
-has_index-le : (xs : List ℕ) → has_index xs ≤ 1
-has_index-le xs = elim (cases_lt 0 (length xs)) [ inl some ↦ omega arith | inr none ↦ omega arith ]
-
-has_index-falls : (xs ys : List ℕ) → length xs ≤ length ys → has_index xs ≤ has_index ys
-has_index-falls xs ys less = elim (cases_lt 0 (length xs))
-    [ inl some ↦ omega arith | inr none ↦ omega arith ]
+    rw (← same, taken) (simp append_assoc)
 
 -- ---- a pull at either end: the indices in hand there and at the other end, before it and after it
 
@@ -61,54 +53,23 @@ module _ (before after : UnreadBlocks) (taken left other other_after : List ℕ)
   reads-pulled None walk walk_after r l k ra la ka empty =
       let none = empty refl in
       record {
-        bound = omega (
-          arith,
-          r,
-          l,
-          k,
-          ra,
-          la,
-          ka,
-          reads,
-          falls,
-          ap has_index none.0,
-          ap has_index none.1,
-        );
-        rises = omega (arith, r, ra, reads, falls);
-        credit = omega (arith, r, k, ra, ka, reads);
+        bound = omega (arith, ap has_index none.0, ap has_index none.1);
+        rises = omega arith;
+        credit = omega arith;
       }
   reads-pulled (Some i) walk walk_after r l k ra la ka empty = record {
-    bound = omega (
-      arith,
-      r,
-      l,
-      k,
-      ra,
-      la,
-      ka,
-      reads,
-      falls,
-      has_index-le left,
-      has_index-falls other_after other fewer,
-    );
-    rises = omega (arith, r, ra, reads, falls);
-    credit = omega (arith, r, k, ra, ka, reads);
+    bound = omega arith;
+    rises = omega arith;
+    credit = omega arith;
   }
 
 -- a pull that gave nothing left nothing at either end
-pub first-none : (answer : Option ℕ) (filled left between other : List ℕ) (Q : ℕ → Type 0)
-    → answer ≡ None → (filled ≡ [] → between ++ other ≡ [])
-    → MatchOption answer ((filled ≡ []) × (left ≡ [])) Q → (left ≡ []) × (other ≡ [])
-first-none answer filled left between other Q none empty taken =
+pub none-left : {answer : Option ℕ} {filled left other : List ℕ} (Q : ℕ → Type 0) → answer ≡ None
+    → (filled ≡ [] → other ≡ []) → MatchOption answer ((filled ≡ []) × (left ≡ [])) Q
+    → (left ≡ []) × (other ≡ [])
+none-left {filled = filled} {left = left} Q none empty taken =
     let nothing = MatchOption-at_none ((filled ≡ []) × (left ≡ [])) Q none taken in
-    (nothing.1, nil_right between other (empty nothing.0))
-
-pub last-none : (answer : Option ℕ) (filled left between other : List ℕ) (Q : ℕ → Type 0) → answer
-    ≡ None → (filled ≡ [] → other ++ between ≡ [])
-    → MatchOption answer ((filled ≡ []) × (left ≡ [])) Q → (left ≡ []) × (other ≡ [])
-last-none answer filled left between other Q none empty taken =
-    let nothing = MatchOption-at_none ((filled ≡ []) × (left ≡ [])) Q none taken in
-    (nothing.1, nil_left other between (empty nothing.0))
+    (nothing.1, empty nothing.0)
 
 -- ---- the walk over a window, before the first pull
 
@@ -116,27 +77,25 @@ module _ (w : ℕ) (wide : 0 < w) where
   pub AreBlocksOf-window : (start stop next end : ℕ) → start < stop → next ≡ start / w → end
       ≡ need stop w → AreBlocksOf w start stop next end
   AreBlocksOf-window start stop next end some first last = record {
-    order = omega (arith, first, last, div-le-need w wide start stop (omega arith));
-    count = omega (arith, last);
-    below = λ k h. mul-lt_from_need w wide stop k (omega (arith, last));
+    order = omega (arith, div-le-need w wide start stop (omega arith));
+    count = omega arith;
+    below = λ k h. mul-lt_from_need w wide stop k (omega arith);
     some = λ _. (first, last);
     none = λ empty. absurd (omega arith);
   }
 
   module _ {low high : Bound ℕ} {n start stop next end : ℕ}
-      (window : IsWindow low high n start stop) (spans : AreBlocksOf w start stop next end) where
+      (window : IsRangeOf low high n start stop) (spans : AreBlocksOf w start stop next end) where
     -- all that matches is in unread blocks
     pub unread-window : (xs : List ℕ) (value : Bool) → unread w xs value start stop next end
         ≡ matches (unpacking n xs w) value low high
     unread-window xs value = elim (cases_lt start stop) [
       | inl some ↦
           let ends = spans.some some in
-          ap (λ k. unread w xs value start stop k end) ends.0
-          ∙ ap (λ k. unread w xs value start stop (start / w) k) ends.1
-          ∙ sym (matches-hits w wide window xs value)
+          rw (ends.0, ends.1) (sym (matches-hits w wide window xs value))
       | inr none ↦
-          let empty : start ≡ stop = let ordered = window.ordered in omega arith in
-          unread-nothing w xs value start stop next end (omega (arith, spans.none empty))
+          let empty : start ≡ stop = let ordered = window.order in omega arith in
+          unread-none w xs value start stop next end (omega (arith, spans.none empty))
           ∙ sym (matches-nothing w wide window xs value empty)
     ]
 
@@ -146,15 +105,25 @@ module _ (w : ℕ) (wide : 0 < w) where
       | inl some ↦ let ends = spans.some some in omega
           (arith, ends.0, ends.1, blocks_met-window w wide window some)
       | inr none ↦
-          let empty : start ≡ stop = let ordered = window.ordered in omega arith in
+          let empty : start ≡ stop = let ordered = window.order in omega arith in
           omega (arith, spans.none empty, blocks_met-nothing w wide window empty)
     ]
 
 -- where nothing is in hand at either end, all is in the unread blocks
-pub rest-fresh : (front back indices : List ℕ) → front ≡ [] → back ≡ []
-    → front ++ (indices ++ back) ≡ indices
-rest-fresh front back indices none no_other =
-    ap (λ xs. xs ++ (indices ++ back)) none ∙ ap (λ xs. indices ++ xs) no_other ∙ append-nil indices
+module _ {front back : List ℕ} (none : front ≡ []) (no_other : back ≡ []) where
+  pub rest-fresh : (indices : List ℕ) → front ++ (indices ++ back) ≡ indices
+  rest-fresh indices = rw (none, no_other, append-nil) refl
+
+  pub IsWhole-fresh : (unread : UnreadBlocks) {bits : List Bool} {value : Bool} {low high : Bound ℕ}
+      {n w : ℕ} → length bits ≡ n → unread.rest ≡ matches bits value low high
+      → unread.left ≡ blocks_met low high n w
+      → IsWhole (walk_of front unread back) bits value low high w
+  IsWhole-fresh unread {bits} {value} {low} {high} {n} {w} long rest left =
+      let met = ap (λ m. blocks_met low high m w) long in record {
+        rest = rest-fresh unread.rest ∙ rest;
+        left = omega (arith, ap has_index none, ap has_index no_other);
+        credit = omega arith;
+      }
 
 -- what gives the last of a list has less left
 pub goes-last : (answer : Option ℕ) (walk after : Walk)

@@ -16,19 +16,19 @@ block_indices-run : (w at x gone : ℕ) → gone ≤ w → ((j : ℕ) → j < go
     → block_indices w at x ≡ range_with_len (at + gone) (w - gone)
 unfolding block_indices
 block_indices-run w at x gone inside none all =
-    let whole : w ≡ gone + (w - gone) = omega (arith, inside) in
+    let whole : w ≡ gone + (w - gone) = omega arith in
     ap (λ n. filter (λ i. place (i - at) x) (range_with_len at n)) whole
     ∙ indices_where-skip (λ i. place (i - at) x) at gone (w - gone)
     (λ i low high. none (i - at) (omega arith))
     ∙ indices_where-all (λ i. place (i - at) x) (at + gone) (w - gone)
-    (λ i low high. all (i - at) (omega arith) (omega (arith, inside)))
+    (λ i low high. all (i - at) (omega arith) (omega arith))
 
 -- all of them
 pub range-full : (w at x : ℕ) → x ≡ 2 ^ w - 1 → range_with_len at w ≡ block_indices w at x
 range-full w at x full =
     let first : at + 0 ≡ at = omega arith in
     let whole : w - 0 ≡ w = omega arith in
-    sym (block_indices-run w at x 0 (omega arith) (λ j below. absurd (omega (arith, below)))
+    sym (block_indices-run w at x 0 (omega arith) (λ j below. absurd (omega arith))
     (λ j from below. ap (place j) full ∙ place-ones w j below)
     ∙ ap (range_with_len (at + 0)) whole ∙ ap (λ i. range_with_len i w) first)
 
@@ -46,13 +46,13 @@ module _ {w first run : ℕ} {places : List ℕ} (h : IsFrontBits w places first
       → block_indices w (first - (u - run)) m ≡ places ++ range_with_len first run
   run-indices u ones m e full up =
       let gone = u - run in
-      let start : first - gone + gone ≡ first = omega (arith, e, h.begins left, h.within) in
-      let rest : w - gone ≡ run = omega (arith, e, h.within) in
-      block_indices-run w (first - gone) m gone (omega (arith, e))
-      (λ j below. up.each j (omega (arith, e, below))
+      let start : first - gone + gone ≡ first = omega (arith, h.begins left) in
+      let rest : w - gone ≡ run = omega arith in
+      block_indices-run w (first - gone) m gone (omega arith)
+      (λ j below. up.each j (omega arith)
       ∙ ap (λ b. b && place (j - gone) ones) (lt-leb gone j below))
       (λ j from below. up.each j below
       ∙ and_from (leb gone j) (place (j - gone) ones) (le-leb gone j from)
-      (ap (place (j - gone)) full ∙ place-ones w (j - gone) (omega (arith, below))))
+      (ap (place (j - gone)) full ∙ place-ones w (j - gone) (omega arith)))
       ∙ ap (λ i. range_with_len i (w - gone)) start ∙ ap (range_with_len first) rest
       ∙ sym run-alone

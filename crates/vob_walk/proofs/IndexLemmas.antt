@@ -7,10 +7,10 @@ use Rattle.std.specs.declared.ops.Bound.{Bound}
 use Rattle.std.specs.declared.ops.Bound.TheVariants.{Included, Excluded, Unbounded}
 use Rattle.std.proofs.Common.{◌≡◌, ◌≢◌, reverse, subst, ◌↔◌, ℕ, suc, ◌+◌, ◌-◌, ◌<◌, ◌≤◌, nat_eq, nat_le, nat_lt, eq-eqb, eqb-true, leb-true, ltb-true, Bool, true}
 use Rattle.std.proofs.Common.{zero, false, not, ◌&&◌, ◌||◌, cond, IsTrue, List, [], ◌∷◌, ◌++◌, length, get_or}
-use Rattle.std.proofs.Common.{All, count_by, Contains, refl, sym, ap, ◌∙◌, arith, inl, inr}
+use Rattle.std.proofs.Common.{count_by, Contains, refl, sym, ap, ◌∙◌, arith, inl, inr}
 use Rattle.std.proofs.lemmas.Iterator.{YieldsList}
 use Rattle.std.proofs.lemmas.Iterator.Consumers.{YieldsList-from_shown}
-use Rattle.std.proofs.lemmas.Bool.{cases_eq, false≢true}
+use Rattle.std.proofs.lemmas.Bool.{cases_eq, and_parts, or_left, or_right, false_from_ne_true, false≢true}
 use Rattle.std.proofs.lemmas.List.{length-reverse, reverse-append}
 use Rattle.std.proofs.lemmas.List.Elements.{All-head, All-tail, All-pop, All-contains, Contains-get_or}
 use Rattle.std.proofs.lemmas.List.FromFn.{get_or-range_with_len, length-range_with_len}
@@ -20,6 +20,7 @@ use Rattle.vob_block.specs.Packing.{item}
 use Rattle.vob_walk.specs.Matches.{from_start, up_to_end, within, has_value, matches}
 use Rattle.vob_walk.specs.Left.{IsMatch, AreMatches, is_left}
 use Rattle.vob_walk.specs.Walk.{Walk, IsFresh, GivesFirst, GivesLast}
+use Rattle.vob_walk.proofs.WhereLemmas.{length-indices_within, between_parts}
 use Rattle.vob_walk.proofs.MatchesLemmas.{matches-only, matches-has}
 
 pub value_is : (value bit : Bool) → IsTrue (has_value value bit) → bit ≡ value
@@ -38,9 +39,9 @@ first_least : (xs : List ℕ) → AllPairs (λ i j. i < j) xs → (i : ℕ) (res
 first_least xs rise i rest e j h =
     let first : get_or xs 0 j ≡ i = ap (λ ys. get_or ys 0 j) e in
     elim (cases_eq h.0 0) [
-      | inl here ↦ omega (arith, first, ap (λ k. get_or xs k j) here, h.2)
+      | inl here ↦ omega (arith, ap (λ k. get_or xs k j) here)
       | inr later ↦
-          let less = rise 0 h.0 j (omega (arith, later)) h.1 in omega (arith, less, first, h.2)
+          let less = rise 0 h.0 j (omega arith) h.1 in omega arith
     ]
 
 -- ---- how many bits have a value
@@ -72,7 +73,6 @@ rising a n i j d less inside =
     let long = length-range_with_len a n in
     omega (
       arith,
-      less,
       get_or-range_with_len a n i d (omega (arith, less, inside, long)),
       get_or-range_with_len a n j d (omega (arith, inside, long)),
     )
@@ -102,14 +102,15 @@ module _ (bits : List Bool) (value : Bool) (low high : Bound ℕ) where
       × ((j : ℕ) → j < i → IsTrue (within low high j) → item bits j ≢ value)
   matches-first i rest e =
       let all = matches bits value low high in
-      let there = (matches-exactly i).0 (0, omega (arith, ap length e), ap (λ xs. get_or xs 0 i) e) in (
+      let there =
+      (matches-exactly i).0 (0, omega (arith, ap length e), ap (λ xs. get_or xs 0 i) e) in (
         there.0,
         there.1,
         there.2,
-        (λ j less in_range equal.
+        λ j less in_range equal.
             let least = first_least all matches-rise i rest e j
-            ((matches-exactly j).1 (omega (arith, less, there.0), in_range, equal)) in
-            absurd (omega (arith, least, less))),
+            ((matches-exactly j).1 (omega arith, in_range, equal)) in
+            absurd (omega arith),
       )
 
   -- where none is given, no bit within the range has the value
@@ -117,7 +118,7 @@ module _ (bits : List Bool) (value : Bool) (low high : Bound ℕ) where
       → IsTrue (within low high i) → item bits i ≢ value
   matches-none e i inside in_range equal =
       let there = (matches-exactly i).1 (inside, in_range, equal) in
-      omega (arith, there.1, ap length e)
+      omega (arith, ap length e)
 
 -- the first index of a walk of which nothing was given yet
 pub IsFresh-first : {walk after : Walk} {bits : List Bool} {value : Bool} {low high : Bound ℕ}
@@ -185,26 +186,19 @@ pub left_none : (j : ℕ) → is_left [] j ≡ false
 unfolding is_left
 left_none j = refl
 
-other_or : (b c : Bool) → b ≢ true → (b || c) ≡ c
-other_or true c other = absurd (other refl)
-other_or false c other = refl
-
-or_true : (b : Bool) → (b || true) ≡ true
-or_true true = refl
-or_true false = refl
-
 -- the first is no longer left behind it
 pub left_other : (i : ℕ) (rest : List ℕ) (j : ℕ) → j ≢ i → is_left (i ∷ rest) j ≡ is_left rest j
 unfolding is_left
 left_other i rest j other =
-    other_or (nat_eq i j) (is_left rest j) (λ same. other (sym (eqb-true i j same)))
+    ap (λ b. b || is_left rest j)
+    (false_from_ne_true (nat_eq i j) (λ same. other (sym (eqb-true i j same))))
 
 left_at : (xs : List ℕ) (k j : ℕ) → k < length xs → get_or xs k j ≡ j → is_left xs j ≡ true
 unfolding is_left
 left_at [] k j inside here = absurd (omega arith)
-left_at (x ∷ xs) zero j inside here = ap (λ b. b || is_left xs j) (eq-eqb x j here)
+left_at (x ∷ xs) zero j inside here = or_left (nat_eq x j) (is_left xs j) (eq-eqb x j here)
 left_at (x ∷ xs) (suc k) j inside here =
-    ap (λ b. nat_eq x j || b) (left_at xs k j (omega (arith, inside)) here) ∙ or_true (nat_eq x j)
+    or_right (nat_eq x j) (is_left xs j) (left_at xs k j (omega arith) here)
 
 -- each index that matches is left of a walk of which nothing was given yet
 pub left_all : (bits : List Bool) (value : Bool) (low high : Bound ℕ) (j : ℕ) → j < length bits
@@ -228,49 +222,27 @@ pub ruleset loop_steps = (
 -- ---- indices of a range
 
 -- an index of a range with an end is below it, and one of a range with a start is at or above it
-and_first : (a b : Bool) → (a && b) ≡ true → a ≡ true
-and_first true b h = refl
-and_first false b h = h
-
-and_second : (a b : Bool) → (a && b) ≡ true → b ≡ true
-and_second true b h = h
-and_second false b h = absurd (false≢true h)
-
 pub first_below : (bits : List Bool) (value : Bool) (low : Bound ℕ) (stop i : ℕ) (rest : List ℕ)
     → AreMatches bits value low (Excluded stop) (i ∷ rest) → i < stop
 first_below bits value low stop i rest all =
-    ltb-true i stop (and_second (from_start low i) (nat_lt i stop)
-    (first_within bits value low (Excluded stop) i rest all))
+    ltb-true i stop (and_parts (from_start low i) (nat_lt i stop)
+    (first_within bits value low (Excluded stop) i rest all)).1
 
 pub first_above : (bits : List Bool) (value : Bool) (start : ℕ) (high : Bound ℕ) (i : ℕ)
     (rest : List ℕ) → AreMatches bits value (Included start) high (i ∷ rest) → start ≤ i
 first_above bits value start high i rest all =
-    leb-true start i (and_first (nat_le start i) (up_to_end high i)
-    (first_within bits value (Included start) high i rest all))
+    leb-true start i (and_parts (nat_le start i) (up_to_end high i)
+    (first_within bits value (Included start) high i rest all)).0
 
--- no more indices rise within a range than it has
-rising_few : (start stop : ℕ) (xs : List ℕ) → AllPairs (λ i j. i < j) xs
-    → All (λ i. (start ≤ i) × (i < stop)) xs → length xs ≤ stop - start
-rising_few start stop [] rise within = omega arith
-rising_few start stop (i ∷ xs) rise within =
-    let here = within 0 i (omega arith) in
-    let rest = rising_few (i + 1) stop xs
-    (λ j k d less inside. rise (suc j) (suc k) d (omega (arith, less)) (omega (arith, inside)))
-    (λ k d inside.
-    let less = rise 0 (suc k) d (omega arith) (omega (arith, inside)) in
-    (omega (arith, less), (within (suc k) d (omega (arith, inside))).1)) in
-    omega (arith, here.0, here.1, rest)
-
+-- no more match within a range than it has indices
 pub matches_at_most : (bits : List Bool) (value : Bool) (start stop : ℕ)
     → length (matches bits value (Included start) (Excluded stop)) ≤ stop - start
-matches_at_most bits value start stop =
-    rising_few start stop (matches bits value (Included start) (Excluded stop))
-    (matches-rise bits value (Included start) (Excluded stop)) (λ k d inside.
-    let there = (matches-exactly bits value (Included start) (Excluded stop) _).0
-    (Contains-get_or _ k d inside) in (
-      leb-true start _ (and_first (nat_le start _) (nat_lt _ stop) there.1),
-      ltb-true _ stop (and_second (nat_le start _) (nat_lt _ stop) there.1),
-    ))
+unfolding matches
+matches_at_most bits value start stop = length-indices_within
+    (λ i. within (Included start) (Excluded stop) i && has_value value (item bits i)) 0
+    (length bits) start (stop - start) (λ i from below holds.
+    let own = between_parts start stop i (has_value value (item bits i)) holds in
+    (omega arith, omega arith))
 
 -- ---- the same under names that `using` takes
 

@@ -10,6 +10,21 @@ use Rattle.vob_block.specs.Packing.{item}
 use Rattle.vob_walk.specs.Matches.{within, has_value, matches}
 use Rattle.vob_walk.proofs.WhereLemmas.{indices_where-has, indices_where-only, length-indices_where-le}
 
+one_more : (a b : Bool) (j : ℕ) (us vs ws : List ℕ) → length us + length vs ≡ length ws
+    → length (cond (a && b) (j ∷ us) us) + length (cond (a && not b) (j ∷ vs) vs)
+    ≡ length (cond a (j ∷ ws) ws)
+one_more true true j us vs ws e = omega arith
+one_more true false j us vs ws e = omega arith
+one_more false b j us vs ws e = e
+
+-- a test of what another holds of, and its contrary
+filtered : (p q : ℕ → Bool) (is : List ℕ)
+    → length (filter (λ j. p j && q j) is) + length (filter (λ j. p j && not (q j)) is)
+    ≡ length (filter p is)
+filtered p q [] = refl
+filtered p q (j ∷ is) = one_more (p j) (q j) j (filter (λ j. p j && q j) is)
+    (filter (λ j. p j && not (q j)) is) (filter p is) (filtered p q is)
+
 module _ (bits : List Bool) (low high : Bound ℕ) where
   -- what matches is an index within the range whose bit has the value
   pub matches-only : (value : Bool) (i : ℕ) → Contains (matches bits value low high) i
@@ -19,7 +34,7 @@ module _ (bits : List Bool) (low high : Bound ℕ) where
       let there = indices_where-only (λ j. within low high j && has_value value (item bits j)) 0
       (length bits) i h in
       let both = and_parts (within low high i) (has_value value (item bits i)) there.2 in
-      (omega (arith, there.1), both.0, both.1)
+      (omega arith, both.0, both.1)
 
   pub matches-has : (value : Bool) (i : ℕ) → i < length bits → IsTrue (within low high i)
       → IsTrue (has_value value (item bits i)) → Contains (matches bits value low high) i
@@ -59,25 +74,9 @@ module _ (bits : List Bool) (low high : Bound ℕ) where
     ],
   )
 
-  one_more : (a b : Bool) (j : ℕ) (us vs ws : List ℕ) → length us + length vs ≡ length ws
-      → length (cond (a && b) (j ∷ us) us) + length (cond (a && not b) (j ∷ vs) vs)
-      ≡ length (cond a (j ∷ ws) ws)
-  one_more true true j us vs ws e = omega arith
-  one_more true false j us vs ws e = omega arith
-  one_more false b j us vs ws e = e
-
-  filtered : (is : List ℕ) → length (filter (λ j. within low high j && item bits j) is) + length
-      (filter (λ j. within low high j && not (item bits j)) is)
-      ≡ length (filter (within low high) is)
-  filtered [] = refl
-  filtered (j ∷ is) = one_more (within low high j) (item bits j) j
-      (filter (λ j. within low high j && item bits j) is)
-      (filter (λ j. within low high j && not (item bits j)) is) (filter (within low high) is)
-      (filtered is)
-
   -- so both are as many as the indices within the range
   pub length-matches_both : length (matches bits true low high) + length
       (matches bits false low high) ≡ count_by (within low high) (range_with_len 0 (length bits))
   unfolding matches
-  length-matches_both = filtered (range_with_len 0 (length bits))
+  length-matches_both = filtered (within low high) (item bits) (range_with_len 0 (length bits))
       ∙ length-filter (within low high) (range_with_len 0 (length bits))

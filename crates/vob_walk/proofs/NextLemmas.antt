@@ -4,18 +4,19 @@ use Rattle.std.proofs.Common.{◌≡◌, ◌≢◌, ℕ, ◌+◌, ◌-◌, ◌*�
 use Rattle.std.proofs.Common.{false, ◌&&◌, nat_lt, leb, cond, List, map, get_or, Some, None, refl}
 use Rattle.std.proofs.Common.{sym, ap, ◌∙◌, arith, inl, inr, mod-lt, div-add-mod'}
 use Rattle.std.proofs.lemmas.Bool.{cases_lt, and_from, and_parts, le-leb, leb-true, lt-ltb, ltb-true, false≢true}
-use Rattle.std.proofs.lemmas.Nat.{div-mul-add, div_below, le-div, mul-le, pow_pos}
+use Rattle.std.proofs.lemmas.Nat.{div-mul-add, div_below, mul-le, pow_pos}
 use Rattle.vob_block.specs.Places.{place, HasPlaces, HasZerosLow, HasZerosHigh}
 use Rattle.vob_block.specs.Packing.{need, bit_at}
 use Rattle.vob_block.specs.Reading.{Reading}
 use Rattle.vob_block.proofs.NeedLemmas.{need_enough, need_least, lt-need, div-lt-need, mul-lt_from_need}
-use Rattle.vob_block.proofs.PackingLemmas.{bit_at-in_block, bit_at-is_place}
+use Rattle.vob_block.proofs.PackingLemmas.{bit_at-in_block}
 use Rattle.vob_block.proofs.PlaceLemmas.{place-zero, place-ones, same_from_places}
+use Rattle.vob_walk.specs.declared.walk.End.TheVariants.{Front, Back}
 use Rattle.vob_walk.specs.Matches.{has_value}
 use Rattle.vob_walk.specs.Next.{HasNoBit, IsFirstPlace, IsLastPlace, FindsUp, FindsDown}
-use Rattle.vob_walk.specs.Skip.{AreSkipped, ScansUp, ScansDown}
+use Rattle.vob_walk.specs.Skip.{AreSkipped, Scans}
 use Rattle.vob_walk.proofs.IndexLemmas.{value_is, has_value-same}
-use Rattle.vob_walk.proofs.ScanLemmas.{HasPlaces-from_part, without_value, product-more}
+use Rattle.vob_walk.proofs.ScanLemmas.{HasPlaces-from_part, without_value, bit_at-skipped, product-more}
 
 pub beq-true : (a b : Bool) → beq a b ≡ true → a ≡ b
 beq-true true true h = refl
@@ -62,7 +63,7 @@ module _ (w n x v ones mask h : ℕ) (value : Bool) (all : ones ≡ 2 ^ w - 1)
     within = zeros.bound;
     there = λ inside. (high-with j inside (zeros.first inside)).1;
     between = λ i from below.
-        high-without i from (omega (arith, below, zeros.bound)) (zeros.zeros i below);
+        high-without i from (omega arith) (zeros.zeros i below);
   }
 
 -- and h those below place n
@@ -135,7 +136,7 @@ module _ (w x skip : ℕ) (value : Bool) (within : x < 2 ^ w)
     | inr past ↦ absurd (some_place (λ i inside. first.between i (omega arith) (omega arith)))
   ]
 
-  pub last-some : (n j : ℕ) → n ≡ w → IsLastPlace x value n j → 0 < j
+  last-some : (n j : ℕ) → n ≡ w → IsLastPlace x value n j → 0 < j
   last-some n j whole last = elim (cases_lt 0 j) [
     | inl some ↦ some
     | inr none ↦ absurd (some_place (λ i inside. last.between i (omega arith) (omega arith)))
@@ -159,7 +160,7 @@ module _ (w : ℕ) (wide : 0 < w) (n : ℕ) where
   )
 
 module _ (w : ℕ) (wide : 0 < w) (xs : List ℕ) (value : Bool) where
-  pub none_joined : (a m b : ℕ) → HasNoBit w xs value a m → HasNoBit w xs value m b
+  none_joined : (a m b : ℕ) → HasNoBit w xs value a m → HasNoBit w xs value m b
       → HasNoBit w xs value a b
   none_joined a m b low high i from below = elim (cases_lt i m) [
     | inl h ↦ low i from h
@@ -177,12 +178,11 @@ module _ (w : ℕ) (wide : 0 < w) (xs : List ℕ) (value : Bool) where
         none (i - k * w) (omega arith) (omega arith) (sym (bit-place (i - k * w) (omega arith))
         ∙ ap (bit_at xs w) back ∙ same)
 
-  none_skipped : (skip a b : ℕ) → skip ≡ cond value 0 (2 ^ w - 1) → AreSkipped skip xs a b
+  none_skipped : (skip a b : ℕ) → skip ≡ cond value 0 (2 ^ w - 1)
+      → AreSkipped skip (λ q. get_or xs q 0) a b
       → HasNoBit w xs value (a * w) (b * w)
   none_skipped skip a b is all i from below same =
-      let here : get_or xs (i / w) 0 ≡ skip =
-      all (i / w) (le-div a i w wide from) (div_below i w b wide below) in
-      let there = sym (bit_at-is_place xs w i ∙ ap (place (i % w)) here) ∙ same in
+      let there = sym (bit_at-skipped w wide xs skip a b all i from below) ∙ same in
       false≢true (sym (without_value w skip (i % w) value is (mod-lt i wide))
       ∙ has_value-same value (place (i % w) skip) there)
 
@@ -213,12 +213,11 @@ module _ {X : Type 0} (w : ℕ) (wide : 0 < w) (number : X → ℕ) (value : Boo
           reads = elim (cases_lt i stop) [
             | inl below ↦
                 let here : i ≡ k * w + j = omega arith in
-                omega (arith, reads, ap (λ n. n / w) here, at, lt-need w wide stop k begins)
+                omega (arith, ap (λ n. n / w) here, lt-need w wide stop k begins)
             | inr past ↦
                 let here : i ≡ stop = omega arith in
                 omega (
                   arith,
-                  reads,
                   ap (λ n. n / w) here,
                   lt-need w wide stop k begins,
                   need_least w wide stop (k + 1) (omega (arith, product-more w k)),
@@ -233,30 +232,28 @@ module _ {X : Type 0} (w : ℕ) (wide : 0 < w) (number : X → ℕ) (value : Boo
         (first : IsFirstPlace w (number block) value n j) where
       passed : HasNoBit w xs value from (from / w * w + j)
       passed =
-          let here : from / w * w + n ≡ from = omega (arith, div-add-mod' from w, at) in λ i low.
+          let here : from / w * w + n ≡ from = omega (arith, div-add-mod' from w) in λ i low.
           none_between w wide xs value (from / w) (number block) read n j first.within
-          first.between i (omega (arith, here, low))
+          first.between i (omega arith)
 
       -- in the block in hand
       pub FindsUp-here : (i : ℕ) → j < w → y.reads ≡ x.reads → y.items ≡ x.items
           → i ≡ min (from / w * w + j) stop → FindsUp w number value x y from stop (i, block)
       FindsUp-here i inside reads items is = FindsUp-block (from / w) j i block
           (omega (arith, div-add-mod' from w)) read inside (first.there inside)
-          (omega (arith, div-add-mod' from w, first.above)) passed (omega (arith, reads)) items is
+          (omega (arith, div-add-mod' from w)) passed (omega arith) items is
 
       module _ (skip : X) (without : number skip ≡ cond value 0 (2 ^ w - 1)) (past : w ≤ j)
           {a b : ℕ} (begin : a ≡ from / w + 1) (end : b ≡ need stop w) where
         passed_block : HasNoBit w xs value from (a * w)
         passed_block i low high = passed i low (omega (
           arith,
-          high,
-          past,
           ap (λ k. k * w) begin,
           product-more w (from / w),
         ))
 
         -- in none
-        pub FindsUp-none : (found : X) → ScansUp number skip x y a b None
+        pub FindsUp-none : (found : X) → Scans Front number skip x y a b None
             → FindsUp w number value x y from stop (stop, found)
         FindsUp-none found scan = record {
           above = omega arith;
@@ -264,23 +261,23 @@ module _ {X : Type 0} (w : ℕ) (wide : 0 < w) (number : X → ℕ) (value : Boo
           there = λ below. absurd (omega arith);
           between = λ i low high. none_joined w wide xs value from (a * w) (b * w) passed_block
               (none_skipped w wide xs value (number skip) a b without scan.found) i low
-              (omega (arith, high, need_enough w wide stop, ap (λ k. k * w) end));
+              (omega (arith, need_enough w wide stop, ap (λ k. k * w) end));
           block = λ below. absurd (omega arith);
-          reads = omega (arith, scan.reads, begin, end, need_most w wide stop);
+          reads = omega (arith, need_most w wide stop, div-lt-need w wide stop from some);
           items = scan.items;
         }
 
         -- in one behind it
-        pub FindsUp-behind : (p : ℕ × X) (m i : ℕ) → ScansUp number skip x y a b (Some p)
+        pub FindsUp-behind : (p : ℕ × X) (m i : ℕ) → Scans Front number skip x y a b (Some p)
             → number p.1 < 2 ^ w → IsFirstPlace w (number p.1) value 0 m
             → i ≡ min (p.0 * w + m) stop → FindsUp w number value x y from stop (i, p.1)
         FindsUp-behind p m i scan within head is =
             let k = p.0 in
-            let read = scan.found.0.block in
+            let read = scan.found.0.same in
             let inside = first-inside w (number p.1) (number skip) value within without
             scan.found.0.other m head in
-            let below : k < need stop w = omega (arith, scan.found.0.below, end) in
-            let rises : from / w + 1 ≤ k = omega (arith, scan.found.0.from, begin) in
+            let below : k < need stop w = omega arith in
+            let rises : from / w + 1 ≤ k = omega arith in
             let whole : k * w + 0 ≡ k * w = omega arith in
             FindsUp-block k m i p.1 (mul-lt_from_need w wide stop k below) read inside
             (head.there inside)
@@ -289,8 +286,8 @@ module _ {X : Type 0} (w : ℕ) (wide : 0 < w) (number : X → ℕ) (value : Boo
             (none_joined w wide xs value (a * w) (k * w) (k * w + m)
             (none_skipped w wide xs value (number skip) a k without scan.found.1)
             (λ r least most. none_between w wide xs value k (number p.1) read 0 m head.within
-            head.between r (omega (arith, least, whole)) most)) q low high)
-            (omega (arith, scan.reads, begin)) scan.items is
+            head.between r (omega arith) most)) q low high)
+            (omega arith) scan.items is
           where
             le_products : (k : ℕ) → from / w + 1 ≤ k → from / w * w + w ≤ k * w
             le_products k h = omega (
@@ -313,7 +310,7 @@ module _ {X : Type 0} (w : ℕ) (wide : 0 < w) (number : X → ℕ) (value : Boo
           there = λ h. ap (bit_at xs w) last
               ∙ bit-place w wide xs value k (number block) read (j - 1) (omega arith) ∙ there;
           between = λ n low high. none n (omega arith) high;
-          reads = omega (arith, reads, at);
+          reads = omega arith;
           items = items;
         }
 
@@ -321,34 +318,35 @@ module _ {X : Type 0} (w : ℕ) (wide : 0 < w) (number : X → ℕ) (value : Boo
         (read : number block ≡ get_or xs k 0)
         (last : IsLastPlace (number block) value n j) where
       whole_is : k * w + n ≡ upto + 1
-      whole_is = omega (arith, div-add-mod' upto w, place_at, ap (λ q. q * w) at)
+      whole_is = omega (arith, div-add-mod' upto w, ap (λ q. q * w) at)
 
       fits_in : n ≤ w
-      fits_in = omega (arith, place_at, mod-lt upto wide)
+      fits_in = omega (arith, mod-lt upto wide)
 
       passed_down : HasNoBit w xs value (k * w + j) (upto + 1)
       passed_down i low high = none_between w wide xs value k (number block) read j n fits_in
-          last.between i low (omega (arith, high, whole_is))
+          last.between i low (omega (arith, whole_is))
 
       -- in the first block that it reads
       pub FindsDown-here : (i : ℕ) → 0 < j → y.reads ≡ x.reads + 1 → y.items ≡ x.items
           → i ≡ k * w + j → FindsDown w number value x y upto i
       FindsDown-here i some reads items is = FindsDown-block k j i block read
-          (omega (arith, last.within, fits_in)) some (last.there some)
-          (omega (arith, last.within, whole_is)) passed_down (omega (arith, reads, at)) items is
+          (omega (arith, fits_in)) some (last.there some)
+          (omega (arith, whole_is)) passed_down (omega arith) items is
 
       module _ (z : Reading X) (skip : X) (without : number skip ≡ cond value 0 (2 ^ w - 1))
           (none : j ≤ 0) (reads : z.reads ≡ x.reads + 1) (items : z.items ≡ x.items) where
         passed_all : HasNoBit w xs value (k * w) (upto + 1)
-        passed_all i low high = passed_down i (omega (arith, low, none)) high
+        passed_all i low high = passed_down i (omega arith) high
 
-        skipped_there : (c d : ℕ) → AreSkipped (number skip) (map number z.items) c d
-            → AreSkipped (number skip) xs c d
+        skipped_there : (c d : ℕ)
+            → AreSkipped (number skip) (λ q. get_or (map number z.items) q 0) c d
+            → AreSkipped (number skip) (λ q. get_or xs q 0) c d
         skipped_there c d h i from below =
             ap (λ l. get_or (map number l) i 0) (sym items) ∙ h i from below
 
         -- in none
-        pub FindsDown-none : ScansDown number skip z y 0 k None
+        pub FindsDown-none : Scans Back number skip z y 0 k None
             → FindsDown w number value x y upto 0
         FindsDown-none scan =
             let empty : 0 * w ≡ 0 = omega arith in
@@ -357,31 +355,31 @@ module _ {X : Type 0} (w : ℕ) (wide : 0 < w) (number : X → ℕ) (value : Boo
               there = λ h. absurd (omega arith);
               between = λ i low high. none_joined w wide xs value 0 (k * w) (upto + 1)
                   (λ q least most. none_skipped w wide xs value (number skip) 0 k without
-                  (skipped_there 0 k scan.found) q (omega (arith, empty)) most) passed_all i low
+                  (skipped_there 0 k scan.found) q (omega arith) most) passed_all i low
                   high;
-              reads = omega (arith, scan.reads, reads, at, zero);
+              reads = omega arith;
               items = scan.items ∙ items;
             }
 
         -- in one before it
-        pub FindsDown-before : (p : ℕ × X) (m c i : ℕ) → ScansDown number skip z y 0 k (Some p)
+        pub FindsDown-before : (p : ℕ × X) (m c i : ℕ) → Scans Back number skip z y 0 k (Some p)
             → number p.1 < 2 ^ w → c ≡ w → IsLastPlace (number p.1) value c m → i ≡ p.0 * w + m
             → FindsDown w number value x y upto i
         FindsDown-before p m c i scan within full tail is =
             let q = p.0 in
             let read : number p.1 ≡ get_or xs q 0 =
-            scan.found.0.block ∙ ap (λ l. get_or (map number l) q 0) items in
+            scan.found.0.same ∙ ap (λ l. get_or (map number l) q 0) items in
             let some = last-some w (number p.1) (number skip) value within without
             scan.found.0.other c m full tail in
-            let less : q + 1 ≤ k = omega (arith, scan.found.0.below) in
+            let less : q + 1 ≤ k = omega arith in
             let more = product-more w q in
             let order = mul-le (q + 1) w k w less (omega arith) in
-            FindsDown-block q m i p.1 read (omega (arith, tail.within, full)) some (tail.there some)
-            (omega (arith, tail.within, full, more, order, whole_is))
+            FindsDown-block q m i p.1 read (omega arith) some (tail.there some)
+            (omega (arith, whole_is))
             (λ r low high. none_joined w wide xs value (q * w + m) ((q + 1) * w) (upto + 1)
             (λ s least most. none_between w wide xs value q (number p.1) read m c
-            (omega (arith, full)) tail.between s least (omega (arith, most, more, full)))
+            (omega arith) tail.between s least (omega arith))
             (none_joined w wide xs value ((q + 1) * w) (k * w) (upto + 1)
             (none_skipped w wide xs value (number skip) (q + 1) k without
             (skipped_there (q + 1) k scan.found.1)) passed_all) r low high)
-            (omega (arith, scan.reads, reads, at)) (scan.items ∙ items) is
+            (omega arith) (scan.items ∙ items) is

@@ -76,12 +76,12 @@ left_after-nil (Back ∷ pulls) = left_after-nil pulls
 left_after-none : (xs : List ℕ) (pulls : List End) → Contains (answers xs pulls) None
     → left_after xs pulls ≡ []
 unfolding answers left_after
-left_after-none xs [] (k, below, is) = absurd (omega (arith, below))
+left_after-none xs [] (k, below, is) = absurd (omega arith)
 left_after-none xs (side ∷ pulls) (zero, below, is) =
     ap (λ ys. left_after (without_end side ys) pulls) (end_item-none xs side is)
     ∙ ap (λ ys. left_after ys pulls) (without_end-nil side) ∙ left_after-nil pulls
 left_after-none xs (side ∷ pulls) (suc k, below, is) =
-    left_after-none (without_end side xs) pulls (k, omega (arith, below), is)
+    left_after-none (without_end side xs) pulls (k, omega arith, is)
 
 pub none_comes_last : (xs : List ℕ) (pulls : List End) → Contains (answers xs pulls) None
     → (left_after xs pulls ≡ []) × (front_given xs pulls ++ back_given xs pulls ≡ xs)

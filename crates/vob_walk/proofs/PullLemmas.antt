@@ -1,5 +1,5 @@
 -- Pulls at a walk, one after another.
-use Rattle.std.proofs.Common.{◌≡◌, ℕ, ◌+◌, ◌-◌, ◌<◌, List, [], ◌∷◌, ◌++◌, length, take, drop, get_or, Option, Some, None, refl, sym, ap, ◌∙◌, arith}
+use Rattle.std.proofs.Common.{◌≡◌, ℕ, ◌+◌, ◌-◌, ◌<◌, List, [], ◌∷◌, ◌++◌, length, take, get_or, Option, Some, None, refl, sym, ap, ◌∙◌, arith}
 use Rattle.std.specs.Prelude.{slice_get, replicate}
 use Rattle.std.specs.Option.{MatchOption}
 use Rattle.std.proofs.lemmas.List.{take_more, length-append}
@@ -69,9 +69,9 @@ module _ (walk between after : Walk) (pulls : List End) (k : ℕ) (d : End)
         let sum = ap given_count answers-more
         ∙ given_count-append (answers walk.rest (take k pulls)) (answer ∷ []) in
         record {
-          bound = omega (arith, h.reads.bound, pulled.bound, sum);
-          rises = omega (arith, h.reads.rises, pulled.rises);
-          credit = omega (arith, h.reads.credit, pulled.credit);
+          bound = omega arith;
+          rises = omega arith;
+          credit = omega arith;
         };
   }
 
@@ -84,33 +84,18 @@ pub end_item-first : (answer : Option ℕ) (old new : List ℕ)
     → MatchOption answer ((old ≡ []) × (new ≡ [])) (λ i. old ≡ i ∷ new)
     → (answer ≡ end_item Front old) × (new ≡ without_end Front old)
 unfolding end_item without_end
-end_item-first None old new taken = (
-  ap (λ xs. slice_get xs 0) (sym taken.0),
-  taken.1
-      ∙ ap (drop 1) (sym taken.0),
-)
-end_item-first (Some i) old new taken = (
-  ap (λ xs. slice_get xs 0) (sym taken),
-  ap (drop 1) (sym taken),
-)
+end_item-first None old new taken = rw (taken.0, taken.1) (refl, refl)
+end_item-first (Some i) old new taken = rw taken (refl, refl)
 
 pub end_item-last : (answer : Option ℕ) (old new : List ℕ)
     → MatchOption answer ((old ≡ []) × (new ≡ [])) (λ i. old ≡ new ++ i ∷ [])
     → (answer ≡ end_item Back old) × (new ≡ without_end Back old)
 unfolding end_item without_end
-end_item-last None old new taken = (
-  ap (λ xs. slice_get xs (length xs - 1)) (sym taken.0),
-  taken.1
-      ∙ ap (λ xs. take (length xs - 1) xs) (sym taken.0),
-)
+end_item-last None old new taken = rw (taken.0, taken.1) (refl, refl)
 end_item-last (Some i) old new taken =
     let long : length (new ++ i ∷ []) - 1 ≡ length new =
-    omega (arith, length-append new (i ∷ [])) in (
-      sym (ap (λ xs. slice_get xs (length xs - 1)) taken ∙ ap (slice_get (new ++ i ∷ [])) long
-          ∙ get-behind new i),
-      sym (ap (λ xs. take (length xs - 1) xs) taken
-          ∙ ap (λ k. take k (new ++ i ∷ [])) long ∙ take-append_seam new (i ∷ [])),
-    )
+    omega (arith, length-append new (i ∷ [])) in
+    rw (taken, long) (sym (get-behind new i), sym (take-append_seam new (i ∷ [])))
 
 -- ---- a pull that gave nothing
 

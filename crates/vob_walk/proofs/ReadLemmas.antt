@@ -1,127 +1,71 @@
--- What is unread behind a scan for a block that isn't the one without a bit of the value.
-use Rattle.std.proofs.Common.{◌≡◌, ℕ, ◌+◌, ◌-◌, ◌*◌, ◌^◌, ◌<◌, ◌≤◌, Bool, List, [], ◌++◌, cond, map, Option, Some, refl, sym, ap, ◌∙◌, arith, append-nil}
+-- What is unread after a scan for a block that isn't the one without a bit of the value.
+use Rattle.std.proofs.Common.{◌≡◌, ℕ, ◌+◌, ◌-◌, ◌*◌, ◌^◌, ◌<◌, ◌≤◌, Bool, List, [], cond, map, Some, None, refl, sym, ◌∙◌, arith, append-nil}
 use Rattle.vob_block.specs.Reading.{Reading}
+use Rattle.vob_walk.specs.declared.walk.End.{End}
+use Rattle.vob_walk.specs.declared.walk.End.TheVariants.{Front, Back}
 use Rattle.vob_walk.specs.Cursor.{indices_in, unread}
-use Rattle.vob_walk.specs.Skip.{ScansUp, ScansDown, ReadsUp, ReadsDown}
-use Rattle.vob_walk.proofs.SkipLemmas.{ScansUp-is, ScansUp-nothing, ScansDown-is, ScansDown-nothing}
-use Rattle.vob_walk.proofs.ScanLemmas.{unread-first_found, unread-last_found, unread-up, unread-up_none, unread-down, unread-down_none, found_up, found_down}
+use Rattle.vob_walk.specs.Skip.{Scans, Reads, side_start, side_end, other_end, beside}
+use Rattle.vob_walk.proofs.ScanLemmas.{unread-none, unread-skipped, unread-found}
 
--- the block that was found is one of those that were looked at
-pub ScansUp-inside : {X : Type 0} {number : X → ℕ} {skip : X} {x y : Reading X} {a b : ℕ}
-    {found : Option (ℕ × X)} {p : ℕ × X} → found ≡ Some p → ScansUp number skip x y a b found
-    → (a ≤ p.0) × (p.0 < b)
-ScansUp-inside {X} {number} {skip} {x} {y} {a} {b} {found} {p} is scan =
-    let known = ScansUp-is number skip x y a b found (Some p) is scan in
-    (known.found.0.from, known.found.0.below)
+beside-nil : (side : End) (xs : List ℕ) → beside side [] xs ≡ xs
+beside-nil Front xs = refl
+beside-nil Back xs = append-nil xs
 
-pub ScansDown-inside : {X : Type 0} {number : X → ℕ} {skip : X} {x y : Reading X} {a b : ℕ}
-    {found : Option (ℕ × X)} {p : ℕ × X} → found ≡ Some p → ScansDown number skip x y a b found
-    → (a ≤ p.0) × (p.0 < b)
-ScansDown-inside {X} {number} {skip} {x} {y} {a} {b} {found} {p} is scan =
-    let known = ScansDown-is number skip x y a b found (Some p) is scan in
-    (known.found.0.from, known.found.0.below)
+-- the blocks at the other side of block k
+rest_order : (side : End) (a k b : ℕ) → a ≤ k → k < b
+    → (a ≤ side_start (other_end side) a k)
+    × (side_start (other_end side) a k ≤ side_end (other_end side) b k)
+    × (side_end (other_end side) b k ≤ b)
+    × (side_end side b k + 1 - side_start side a k
+    + (side_end (other_end side) b k - side_start (other_end side) a k) ≡ b - a)
+rest_order Front a k b low high = (omega arith, omega arith, omega arith, omega arith)
+rest_order Back a k b low high = (omega arith, omega arith, omega arith, omega arith)
 
-module _ (w : ℕ) (value : Bool) (start stop : ℕ) where
+module _ (w : ℕ) (wide : 0 < w) (value : Bool) (start stop : ℕ) where
   abbrev left : List ℕ → ℕ → ℕ → List ℕ
   left xs = unread w xs value start stop
 
   module _ {X : Type 0} {number : X → ℕ} where
-    -- nothing is read yet
-    pub ReadsUp-start : (x : Reading X) (a b : ℕ) → a ≤ b → ReadsUp number left x x a b a []
-    ReadsUp-start x a b order =
-        record { rises = omega arith; order = order; rest = refl; reads = refl; items = refl }
+    still_left : (side : End) {x y : Reading X} {a b m n : ℕ}
+        → Reads side number left x y a b m n []
+        → left (map number y.items) m n ≡ left (map number y.items) a b
+    still_left side so_far = rw so_far.items (sym (beside-nil side _) ∙ so_far.rest)
 
-    pub ReadsDown-start : (x : Reading X) (a b : ℕ) → a ≤ b → ReadsDown number left x x a b b []
-    ReadsDown-start x a b order = record {
-      falls = omega arith;
-      order = order;
-      rest = append-nil (left (map number x.items) a b);
-      reads = refl;
-      items = refl;
-    }
-
-    module _ {skip : X} (without : number skip ≡ cond value 0 (2 ^ w - 1)) {x y z : Reading X}
-        {a m b : ℕ} {found : Option (ℕ × X)} {given : List ℕ} where
+    module _ {skip : X} (without : number skip ≡ cond value 0 (2 ^ w - 1)) (side : End)
+        {x y z : Reading X} {a b m n : ℕ} (so_far : Reads side number left x y a b m n []) where
       -- a scan found a block, whose indices are given
-      pub ReadsUp-found : {p : ℕ × X} → ReadsUp number left x y a b m [] → found ≡ Some p
-          → ScansUp number skip y z m b found
-          → given ≡ indices_in w (number p.1) (p.0 * w) value start stop
-          → ReadsUp number left x z a b (p.0 + 1) given
-      ReadsUp-found {p} so_far is scan gives =
-          let known = ScansUp-is number skip y z m b found (Some p) is scan in
-          let xs = map number x.items in
-          let same = ap (map number) so_far.items in
-          let counted : z.reads + m ≡ y.reads + (p.0 + 1) = known.reads in
-          let from = known.found.0.from in
-          let below = known.found.0.below in
+      pub Reads-found : {k c d : ℕ} {block : X} {given : List ℕ}
+          → Scans side number skip y z m n (Some (k, block))
+          → c ≡ side_start (other_end side) m k → d ≡ side_end (other_end side) n k
+          → given ≡ indices_in w (number block) (k * w) value start stop
+          → Reads side number left x z a b c d given
+      Reads-found {k} {c} {d} {block} {given} scan first last gives =
+          let other = scan.found.0 in
+          let rest = rest_order side m k n other.from other.below in
           record {
-            rises = omega (arith, so_far.rises, from);
-            order = omega (arith, below);
-            rest = ap (λ l. l ++ left xs (p.0 + 1) b) gives
-                ∙ unread-first_found w xs value start stop p.0 (number p.1)
-                (found_up w xs value start stop (number skip) without number skip y z m b refl same
-                p.0 p.1 known) b below
-                ∙ unread-up w xs value start stop (number skip) without number skip y z m b refl
-                same p.0 p.1 known ∙ so_far.rest;
-            reads = omega (arith, counted, so_far.reads, so_far.rises, from, below);
-            items = known.items ∙ so_far.items;
-          }
-
-      pub ReadsDown-found : {p : ℕ × X} → ReadsDown number left x y a b m [] → found ≡ Some p
-          → ScansDown number skip y z a m found
-          → given ≡ indices_in w (number p.1) (p.0 * w) value start stop
-          → ReadsDown number left x z a b p.0 given
-      ReadsDown-found {p} so_far is scan gives =
-          let known = ScansDown-is number skip y z a m found (Some p) is scan in
-          let xs = map number x.items in
-          let same = ap (map number) so_far.items in
-          let counted : z.reads + p.0 ≡ y.reads + m = known.reads in
-          let from = known.found.0.from in
-          let below = known.found.0.below in
-          record {
-            falls = omega (arith, so_far.falls, below);
-            order = from;
-            rest = ap (λ l. left xs a p.0 ++ l) gives
-                ∙ unread-last_found w xs value start stop p.0 (number p.1)
-                (found_down w xs value start stop (number skip) without number skip y z a m refl
-                same p.0 p.1 known) a (p.0 + 1) from refl
-                ∙ unread-down w xs value start stop (number skip) without number skip y z a m refl
-                same p.0 p.1 known ∙ sym (append-nil (left xs a m)) ∙ so_far.rest;
-            reads = omega (arith, counted, so_far.reads, so_far.falls, from, below);
-            items = known.items ∙ so_far.items;
+            low = omega arith;
+            order = omega arith;
+            high = omega arith;
+            rest = rw (gives, first, last, ← so_far.items)
+                (unread-found w (map number y.items) value start stop wide without side m k n
+                (number block) other.from other.below other.same scan.found.1
+                ∙ still_left side so_far);
+            reads = omega arith;
+            items = scan.items ∙ so_far.items;
           }
 
       -- or none, so nothing is left
-      pub ReadsUp-end : ReadsUp number left x y a b m [] → ((p : ℕ × X) → found ≡ Some p → ⊥)
-          → ScansUp number skip y z m b found → given ≡ [] → ReadsUp number left x z a b b given
-      ReadsUp-end so_far nothing scan gives =
-          let known = ScansUp-nothing number skip y z m b found nothing scan in
-          let xs = map number x.items in
-          let counted : z.reads + m ≡ y.reads + b = known.reads in
-          record {
-            rises = omega (arith, so_far.rises, so_far.order);
-            order = omega arith;
-            rest = ap (λ l. l ++ left xs b b) gives
-                ∙ unread-up_none w xs value start stop (number skip) without number skip y z m b
-                refl (ap (map number) so_far.items) so_far.order known ∙ so_far.rest;
-            reads = omega (arith, counted, so_far.reads, so_far.rises, so_far.order);
-            items = known.items ∙ so_far.items;
-          }
-
-      pub ReadsDown-end : ReadsDown number left x y a b m [] → ((p : ℕ × X) → found ≡ Some p → ⊥)
-          → ScansDown number skip y z a m found → given ≡ []
-          → ReadsDown number left x z a b a given
-      ReadsDown-end so_far nothing scan gives =
-          let known = ScansDown-nothing number skip y z a m found nothing scan in
-          let xs = map number x.items in
-          let counted : z.reads + a ≡ y.reads + m = known.reads in
-          record {
-            falls = omega (arith, so_far.falls, so_far.order);
-            order = omega arith;
-            rest = ap (λ l. left xs a a ++ l) gives ∙ append-nil (left xs a a)
-                ∙ unread-down_none w xs value start stop (number skip) without number skip y z a m
-                refl (ap (map number) so_far.items) so_far.order known
-                ∙ sym (append-nil (left xs a m)) ∙ so_far.rest;
-            reads = omega (arith, counted, so_far.reads, so_far.falls, so_far.order);
-            items = known.items ∙ so_far.items;
-          }
+      pub Reads-end : {given : List ℕ} → Scans side number skip y z m n None → given ≡ []
+          → Reads side number left x z a b n n given
+      Reads-end {given} scan gives = record {
+        low = omega arith;
+        order = omega arith;
+        high = so_far.high;
+        rest = rw (gives, ← so_far.items)
+            (beside-nil side _
+            ∙ unread-none w (map number y.items) value start stop n n (omega arith)
+            ∙ sym (unread-skipped w (map number y.items) value start stop wide without m n
+            so_far.order scan.found) ∙ still_left side so_far);
+        reads = omega arith;
+        items = scan.items ∙ so_far.items;
+      }

@@ -1,18 +1,19 @@
 -- Blocks that a scan reads one after another, from either end, over a plain width.
-use Rattle.std.proofs.Common.{◌≡◌, ℕ, zero, suc, ◌+◌, ◌-◌, ◌*◌, ◌^◌, ◌<◌, ◌≤◌, Bool, true, false}
-use Rattle.std.proofs.Common.{not, ◌&&◌, List, [], ◌++◌, append-nil, append_assoc, cond, get_or}
-use Rattle.std.proofs.Common.{map, Some, None, add-zero, ltb, leb, refl, sym, ap, ◌∙◌, arith}
-use Rattle.std.proofs.Common.{add-mul, suc-mul, zero-mul, add-one, inl, inr}
-use Rattle.std.proofs.Math.Bool.{and-true}
-use Rattle.std.proofs.lemmas.Bool.{cases_lt, and_left, and_right, false≢true, le-leb, lt-leb}
+use Rattle.std.proofs.Common.{◌≡◌, ℕ, ◌+◌, ◌-◌, ◌*◌, ◌/◌, ◌%◌, ◌^◌, ◌<◌, ◌≤◌, Bool, true, false}
+use Rattle.std.proofs.Common.{not, ◌&&◌, List, [], ◌++◌, append-nil, cond, get_or, ltb, leb, refl, sym, ap, ◌∙◌, arith}
+use Rattle.std.proofs.Common.{add-mul, suc-mul, zero-mul, add-one, mod-lt, inl, inr}
+use Rattle.std.proofs.lemmas.Bool.{cases_lt, and_right, false≢true}
+use Rattle.std.proofs.lemmas.Bool.Decides.{nat_tests}
+use Rattle.std.proofs.lemmas.Nat.{div_below, le-div}
 use Rattle.vob_block.specs.Places.{place, HasPlaces}
 use Rattle.vob_block.specs.Packing.{bit_at}
-use Rattle.vob_block.specs.Reading.{Reading}
 use Rattle.vob_block.proofs.PlaceLemmas.{place-ones, place-zero}
-use Rattle.vob_block.proofs.PackingLemmas.{bit_at-in_block}
+use Rattle.vob_block.proofs.PackingLemmas.{bit_at-in_block, bit_at-is_place}
+use Rattle.vob_walk.specs.declared.walk.End.{End}
+use Rattle.vob_walk.specs.declared.walk.End.TheVariants.{Front, Back}
 use Rattle.vob_walk.specs.Matches.{has_value}
 use Rattle.vob_walk.specs.Cursor.{indices_where, block_indices, indices_in, is_hit, unread}
-use Rattle.vob_walk.specs.Skip.{AreSkipped, ScansUp, ScansDown}
+use Rattle.vob_walk.specs.Skip.{AreSkipped, side_start, side_end, other_end, beside}
 use Rattle.vob_walk.proofs.WhereLemmas.{indices_where-split, indices_where-same, indices_where-nothing}
 
 -- ---- the bits of a block that have a value, and are cut at the start
@@ -34,18 +35,12 @@ pub HasPlaces-from_part : (w a start n x y ones mask : ℕ) → n ≡ start - a 
     → HasPlaces w y (λ j. place j x && place j mask)
     → HasPlaces w y (λ j. leb start (a + j) && place j x)
 HasPlaces-from_part w a start n x y ones mask far within all p q = record {
-  each = λ j inside. q.each j inside ∙ elim (cases_lt j n) [
-    | inl low ↦
-        and_right (place j x) (place j mask) (p.each j inside
-        ∙ and_left (leb n j) (place (j - n) ones) (lt-leb n j low))
-        ∙ sym (and_left (leb start (a + j)) (place j x) (lt-leb start (a + j) (omega arith)))
+  each = λ j inside. q.each j inside ∙ rw (p.each j inside) (elim (cases_lt j n) [
+    | inl low ↦ grind (arith, nat_tests)
     | inr high ↦
-        let kept : place j mask ≡ true =
-        p.each j inside ∙ ap (λ b. b && place (j - n) ones) (le-leb n j high)
-        ∙ ap (place (j - n)) all ∙ place-ones w (j - n) (omega arith) in
-        ap (λ b. place j x && b) kept ∙ and-true (place j x)
-        ∙ ap (λ b. b && place j x) (sym (le-leb start (a + j) (omega arith)))
-  ];
+        let kept = ap (place (j - n)) all ∙ place-ones w (j - n) (omega arith) in
+        grind (arith, nat_tests)
+  ]);
 }
 
 -- no place of a block without a bit of the value is looked for
@@ -53,13 +48,6 @@ pub without_value : (w x j : ℕ) (value : Bool) → x ≡ cond value 0 (2 ^ w -
     → has_value value (place j x) ≡ false
 without_value w x j true is inside = ap (place j) is ∙ place-zero j
 without_value w x j false is inside = ap not (ap (place j) is ∙ place-ones w j inside)
-
-pub indices_in-nothing : (w x at start stop : ℕ) (value : Bool) → x ≡ cond value 0 (2 ^ w - 1)
-    → indices_in w x at value start stop ≡ []
-indices_in-nothing w x at start stop value is = indices_where-nothing
-    (λ i. leb start i && ltb i stop && has_value value (place (i - at) x)) at w
-    (λ i low high. and_right (leb start i && ltb i stop) (has_value value (place (i - at) x))
-    (without_value w x (i - at) value is (omega (arith, low, high))))
 
 -- a masked block in hand holds those of its bits that are looked for
 pub block_indices-in : (w x y at start stop : ℕ) (value : Bool)
@@ -69,14 +57,22 @@ unfolding block_indices
 block_indices-in w x y at start stop value places = indices_where-same (λ i. place (i - at) y)
     (λ i. leb start i && ltb i stop && has_value value (place (i - at) x)) at w
     (λ i low high.
-    let back : at + (i - at) ≡ i = omega (arith, low) in
-    places.each (i - at) (omega (arith, low, high))
+    let back : at + (i - at) ≡ i = omega arith in
+    places.each (i - at) (omega arith)
     ∙ ap (λ m. leb start m && ltb m stop && has_value value (place (i - at) x)) back)
 
 -- ---- the blocks that are not read yet
 
 pub product-more : (w q : ℕ) → (q + 1) * w ≡ q * w + w
 product-more w q = ap (λ k. k * w) (add-one q) ∙ suc-mul q w
+
+-- a bit of blocks that are all `skip` is one of its places
+pub bit_at-skipped : (w : ℕ) → 0 < w → (xs : List ℕ) (skip a b : ℕ)
+    → AreSkipped skip (λ k. get_or xs k 0) a b → (i : ℕ) → a * w ≤ i → i < b * w
+    → bit_at xs w i ≡ place (i % w) skip
+bit_at-skipped w wide xs skip a b all i from below =
+    bit_at-is_place xs w i
+    ∙ ap (place (i % w)) (all (i / w) (le-div a i w wide from) (div_below i w b wide below))
 
 module _ (w : ℕ) (xs : List ℕ) (value : Bool) (start stop : ℕ) where
   abbrev hit : ℕ → Bool
@@ -91,42 +87,27 @@ module _ (w : ℕ) (xs : List ℕ) (value : Bool) (start stop : ℕ) where
       let none : end - k ≡ 0 = omega arith in
       ap (λ n. indices_where hit (k * w) (n * w)) none ∙ ap (indices_where hit (k * w)) (zero-mul w)
 
-  -- the first block, and then the others
-  pub unread-first : (k end : ℕ) → k < end → left k end
-      ≡ indices_where hit (k * w) w ++ left (k + 1) end
+  -- two parts of some blocks
+  unread-split : (k m end : ℕ) → k ≤ m → m ≤ end → left k end ≡ left k m ++ left m end
   unfolding unread
-  unread-first k end some =
-      let one : end - k ≡ end - (k + 1) + 1 = omega arith in
-      let parts : (end - k) * w ≡ w + (end - (k + 1)) * w =
-      omega (arith, ap (λ n. n * w) one, product-more w (end - (k + 1))) in
-      ap (indices_where hit (k * w)) parts ∙ indices_where-split hit (k * w) w ((end - (k + 1)) * w)
-      ∙ ap (λ a. indices_where hit (k * w) w ++ indices_where hit a ((end - (k + 1)) * w))
-      (sym (product-more w k))
-
-  -- the others, and then the last block
-  pub unread-last : (next k : ℕ) → next ≤ k → left next (k + 1)
-      ≡ left next k ++ indices_where hit (k * w) w
-  unfolding unread
-  unread-last next k some =
-      let one : k + 1 - next ≡ k - next + 1 = omega arith in
-      let whole : next + (k - next) ≡ k = omega arith in
-      let at : next * w + (k - next) * w ≡ k * w =
-      sym (add-mul next (k - next) w) ∙ ap (λ n. n * w) whole in
-      ap (λ n. indices_where hit (next * w) n) (ap (λ n. n * w) one ∙ product-more w (k - next))
-      ∙ indices_where-split hit (next * w) ((k - next) * w) w
-      ∙ ap (λ a. indices_where hit (next * w) ((k - next) * w) ++ indices_where hit a w) at
+  unread-split k m end low high =
+      let parts : (end - k) * w ≡ (m - k) * w + (end - m) * w =
+      ap (λ n. n * w) (omega arith) ∙ add-mul (m - k) (end - m) w in
+      let there : k * w + (m - k) * w ≡ m * w =
+      sym (add-mul k (m - k) w) ∙ ap (λ n. n * w) (omega arith) in
+      ap (indices_where hit (k * w)) parts
+      ∙ indices_where-split hit (k * w) ((m - k) * w) ((end - m) * w)
+      ∙ ap (λ a. indices_where hit (k * w) ((m - k) * w) ++ indices_where hit a ((end - m) * w))
+      there
 
   module _ (k x : ℕ) (read : x ≡ get_or xs k 0) where
-    abbrev found : List ℕ
-    found = indices_in w x (k * w) value start stop
-
     -- what is looked for in block k is exactly what is to be found there
-    indices_in-hits : found ≡ indices_where hit (k * w) w
+    indices_in-hits : indices_in w x (k * w) value start stop ≡ indices_where hit (k * w) w
     indices_in-hits = indices_where-same
         (λ i. leb start i && ltb i stop && has_value value (place (i - k * w) x)) hit (k * w) w
         (λ i low high.
-        let back : k * w + (i - k * w) ≡ i = omega (arith, low) in
-        let inside : i - k * w < w = omega (arith, low, high) in
+        let back : k * w + (i - k * w) ≡ i = omega arith in
+        let inside : i - k * w < w = omega arith in
         let bit : place (i - k * w) x ≡ bit_at xs w i =
         ap (place (i - k * w)) read ∙ sym (bit_at-in_block xs w k (i - k * w) inside)
         ∙ ap (bit_at xs w) back in
@@ -138,121 +119,41 @@ module _ (w : ℕ) (xs : List ℕ) (value : Bool) (start stop : ℕ) where
     block_indices-masked y places =
         block_indices-in w x y (k * w) start stop value places ∙ indices_in-hits
 
-    pub unread-first_found : (end : ℕ) → k < end → found ++ left (k + 1) end ≡ left k end
-    unread-first_found end some = ap (λ l. l ++ left (k + 1) end) indices_in-hits
-        ∙ sym (unread-first k end some)
+    unread-block : indices_in w x (k * w) value start stop ≡ left k (k + 1)
+    unfolding unread
+    unread-block =
+        let same : 1 * w ≡ w = omega arith in
+        let one : (k + 1 - k) * w ≡ w = ap (λ n. n * w) (omega arith) ∙ same in
+        indices_in-hits ∙ ap (indices_where hit (k * w)) (sym one)
 
-    pub unread-last_found : (next end : ℕ) → next ≤ k → k + 1 ≡ end
-        → left next k ++ found ≡ left next end
-    unread-last_found next end some last =
-        ap (λ l. left next k ++ l) indices_in-hits ∙ sym (unread-last next k some)
-        ∙ ap (left next) last
+  module _ (wide : 0 < w) {skip : ℕ} (without : skip ≡ cond value 0 (2 ^ w - 1)) where
+    -- blocks without a bit of the value have none that is looked for
+    pub unread-skipped : (a b : ℕ) → a ≤ b → AreSkipped skip (λ k. get_or xs k 0) a b
+        → left a b ≡ []
+    unfolding unread
+    unread-skipped a b order all =
+        let ends : a * w + (b - a) * w ≡ b * w =
+        sym (add-mul a (b - a) w) ∙ ap (λ n. n * w) (omega arith) in
+        indices_where-nothing hit (a * w) ((b - a) * w) (λ i from below.
+        and_right (leb start i && ltb i stop) (has_value value (bit_at xs w i))
+        (ap (has_value value) (bit_at-skipped w wide xs skip a b all i from (omega arith))
+        ∙ without_value w skip (i % w) value without (mod-lt i wide)))
 
-    -- so a block where nothing is found adds nothing
-    pub unread-first_skipped : (end : ℕ) → k < end → found ≡ [] → left (k + 1) end ≡ left k end
-    unread-first_skipped end some none = ap (λ l. l ++ left (k + 1) end) (sym none)
-        ∙ unread-first_found end some
-
-    pub unread-last_skipped : (next end : ℕ) → next ≤ k → k + 1 ≡ end → found ≡ []
-        → left next k ≡ left next end
-    unread-last_skipped next end some last none = sym (append-nil (left next k))
-        ∙ ap (λ l. left next k ++ l) (sym none) ∙ unread-last_found next end some last
-
-  -- nor do blocks without a bit of the value
-  module _ (skip : ℕ) (without : skip ≡ cond value 0 (2 ^ w - 1)) where
-    pub unread-first_all : (a n b : ℕ) → AreSkipped skip xs a (a + n) → a + n ≤ b
-        → left (a + n) b ≡ left a b
-    unread-first_all a zero b all within = ap (λ k. left k b) (add-zero a)
-    unread-first_all a (suc n) b all within =
-        let next : a + suc n ≡ a + n + 1 = omega arith in
-        ap (λ k. left k b) next
-        ∙ unread-first_skipped (a + n) skip (sym (all (a + n) (omega arith) (omega arith))) b
-        (omega (arith, within)) (indices_in-nothing w skip ((a + n) * w) start stop value without)
-        ∙ unread-first_all a n b (λ k from below. all k from (omega (arith, below)))
-        (omega (arith, within))
-
-    pub unread-last_all : (next a n : ℕ) → AreSkipped skip xs a (a + n) → next ≤ a
-        → left next a ≡ left next (a + n)
-    unread-last_all next a zero all within = ap (left next) (sym (add-zero a))
-    unread-last_all next a (suc n) all within =
-        unread-last_all next a n (λ k from below. all k from (omega (arith, below))) within
-        ∙ unread-last_skipped (a + n) skip (sym (all (a + n) (omega arith) (omega arith))) next
-        (a + suc n) (omega (arith, within)) (omega arith)
-        (indices_in-nothing w skip ((a + n) * w) start stop value without)
-
-    -- so a scan over such blocks leaves what is unread
-    module _ {X : Type 0} (number : X → ℕ) (block : X) (x y : Reading X) (a b : ℕ)
-        (is : number block ≡ skip) (same : map number x.items ≡ xs) where
-      skipped_there : (c d : ℕ) → AreSkipped (number block) (map number x.items) c d
-          → AreSkipped skip xs c d
-      skipped_there c d h k from below = ap (λ l. get_or l k 0) (sym same) ∙ h k from below ∙ is
-
-      -- the block that was found, by its number
-      pub found_up : (k : ℕ) (got : X) → ScansUp number block x y a b (Some (k, got))
-          → number got ≡ get_or xs k 0
-      found_up k got h = h.found.0.block ∙ ap (λ l. get_or l k 0) same
-
-      pub found_down : (k : ℕ) (got : X) → ScansDown number block x y a b (Some (k, got))
-          → number got ≡ get_or xs k 0
-      found_down k got h = h.found.0.block ∙ ap (λ l. get_or l k 0) same
-
-      pub unread-up : (k : ℕ) (got : X) → ScansUp number block x y a b (Some (k, got))
-          → left k b ≡ left a b
-      unread-up k got h =
-          let more : a + (k - a) ≡ k = omega (arith, h.found.0.from) in
-          ap (λ i. left i b) (sym more) ∙ unread-first_all a (k - a) b
-          (λ i from below. skipped_there a k h.found.1 i from (omega (arith, below, more)))
-          (omega (arith, more, h.found.0.below))
-
-      pub unread-up_none : a ≤ b → ScansUp number block x y a b None → left b b ≡ left a b
-      unread-up_none order h =
-          let more : a + (b - a) ≡ b = omega (arith, order) in
-          ap (λ i. left i b) (sym more) ∙ unread-first_all a (b - a) b
-          (λ i from below. skipped_there a b h.found i from (omega (arith, below, more)))
-          (omega (arith, more))
-
-      pub unread-down : (k : ℕ) (got : X) → ScansDown number block x y a b (Some (k, got))
-          → left a (k + 1) ≡ left a b
-      unread-down k got h =
-          let more : k + 1 + (b - (k + 1)) ≡ b = omega (arith, h.found.0.below) in
-          unread-last_all a (k + 1) (b - (k + 1))
-          (λ i from below. skipped_there (k + 1) b h.found.1 i from (omega (arith, below, more)))
-          (omega (arith, h.found.0.from)) ∙ ap (left a) more
-
-      pub unread-down_none : a ≤ b → ScansDown number block x y a b None → left a a ≡ left a b
-      unread-down_none order h =
-          let more : a + (b - a) ≡ b = omega (arith, order) in
-          unread-last_all a a (b - a)
-          (λ i from below. skipped_there a b h.found i from (omega (arith, below, more)))
-          (omega arith) ∙ ap (left a) more
-
--- ---- the indices in hand at both ends, and those in the unread blocks between
-
-module _ (front old new got back : List ℕ) where
-  -- the front gets those of the first block that has some, or else all that the back has
-  pub filled_front : front ≡ [] → got ++ new ≡ old → got ++ (new ++ back) ≡ front ++ (old ++ back)
-  filled_front none e = sym (append_assoc got new back) ∙ ap (λ l. l ++ back) e
-      ∙ ap (λ l. l ++ (old ++ back)) (sym none)
-
-  pub swapped_front : front ≡ [] → got ++ new ≡ old → got ≡ [] → new ≡ [] → back ++ (new ++ got)
-      ≡ front ++ (old ++ back)
-  swapped_front none e f n =
-      ap (λ l. back ++ (l ++ got)) n ∙ ap (λ l. back ++ l) f ∙ append-nil back
-      ∙ ap (λ l. l ++ back) (sym n ∙ ap (λ l. l ++ new) (sym f) ∙ e)
-      ∙ ap (λ l. l ++ (old ++ back)) (sym none)
-
-  -- and the back those of the last, or else all that the front has
-  pub filled_back : back ≡ [] → new ++ got ≡ old → front ++ (new ++ got) ≡ front ++ (old ++ back)
-  filled_back none e = ap (λ l. front ++ l) (e ∙ sym (append-nil old)
-      ∙ ap (λ l. old ++ l) (sym none))
-
-  pub swapped_back : back ≡ [] → new ++ got ≡ old → got ≡ [] → new ≡ [] → got ++ (new ++ front)
-      ≡ front ++ (old ++ back)
-  swapped_back none e f n =
-      ap (λ l. l ++ (new ++ front)) f ∙ ap (λ l. l ++ front) n ∙ sym (append-nil front)
-      ∙ ap (λ l. front ++ l) (sym f ∙ ap (λ l. l ++ got) (sym n) ∙ e ∙ sym (append-nil old)
-      ∙ ap (λ l. old ++ l) (sym none))
-
--- nothing and nothing is nothing
-pub append-none : (xs ys : List ℕ) → xs ≡ [] → ys ≡ [] → xs ++ ys ≡ []
-append-none xs ys none no_other = ap (λ l. l ++ ys) none ∙ no_other
+    -- so after them block k gives what is looked for there, and the others are left
+    pub unread-found : (side : End) (a k b x : ℕ) → a ≤ k → k < b → x ≡ get_or xs k 0
+        → AreSkipped skip (λ k. get_or xs k 0) (side_start side a k) (side_end side b k)
+        → beside side (indices_in w x (k * w) value start stop)
+        (left (side_start (other_end side) a k) (side_end (other_end side) b k)) ≡ left a b
+    unread-found Front a k b x low high read all = rw (
+      unread-block k x read,
+      unread-split a k b low (omega arith),
+      unread-skipped a k low all,
+      unread-split k (k + 1) b (omega arith) (omega arith),
+    ) refl
+    unread-found Back a k b x low high read all = rw (
+      unread-block k x read,
+      unread-split a (k + 1) b (omega arith) (omega arith),
+      unread-skipped (k + 1) b (omega arith) all,
+      append-nil,
+      unread-split a k (k + 1) low (omega arith),
+    ) refl

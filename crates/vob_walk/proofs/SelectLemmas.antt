@@ -9,10 +9,9 @@ use Rattle.vob_block.proofs.PackingLemmas.{bit_at-in_block}
 use Rattle.vob_block.proofs.ValueLemmas.{range-more}
 use Rattle.vob_walk.specs.Count.{ones_between}
 use Rattle.vob_walk.specs.Select.{HasRank}
-use Rattle.vob_walk.specs.Cursor.{indices_where, block_indices}
-use Rattle.vob_walk.proofs.WhereLemmas.{indices_where-same}
-use Rattle.vob_walk.proofs.BlockBitsLemmas.{length-block_indices}
-use Rattle.vob_walk.proofs.CountLemmas.{indices_where-alike, ones-indices_where, ones-more, ones-split}
+use Rattle.vob_walk.specs.Cursor.{indices_where}
+use Rattle.vob_walk.proofs.WhereLemmas.{indices_where-alike}
+use Rattle.vob_walk.proofs.CountLemmas.{ones-part, ones-more, ones-split}
 
 -- ---- the true places below one
 
@@ -39,7 +38,7 @@ true_places-masked w n x mask y order below both =
     (λ j from inside holds.
     let parts = and_parts (place j x) (place j mask) (sym (both.each j (omega arith)) ∙ holds) in
     let less = ltb-true j n (sym (below.each j (omega arith)) ∙ parts.1) in
-    (omega arith, omega (arith, less), parts.0))
+    (omega arith, omega arith, parts.0))
     (λ j from inside holds. (
       omega arith,
       omega arith,
@@ -56,27 +55,14 @@ place_between x low high rank some few least most =
     let next : high ≡ low + 1 = omega arith in
     let more = ap (λ n. true_places n x) next ∙ true_places-more low x in
     elim (cases_Bool (place low x)) [
-      | inl t ↦ (t, omega (arith, least, most, more, ap {B = ℕ} (λ b. cond b 1 0) t))
-      | inr f ↦ absurd (omega (arith, least, most, more, ap {B = ℕ} (λ b. cond b 1 0) f))
+      | inl t ↦ (t, omega (arith, ap {B = ℕ} (λ b. cond b 1 0) t))
+      | inr f ↦ absurd (omega (arith, ap {B = ℕ} (λ b. cond b 1 0) f))
     ]
 
 -- ---- the true bits below one
 
 module _ (w : ℕ) (xs : List ℕ) (k x : ℕ) (read : x ≡ get_or xs k 0) where
-  ones-part : (j : ℕ) → j ≤ w → ones_between w xs (k * w) (k * w + j) ≡ true_places j x
-  unfolding block_indices
-  ones-part j inside =
-      let long : k * w + j - k * w ≡ j = omega arith in
-      ones-indices_where w xs (k * w) (k * w + j)
-      ∙ ap (λ n. length (indices_where (bit_at xs w) (k * w) n)) long
-      ∙ ap length (indices_where-same (bit_at xs w) (λ i. place (i - k * w) x) (k * w) j
-      (λ i from below.
-      let back : k * w + (i - k * w) ≡ i = omega arith in
-      ap (bit_at xs w) (sym back) ∙ bit_at-in_block xs w k (i - k * w) (omega arith)
-      ∙ ap (place (i - k * w)) (sym read)))
-      ∙ length-block_indices j (k * w) x
-
-  pub bit_at-place : (j : ℕ) → j < w → place j x ≡ true → bit_at xs w (k * w + j) ≡ true
+  bit_at-place : (j : ℕ) → j < w → place j x ≡ true → bit_at xs w (k * w + j) ≡ true
   bit_at-place j inside there =
       bit_at-in_block xs w k j inside ∙ ap (place j) (sym read) ∙ there
 
@@ -96,15 +82,7 @@ module _ (w : ℕ) (xs : List ℕ) (k x : ℕ) (read : x ≡ get_or xs k 0) wher
       there = bit_at-place j inside there;
       below = omega (
         arith,
-        before,
-        ones,
         ones-split w xs 0 (k * w) (k * w + j) (omega arith) (omega arith),
-        ones-part j (omega arith),
+        ones-part w xs k x read j (omega arith),
       );
     }
-
-    -- (v is the width as the code read it)
-    pub place-fits : {v most : ℕ} → v ≡ w → ((i : ℕ) → bit_at xs w i ≡ true → i ≤ most)
-        → k * v + j ≤ most
-    place-fits width fits =
-        omega (arith, fits (k * w + j) HasRank-place.there, ap (λ u. k * u) width)

@@ -1,15 +1,35 @@
 -- The numbers of a stretch that a test holds of.
 use Rattle.std.specs.List.{list_any, range_with_len}
 use Rattle.std.proofs.Common.{◌≡◌, ℕ, zero, suc, ◌+◌, ◌-◌, ◌<◌, ◌≤◌, Bool, true, false, cond, List}
-use Rattle.std.proofs.Common.{[], ◌∷◌, ◌++◌, length, filter, Contains, refl, sym, ap, ◌∙◌, subst}
-use Rattle.std.proofs.Common.{arith, inl, inr, ◌⊎◌, append-nil, length-append, get_or}
-use Rattle.std.proofs.lemmas.Bool.{cases_Bool, cond-true, cond-false, cases_lt, cases_eq, false_from_ne_true, or_left, or_right, or_from}
-use Rattle.std.proofs.lemmas.List.Elements.{filter-append, Contains-append_right, Contains-append_cases}
+use Rattle.std.proofs.Common.{[], ◌∷◌, ◌++◌, length, filter, All, Contains, refl, sym, ap, ◌∙◌, subst}
+use Rattle.std.proofs.Common.{arith, inl, inr, append-nil, get_or}
+use Rattle.std.proofs.lemmas.Bool.{cases_lt, false_from_ne_true, or_from}
+use Rattle.std.proofs.lemmas.List.Elements.{filter-append, filter_passes, All-filter, All-contains, Contains-append_right}
+use Rattle.std.proofs.lemmas.List.Folds.{list_any_at}
 use Rattle.std.proofs.lemmas.List.Sums.{length-filter, count_by-le-length}
-use Rattle.std.proofs.lemmas.List.FromFn.{length-range_with_len}
+use Rattle.std.proofs.lemmas.List.FromFn.{length-range_with_len, get_or-range_with_len}
+use Rattle.std.proofs.Common.{◌&&◌, nat_le, nat_lt}
+use Rattle.std.proofs.lemmas.Bool.{and_from, and_parts, le-leb, lt-ltb, leb-true, ltb-true}
+use Rattle.std.specs.Cmp.{both_ways}
 use Rattle.vob_walk.specs.Cursor.{indices_where}
 
-range_with_len-split : (a n m : ℕ) → range_with_len a (n + m)
+-- ---- a test between two numbers
+
+pub between_from : (a b i : ℕ) {p : Bool} → a ≤ i → i < b → p ≡ true
+    → (nat_le a i && nat_lt i b && p) ≡ true
+between_from a b i {p} from below holds = and_from (nat_le a i && nat_lt i b) p
+    (and_from (nat_le a i) (nat_lt i b) (le-leb a i from) (lt-ltb i b below)) holds
+
+pub between_parts : (a b i : ℕ) (p : Bool) → (nat_le a i && nat_lt i b && p) ≡ true
+    → (a ≤ i) × (i < b) × (p ≡ true)
+between_parts a b i p h =
+    let both = and_parts (nat_le a i && nat_lt i b) p h in
+    let ends = and_parts (nat_le a i) (nat_lt i b) both.0 in
+    (leb-true a i ends.0, ltb-true i b ends.1, both.1)
+
+-- ---- the numbers of a stretch
+
+pub range_with_len-split : (a n m : ℕ) → range_with_len a (n + m)
     ≡ range_with_len a n ++ range_with_len (a + n) m
 range_with_len-split a zero m =
     let all : 0 + m ≡ m = omega arith in
@@ -21,13 +41,6 @@ range_with_len-split a (suc n) m =
     ap (range_with_len a) more ∙ ap (λ l. a ∷ l)
     (range_with_len-split (a + 1) n m ∙ ap
     (λ k. range_with_len (a + 1) n ++ range_with_len k m) there)
-
--- the only element of a list
-only_one : {x i : ℕ} → Contains (x ∷ []) i → x ≡ i
-only_one {x} {i} h =
-    let inside = h.1 in
-    let first : h.0 ≡ 0 = omega arith in
-    sym (ap (λ k. get_or (x ∷ []) k i) first) ∙ h.2
 
 module _ (p : ℕ → Bool) where
   -- a stretch split at a number within it
@@ -116,71 +129,41 @@ module _ (p : ℕ → Bool) where
     length-range_with_len a n,
   )
 
-  pub length-indices_below : (a n m : ℕ) → ((i : ℕ) → p i ≡ true → i < m)
-      → length (indices_where p a n) ≤ m
-  length-indices_below a n m below =
-      let here : a ≡ 0 + a = omega arith in
-      let front = ap length (indices_where-split 0 a n)
-      ∙ length-append (indices_where p 0 a) (indices_where p (0 + a) n) in
-      let same = ap (λ k. length (indices_where p k n)) here in
-      elim (cases_lt m (a + n)) [
-        | inl cut ↦ omega (
-          arith,
-          ap length (indices_where-up_to m (a + n) (omega arith) below),
-          length-indices_where-le 0 m,
-        )
-        | inr whole ↦ omega (arith, length-indices_where-le 0 (a + n))
-      ]
-
   -- what is found is in the stretch, and the test holds of it
   pub indices_where-has : (a n i : ℕ) → a ≤ i → i < a + n → p i ≡ true
       → Contains (indices_where p a n) i
-  indices_where-has a zero i from to holds = absurd (omega arith)
-  indices_where-has a (suc n) i from to holds = elim (cases_eq a i) [
-    | inl here ↦
-        let kept : indices_where p a (suc n) ≡ a ∷ indices_where p (a + 1) n =
-        ap (λ b. cond b (a ∷ indices_where p (a + 1) n) (indices_where p (a + 1) n))
-        (ap p here ∙ holds) in
-        subst (λ (l : List ℕ). Contains l i) (sym kept) (0, omega arith, here)
-    | inr later ↦ either (p a) (indices_where-has (a + 1) n i (omega arith) (omega arith) holds)
-  ]
-    where
-      either : (b : Bool) → Contains (indices_where p (a + 1) n) i
-          → Contains (cond b (a ∷ indices_where p (a + 1) n) (indices_where p (a + 1) n)) i
-      either true h = Contains-append_right (a ∷ []) (indices_where p (a + 1) n) i h
-      either false h = h
+  indices_where-has a n i from to holds =
+      let others = a + n - (i + 1) in
+      let parts : n ≡ i - a + suc others = omega arith in
+      let here : a + (i - a) ≡ i = omega arith in
+      let whole : indices_where p a n
+      ≡ indices_where p a (i - a) ++ i ∷ indices_where p (i + 1) others =
+      ap (indices_where p a) parts ∙ indices_where-split a (i - a) (suc others)
+      ∙ rw (here, holds) refl in
+      subst (λ (l : List ℕ). Contains l i) (sym whole)
+      (Contains-append_right (indices_where p a (i - a)) _ i (0, omega arith, refl))
 
   pub indices_where-only : (a n i : ℕ) → Contains (indices_where p a n) i → (a ≤ i) × (i < a + n)
       × (p i ≡ true)
-  indices_where-only a zero i h = absurd (not_in_nothing h)
-    where
-      not_in_nothing : Contains {X = ℕ} [] i → ⊥
-      not_in_nothing h = let inside = h.1 in omega arith
-  indices_where-only a (suc n) i h = elim (split (p a) refl h) [
-    | inl here ↦ (omega (arith, here.0), omega (arith, here.0), here.1)
-    | inr later ↦ let rest = indices_where-only (a + 1) n i later in
-        (omega arith, omega arith, rest.2)
-  ]
-    where
-      split : (b : Bool) → p a ≡ b → Contains
-          (cond b (a ∷ indices_where p (a + 1) n) (indices_where p (a + 1) n)) i
-          → ((a ≡ i) × (p i ≡ true)) ⊎ Contains (indices_where p (a + 1) n) i
-      split true holds h = elim (Contains-append_cases (a ∷ []) (indices_where p (a + 1) n) i h) [
-        | inl first ↦ let same = only_one first in inl (same, ap p (sym same) ∙ holds)
-        | inr rest ↦ inr rest
-      ]
-      split false fails h = inr h
+  indices_where-only a n i h =
+      let numbers = range_with_len a n in
+      let long = length-range_with_len a n in
+      let within : All (λ j. (a ≤ j) × (j < a + n)) numbers = λ k d inside.
+      let there = get_or-range_with_len a n k d (omega arith) in
+      (omega arith, omega arith) in
+      let ends = All-contains (λ j. (a ≤ j) × (j < a + n)) (filter p numbers) i
+      (All-filter p (λ j. (a ≤ j) × (j < a + n)) numbers within) h in
+      (ends.0, ends.1, All-contains (λ j. p j ≡ true) (filter p numbers) i (filter_passes p numbers) h)
 
   -- ---- whether the test holds of some number there
 
   pub any-indices_where : (a n i : ℕ) → a ≤ i → i < a + n → p i ≡ true
       → list_any p (range_with_len a n) ≡ true
-  any-indices_where a zero i from to holds = absurd (omega arith)
-  any-indices_where a (suc n) i from to holds = elim (cases_eq i a) [
-    | inl here ↦ or_left (p a) (list_any p (range_with_len (a + 1) n)) (ap p (sym here) ∙ holds)
-    | inr later ↦ or_right (p a) (list_any p (range_with_len (a + 1) n))
-        (any-indices_where (a + 1) n i (omega arith) (omega arith) holds)
-  ]
+  any-indices_where a n i from to holds =
+      let long = length-range_with_len a n in
+      let there : get_or (range_with_len a n) (i - a) 0 ≡ i =
+      get_or-range_with_len a n (i - a) 0 (omega arith) ∙ omega arith in
+      list_any_at p (range_with_len a n) (i - a) 0 (omega arith) (ap p there ∙ holds)
 
   pub any-nothing : (a n : ℕ) → ((i : ℕ) → a ≤ i → i < a + n → p i ≡ false)
       → list_any p (range_with_len a n) ≡ false
@@ -189,17 +172,43 @@ module _ (p : ℕ → Bool) where
       (h a (omega arith) (omega arith)) (any-nothing (a + 1) n
       (λ i from to. h i (omega arith) (omega arith)))
 
+-- what a test holds of in one stretch is found in another that has all of it
+indices_where-moved : (p : ℕ → Bool) (a n b m : ℕ)
+    → ((i : ℕ) → a ≤ i → i < a + n → p i ≡ true → (b ≤ i) × (i < b + m))
+    → indices_where p a n ≡ indices_where (λ i. nat_le a i && nat_lt i (a + n) && p i) b m
+indices_where-moved p a n b m there =
+    let r = λ (i : ℕ). nat_le a i && nat_lt i (a + n) && p i in
+    let parts = λ (i : ℕ) (h : r i ≡ true). between_parts a (a + n) i (p i) h in
+    indices_where-same p r a n (λ i from below.
+    both_ways (p i) (r i) (between_from a (a + n) i from below) (λ h. (parts i h).2))
+    ∙ indices_where-both r a n b m (λ i h. ((parts i h).0, (parts i h).1))
+    (λ i h. let own = parts i h in there i own.0 own.1 own.2)
+
+pub length-indices_within : (p : ℕ → Bool) (a n b m : ℕ)
+    → ((i : ℕ) → a ≤ i → i < a + n → p i ≡ true → (b ≤ i) × (i < b + m))
+    → length (indices_where p a n) ≤ m
+length-indices_within p a n b m there = omega (
+  arith,
+  ap length (indices_where-moved p a n b m there),
+  length-indices_where-le (λ i. nat_le a i && nat_lt i (a + n) && p i) b m,
+)
+
+-- two tests find the same where each number is in both stretches, and both hold of it
+pub indices_where-alike : (p q : ℕ → Bool) (a n b m : ℕ)
+    → ((i : ℕ) → a ≤ i → i < a + n → p i ≡ true → (b ≤ i) × (i < b + m) × (q i ≡ true))
+    → ((i : ℕ) → b ≤ i → i < b + m → q i ≡ true → (a ≤ i) × (i < a + n) × (p i ≡ true))
+    → indices_where p a n ≡ indices_where q b m
+indices_where-alike p q a n b m there back =
+    indices_where-moved p a n b m (λ i from below h.
+    let other = there i from below h in (other.0, other.1))
+    ∙ indices_where-same (λ i. nat_le a i && nat_lt i (a + n) && p i) q b m (λ i from below.
+    both_ways _ (q i)
+    (λ h. let own = between_parts a (a + n) i (p i) h in (there i own.0 own.1 own.2).2)
+    (λ h. let own = back i from below h in between_from a (a + n) i own.0 own.1 own.2))
+
 -- where nothing is found the test holds nowhere
 pub nothing_there : (p : ℕ → Bool) (a n : ℕ) → indices_where p a n ≡ [] → (i : ℕ) → a ≤ i
     → i < a + n → p i ≡ false
-nothing_there p a zero none i low high = absurd (omega arith)
-nothing_there p a (suc n) none i low high =
-    let rest = indices_where p (a + 1) n in
-    elim (cases_Bool (p a)) [
-      | inl t ↦ absurd (omega (arith, ap length (sym (cond-true (p a) (a ∷ rest) rest t) ∙ none)))
-      | inr f ↦ elim (cases_eq i a) [
-        | inl here ↦ ap p here ∙ f
-        | inr on ↦ nothing_there p (a + 1) n (sym (cond-false (p a) (a ∷ rest) rest f) ∙ none) i
-            (omega arith) (omega arith)
-      ]
-    ]
+nothing_there p a n none i low high = false_from_ne_true (p i) (λ holds.
+    let there = rw none at (indices_where-has p a n i low high holds) in
+    absurd (omega (arith, there.1)))

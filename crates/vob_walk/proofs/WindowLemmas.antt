@@ -4,10 +4,10 @@ use Rattle.std.specs.declared.ops.Bound.{Bound}
 use Rattle.std.specs.declared.ops.Bound.TheVariants.{Included, Excluded}
 use Rattle.std.proofs.Common.{◌≡◌, ℕ, ◌+◌, ◌-◌, ◌*◌, ◌/◌, ◌<◌, ◌≤◌, Bool, true, false, ◌&&◌, nat_le}
 use Rattle.std.proofs.Common.{nat_lt, ◌==◌, List, [], length, refl, sym, ap, ◌∙◌, arith, inl, inr}
-use Rattle.std.proofs.Common.{add-mul, suc-mul, add-one, div-add-mod', mod-lt, div-mul-le_self}
+use Rattle.std.proofs.Common.{add-mul, div-mul-le_self}
 use Rattle.std.proofs.Common.{mul-div_cancel}
 use Rattle.std.proofs.lemmas.Bool.{cases_lt, and_from, and_left, and_right, and_parts, ltb-true}
-use Rattle.std.proofs.lemmas.Bool.{leb-true, lt-ltb, le-ltb, le-leb, eqb-true, eq-eqb, false_from_ne_true}
+use Rattle.std.proofs.lemmas.Bool.{leb-true, lt-ltb, le-leb, eqb-true, eq-eqb, false_from_ne_true}
 use Rattle.std.proofs.lemmas.Bool.{false≢true}
 use Rattle.std.proofs.lemmas.List.Sums.{length-filter}
 use Rattle.std.proofs.lemmas.Nat.{div_below, le-div, mul-le}
@@ -16,48 +16,28 @@ use Rattle.vob_block.proofs.NeedLemmas.{need_enough, need_least, mul-lt_from_nee
 use Rattle.vob_block.proofs.PackingLemmas.{length-unpacking, get_or-unpacking}
 use Rattle.vob_walk.specs.Matches.{from_start, up_to_end, within, has_value, matches, blocks_met, IsRangeOf}
 use Rattle.vob_walk.specs.Cursor.{indices_where, is_hit, unread}
-use Rattle.vob_walk.proofs.WhereLemmas.{indices_where-same, indices_where-nothing}
+use Rattle.vob_walk.proofs.WhereLemmas.{indices_where-same, indices_where-nothing, between_parts}
+use Rattle.vob_walk.proofs.ScanLemmas.{product-more}
 use Rattle.vob_walk.proofs.WhereLemmas.{indices_where-both, length-indices_all}
-use Rattle.vob_walk.proofs.WhereLemmas.{length-indices_below, any-indices_where, any-nothing}
+use Rattle.vob_walk.proofs.WhereLemmas.{length-indices_within, any-indices_where, any-nothing}
 
--- the indices below len within the bounds are those from start to below stop
-pub record IsWindow (low high : Bound ℕ) (len start stop : ℕ) : Type 0 where
-  pub ordered : start ≤ stop
-  pub inside : stop ≤ len
-  pub each : (i : ℕ) → (nat_le start i && nat_lt i stop) ≡ (nat_lt i len && within low high i)
-
-cut_tests : (l u s a f : Bool) → s ≡ (l && u) → (s ≡ true → a ≡ f) → (a && s) ≡ (l && (f && u))
-cut_tests true true s a f e h = ap (λ t. a && t) e ∙ ap (λ t. t && true) (h e)
-cut_tests true false s a f e h = and_right a s e ∙ sym (and_right f false refl)
-cut_tests false u s a f e h = and_right a s e
+cut_tests : (s a f : Bool) → (s ≡ true → a ≡ f) → (f && s) ≡ (a && s)
+cut_tests true a f same = ap (λ t. t && true) (sym (same refl))
+cut_tests false a f same = and_right f false refl ∙ sym (and_right a false refl)
 
 -- cut at the end first, and then at the start
-pub IsWindow-cut : (low high : Bound ℕ) (len start stop : ℕ) → stop ≤ len → start ≤ stop
+pub IsRangeOf-cut : (low high : Bound ℕ) (len start stop : ℕ) → stop ≤ len → start ≤ stop
     → ((i : ℕ) → nat_lt i stop ≡ (nat_lt i len && up_to_end high i))
     → ((i : ℕ) → i < stop → nat_le start i ≡ from_start low i)
-    → IsWindow low high len start stop
-IsWindow-cut low high len start stop shorter ordered ends starts = record {
-  ordered = ordered;
+    → IsRangeOf low high len start stop
+IsRangeOf-cut low high len start stop shorter ordered ends starts = record {
+  order = ordered;
   inside = shorter;
-  each = λ i. cut_tests (nat_lt i len) (up_to_end high i) (nat_lt i stop) (nat_le start i)
-      (from_start low i) (ends i) (λ below. starts i (ltb-true i stop below));
+  each = λ i inside.
+      let end = ends i ∙ ap (λ b. b && up_to_end high i) (lt-ltb i len inside) in
+      ap (λ b. from_start low i && b) (sym end) ∙ cut_tests (nat_lt i stop) (nat_le start i)
+      (from_start low i) (λ below. starts i (ltb-true i stop below));
 }
-
--- from the indices below len alone
-pub IsWindow-range : {low high : Bound ℕ} {len start stop : ℕ} → IsRangeOf low high len start stop
-    → IsWindow low high len start stop
-IsWindow-range {low} {high} {len} {start} {stop} range =
-    let inside = range.inside in
-    record {
-      ordered = range.order;
-      inside = inside;
-      each = λ i. elim (cases_lt i len) [
-        | inl below ↦ sym (range.each i below)
-            ∙ sym (ap (λ b. b && within low high i) (lt-ltb i len below))
-        | inr past ↦ and_right (nat_le start i) (nat_lt i stop) (le-ltb i stop (omega (arith, past, inside)))
-            ∙ sym (and_left (nat_lt i len) (within low high i) (le-ltb i len past))
-      ];
-    }
 
 -- indices are the range of themselves
 pub IsRangeOf-own : (start stop len : ℕ) → start ≤ stop → stop ≤ len
@@ -65,20 +45,16 @@ pub IsRangeOf-own : (start stop len : ℕ) → start ≤ stop → stop ≤ len
 IsRangeOf-own start stop len order inside =
     record { order = order; inside = inside; each = λ i _. refl }
 
-module _ {low high : Bound ℕ} {n start stop : ℕ} (window : IsWindow low high n start stop) where
-  -- at an index below n the bounds and the window ask the same
-  pub within-window : (i : ℕ) → i < n → within low high i ≡ (nat_le start i && nat_lt i stop)
-  within-window i below = sym (window.each i ∙ ap (λ b. b && within low high i) (lt-ltb i n below))
-
+module _ {low high : Bound ℕ} {n start stop : ℕ} (window : IsRangeOf low high n start stop) where
   in_window : (i : ℕ) → i < n → within low high i ≡ true → (start ≤ i) × (i < stop)
   in_window i below holds =
-      let both = and_parts (nat_le start i) (nat_lt i stop) (sym (within-window i below) ∙ holds) in
+      let both = and_parts (nat_le start i) (nat_lt i stop) (sym (window.each i below) ∙ holds) in
       (leb-true start i both.0, ltb-true i stop both.1)
 
   from_window : (i : ℕ) → start ≤ i → i < stop → within low high i ≡ true
   from_window i from below =
       let inside = window.inside in
-      within-window i (omega arith) ∙ and_from (nat_le start i) (nat_lt i stop)
+      window.each i (omega arith) ∙ and_from (nat_le start i) (nat_lt i stop)
       (le-leb start i from) (lt-ltb i stop below)
 
 -- ---- the blocks from that of index start to the last that stop bits need
@@ -92,23 +68,10 @@ module _ (w : ℕ) (wide : 0 < w) where
 
   pub div-le-need : (start stop : ℕ) → start ≤ stop → start / w ≤ need stop w
   div-le-need start stop h =
-      let more : (need stop w + 1) * w ≡ need stop w * w + w =
-      ap (λ k. k * w) (add-one (need stop w)) ∙ suc-mul (need stop w) w in
+      let more = product-more w (need stop w) in
       let below = div_below start w (need stop w + 1) wide
       (omega (arith, need_enough w wide stop)) in
       omega arith
-
-  -- each block but the first has no index before start
-  pub le-mul_from_div : (start k : ℕ) → start / w < k → start ≤ k * w
-  le-mul_from_div start k h =
-      let more : (start / w + 1) * w ≡ start / w * w + w =
-      ap (λ q. q * w) (add-one (start / w)) ∙ suc-mul (start / w) w in
-      omega (
-        arith,
-        mul-le (start / w + 1) w k w (omega arith) (omega arith),
-        div-add-mod' start w,
-        mod-lt start wide,
-      )
 
   product_between : (k end : ℕ) → k ≤ end → k * w + (end - k) * w ≡ end * w
   product_between k end h =
@@ -118,29 +81,18 @@ module _ (w : ℕ) (wide : 0 < w) where
 -- ---- what is left of some blocks
 
 module _ (w : ℕ) (xs : List ℕ) (value : Bool) (start stop : ℕ) where
-  hit_between : (i : ℕ) → is_hit w xs value start stop i ≡ true → (start ≤ i) × (i < stop)
-  hit_between i holds =
-      let first = and_parts (nat_le start i && nat_lt i stop) (has_value value (bit_at xs w i))
-      holds in
-      let both = and_parts (nat_le start i) (nat_lt i stop) first.0 in
-      (leb-true start i both.0, ltb-true i stop both.1)
-
-  pub unread-nothing : (k end : ℕ) → end ≤ k → unread w xs value start stop k end ≡ []
-  unfolding unread
-  unread-nothing k end h =
-      let none : (end - k) * w ≡ 0 * w = ap (λ m. m * w) (omega arith) in
-      indices_where-nothing (λ i. is_hit w xs value start stop i) (k * w) ((end - k) * w)
-      (λ i from below. absurd (omega arith))
-
   pub length-unread-le : (k end : ℕ) → length (unread w xs value start stop k end) ≤ stop
   unfolding unread
-  length-unread-le k end = length-indices_below (λ i. is_hit w xs value start stop i) (k * w)
-      ((end - k) * w) stop (λ i holds. (hit_between i holds).1)
+  length-unread-le k end =
+      length-indices_within (is_hit w xs value start stop) (k * w) ((end - k) * w) 0 stop
+      (λ i from below holds.
+      let hit = between_parts start stop i (has_value value (bit_at xs w i)) holds in
+      (omega arith, omega arith))
 
 -- ---- a window over the first n bits of some blocks
 
 module _ (w : ℕ) (wide : 0 < w) {low high : Bound ℕ} {n start stop : ℕ}
-    (window : IsWindow low high n start stop) where
+    (window : IsRangeOf low high n start stop) where
   -- the bits that match within the bounds are the hits in the blocks that the window meets
   pub matches-hits : (xs : List ℕ) (value : Bool) → matches (unpacking n xs w) value low high
       ≡ unread w xs value start stop (start / w) (need stop w)
@@ -150,14 +102,15 @@ module _ (w : ℕ) (wide : 0 < w) {low high : Bound ℕ} {n start stop : ℕ}
       let test = λ (i : ℕ). within low high i && has_value value (item bits i) in
       let hit = λ (i : ℕ). is_hit w xs value start stop i in
       let agree = λ (i : ℕ) (from : 0 ≤ i) (below : i < 0 + n).
-      ap (λ b. b && has_value value (item bits i)) (within-window window i (omega arith))
+      ap (λ b. b && has_value value (item bits i)) (window.each i (omega arith))
       ∙ ap (λ b. (nat_le start i && nat_lt i stop) && has_value value b)
       (get_or-unpacking n xs w i false (omega arith)) in
-      let between = hit_between w xs value start stop in
+      let between = λ (i : ℕ) (holds : hit i ≡ true).
+      between_parts start stop i (has_value value (bit_at xs w i)) holds in
       let first = div-mul-le_self start w in
       let last = need_enough w wide stop in
       let blocks = product_between w wide (start / w) (need stop w)
-      (div-le-need w wide start stop window.ordered) in
+      (div-le-need w wide start stop window.order) in
       let shorter = window.inside in
       ap (λ m. indices_where test 0 m) (length-unpacking n xs w)
       ∙ indices_where-same test hit 0 n agree
@@ -226,7 +179,7 @@ module _ (w : ℕ) (wide : 0 < w) {low high : Bound ℕ} {n start stop : ℕ}
   pub blocks_met-window : start < stop → blocks_met low high n w ≡ need stop w - start / w
   unfolding blocks_met
   blocks_met-window some =
-      let ordered = div-le-need w wide start stop window.ordered in
+      let ordered = div-le-need w wide start stop window.order in
       let few = need-le_self w wide stop in
       let shorter = window.inside in
       sym (length-filter meets (range_with_len 0 n))

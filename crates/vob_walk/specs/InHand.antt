@@ -1,5 +1,6 @@
 -- Within the crate: a block in hand at an end of a walk. No public contract cites this page.
-use Rattle.std.specs.Prelude.{◌≡◌, ℕ, ◌+◌, ◌-◌, ◌^◌, ◌<◌, ◌≤◌, true, ◌==◌, if◌then◌else◌, List, [], length}
+use Rattle.std.specs.Prelude.{◌≡◌, ℕ, ◌+◌, ◌-◌, ◌^◌, ◌<◌, ◌≤◌, true, List, [], ◌++◌, length}
+use Rattle.std.specs.List.{range_with_len}
 use Rattle.vob_block.specs.Places.{place, HasZerosLow}
 use Rattle.vob_walk.specs.Cursor.{block_indices}
 
@@ -21,13 +22,13 @@ pub record IsFrontBits (width : ℕ) (places : List ℕ) (first run : ℕ) : Typ
   pub fits : first + run < 2 ^ 64
   pub alone : 0 < run → places ≡ []
 
--- the block in hand at the back: the lowest places of a run, or else the word
-abbrev pub held : ℕ → ℕ → ℕ
-held run word = if run == 0 then word else 2 ^ run - 1
+-- the indices in hand at the back: those of true places, and a run of them from place 0 on
+abbrev pub back_indices : ℕ → ℕ → ℕ → ℕ → List ℕ
+back_indices width at word past = block_indices width at word ++ range_with_len at (past - at)
 
--- a block in hand at the back, with a run up to index past; beside a run the word is 0
+-- a block in hand at the back: some places, or a run up to index past; beside a run the word is 0
 pub record IsBackBits (width at word past : ℕ) : Type 0 where
-  pub bits : IsBlockBits width at (held (past - at) word)
+  pub bits : IsBlockBits width at word
   pub order : at ≤ past
   pub inside : past ≤ at + width
   pub alone : at < past → word ≡ 0

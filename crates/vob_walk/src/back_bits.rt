@@ -21,13 +21,12 @@ pub(crate) struct BackBits<T: BitBlock> {
 }
 
 impl<T: BitBlock> Model for BackBits<T> {
-    ghost use Rattle.std.specs.Prelude.{ℕ, ◌-◌, List};
-    ghost use Rattle.vob_walk.specs.Cursor.{block_indices};
-    ghost use Rattle.vob_walk.specs.InHand.{held, IsBackBits};
+    ghost use Rattle.std.specs.Prelude.{ℕ, List};
+    ghost use Rattle.vob_walk.specs.InHand.{back_indices, IsBackBits};
 
     ghost Value = { List ℕ };
 
-    ghost view = { λ bits. block_indices T.BITS bits.at (held (bits.past - bits.at) (T.number bits.word)) };
+    ghost view = { λ bits. back_indices T.BITS bits.at (T.number bits.word) bits.past };
 
     ghost invariant = { λ bits. IsBackBits T.BITS bits.at (T.number bits.word) bits.past };
 }

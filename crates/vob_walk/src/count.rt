@@ -72,40 +72,40 @@ fn ones_in_block<T: BitBlock>(
     masked(blocks.block(k), k, window).ones_in()
 }
 
-/// How many places are true in the blocks from `from` to below `to`. Reads each of them once.
-fn ones_in_blocks<T: BitBlock>(blocks: &mut Blocks<'_, T>, from: usize, to: usize) -> usize
-    requires order { from ≤ to }
-    requires count { to ≤ length blocks.old.items }
-    requires fits { to * T.BITS ≤ usize.MAX }
-    ensures ones { result ≡ ones_between T.BITS (map T.number blocks.old.items) (from * T.BITS) (to * T.BITS) }
-    ensures reads { blocks.new.reads ≡ blocks.old.reads + (to - from) }
+/// How many places are true in the blocks from `start` to below `end`. Reads each of them once.
+fn ones_in_blocks<T: BitBlock>(blocks: &mut Blocks<'_, T>, start: usize, end: usize) -> usize
+    requires order { start ≤ end }
+    requires count { end ≤ length blocks.old.items }
+    requires fits { end * T.BITS ≤ usize.MAX }
+    ensures ones { result ≡ ones_between T.BITS (map T.number blocks.old.items) (start * T.BITS) (end * T.BITS) }
+    ensures reads { blocks.new.reads ≡ blocks.old.reads + (end - start) }
     ensures items { blocks.new.items ≡ blocks.old.items }
 {
-    let half = (to - from) / 2;
-    let ones = ones_in_halves(blocks, from, half);
-    let last = from + half + half;
-    if last < to {
+    let half = (end - start) / 2;
+    let ones = ones_in_halves(blocks, start, half);
+    let last = start + half + half;
+    if last < end {
         ones + blocks.block(last).ones_in()
     } else {
         ones
     }
 }
 
-/// How many places are true in twice `half` blocks from `from` on. Reads each of them once: those of
+/// How many places are true in twice `half` blocks from `start` on. Reads each of them once: those of
 /// both halves side by side, so that no count waits for the one before, in a loop that a compiler
 /// still turns into one over vectors where the processor has them for it.
 #[inline(always)]
-fn ones_in_halves<T: BitBlock>(blocks: &mut Blocks<'_, T>, from: usize, half: usize) -> usize
-    requires count { from + half + half ≤ length blocks.old.items }
-    requires fits { (from + half + half) * T.BITS ≤ usize.MAX }
+fn ones_in_halves<T: BitBlock>(blocks: &mut Blocks<'_, T>, start: usize, half: usize) -> usize
+    requires count { start + half + half ≤ length blocks.old.items }
+    requires fits { (start + half + half) * T.BITS ≤ usize.MAX }
     ensures ones { result ≡ ones_between T.BITS (map T.number blocks.old.items)
-        (from * T.BITS) ((from + half + half) * T.BITS) }
+        (start * T.BITS) ((start + half + half) * T.BITS) }
     ensures reads { blocks.new.reads ≡ blocks.old.reads + half + half }
     ensures items { blocks.new.items ≡ blocks.old.items }
 {
     let mut low = 0;
     let mut high = 0;
-    for k in from..from + half {
+    for k in start..start + half {
         low += blocks.block(k).ones_in();
         high += blocks.block(k + half).ones_in();
     }

@@ -4,14 +4,16 @@ ghost use Rattle.std.specs.Prelude.{ℕ, ◌≡◌, ◌≤◌, ◌∷◌, ◌++�
 ghost use Rattle.std.specs.Iterator.{YieldsFirst, YieldsLast, MakesProgress, item_count};
 ghost use Rattle.vob_block.specs.Packing.{need, unpacking};
 ghost use Rattle.std.specs.declared.ops.Bound.{Bound};
-ghost use Rattle.vob_walk.specs.Matches.{IsRangeOf};
+ghost use Rattle.vob_walk.specs.Matches.{ForSomeRange};
 ghost use Rattle.vob_walk.specs.Walk.{Walk, IsWhole, IsPulled, end_item, without_end};
 
 use crate::back_bits::BackBits;
 use crate::front_bits::FrontBits;
+use crate::range::cut_range;
 use crate::scan::Unread;
 use crate::walk::End;
 use std::marker::Model;
+use std::ops::RangeBounds;
 use vob_block::{BitBlock, Blocks};
 
 /// A walk over the indices of the bits of one value: those in hand at either end, and the blocks
@@ -85,20 +87,22 @@ fn fill_back<T: BitBlock>(
 }
 
 impl<'a, T: BitBlock> Cursor<'a, T> {
-    /// A walk over the indices from `start` to below `stop`.
-    pub(crate) fn over(
+    /// A walk over the first `len` bits of some blocks, within a range.
+    pub(crate) fn over<R: RangeBounds<usize>>(
         blocks: Blocks<'a, T>,
         value: bool,
-        start: usize,
-        stop: usize,
+        len: usize,
+        range: &R,
     ) -> Cursor<'a, T>
-        requires order { start ≤ stop }
-        requires enough { need stop T.BITS ≤ length blocks.items }
-        ensures whole { (low high : Bound ℕ) (len : ℕ) → IsRangeOf low high len start stop
+        requires { length blocks.items ≡ need len T.BITS }
+        ensures whole { R.has_bounds range.now
             → IsWhole result (unpacking len (map T.number blocks.entry.items) T.BITS) value
-            low high T.BITS }
+            (R.start_bound range.now) (R.end_bound range.now) T.BITS }
+        ensures some { ForSomeRange len (λ low high. IsWhole result
+            (unpacking len (map T.number blocks.entry.items) T.BITS) value low high T.BITS) }
         ensures reads { result.reads ≡ blocks.entry.reads }
     {
+        let (start, stop) = cut_range(range, len);
         Cursor {
             unread: Unread::over(blocks, value, start, stop),
             front: FrontBits::none(),

@@ -8,7 +8,6 @@ ghost use Rattle.vob_walk.specs.Matches.{ForSomeRange};
 ghost use Rattle.vob_walk.specs.Walk.{IsWhole, GivesFirst, GivesLast};
 
 use crate::cursor::Cursor;
-use crate::range::cut_range;
 use crate::walk::{End, IndexWalk};
 use std::iter::FusedIterator;
 use std::marker::Model;
@@ -48,9 +47,8 @@ impl<'a, T: Block> IterSetBits<'a, T> {
         ensures runs { YieldsInOrder GivesFirst (λ walk. walk.rest) }
         ensures runs_back { YieldsInReverse GivesLast (λ walk. walk.rest) }
     {
-        let (start, stop) = cut_range(&range, len);
         IterSetBits {
-            cursor: Cursor::over(blocks, true, start, stop),
+            cursor: Cursor::over(blocks, true, len, &range),
         }
     }
 
@@ -136,9 +134,8 @@ impl<'a, T: Block> IterUnsetBits<'a, T> {
         ensures runs { YieldsInOrder GivesFirst (λ walk. walk.rest) }
         ensures runs_back { YieldsInReverse GivesLast (λ walk. walk.rest) }
     {
-        let (start, stop) = cut_range(&range, len);
         IterUnsetBits {
-            cursor: Cursor::over(blocks, false, start, stop),
+            cursor: Cursor::over(blocks, false, len, &range),
         }
     }
 

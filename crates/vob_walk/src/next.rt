@@ -5,7 +5,8 @@ ghost use Rattle.vob_block.specs.Packing.{need};
 ghost use Rattle.vob_walk.specs.Next.{HasNoBit, IsFirstBit, IsLastBit, IsFirstPlace, IsLastPlace, FindsUp, FindsDown};
 
 use crate::block_bits::is_zero;
-use crate::skip::{first_other, last_other};
+use crate::skip::{Span, next_other};
+use crate::walk::End;
 use crate::window::{bits_of_value, block_without};
 use vob_block::{BitBlock, Blocks};
 
@@ -76,8 +77,12 @@ pub fn next_in_hand<T: BitBlock>(
         let at = k * T::BITS;
         return (at + place.min(len - at), block);
     }
-    let end = len.div_ceil(T::BITS);
-    let Some(found) = first_other(blocks, block_without(value), k + 1, end) else {
+    let rest = Span {
+        side: End::Front,
+        start: k + 1,
+        end: len.div_ceil(T::BITS),
+    };
+    let Some(found) = next_other(blocks, block_without(value), rest) else {
         return (len, block);
     };
     found.1.in_range();
@@ -97,7 +102,12 @@ fn past_last_index_of<T: BitBlock>(blocks: &mut Blocks<'_, T>, value: bool, upto
     if end > 0 {
         return k * T::BITS + end;
     }
-    let Some(found) = last_other(blocks, block_without(value), 0, k) else {
+    let rest = Span {
+        side: End::Back,
+        start: 0,
+        end: k,
+    };
+    let Some(found) = next_other(blocks, block_without(value), rest) else {
         return 0;
     };
     found.1.in_range();

@@ -14,8 +14,8 @@ pub fn cut_range<R: RangeBounds<usize>>(range: &R, len: usize) -> (usize, usize)
     ensures window { R.has_bounds range.now
         → IsRangeOf (R.start_bound range.now) (R.end_bound range.now) len result.0 result.1 }
 {
-    let to = past_last_index(range, len);
-    (first_index(range, to), to)
+    let stop = past_last_index(range, len);
+    (first_index(range, stop), stop)
 }
 
 /// Returns the exclusive end of the indices that meet the end of the range, at most `len`.

@@ -4,96 +4,57 @@ ghost use Rattle.std.specs.Prelude.{◌≡◌, ℕ, ◌+◌, ◌-◌, ◌*◌, �
 ghost use Rattle.vob_block.specs.Packing.{need, unpacking};
 ghost use Rattle.std.specs.declared.ops.Bound.{Bound};
 ghost use Rattle.vob_walk.specs.Matches.{matches, blocks_met, IsRangeOf};
-ghost use Rattle.vob_walk.specs.Cursor.{indices_in, unread};
-ghost use Rattle.vob_walk.specs.Skip.{ReadsUp, ReadsDown};
+ghost use Rattle.vob_walk.specs.Cursor.{block_indices, indices_in, unread};
+ghost use Rattle.vob_walk.specs.InHand.{IsBlockBits};
+ghost use Rattle.vob_walk.specs.Skip.{Reads, beside};
 
 use crate::back_bits::BackBits;
+use crate::block_bits::is_zero;
 use crate::count::count_between;
 use crate::front_bits::FrontBits;
 use crate::range::blocks_of;
-use crate::skip::{first_other, last_other};
+use crate::skip::{Span, next_other};
+use crate::walk::End;
 use crate::window::{Window, block_without, masked};
 use std::marker::Model;
 use vob_block::{BitBlock, Blocks};
 
-/// The indices that the window looks for in block `k`.
+/// The places of block `k` that the window looks for, and the index of its place 0.
 #[inline(always)]
-fn bits_in<T: BitBlock>(block: T, k: usize, window: Window) -> FrontBits<T>
+fn bits_in<T: BitBlock>(block: T, k: usize, window: Window) -> (T, usize)
     requires { k * T.BITS < window.stop }
-    ensures { result ≡ indices_in T.BITS (T.number block) (k * T.BITS) window.value window.start
-        window.stop }
+    ensures bits { IsBlockBits T.BITS result.1 (T.number result.0) }
+    ensures indices { block_indices T.BITS result.1 (T.number result.0)
+        ≡ indices_in T.BITS (T.number block) (k * T.BITS) window.value window.start window.stop }
 {
-    FrontBits::of(masked(block, k, window), k * T::BITS)
+    (masked(block, k, window), k * T::BITS)
 }
 
-/// The same, to be given from the last one on.
+/// Reads blocks from an end of the span until one has an index to give, and returns its places. If
+/// none has, all are read, and no place is true.
 #[inline(always)]
-fn back_bits_in<T: BitBlock>(block: T, k: usize, window: Window) -> BackBits<T>
-    requires { k * T.BITS < window.stop }
-    ensures { result ≡ indices_in T.BITS (T.number block) (k * T.BITS) window.value window.start
-        window.stop }
-{
-    BackBits::of(masked(block, k, window), k * T::BITS)
-}
-
-/// Reads blocks from `next` on until one has an index to give, and answers that one's. Where none
-/// has, all up to `end` are read.
-#[inline(always)]
-fn find_front<T: BitBlock>(
-    blocks: &mut Blocks<'_, T>,
-    window: Window,
-    next: &mut usize,
-    end: usize,
-) -> FrontBits<T>
-    requires order { next.old ≤ end }
-    requires count { end ≤ length blocks.old.items }
-    requires below { (k : ℕ) → k < end → k * T.BITS < window.stop }
-    ensures reads { ReadsUp T.number (λ xs. unread T.BITS xs window.value window.start window.stop)
-        blocks.old blocks.new next.old end next.new result }
-    ensures none { result ≡ [] → next.new ≡ end }
+fn find<T: BitBlock>(blocks: &mut Blocks<'_, T>, window: Window, span: &mut Span) -> (T, usize)
+    requires order { span.old.start ≤ span.old.end }
+    requires count { span.old.end ≤ length blocks.old.items }
+    requires below { (k : ℕ) → k < span.old.end → k * T.BITS < window.stop }
+    ensures bits { IsBlockBits T.BITS result.1 (T.number result.0) }
+    ensures reads { Reads span.old.side T.number
+        (λ xs. unread T.BITS xs window.value window.start window.stop) blocks.old blocks.new
+        span.old.start span.old.end span.new.start span.new.end
+        (block_indices T.BITS result.1 (T.number result.0)) }
+    ensures none { block_indices T.BITS result.1 (T.number result.0) ≡ []
+        → span.new.start ≡ span.new.end }
 {
     let skip = block_without(window.value);
-    let mut from = *next;
-    while let Some(found) = first_other(blocks, skip, from, end) {
-        from = found.0 + 1;
-        let bits = bits_in(found.1, found.0, window);
-        if !bits.is_empty() {
-            *next = from;
-            return bits;
+    while let Some(found) = next_other(blocks, skip, *span) {
+        span.pass(found.0);
+        let (word, at) = bits_in(found.1, found.0, window);
+        if !is_zero(word) {
+            return (word, at);
         }
     }
-    *next = end;
-    FrontBits::none()
-}
-
-/// Reads blocks from below `end` down until one has an index to give, and answers that one's. Where
-/// none has, all down to `next` are read.
-#[inline(always)]
-fn find_back<T: BitBlock>(
-    blocks: &mut Blocks<'_, T>,
-    window: Window,
-    next: usize,
-    end: &mut usize,
-) -> BackBits<T>
-    requires order { next ≤ end.old }
-    requires count { end.old ≤ length blocks.old.items }
-    requires below { (k : ℕ) → k < end.old → k * T.BITS < window.stop }
-    ensures reads { ReadsDown T.number (λ xs. unread T.BITS xs window.value window.start window.stop)
-        blocks.old blocks.new next end.old end.new result }
-    ensures none { result ≡ [] → end.new ≡ next }
-{
-    let skip = block_without(window.value);
-    let mut till = *end;
-    while let Some(found) = last_other(blocks, skip, next, till) {
-        till = found.0;
-        let bits = back_bits_in(found.1, found.0, window);
-        if !bits.is_empty() {
-            *end = till;
-            return bits;
-        }
-    }
-    *end = next;
-    BackBits::none()
+    span.start = span.end;
+    (T::ZERO, 0)
 }
 
 /// The blocks that neither end of a walk has read, from `next` to below `end`, and what is looked
@@ -151,6 +112,28 @@ impl<'a, T: BitBlock> Unread<'a, T> {
         }
     }
 
+    /// The places of the next block from an end that has an index, which is read, and the index of
+    /// its place 0.
+    #[inline(always)]
+    fn next_block(&mut self, side: End) -> (T, usize)
+        ensures bits { IsBlockBits T.BITS result.1 (T.number result.0) }
+        ensures rest { beside side (block_indices T.BITS result.1 (T.number result.0)) self.new.rest
+            ≡ self.old.rest }
+        ensures none { block_indices T.BITS result.1 (T.number result.0) ≡ [] → self.new.rest ≡ [] }
+        ensures falls { self.new.left ≤ self.old.left }
+        ensures reads { self.new.reads + self.new.left ≡ self.old.reads + self.old.left }
+    {
+        let mut span = Span {
+            side,
+            start: self.next,
+            end: self.end,
+        };
+        let found = find(&mut self.blocks, self.window, &mut span);
+        self.next = span.start;
+        self.end = span.end;
+        found
+    }
+
     /// The indices of the first block that has some, which is read.
     #[inline(always)]
     pub(crate) fn next_bits(&mut self) -> FrontBits<T>
@@ -159,7 +142,8 @@ impl<'a, T: BitBlock> Unread<'a, T> {
         ensures falls { self.new.left ≤ self.old.left }
         ensures reads { self.new.reads + self.new.left ≡ self.old.reads + self.old.left }
     {
-        find_front(&mut self.blocks, self.window, &mut self.next, self.end)
+        let (word, at) = self.next_block(End::Front);
+        FrontBits::of(word, at)
     }
 
     /// The indices of the last block that has some, which is read.
@@ -170,7 +154,8 @@ impl<'a, T: BitBlock> Unread<'a, T> {
         ensures falls { self.new.left ≤ self.old.left }
         ensures reads { self.new.reads + self.new.left ≡ self.old.reads + self.old.left }
     {
-        find_back(&mut self.blocks, self.window, self.next, &mut self.end)
+        let (word, at) = self.next_block(End::Back);
+        BackBits::of(word, at)
     }
 
     /// How many indices these blocks have.

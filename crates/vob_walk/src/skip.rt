@@ -1,83 +1,115 @@
 //! The next block, from either end of some blocks, that isn't the one to be skipped. The scans do
 //! nothing else, and take four blocks a turn, so that they are no slower than memory is.
-ghost use Rattle.std.specs.Prelude.{◌+◌, ◌-◌, ◌*◌, ◌<◌, ◌≤◌, length};
-ghost use Rattle.vob_walk.specs.Skip.{ScansUp, ScansDown};
+ghost use Rattle.std.specs.Prelude.{◌≡◌, ◌+◌, ◌-◌, ◌*◌, ◌<◌, ◌≤◌, length};
+ghost use Rattle.vob_walk.specs.Skip.{from_end, other_end, side_start, side_end, Steps, Scans};
 
+use crate::walk::End;
 use vob_block::{BitBlock, Blocks};
 
-/// BitBlock `k` with its number, where it isn't `skip`.
-#[inline(always)]
-fn other_at<T: BitBlock>(blocks: &mut Blocks<'_, T>, skip: T, k: usize) -> Option<(usize, T)>
-    requires { k < length blocks.old.items }
-    ensures up { ScansUp T.number skip blocks.old blocks.new k (k + 1) result }
-    ensures down { ScansDown T.number skip blocks.old blocks.new k (k + 1) result }
-{
-    let block = blocks.block(k);
-    if block == skip {
-        None
-    } else {
-        Some((k, block))
+/// The blocks from `start` to below `end`, to be taken from one end.
+#[derive(Clone, Copy)]
+pub(crate) struct Span {
+    pub(crate) side: End,
+    pub(crate) start: usize,
+    pub(crate) end: usize,
+}
+
+impl Span {
+    /// The number of the block that is taken after `i` others and `j` more.
+    #[inline(always)]
+    fn nth(self, i: usize, j: usize) -> usize
+        requires { self.start + (i + j) < self.end }
+        ensures number { result ≡ from_end self.side self.start self.end (i + j) }
+        ensures below { result < self.end }
+    {
+        match self.side {
+            End::Front => self.start + i + j,
+            End::Back => self.end - 1 - i - j,
+        }
+    }
+
+    /// The block after `i` others and `j` more, if it isn't `skip`: how many these are, its number and
+    /// the block. If `j` is a constant, it is part of an address.
+    #[inline(always)]
+    fn other_at<T: BitBlock>(
+        self,
+        blocks: &mut Blocks<'_, T>,
+        skip: T,
+        i: usize,
+        j: usize,
+    ) -> Option<(usize, usize, T)>
+        requires inside { self.start + (i + j) < self.end }
+        requires count { self.end ≤ length blocks.old.items }
+        ensures { Steps T.number skip (from_end self.side self.start self.end) blocks.old blocks.new
+            (i + j) (i + j + 1) result }
+    {
+        let k = self.nth(i, j);
+        let block = blocks.block(k);
+        if block == skip {
+            None
+        } else {
+            Some((i + j, k, block))
+        }
+    }
+
+    /// Takes the blocks up to block `k`, which leaves those at its other side.
+    #[inline(always)]
+    pub(crate) fn pass(&mut self, k: usize)
+        requires { k < self.old.end }
+        ensures side { self.new.side ≡ self.old.side }
+        ensures start { self.new.start ≡ side_start (other_end self.old.side) self.old.start k }
+        ensures end { self.new.end ≡ side_end (other_end self.old.side) self.old.end k }
+    {
+        match self.side {
+            End::Front => self.start = k + 1,
+            End::Back => self.end = k,
+        }
     }
 }
 
-/// The first of the four blocks from `k` on that isn't `skip`, with its number.
+/// The first of four blocks after `i` others that isn't `skip`.
 #[inline(always)]
-fn first_of_four<T: BitBlock>(blocks: &mut Blocks<'_, T>, skip: T, k: usize) -> Option<(usize, T)>
-    requires count { k + 4 ≤ length blocks.old.items }
-    requires fits { k + 4 ≤ usize.MAX }
-    ensures { ScansUp T.number skip blocks.old blocks.new k (k + 4) result }
+fn first_of_four<T: BitBlock>(
+    blocks: &mut Blocks<'_, T>,
+    skip: T,
+    span: Span,
+    i: usize,
+) -> Option<(usize, usize, T)>
+    requires inside { span.start + i + 4 ≤ span.end }
+    requires count { span.end ≤ length blocks.old.items }
+    ensures { Steps T.number skip (from_end span.side span.start span.end) blocks.old blocks.new i
+        (i + 4) result }
 {
-    let first = other_at(blocks, skip, k);
+    let first = span.other_at(blocks, skip, i, 0);
     if first.is_some() {
         return first;
     }
-    let second = other_at(blocks, skip, k + 1);
+    let second = span.other_at(blocks, skip, i, 1);
     if second.is_some() {
         return second;
     }
-    let third = other_at(blocks, skip, k + 2);
+    let third = span.other_at(blocks, skip, i, 2);
     if third.is_some() {
         return third;
     }
-    other_at(blocks, skip, k + 3)
+    span.other_at(blocks, skip, i, 3)
 }
 
-/// The last of the four blocks below `end` that isn't `skip`, with its number.
-#[inline(always)]
-fn last_of_four<T: BitBlock>(blocks: &mut Blocks<'_, T>, skip: T, end: usize) -> Option<(usize, T)>
-    requires four { 4 ≤ end }
-    requires count { end ≤ length blocks.old.items }
-    ensures { ScansDown T.number skip blocks.old blocks.new (end - 4) end result }
-{
-    let last = other_at(blocks, skip, end - 1);
-    if last.is_some() {
-        return last;
-    }
-    let third = other_at(blocks, skip, end - 2);
-    if third.is_some() {
-        return third;
-    }
-    let second = other_at(blocks, skip, end - 3);
-    if second.is_some() {
-        return second;
-    }
-    other_at(blocks, skip, end - 4)
-}
-
-/// The first block of `fours` times four, from `from` on, that isn't `skip`.
+/// The first of `fours` times four blocks.
 #[inline(always)]
 fn first_of_fours<T: BitBlock>(
     blocks: &mut Blocks<'_, T>,
     skip: T,
-    from: usize,
+    span: Span,
     fours: usize,
-) -> Option<(usize, T)>
-    requires count { from + 4 * fours ≤ length blocks.old.items }
-    requires fits { from + 4 * fours ≤ usize.MAX }
-    ensures { ScansUp T.number skip blocks.old blocks.new from (from + 4 * fours) result }
+) -> Option<(usize, usize, T)>
+    requires inside { span.start + 4 * fours ≤ span.end }
+    requires count { span.end ≤ length blocks.old.items }
+    ensures { Steps T.number skip (from_end span.side span.start span.end) blocks.old blocks.new 0
+        (4 * fours) result }
 {
     for four in 0..fours {
-        let found = first_of_four(blocks, skip, from + 4 * four);
+        let found = first_of_four(blocks, skip, span, 4 * four);
         if found.is_some() {
             return found;
         }
@@ -85,41 +117,21 @@ fn first_of_fours<T: BitBlock>(
     None
 }
 
-/// The last block of `fours` times four, below `end`, that isn't `skip`.
-#[inline(always)]
-fn last_of_fours<T: BitBlock>(
-    blocks: &mut Blocks<'_, T>,
-    skip: T,
-    end: usize,
-    fours: usize,
-) -> Option<(usize, T)>
-    requires fours { 4 * fours ≤ end }
-    requires count { end ≤ length blocks.old.items }
-    ensures { ScansDown T.number skip blocks.old blocks.new (end - 4 * fours) end result }
-{
-    for four in 0..fours {
-        let found = last_of_four(blocks, skip, end - 4 * four);
-        if found.is_some() {
-            return found;
-        }
-    }
-    None
-}
-
-/// The first block from `from` to below `end` that isn't `skip`, looked at one by one.
+/// The first of the blocks after `from` others, looked at one by one.
 #[inline(always)]
 fn first_of_rest<T: BitBlock>(
     blocks: &mut Blocks<'_, T>,
     skip: T,
+    span: Span,
     from: usize,
-    end: usize,
-) -> Option<(usize, T)>
-    requires order { from ≤ end }
-    requires count { end ≤ length blocks.old.items }
-    ensures { ScansUp T.number skip blocks.old blocks.new from end result }
+) -> Option<(usize, usize, T)>
+    requires inside { span.start + from ≤ span.end }
+    requires count { span.end ≤ length blocks.old.items }
+    ensures { Steps T.number skip (from_end span.side span.start span.end) blocks.old blocks.new from
+        (span.end - span.start) result }
 {
-    for k in from..end {
-        let found = other_at(blocks, skip, k);
+    for i in from..span.end - span.start {
+        let found = span.other_at(blocks, skip, i, 0);
         if found.is_some() {
             return found;
         }
@@ -127,65 +139,40 @@ fn first_of_rest<T: BitBlock>(
     None
 }
 
-/// The last block from `from` to below `end` that isn't `skip`, looked at one by one.
+/// The first of all blocks.
 #[inline(always)]
-fn last_of_rest<T: BitBlock>(
+fn first_other<T: BitBlock>(
     blocks: &mut Blocks<'_, T>,
     skip: T,
-    from: usize,
-    end: usize,
-) -> Option<(usize, T)>
-    requires order { from ≤ end }
-    requires count { end ≤ length blocks.old.items }
-    ensures { ScansDown T.number skip blocks.old blocks.new from end result }
+    span: Span,
+) -> Option<(usize, usize, T)>
+    requires order { span.start ≤ span.end }
+    requires count { span.end ≤ length blocks.old.items }
+    ensures { Steps T.number skip (from_end span.side span.start span.end) blocks.old blocks.new 0
+        (span.end - span.start) result }
 {
-    for k in (from..end).rev() {
-        let found = other_at(blocks, skip, k);
-        if found.is_some() {
-            return found;
-        }
-    }
-    None
-}
-
-/// The first block from `from` to below `end` that isn't `skip`, with its number. No block behind
-/// it is read.
-#[inline(always)]
-pub(crate) fn first_other<T: BitBlock>(
-    blocks: &mut Blocks<'_, T>,
-    skip: T,
-    from: usize,
-    end: usize,
-) -> Option<(usize, T)>
-    requires order { from ≤ end }
-    requires count { end ≤ length blocks.old.items }
-    ensures { ScansUp T.number skip blocks.old blocks.new from end result }
-{
-    let fours = (end - from) / 4;
-    let found = first_of_fours(blocks, skip, from, fours);
+    let fours = (span.end - span.start) / 4;
+    let found = first_of_fours(blocks, skip, span, fours);
     if found.is_some() {
         return found;
     }
-    first_of_rest(blocks, skip, from + 4 * fours, end)
+    first_of_rest(blocks, skip, span, 4 * fours)
 }
 
-/// The last block from `from` to below `end` that isn't `skip`, with its number. No block before it
-/// is read.
+/// The first block, from the end that the span is taken from, that isn't `skip`, with its number. No
+/// block after it is read.
 #[inline(always)]
-pub(crate) fn last_other<T: BitBlock>(
+pub(crate) fn next_other<T: BitBlock>(
     blocks: &mut Blocks<'_, T>,
     skip: T,
-    from: usize,
-    end: usize,
+    span: Span,
 ) -> Option<(usize, T)>
-    requires order { from ≤ end }
-    requires count { end ≤ length blocks.old.items }
-    ensures { ScansDown T.number skip blocks.old blocks.new from end result }
+    requires order { span.start ≤ span.end }
+    requires count { span.end ≤ length blocks.old.items }
+    ensures { Scans span.side T.number skip blocks.old blocks.new span.start span.end result }
 {
-    let fours = (end - from) / 4;
-    let found = last_of_fours(blocks, skip, end, fours);
-    if found.is_some() {
-        return found;
-    }
-    last_of_rest(blocks, skip, from, end - 4 * fours)
+    let Some(found) = first_other(blocks, skip, span) else {
+        return None;
+    };
+    Some((found.1, found.2))
 }

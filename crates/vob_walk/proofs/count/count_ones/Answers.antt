@@ -4,28 +4,23 @@ use Rattle.vob_walk.proofs.CountLemmas.{ones-le, ones-nothing, ones-alone, ones-
 use Rattle.vob_walk.proofs.count.count_ones.Goals as goal
 
 pub returns-then-first-end-clause-ones : goal.returns-then-first-end-clause-ones
-returns-then-first-end-clause-ones g c = sym (ones-nothing g.T.BitBlock.BITS
-    g.met.T.BitBlock.wide_law c.blocks_of-first.ensures c.requires.order
-    (map g.T.BitBlock.number c.args.blocks.now.items) c.if-first-end.true)
+returns-then-first-end-clause-ones g c = sym (ones-nothing _
+    g.met.T.BitBlock.wide_law c.blocks_of-first.ensures c.requires.order _ c.if-first-end.true)
 
 pub returns-then-first-end-clause-reads : goal.returns-then-first-end-clause-reads
 returns-then-first-end-clause-reads g c =
-    let spans = c.blocks_of-first.ensures in
-    let met = blocks_met-own g.T.BitBlock.BITS g.met.T.BitBlock.wide_law spans c.requires.order in
-    omega (arith, c.if-first-end.true, met)
+    let met = blocks_met-own _ g.met.T.BitBlock.wide_law c.blocks_of-first.ensures c.requires.order in
+    omega arith
 
 pub returns-then-first-last-clause-ones : goal.returns-then-first-last-clause-ones
 returns-then-first-last-clause-ones g c =
-    c.ones_in_block-head.ensures.ones ∙ ones-alone g.T.BitBlock.BITS g.met.T.BitBlock.wide_law
-    c.blocks_of-first.ensures c.requires.order (map g.T.BitBlock.number c.args.blocks.now.items)
-    c.if-first-end.false c.if-first-last.true
+    c.ones_in_block-head.ensures.ones ∙ ones-alone _ g.met.T.BitBlock.wide_law
+    c.blocks_of-first.ensures c.requires.order _ c.if-first-end.false c.if-first-last.true
 
 pub returns-then-first-last-clause-reads : goal.returns-then-first-last-clause-reads
 returns-then-first-last-clause-reads g c =
-    let spans = c.blocks_of-first.ensures in
-    let met = blocks_met-own g.T.BitBlock.BITS g.met.T.BitBlock.wide_law spans c.requires.order in
-    let head = c.ones_in_block-head.ensures.reads in
-    omega (arith, spans.order, c.if-first-end.false, c.if-first-last.true, head, met)
+    let met = blocks_met-own _ g.met.T.BitBlock.wide_law c.blocks_of-first.ensures c.requires.order in
+    omega arith
 
 pub returns-clause-ones : goal.returns-clause-ones
 returns-clause-ones g c =
@@ -36,7 +31,7 @@ returns-clause-ones g c =
     let middle = rw head.items at c.ones_in_blocks-middle.ensures.ones in
     let tail = rw (c.ones_in_blocks-middle.ensures.items, head.items) at
     c.ones_in_block-tail.ensures.ones in
-    omega (arith, parts, head.ones, middle, tail)
+    omega arith
 
 pub overflow_add-result : goal.overflow_add-result
 overflow_add-result g c =
@@ -50,9 +45,5 @@ overflow_add-result-2 g c =
 
 pub returns-clause-reads : goal.returns-clause-reads
 returns-clause-reads g c =
-    let spans = c.blocks_of-first.ensures in
-    let met = blocks_met-own g.T.BitBlock.BITS g.met.T.BitBlock.wide_law spans c.requires.order in
-    let head = c.ones_in_block-head.ensures.reads in
-    let middle = c.ones_in_blocks-middle.ensures.reads in
-    let tail = c.ones_in_block-tail.ensures.reads in
-    omega (arith, spans.order, c.if-first-end.false, c.if-first-last.false, head, middle, tail, met)
+    let met = blocks_met-own _ g.met.T.BitBlock.wide_law c.blocks_of-first.ensures c.requires.order in
+    omega arith

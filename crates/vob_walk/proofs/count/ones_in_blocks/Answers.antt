@@ -5,26 +5,25 @@ use Rattle.vob_block.proofs.NumberLemmas.{number_read}
 use Rattle.vob_walk.proofs.CountLemmas.{ones-le, ones-more}
 use Rattle.vob_walk.proofs.count.ones_in_blocks.Goals as goal
 
-pub returns-then-last-to-clause-ones : goal.returns-then-last-to-clause-ones
-returns-then-last-to-clause-ones g c =
+pub returns-then-last-end-clause-ones : goal.returns-then-last-end-clause-ones
+returns-then-last-end-clause-ones g c =
     let w = g.T.BitBlock.BITS in
     let number = g.T.BitBlock.number in
     let xs = map number c.args.blocks.now.items in
-    let half = (c.args.to - c.args.from) / 2 in
-    let last = c.args.from + half + half in
+    let half = (c.args.end - c.args.start) / 2 in
+    let last = c.args.start + half + half in
     let read = number_read number c.args.blocks.now.items last c.block.result
     (rw c.ones_in_halves-ones.ensures.items at c.block.ensures.block) in
-    let more = ones-more w xs c.args.from last (number c.block.result) (omega arith) read in
-    let all : last + 1 ≡ c.args.to = omega (arith, c.if-last-to.true, c.requires.order) in
-    omega (arith, c.ones_in_halves-ones.ensures.ones, c.ones_in.ensures, more)
-    ∙ ap (λ k. ones_between w xs (c.args.from * w) (k * w)) all
+    let more = ones-more w xs c.args.start last (number c.block.result) (omega arith) read in
+    let all : last + 1 ≡ c.args.end = omega arith in
+    omega arith
+    ∙ ap (λ k. ones_between w xs (c.args.start * w) (k * w)) all
 
 pub overflow_add-result : goal.overflow_add-result
 overflow_add-result g c =
     let w = g.T.BitBlock.BITS in
     omega (
       arith,
-      returns-then-last-to-clause-ones g c,
-      ones-le w (map g.T.BitBlock.number c.args.blocks.now.items) (c.args.from * w) (c.args.to * w),
-      c.requires.fits,
+      returns-then-last-end-clause-ones g c,
+      ones-le w (map g.T.BitBlock.number c.args.blocks.now.items) (c.args.start * w) (c.args.end * w),
     )

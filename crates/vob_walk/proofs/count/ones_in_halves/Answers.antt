@@ -8,27 +8,27 @@ loop-k-init g c =
     let w = g.T.BitBlock.BITS in
     let none = λ (n : ℕ). ones-none w (map g.T.BitBlock.number c.args.blocks.now.items) n n (omega arith) in
     record {
-      low = sym (none (c.args.from * w));
-      high = sym (none ((c.args.from + c.args.half) * w));
+      low = sym (none (c.args.start * w));
+      high = sym (none ((c.args.start + c.args.half) * w));
       items = refl;
       reads = refl;
     }
 
 pub overflow_add-low : goal.overflow_add-low
 overflow_add-low g c =
-    let next = ones-next _ _ _ (c.loop-k.k + 1) (c.args.from + c.args.half + c.args.half)
+    let next = ones-next _ _ _ (c.loop-k.k + 1) (c.args.start + c.args.half + c.args.half)
     (rw c.loop-k.invariant.items at c.block.ensures.block) c.loop-k.invariant.low
     c.ones_in-low.ensures (omega (arith, c.loop-k.auto.k)) refl (omega (arith, c.loop-k-test.true))
     in
-    omega (arith, next.1, c.requires.fits)
+    omega (arith, c.requires.fits)
 
 pub overflow_add-high : goal.overflow_add-high
 overflow_add-high g c =
     let same = c.block.ensures.items ∙ c.loop-k.invariant.items in
-    let next = ones-next _ _ _ (c.loop-k.k + c.args.half + 1) (c.args.from + c.args.half + c.args.half)
+    let next = ones-next _ _ _ (c.loop-k.k + c.args.half + 1) (c.args.start + c.args.half + c.args.half)
     (rw same at c.block-in-loop-k.ensures.block) c.loop-k.invariant.high c.ones_in-high.ensures
     (omega (arith, c.loop-k.auto.k)) refl (omega (arith, c.loop-k-test.true)) in
-    omega (arith, next.1, c.requires.fits)
+    omega (arith, c.requires.fits)
 
 pub loop-k-preserved : goal.loop-k-preserved
 loop-k-preserved g c =
@@ -42,17 +42,22 @@ loop-k-preserved g c =
           (rw same at c.block-in-loop-k.ensures.block) c.loop-k.invariant.high c.ones_in-high.ensures
           (omega (arith, c.loop-k.auto.k)) (omega arith) (omega arith)).0;
       items = c.block-in-loop-k.ensures.items ∙ same;
-      reads = omega (arith, c.block.ensures.reads, c.block-in-loop-k.ensures.reads, c.loop-k.invariant.reads);
+      reads = omega (
+        arith,
+        c.block.ensures.reads,
+        c.block-in-loop-k.ensures.reads,
+        c.loop-k.invariant.reads,
+      );
     }
 
 pub returns-clause-ones : goal.returns-clause-ones
 returns-clause-ones g c =
-    ones-halves g.T.BitBlock.BITS (map g.T.BitBlock.number c.args.blocks.now.items) c.args.from c.args.half
+    ones-halves g.T.BitBlock.BITS (map g.T.BitBlock.number c.args.blocks.now.items) c.args.start c.args.half
     c.loop-k.k (omega (arith, c.loop-k.auto.k-end, c.loop-k-test.false)) c.loop-k.invariant.low
     c.loop-k.invariant.high
 
 pub overflow_add-result : goal.overflow_add-result
 overflow_add-result g c =
     let few = ones-le g.T.BitBlock.BITS (map g.T.BitBlock.number c.args.blocks.now.items)
-    (c.args.from * g.T.BitBlock.BITS) ((c.args.from + c.args.half + c.args.half) * g.T.BitBlock.BITS) in
-    omega (arith, returns-clause-ones g c, few, c.requires.fits)
+    (c.args.start * g.T.BitBlock.BITS) ((c.args.start + c.args.half + c.args.half) * g.T.BitBlock.BITS) in
+    omega (arith, returns-clause-ones g c, c.requires.fits)

@@ -1,8 +1,8 @@
--- The block in hand, and behind it the scan.
-use Rattle.std.proofs.Common.{◌≡◌, ◌+◌, ◌*◌, ◌/◌, ◌%◌, ◌∙◌, Some, refl, ap, arith}
+-- The block in hand, and after it the scan.
+use Rattle.std.proofs.Common.{◌≡◌, ◌+◌, ◌*◌, ◌/◌, ◌%◌, ◌∙◌, refl, ap, arith}
 use Rattle.vob_block.proofs.NeedLemmas.{need-is-div_ceil, mul-lt_from_need}
 use Rattle.vob_walk.proofs.NextLemmas.{FindsUp-here, FindsUp-none, FindsUp-behind}
-use Rattle.vob_walk.proofs.SkipLemmas.{ScansUp-is, ScansUp-nothing}
+use Rattle.vob_walk.proofs.SkipLemmas.{none_found}
 use Rattle.vob_walk.proofs.next.next_in_hand.Goals as goal
 
 pub returns-then-place-BITS : goal.returns-then-place-BITS
@@ -10,50 +10,35 @@ returns-then-place-BITS g c =
     let w = g.T.BitBlock.BITS in
     let at : c.args.from.0 / c.BITS.result * c.BITS-then-place-BITS.result ≡ c.args.from.0 / w * w =
     cc in
-    FindsUp-here w g.met.T.BitBlock.wide_law g.T.BitBlock.number c.args.value _ _ c.args.from.0 c.args.len
-    c.requires.inside c.args.from.1 (ap (λ u. c.args.from.0 % u) c.BITS-2.ensures) c.requires.hand
-    c.first_place-place.ensures _ (omega (arith, c.if-place-BITS.true, c.BITS-3.ensures)) refl refl
-    (omega (arith, c.min.ensures, at, c.requires.inside))
+    FindsUp-here _ g.met.T.BitBlock.wide_law _ _ _ _ _ _ c.requires.inside _
+    (ap (λ u. c.args.from.0 % u) c.BITS-2.ensures) c.requires.hand c.first_place-place.ensures _
+    (omega arith) refl refl (omega arith)
 
-pub first_other-requires-clause-count : goal.first_other-requires-clause-count
-first_other-requires-clause-count g c =
-    let wide = g.met.T.BitBlock.wide_law in
-    let end = need-is-div_ceil g.T.BitBlock.BITS wide c.args.len _ c.BITS-4.ensures in
-    omega (arith, c.div_ceil-end.ensures, end, c.requires.count)
+pub next_other-requires-clause-count : goal.next_other-requires-clause-count
+next_other-requires-clause-count g c =
+    let end = need-is-div_ceil _ g.met.T.BitBlock.wide_law c.args.len _ c.BITS-4.ensures in
+    omega arith
 
 pub returns-in_default : goal.returns-in_default
 returns-in_default g c =
-    let w = g.T.BitBlock.BITS in
-    let x = c.args.blocks.now in
-    let y = c.first_other.new.blocks in
-    let number = g.T.BitBlock.number in
-    FindsUp-none w g.met.T.BitBlock.wide_law number c.args.value x y c.args.from.0 c.args.len
-    c.requires.inside c.args.from.1 (ap (λ u. c.args.from.0 % u) c.BITS-2.ensures) c.requires.hand
-    c.first_place-place.ensures c.block_without.result c.block_without.ensures
-    (omega (arith, c.if-place-BITS.false, c.BITS-3.ensures))
+    let wide = g.met.T.BitBlock.wide_law in
+    FindsUp-none _ wide _ _ _ _ _ _ c.requires.inside c.args.from.1
+    (ap (λ u. c.args.from.0 % u) c.BITS-2.ensures) c.requires.hand c.first_place-place.ensures
+    c.block_without.result c.block_without.ensures (omega arith)
     (ap (λ u. c.args.from.0 / u + 1) c.BITS.ensures)
-    (c.div_ceil-end.ensures ∙ need-is-div_ceil w g.met.T.BitBlock.wide_law c.args.len _
-    c.BITS-4.ensures) c.args.from.1
-    (ScansUp-nothing number c.block_without.result x y _ _ _ c.in_default.not-Some
-    c.first_other.ensures)
+    (c.div_ceil.ensures ∙ need-is-div_ceil _ wide c.args.len _ c.BITS-4.ensures) _
+    (rw (none_found _ c.in_default.not-Some) at c.next_other.ensures)
 
 pub returns : goal.returns
 returns g c =
-    let w = g.T.BitBlock.BITS in
-    let x = c.args.blocks.now in
-    let y = c.first_other.new.blocks in
-    let number = g.T.BitBlock.number in
+    let wide = g.met.T.BitBlock.wide_law in
     let found = c.in-Some.found in
-    let at : found.0 * c.BITS-5.result ≡ found.0 * w = ap (λ u. found.0 * u) c.BITS-5.ensures in
-    let end = c.div_ceil-end.ensures ∙ need-is-div_ceil w g.met.T.BitBlock.wide_law c.args.len
-    c.BITS-4.result c.BITS-4.ensures in
-    let scan = ScansUp-is number c.block_without.result x y (c.args.from.0 / c.BITS.result + 1)
-    c.div_ceil-end.result _ (Some found) c.in-Some.is c.first_other.ensures in
-    let begins = mul-lt_from_need w g.met.T.BitBlock.wide_law c.args.len found.0
-    (omega (arith, scan.found.0.below, end)) in
-    FindsUp-behind w g.met.T.BitBlock.wide_law number c.args.value x y c.args.from.0 c.args.len
-    c.requires.inside c.args.from.1 (ap (λ u. c.args.from.0 % u) c.BITS-2.ensures) c.requires.hand
-    c.first_place-place.ensures c.block_without.result c.block_without.ensures
-    (omega (arith, c.if-place-BITS.false, c.BITS-3.ensures))
-    (ap (λ u. c.args.from.0 / u + 1) c.BITS.ensures) end found c.first_place.result _ scan
-    c.in_range.ensures c.first_place.ensures (omega (arith, c.min-2.ensures, at, begins))
+    let end = c.div_ceil.ensures ∙ need-is-div_ceil _ wide c.args.len _ c.BITS-4.ensures in
+    let scan = rw c.in-Some.is at c.next_other.ensures in
+    let begins = mul-lt_from_need _ wide c.args.len found.0 (omega (arith, scan.found.0.below)) in
+    let at = ap (λ u. found.0 * u) c.BITS-5.ensures in
+    FindsUp-behind _ wide _ _ _ _ _ _ c.requires.inside c.args.from.1
+    (ap (λ u. c.args.from.0 % u) c.BITS-2.ensures) c.requires.hand c.first_place-place.ensures
+    c.block_without.result c.block_without.ensures (omega arith)
+    (ap (λ u. c.args.from.0 / u + 1) c.BITS.ensures) end found _ _ scan c.in_range.ensures
+    c.first_place.ensures (omega arith)

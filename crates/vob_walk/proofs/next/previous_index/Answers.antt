@@ -8,7 +8,6 @@ use Rattle.vob_walk.proofs.next.previous_index.Goals as goal
 pub past_last_index_of-end-requires-clause-count : goal.past_last_index_of-end-requires-clause-count
 past_last_index_of-end-requires-clause-count g c = omega (
   arith,
-  c.requires,
   div-lt-need g.T.BitBlock.BITS g.met.T.BitBlock.wide_law c.args.len c.min.result (omega arith),
 )
 
@@ -17,7 +16,6 @@ returns-then-end-gt0-clause-reads g c =
     let last : min (c.args.upto + 1) c.args.len ≡ c.min.result + 1 = omega arith in
     omega (
       arith,
-      c.past_last_index_of-end.ensures.reads,
       ap (λ n. need n g.T.BitBlock.BITS) last,
       need_one_more g.T.BitBlock.BITS g.met.T.BitBlock.wide_law c.min.result,
     )
@@ -27,7 +25,6 @@ returns-else-end-gt0-clause-reads g c =
     let last : min (c.args.upto + 1) c.args.len ≡ c.min.result + 1 = omega arith in
     omega (
       arith,
-      c.past_last_index_of-end.ensures.reads,
       ap (λ n. need n g.T.BitBlock.BITS) last,
       need_one_more g.T.BitBlock.BITS g.met.T.BitBlock.wide_law c.min.result,
     )

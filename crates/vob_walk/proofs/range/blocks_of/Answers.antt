@@ -6,10 +6,7 @@ use Rattle.vob_walk.proofs.range.blocks_of.Goals as goal
 
 pub returns : goal.returns
 returns g c =
-    let w = g.T.BitBlock.BITS in
-    AreBlocksOf-window w g.met.T.BitBlock.wide_law c.args.start c.args.stop
-    (c.args.start / c.BITS.result) c.div_ceil.result
-    (omega (arith, c.requires, c.if-start-stop.false))
+    let wide = g.met.T.BitBlock.wide_law in
+    AreBlocksOf-window _ wide c.args.start c.args.stop _ _ (omega arith)
     (ap (λ v. c.args.start / v) c.BITS.ensures)
-    (c.div_ceil.ensures ∙ need-is-div_ceil w g.met.T.BitBlock.wide_law c.args.stop _
-    c.BITS-2.ensures)
+    (c.div_ceil.ensures ∙ need-is-div_ceil _ wide c.args.stop _ c.BITS-2.ensures)

@@ -18,12 +18,12 @@ pub loop-high-preserved-then-ones_in-rank : goal.loop-high-preserved-then-ones_i
 loop-high-preserved-then-ones_in-rank g c =
     let h = c.loop-high.invariant in
     let low = true_places-masked g.T.BitBlock.BITS _ _ _ _
-    (omega (arith, h.width, h.some, c.loop-high-test.true)) c.low_mask.ensures.places
+    (omega (arith, c.loop-high-test.true)) c.low_mask.ensures.places
     c.band.ensures.places in
     record {
-      some = omega (arith, h.some, c.loop-high-test.true);
+      some = omega (arith, c.loop-high-test.true);
       width = h.width;
-      least = omega (arith, c.if-ones_in-rank.true, c.ones_in.ensures, low);
+      least = omega (arith, c.if-ones_in-rank.true, c.ones_in.ensures);
       most = h.most;
     }
 
@@ -31,13 +31,13 @@ pub loop-high-preserved : goal.loop-high-preserved
 loop-high-preserved g c =
     let h = c.loop-high.invariant in
     let low = true_places-masked g.T.BitBlock.BITS _ _ _ _
-    (omega (arith, h.width, h.some, c.loop-high-test.true)) c.low_mask.ensures.places
+    (omega (arith, c.loop-high-test.true)) c.low_mask.ensures.places
     c.band.ensures.places in
     record {
-      some = omega (arith, h.some, c.loop-high-test.true);
-      width = omega (arith, h.width, h.some, c.loop-high-test.true);
+      some = omega (arith, c.loop-high-test.true);
+      width = omega (arith, c.loop-high-test.true);
       least = h.least;
-      most = omega (arith, c.if-ones_in-rank.false, c.ones_in.ensures, low);
+      most = omega (arith, c.if-ones_in-rank.false, c.ones_in.ensures);
     }
 
 pub returns-clause-there : goal.returns-clause-there

@@ -1,30 +1,19 @@
--- One block more, behind those where none was found.
-use Rattle.std.proofs.Common.{◌+◌, ◌∙◌, None, length, refl, sym, ap, arith}
-use Rattle.vob_walk.proofs.SkipLemmas.{ScansUp-start, ScansUp-past, ScansUp-on, ScansUp-stop}
+-- One block more, after those that had none.
+use Rattle.std.proofs.Common.{◌+◌, ◌-◌, ◌∙◌, add-zero, refl, sym, arith}
+use Rattle.vob_walk.proofs.SkipLemmas.{Steps-on, Steps-past}
 use Rattle.vob_walk.proofs.skip.first_of_rest.Goals as goal
 
-pub loop-k-init : goal.loop-k-init
-loop-k-init g c = ScansUp-start g.T.BitBlock.number c.args.skip c.args.blocks.now c.args.from _ refl
-
-pub other_at-found-requires : goal.other_at-found-requires
-other_at-found-requires g c =
-    omega (arith, c.requires.count, c.loop-k-test.true, ap length c.loop-k.invariant.items)
-
-pub loop-k-preserved : goal.loop-k-preserved
-loop-k-preserved g c =
-    ScansUp-past g.T.BitBlock.number c.args.skip c.args.blocks.now c.loop-k.blocks
-    c.other_at-found.new.blocks c.args.from c.loop-k.k (c.loop-k.k + 1) _
-    c.other_at-found.result c.loop-k.auto.k (omega arith) refl
-    (sym c.is_some.ensures ∙ c.if-is_some.false) c.loop-k.invariant
-    c.other_at-found.ensures.up
+pub loop-i-preserved : goal.loop-i-preserved
+loop-i-preserved g c =
+    let i = c.loop-i.i in
+    Steps-past _ _ _ c.args.from i (i + 1) c.loop-i.auto.i (omega arith) refl refl
+    (sym c.is_some.ensures ∙ c.if-is_some.false) c.loop-i.invariant
+    (rw add-zero at c.other_at-found.ensures)
 
 pub returns-then-is_some : goal.returns-then-is_some
 returns-then-is_some g c =
-    let number = g.T.BitBlock.number in
-    let k = c.loop-k.k in
-    ScansUp-on number c.args.skip c.args.blocks.now c.loop-k.blocks
-    c.other_at-found.new.blocks c.args.from k c.args.end None c.other_at-found.result
-    c.loop-k.auto.k (omega (arith, c.loop-k-test.true)) refl c.loop-k.invariant
-    (ScansUp-stop number c.args.skip c.loop-k.blocks c.other_at-found.new.blocks k (k + 1)
-    c.args.end c.other_at-found.result (omega (arith, c.loop-k-test.true))
-    (sym c.is_some.ensures ∙ c.if-is_some.true) c.other_at-found.ensures.up)
+    let i = c.loop-i.i in
+    Steps-on _ _ _ c.args.from i (i + 1) (c.args.span.end - c.args.span.start) c.loop-i.auto.i
+    (omega arith) (omega arith) refl
+    (sym c.is_some.ensures ∙ c.if-is_some.true) c.loop-i.invariant
+    (rw add-zero at c.other_at-found.ensures)

@@ -1,7 +1,8 @@
 -- Among the blocks so far none was found.
 use Rattle.std.proofs.Common.{None}
-use Rattle.vob_walk.specs.Skip.{ScansUp}
+use Rattle.vob_walk.specs.Skip.{from_end, Steps}
 use Rattle.vob_walk.proofs.skip.first_of_rest.Given as goal
 
-abbrev pub invariant-loop-k : goal.invariant-loop-k
-invariant-loop-k g l = ScansUp g.T.BitBlock.number l.fn.skip l.fn.blocks l.blocks l.fn.from l.k None
+abbrev pub invariant-loop-i : goal.invariant-loop-i
+invariant-loop-i g l = Steps g.T.BitBlock.number l.fn.skip
+    (from_end l.fn.span.side l.fn.span.start l.fn.span.end) l.fn.blocks l.blocks l.fn.from l.i None

@@ -34,5 +34,5 @@ loop-side-preserved g c =
       pulled = IsPulledBy-more (walk c.args.walk.now) (walk c.loop-side.walk)
           (walk c.pull-index.new.self) pulls k Front c.loop-side-test.true h.pulled
           c.pull-index.result e.given e.kept e.reads;
-      room = omega (arith, h.room, c.push_reserved.ensures.len, c.push_reserved.ensures.capacity);
+      room = omega (arith, c.push_reserved.ensures.len, c.push_reserved.ensures.capacity);
     }

@@ -1,7 +1,7 @@
 -- A run gives its last index, and otherwise the back is filled, and gives its last one.
 use Rattle.std.specs.Prelude.{None}
 use Rattle.std.proofs.Common.{◌≡◌, refl, sym, ◌∙◌, arith}
-use Rattle.vob_walk.proofs.CursorLemmas.{reads-pulled, last-none, last-steps, goes-last, nil_both}
+use Rattle.vob_walk.proofs.CursorLemmas.{reads-pulled, none-left, nil_left, last-steps, goes-last, nil_both}
 use Rattle.vob_walk.proofs.cursor.Cursor.next_back.Goals as goal
 
 pub returns-then-is_run-clause-steps : goal.returns-then-is_run-clause-steps
@@ -34,8 +34,7 @@ returns-clause-reads g c =
     let e = c.fill_back.ensures in
     let after = c.fill_back.new in
     let none = λ (gave : c.next_back-2.result ≡ None).
-    last-none c.next_back-2.result after.back c.next_back-2.new.self after.unread.rest after.front
-    _ gave e.empty c.next_back-2.ensures in
+    none-left _ gave (λ gone. nil_left _ _ (e.empty gone)) c.next_back-2.ensures in
     rw (← c.self.view_is) (reads-pulled s.unread after.unread s.back c.next_back-2.new.self s.front
     after.front e.reads e.falls e.fewer c.next_back-2.result _ _
     refl (omega arith) refl refl (omega arith) refl none)

@@ -3,21 +3,13 @@ use Rattle.vob_walk.proofs.PullLemmas.{end_item-first, end_item-last}
 use Rattle.vob_walk.proofs.cursor.Cursor.pull.Goals as goal
 
 pub returns-in-Front-clause-given : goal.returns-in-Front-clause-given
-returns-in-Front-clause-given g c = rw c.in-Front.is
-    ((end_item-first c.next.result c.args.self.now.rest c.next.new.self.rest
-    c.next.ensures.steps).0)
+returns-in-Front-clause-given g c = rw c.in-Front.is (end_item-first _ _ _ c.next.ensures.steps).0
 
 pub returns-in-Front-clause-kept : goal.returns-in-Front-clause-kept
-returns-in-Front-clause-kept g c = rw c.in-Front.is
-    ((end_item-first c.next.result c.args.self.now.rest c.next.new.self.rest
-    c.next.ensures.steps).1)
+returns-in-Front-clause-kept g c = rw c.in-Front.is (end_item-first _ _ _ c.next.ensures.steps).1
 
 pub returns-in-Back-clause-given : goal.returns-in-Back-clause-given
-returns-in-Back-clause-given g c = rw c.in-Back.is
-    ((end_item-last c.next_back.result c.args.self.now.rest c.next_back.new.self.rest
-    c.next_back.ensures.steps).0)
+returns-in-Back-clause-given g c = rw c.in-Back.is (end_item-last _ _ _ c.next_back.ensures.steps).0
 
 pub returns-in-Back-clause-kept : goal.returns-in-Back-clause-kept
-returns-in-Back-clause-kept g c = rw c.in-Back.is
-    ((end_item-last c.next_back.result c.args.self.now.rest c.next_back.new.self.rest
-    c.next_back.ensures.steps).1)
+returns-in-Back-clause-kept g c = rw c.in-Back.is (end_item-last _ _ _ c.next_back.ensures.steps).1

@@ -1,7 +1,7 @@
 -- The window of the range, and the blocks that it meets.
 use Rattle.std.proofs.Common.{map, arith}
 use Rattle.std.proofs.lemmas.List.{length-map}
-use Rattle.vob_walk.proofs.WindowLemmas.{IsWindow-range, length-unread-le}
+use Rattle.vob_walk.proofs.WindowLemmas.{length-unread-le}
 use Rattle.vob_walk.proofs.CursorLemmas.{unread-window, blocks_met-blocks}
 use Rattle.vob_walk.proofs.scan.Unread.over.Goals as goal
 
@@ -21,12 +21,12 @@ invariant_of-result g c =
 
 pub returns-clause-rest : goal.returns-clause-rest
 returns-clause-rest g c = λ low high len range.
-    unread-window g.T.BitBlock.BITS g.met.T.BitBlock.wide_law (IsWindow-range range)
+    unread-window _ g.met.T.BitBlock.wide_law range
     c.blocks_of-next.ensures (map g.T.BitBlock.number c.args.blocks.items) c.args.value
 
 pub returns-clause-left : goal.returns-clause-left
 returns-clause-left g c = λ low high len range.
-    blocks_met-blocks g.T.BitBlock.BITS g.met.T.BitBlock.wide_law (IsWindow-range range)
+    blocks_met-blocks _ g.met.T.BitBlock.wide_law range
     c.blocks_of-next.ensures
 
 pub returns-clause-countable : goal.returns-clause-countable
