@@ -1,5 +1,5 @@
 -- A page for users: what calls in place do to a list of bits, how often a bit is in it, and what a range takes out.
-use Rattle.std.specs.Prelude.{Some, slice_get, slice_set}
+use Rattle.std.specs.Prelude.{IfSome, None, Option, Some, slice_get, slice_set}
 use Rattle.std.specs.Bool.{Decides}
 use Rattle.std.specs.List.{range_with_len}
 use Rattle.std.specs.declared.ops.Bound.{Bound}
@@ -23,7 +23,7 @@ use Rattle.vob_walk.specs.Matches.{within, has_value}
 use Rattle.vob_walk.specs.Cursor.{indices_where}
 use Rattle.vob_walk.proofs.WhereLemmas.{indices_where-split, indices_where-nothing, indices_where-all}
 use Rattle.vob_walk.proofs.IndexLemmas.{has_value-same}
-use Rattle.vob.specs.Sets.{IsFirstFrom}
+use Rattle.vob.specs.Sets.{IsFirstFrom, IsNext}
 use Rattle.vob.specs.Drain.{bits_where, bits_within, bits_outside}
 use Rattle.vob.specs.Same.{same_bits}
 use Rattle.vob.proofs.SameLemmas.{same_bits_decides}
@@ -444,6 +444,26 @@ first_past value bits from end i first = (
     | inr past ↦ past
   ]),
 )
+
+-- so it is at most as far on as there are bits of the other value
+pub first_at_most : (value : Bool) (bits : List Bool) (i : ℕ) → IsFirstFrom value bits 0 i
+    → i ≤ count_of (not value) bits
+first_at_most value bits i first =
+    leading_count (not value) i bits (omega (arith, first.inside))
+    (λ j less. (first_past value bits 0 i i first).0 (omega arith) j (omega arith) less)
+
+pub first_few : (value : Bool) (bits : List Bool) (answer : Option ℕ) → IsNext value bits 0 answer
+    → IfSome answer (λ i. i ≤ count_of (not value) bits)
+first_few value bits None next = tt
+first_few value bits (Some i) next = first_at_most value bits i ((next.some i).0 refl)
+
+-- and all bits are of the other value if there is none
+pub first_none : (value : Bool) (bits : List Bool) (answer : Option ℕ) → IsNext value bits 0 answer
+    → answer ≡ None → count_of (not value) bits ≡ length bits
+first_none value bits answer next none =
+    let all = leading_count (not value) (length bits) bits (omega arith)
+    (λ i less. other_value value (item bits i) (next.none.0 none i (omega arith) less)) in
+    omega (arith, all, count_at_most (not value) bits)
 
 -- ---- the same under names that `using` takes
 

@@ -84,6 +84,7 @@ impl<T: Block> Vob<T> {
             → IsFresh result self.now.bits true (R.start_bound range) (R.end_bound range) T.BITS }
         ensures some { ForSomeRange (length self.now.bits) (λ low high.
             IsFresh result self.now.bits true low high T.BITS) }
+        ensures most { length result.rest ≤ length self.now.bits }
         ensures longest { length result.rest ≤ usize.MAX }
         ensures greatest { length self.now.bits ≤ usize.MAX }
         ensures reads { result.reads ≡ 0 }
@@ -102,6 +103,7 @@ impl<T: Block> Vob<T> {
             → IsFresh result self.now.bits false (R.start_bound range) (R.end_bound range) T.BITS }
         ensures some { ForSomeRange (length self.now.bits) (λ low high.
             IsFresh result self.now.bits false low high T.BITS) }
+        ensures most { length result.rest ≤ length self.now.bits }
         ensures longest { length result.rest ≤ usize.MAX }
         ensures greatest { length self.now.bits ≤ usize.MAX }
         ensures reads { result.reads ≡ 0 }

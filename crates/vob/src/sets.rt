@@ -133,6 +133,8 @@ impl<T: Block> Vob<T> {
     pub fn first_set(&self) -> Option<usize>
         ensures next { IsNext true self.now.bits 0 result }
         ensures inside { IfSome result (λ i. IsBit true self.now.bits i) }
+        ensures most { IfSome result (λ i. i ≤ count_of false self.now.bits) }
+        ensures none { result ≡ None → count_of false self.now.bits ≡ length self.now.bits }
     {
         self.next_set(0)
     }
@@ -149,6 +151,8 @@ impl<T: Block> Vob<T> {
     pub fn first_unset(&self) -> Option<usize>
         ensures next { IsNext false self.now.bits 0 result }
         ensures inside { IfSome result (λ i. IsBit false self.now.bits i) }
+        ensures most { IfSome result (λ i. i ≤ count_of true self.now.bits) }
+        ensures none { result ≡ None → count_of true self.now.bits ≡ length self.now.bits }
     {
         self.next_unset(0)
     }
@@ -205,7 +209,9 @@ impl<T: Block> Vob<T> {
 
     /// Counts the set bits below `index`: all of them if it is past the end.
     pub fn rank(&self, index: usize) -> usize
-        ensures { result ≡ count_of true (take index self.now.bits) }
+        ensures count { result ≡ count_of true (take index self.now.bits) }
+        ensures most { result ≤ length self.now.bits }
+        ensures below { result ≤ index }
     {
         count_ones_in(&mut self.blocks(), 0, index.min(self.len()))
     }
@@ -271,7 +277,8 @@ impl<T: Block> Vob<T> {
     /// Counts the bits that are set in both. The lengths must be equal.
     pub fn count_and(&self, other: &Vob<T>) -> usize
         requires { HaveSameLength self.now other.now }
-        ensures { result ≡ count_of true (pointwise ◌&&◌ self.now.bits other.now.bits) }
+        ensures count { result ≡ count_of true (pointwise ◌&&◌ self.now.bits other.now.bits) }
+        ensures most { result ≤ length self.now.bits }
     {
         self.combined_count::<And>(other)
     }
@@ -279,7 +286,8 @@ impl<T: Block> Vob<T> {
     /// Counts the bits that are set in either. The lengths must be equal.
     pub fn count_or(&self, other: &Vob<T>) -> usize
         requires { HaveSameLength self.now other.now }
-        ensures { result ≡ count_of true (pointwise ◌||◌ self.now.bits other.now.bits) }
+        ensures count { result ≡ count_of true (pointwise ◌||◌ self.now.bits other.now.bits) }
+        ensures most { result ≤ length self.now.bits }
     {
         self.combined_count::<Or>(other)
     }
@@ -287,7 +295,8 @@ impl<T: Block> Vob<T> {
     /// Counts the bits that are set here and not in the other. The lengths must be equal.
     pub fn count_and_not(&self, other: &Vob<T>) -> usize
         requires { HaveSameLength self.now other.now }
-        ensures { result ≡ count_of true (pointwise without self.now.bits other.now.bits) }
+        ensures count { result ≡ count_of true (pointwise without self.now.bits other.now.bits) }
+        ensures most { result ≤ length self.now.bits }
     {
         self.combined_count::<Without>(other)
     }
@@ -295,7 +304,8 @@ impl<T: Block> Vob<T> {
     /// Counts the bits that are set in exactly one. The lengths must be equal.
     pub fn count_xor(&self, other: &Vob<T>) -> usize
         requires { HaveSameLength self.now other.now }
-        ensures { result ≡ count_of true (pointwise differ self.now.bits other.now.bits) }
+        ensures count { result ≡ count_of true (pointwise differ self.now.bits other.now.bits) }
+        ensures most { result ≤ length self.now.bits }
     {
         self.combined_count::<Xor>(other)
     }
@@ -304,7 +314,8 @@ impl<T: Block> Vob<T> {
     fn combined_count<C: Combine>(&self, other: &Vob<T>) -> usize
         requires same { HaveSameLength self.now other.now }
         requires none { C.of_bits false false ≡ false }
-        ensures { result ≡ count_of true (pointwise C.of_bits self.now.bits other.now.bits) }
+        ensures count { result ≡ count_of true (pointwise C.of_bits self.now.bits other.now.bits) }
+        ensures most { result ≤ length self.now.bits }
     {
         // The length is in the range of its type: a proof knows it from this read.
         let _len = self.len;

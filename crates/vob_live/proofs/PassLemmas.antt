@@ -16,7 +16,9 @@ use Rattle.vob_live.specs.FlowFaults.{NamesNodes}
 use Rattle.vob_live.specs.Live.{AreSets, AreWithin, IsLive, IsLiveNext, bits_of}
 use Rattle.vob_live.specs.LivePass.{AreUnderway, total_count}
 use Rattle.vob_live.specs.LiveSets.{IsPossible, ArePossible, IsPossibleAdded, IsNextAdded}
-use Rattle.vob_live.proofs.SetLemmas.{true_within, gained_le, AllZip-at, AllZip-length}
+use Rattle.vob.proofs.BitsLemmas.{true_inside}
+use Rattle.vob.proofs.VobsLemmas.{beside_at, beside_length}
+use Rattle.vob_live.proofs.SetLemmas.{gained_le}
 use Rattle.vob_live.proofs.LiveLemmas.{IsStep, IsWalked, IsWalked-more, IsWalked-same}
 
 AreSets-set : (vars nodes : ℕ) (sets : List (List Bool)) (n : ℕ) (set' : List Bool) →
@@ -92,7 +94,7 @@ module _ (vars : ℕ) (nodes : List Flow) (before after : List (List Bool)) (n :
     old_possible : (v : ℕ) → IsLive before n v → item possible v ≡ true
     old_possible v live =
         let row_long = h.before_sets.long n [] before_inside in
-        let less : v < vars = omega (arith, true_within (get_or before n []) v live, row_long) in
+        let less : v < vars = omega (arith, true_inside (get_or before n []) v live, row_long) in
         (p.each v less).1 (elim ((h.before_is n flow is v).0 live) [
           | inl read ↦ inl read
           | inr other ↦ inr other.1
@@ -108,7 +110,7 @@ module _ (vars : ℕ) (nodes : List Flow) (before after : List (List Bool)) (n :
               elim (or_cases row (item added v) both.0) [
                 | inl old ↦ inl old
                 | inr new ↦
-                    let less : v < vars = omega (arith, true_within added v new, added_long) in
+                    let less : v < vars = omega (arith, true_inside added v new, added_long) in
                     elim ((p.each v less).0 both.1) [
                       | inl read ↦ inl ((h.before_is n flow is v).1 (inl read))
                       | inr without ↦ inr (after_bit v ∙ new, without)
@@ -120,7 +122,7 @@ module _ (vars : ℕ) (nodes : List Flow) (before after : List (List Bool)) (n :
                 (old_possible v old)
             | inr new ↦
                 let on = sym (after_bit v) ∙ new.0 in
-                let less : v < vars = omega (arith, true_within added v on, added_long) in
+                let less : v < vars = omega (arith, true_inside added v on, added_long) in
                 and_from (row || item added v) (item possible v) (or_right row (item added v) on)
                 ((p.each v less).1 (inr new.1))
           ]),
@@ -170,14 +172,14 @@ vob_length vobs sets n vob less =
 pub possible_count : (vars : ℕ) (nodes : List Flow) (possible : List BitVector) →
     ArePossible vars nodes possible → length possible ≡ length nodes
 possible_count vars nodes possible all =
-    AllZip-length (λ flow set. IsPossible vars flow set.bits) nodes possible all
+    beside_length (λ flow set. IsPossible vars flow set.bits) nodes possible all
 
 pub possible_at : (vars : ℕ) (nodes : List Flow) (possible : List BitVector) (n : ℕ) (flow : Flow)
     (may : BitVector) → ArePossible vars nodes possible → n < length nodes →
     may ≡ get_or possible n may → IsPossible vars (get_or nodes n flow) may.bits
 possible_at vars nodes possible n flow may all less is =
     let R : Flow → BitVector → Type 0 = λ f s. IsPossible vars f s.bits in
-    subst (λ s. R (get_or nodes n flow) s) (sym is) (AllZip-at R nodes possible n flow may all less)
+    subst (λ s. R (get_or nodes n flow) s) (sym is) (beside_at R nodes possible n flow may all less)
 
 -- the sets before and after a node, and what the code asks of those that come next
 module _ {vars : ℕ} {nodes : List Flow} (before after : List BitVector)

@@ -17,7 +17,8 @@ use Rattle.vob_live.specs.declared.live.Flow.{Flow}
 use Rattle.vob_live.specs.Live.{AreSets, IsLive, IsLiveNext, IsSolution, bits_of}
 use Rattle.vob_live.specs.LivePass.{AreUnderway, total_count}
 use Rattle.vob_live.specs.LiveSets.{IsSetOf, AreReads}
-use Rattle.vob_live.proofs.SetLemmas.{item-replicate, AllZip-length, AllZip-at, AllZip-all}
+use Rattle.vob.proofs.BitsLemmas.{item_false}
+use Rattle.vob.proofs.VobsLemmas.{beside_length, beside_at, beside_all}
 
 -- a node has a set where something is live
 live_inside : (sets : List (List Bool)) (n v : ℕ) → IsLive sets n v → n < length sets
@@ -41,7 +42,7 @@ none_live sets m vars is n v live =
     let less : n < m =
     omega (arith, inside, ap length is, length-replicate m (replicate vars false)) in
     let set = ap (λ ss. get_or ss n []) is ∙ get_or-replicate m n (replicate vars false) [] less in
-    false≢true (sym (ap (λ s. item s v) set ∙ item-replicate vars v) ∙ live)
+    false≢true (sym (ap (λ s. item s v) set ∙ item_false vars v) ∙ live)
 
 AreSets-empty : (vars nodes : ℕ) (sets : List (List Bool)) →
     sets ≡ replicate nodes (replicate vars false) → AreSets vars nodes sets
@@ -61,9 +62,9 @@ module _ (vars : ℕ) (nodes : List Flow) (reads afters : List BitVector)
   reads_sets : AreSets vars (length nodes) (bits_of reads)
   unfolding R
   reads_sets = record {
-    count = length-map reads (λ v. v.bits) ∙ AllZip-length R nodes reads all;
+    count = length-map reads (λ v. v.bits) ∙ beside_length R nodes reads all;
     long = All-map (λ s. length s ≡ vars) (λ v. v.bits) reads
-        (AllZip-all R (λ v. length v.bits ≡ vars) nodes reads (λ flow set is. is.count) all);
+        (beside_all R (λ v. length v.bits ≡ vars) nodes reads (λ flow set is. is.count) all);
   }
 
   pub reads_at : (n : ℕ) (flow : Flow) → slice_get nodes n ≡ Some flow → (v : ℕ) →
@@ -72,9 +73,9 @@ module _ (vars : ℕ) (nodes : List Flow) (reads afters : List BitVector)
   reads_at n flow is v =
       let less = slice_get_within nodes n flow is in
       let no : BitVector = record { bits = []; capacity = 0 } in
-      let at = AllZip-at R nodes reads n flow no all less in
+      let at = beside_at R nodes reads n flow no all less in
       let set = get_or-map (λ b. b.bits) reads n no []
-      (omega (arith, less, AllZip-length R nodes reads all)) in
+      (omega (arith, less, beside_length R nodes reads all)) in
       let node = get_or_from_slice_get nodes n flow flow is in
       let is_set = subst (λ f. R f (get_or reads n no)) node at in
       subst (λ s. (item s v ≡ true → Contains flow.reads.items v)

@@ -1,6 +1,7 @@
 -- Which variables are live at the nodes of a flow graph: the sets that solve its flow equations.
 use Rattle.std.specs.Prelude.{◌≡◌, ℕ, ◌+◌, ◌*◌, ◌≤◌, ◌⊎◌, ◌↔◌, Bool, true, List, [], length, slice_index_or, slice_get, Some, All, Any, Contains}
 use Rattle.vob_block.specs.Packing.{item}
+use Rattle.vob.specs.Vobs.{AreOfLength}
 pub use Rattle.vob.specs.Vobs.{bits_of}
 use Rattle.vob_live.specs.declared.live.Flow.{Flow}
 use Rattle.vob_live.specs.declared.live.Live.{Live}
@@ -8,7 +9,7 @@ use Rattle.vob_live.specs.declared.live.Live.{Live}
 -- a set for each of some nodes, and in each set a bit for each variable
 pub record AreSets (vars nodes : ℕ) (sets : List (List Bool)) : Type 0 where
   pub count : length sets ≡ nodes
-  pub long : All (λ set. length set ≡ vars) sets
+  pub long : AreOfLength vars sets
 
 -- whether variable v is in the set of node n
 abbrev pub IsLive : List (List Bool) → ℕ → ℕ → Type 0

@@ -5,7 +5,7 @@ use Rattle.std.proofs.Common.{subst, arith, inl, inr}
 use Rattle.std.specs.List.{All}
 use Rattle.std.proofs.lemmas.Bool.{cases_eq, cases_lt, or_cases, or_right, not-true, not-false}
 use Rattle.std.proofs.lemmas.List.{ext_get_or, get_or-set_same, get_or-set_other, get_or-take, length-replicate, length-set, length-take, set-get_or, take-take}
-use Rattle.std.proofs.lemmas.List.Elements.{All-from_get_or, All-take}
+use Rattle.std.proofs.lemmas.List.Elements.{All-take}
 use Rattle.std.proofs.lemmas.List.Sums.{sum_by-set}
 use Rattle.std.proofs.lemmas.Option.{get_or_from_slice_get, slice_get_within, slice_get-get_or}
 use Rattle.vob_block.specs.Packing.{item}
@@ -21,7 +21,7 @@ use Rattle.vob_users.specs.declared.grammar.Rule.{Rule}
 use Rattle.vob_users.specs.declared.grammar.Symbol.{Symbol}
 use Rattle.vob_users.specs.declared.grammar.Symbol.TheVariants.{Terminal, Nonterminal}
 use Rattle.vob_users.proofs.GrowthLemmas.{Adds-as, Adds-at}
-use Rattle.vob_users.proofs.ShapeLemmas.{AreLong-empty}
+use Rattle.vob_users.proofs.ShapeLemmas.{AreOfLength-empty, AreOfLength-kept}
 use Rattle.vob_live.proofs.StartLemmas.{total_count_le}
 
 -- ---- one row gains bits
@@ -77,11 +77,9 @@ pub places_fit : (n t : ℕ) (rows : List (List Bool)) →
     HaveShapeOf (replicate n (replicate t false)) rows → total_count rows ≤ n * t
 places_fit n t rows shape =
     let count = shape.count ∙ length-replicate n (replicate t false) in
-    let empty = AreLong-empty n t in
     total_count_le t n rows (record {
       count = count;
-      long = All-from_get_or (λ s. length s ≡ t) rows []
-          (λ i less. shape.long i ∙ empty.each i (omega (arith, less, shape.count)));
+      long = AreOfLength-kept t _ rows (AreOfLength-empty n t) shape;
     })
 
 -- ---- what begins one symbol

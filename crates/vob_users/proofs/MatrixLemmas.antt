@@ -10,12 +10,12 @@ use Rattle.vob_block.specs.Packing.{item}
 use Rattle.vob_walk.specs.Matches.{matches}
 use Rattle.vob_walk.proofs.IndexLemmas.{matches-exactly}
 use Rattle.vob.specs.Vob.{BitVector}
-use Rattle.vob_live.specs.Live.{bits_of}
-use Rattle.vob_users.specs.Matrix.{Matrix, row_of, entry, AreLong, HaveShapeOf, IsEntryWritten, IsTransposed}
+use Rattle.vob.specs.Vobs.{AreOfLength, bits_of}
+use Rattle.vob_users.specs.Matrix.{Matrix, row_of, entry, HaveShapeOf, IsEntryWritten, IsTransposed}
 use Rattle.vob_users.specs.MatrixRows.{IsRowCombined, IsColumnMarked, AreColumnsMarked}
 use Rattle.vob_block.proofs.BoolLemmas.{or-false, or-absorbs}
-use Rattle.vob_live.proofs.SetLemmas.{true_within, item-replicate}
-use Rattle.vob_users.proofs.ShapeLemmas.{HaveShapeOf-same, HaveShapeOf-trans, AreLong-kept, AreLong-empty, GetsRow-combined}
+use Rattle.vob.proofs.BitsLemmas.{true_inside, item_false}
+use Rattle.vob_users.proofs.ShapeLemmas.{HaveShapeOf-same, HaveShapeOf-trans, AreOfLength-kept, AreOfLength-empty, GetsRow-combined}
 
 -- ---- rows that are led through node k
 
@@ -102,7 +102,7 @@ module _ (rows : List (List Bool)) (column : ℕ) (bits : List Bool) where
         shape = HaveShapeOf-same rows;
         left = λ i given. ((exactly i).0 (subst (λ xs. Contains xs i) all given)).2;
         there = λ i on other. absurd (other (subst (λ xs. Contains xs i) (sym all)
-            ((exactly i).1 (true_within bits i on, refl, on))));
+            ((exactly i).1 (true_inside bits i on, refl, on))));
         off = λ i unset. refl;
         others = λ i j other. refl;
       }
@@ -139,7 +139,7 @@ next_inside items now column bits i given rest is same h =
     omega (
       arith,
       same,
-      true_within bits i (h.left i first),
+      true_inside bits i (h.left i first),
       h.shape.count,
       length-map items (λ v. v.bits),
       length-map now (λ v. v.bits),
@@ -176,7 +176,7 @@ entry-empty : (rows columns i j : ℕ) → entry (replicate rows (replicate colu
 entry-empty rows columns i j = elim (cases_lt i rows) [
   | inl less ↦
       ap (λ r. item r j) (get_or-replicate rows i (replicate columns false) [] less)
-      ∙ item-replicate columns j
+      ∙ item_false columns j
   | inr past ↦
       let count = length-replicate rows (replicate columns false) in
       ap (λ r. item r j)
@@ -190,14 +190,14 @@ pub IsTransposed-marked : (matrix made : Matrix) (empty after : List (List Bool)
     AreColumnsMarked empty matrix.rows after → IsTransposed matrix made
 IsTransposed-marked matrix made empty after none rows columns marked =
     let count = length-replicate matrix.columns (replicate (length matrix.rows) false) in
-    let start = subst (AreLong (length matrix.rows)) (sym none)
-    (AreLong-empty matrix.columns (length matrix.rows)) in
-    let long = AreLong-kept (length matrix.rows) empty after start marked.shape in
+    let start = subst (AreOfLength (length matrix.rows)) (sym none)
+    (AreOfLength-empty matrix.columns (length matrix.rows)) in
+    let long = AreOfLength-kept (length matrix.rows) empty after start marked.shape in
     record {
       count = ap length rows ∙ marked.shape.count ∙ ap length none ∙ count;
       columns = columns;
-      long = subst (λ n. AreLong n made.rows) (sym columns)
-          (subst (AreLong (length matrix.rows)) (sym rows) long);
+      long = subst (λ n. AreOfLength n made.rows) (sym columns)
+          (subst (AreOfLength (length matrix.rows)) (sym rows) long);
       each = λ i j.
           ap (λ rs. entry rs j i) rows ∙ marked.each i j
           ∙ ap (λ b. entry matrix.rows i j || b)

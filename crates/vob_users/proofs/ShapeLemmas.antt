@@ -3,15 +3,17 @@ use Rattle.std.proofs.Common.{◌≡◌, ◌≢◌, ℕ, ◌<◌, Bool, true, fa
 use Rattle.std.proofs.Common.{length, replicate, get_or, set, refl, sym, ap, ◌∙◌, subst, arith, inl}
 use Rattle.std.proofs.Common.{inr}
 use Rattle.std.proofs.lemmas.Bool.{cases_eq, false≢true}
-use Rattle.std.proofs.lemmas.List.{length-set, length-replicate, get_or-replicate, get_or-set_same}
+use Rattle.std.proofs.lemmas.List.{length-set, length-replicate, get_or-set_same}
 use Rattle.std.proofs.lemmas.List.{get_or-set_other, set-get_or, get_or-map, map-set, length-map}
 use Rattle.std.proofs.lemmas.List.{length-append, get_or_append_left, get_or-append_right}
 use Rattle.std.proofs.lemmas.List.{set-append_left, set-append_right}
+use Rattle.std.proofs.lemmas.List.Elements.{All-from_get_or}
 use Rattle.vob_block.specs.Packing.{item}
 use Rattle.vob.specs.Bits.{IsWritten, AreCombined, GainsBits}
 use Rattle.vob.specs.Vob.{BitVector}
-use Rattle.vob_live.specs.Live.{bits_of}
-use Rattle.vob_users.specs.Matrix.{row_of, entry, AreLong, HaveShapeOf, IsEntryWritten, GetsRow}
+use Rattle.vob.specs.Vobs.{AreOfLength, bits_of}
+use Rattle.vob.proofs.VobsLemmas.{of_length_replicate}
+use Rattle.vob_users.specs.Matrix.{row_of, entry, HaveShapeOf, IsEntryWritten, GetsRow}
 use Rattle.vob_users.specs.MatrixRows.{IsRowCombined}
 
 pub HaveShapeOf-same : (rows : List (List Bool)) → HaveShapeOf rows rows
@@ -24,19 +26,24 @@ HaveShapeOf-trans rows between after first second = record {
   long = λ i. second.long i ∙ first.long i;
 }
 
-pub AreLong-kept : (columns : ℕ) (rows after : List (List Bool)) → AreLong columns rows →
-    HaveShapeOf rows after → AreLong columns after
-AreLong-kept columns rows after long shape = record {
-  each = λ i inside. shape.long i ∙ long.each i (omega (arith, shape.count));
-}
+pub AreOfLength-kept : (columns : ℕ) (rows after : List (List Bool)) → AreOfLength columns rows →
+    HaveShapeOf rows after → AreOfLength columns after
+AreOfLength-kept columns rows after long shape =
+    All-from_get_or (λ row. length row ≡ columns) after []
+    (λ i inside. shape.long i ∙ long i [] (omega (arith, inside, shape.count)))
 
-pub AreLong-empty : (rows columns : ℕ) → AreLong columns (replicate rows (replicate columns false))
-AreLong-empty rows columns = record {
-  each = λ i inside.
-      let count = length-replicate rows (replicate columns false) in
-      ap length (get_or-replicate rows i (replicate columns false) [] (omega (arith, count)))
-      ∙ length-replicate columns false;
-}
+-- each row is as long as another one of them
+pub AreOfLength-row : (columns : ℕ) (rows after : List (List Bool)) (k : ℕ) →
+    AreOfLength columns rows → HaveShapeOf rows after → k < length rows →
+    AreOfLength (length (row_of after k)) after
+AreOfLength-row columns rows after k long shape below =
+    let kept = AreOfLength-kept columns rows after long shape in
+    λ i d inside. kept i d inside ∙ sym (kept k [] (omega (arith, below, shape.count)))
+
+pub AreOfLength-empty : (rows columns : ℕ) →
+    AreOfLength columns (replicate rows (replicate columns false))
+AreOfLength-empty rows columns =
+    of_length_replicate columns rows (replicate columns false) (length-replicate columns false)
 
 -- ---- one row is replaced
 

@@ -2,8 +2,9 @@
 -- stands for.
 use Rattle.std.specs.Prelude.{◌≡◌, ℕ, Bool, true, List, length, take, slice_get, Some, All}
 use Rattle.vob_block.specs.Packing.{item}
+use Rattle.vob.specs.Vobs.{AreOfLength}
 use Rattle.vob_live.specs.Live.{AreWithin, IsWithin}
-use Rattle.vob_users.specs.Matrix.{Matrix, AreLong, entry}
+use Rattle.vob_users.specs.Matrix.{Matrix, entry}
 use Rattle.vob_users.specs.declared.grammar.Grammar.{Grammar}
 use Rattle.vob_users.specs.declared.grammar.Rule.{Rule}
 use Rattle.vob_users.specs.declared.grammar.Symbol.{Symbol}
@@ -53,7 +54,7 @@ IsFirstClosed nullable rules rows = All (λ rule. HasFirst nullable rule rows) r
 pub record AreFirst (grammar : Grammar) (nullable : List Bool) (first : Matrix) : Type 0 where
   pub count : length first.rows ≡ grammar.nonterminals
   pub columns : first.columns ≡ grammar.terminals
-  pub long : AreLong grammar.terminals first.rows
+  pub long : AreOfLength grammar.terminals first.rows
   pub closed : IsFirstClosed nullable grammar.rules.items first.rows
   pub least : (others : List (List Bool)) → IsFirstClosed nullable grammar.rules.items others →
       AreWithin first.rows others

@@ -1,6 +1,7 @@
 -- A matrix of bits, and where its entries lead: entry (i, j) is bit j of row i.
 use Rattle.std.specs.Prelude.{◌≡◌, ◌≢◌, ◌↔◌, ◌⊎◌, ℕ, ◌<◌, Bool, true, ◌||◌, List, [], ◌∷◌, length, slice_index_or}
 use Rattle.vob_block.specs.Packing.{item}
+use Rattle.vob.specs.Vobs.{AreOfLength}
 
 -- the rows, row 0 first, and how many columns there are, also where there is no row
 pub record Matrix : Type 0 where
@@ -14,10 +15,6 @@ row_of rows i = slice_index_or rows i []
 -- entry (i, j), false past the last row or column
 abbrev pub entry : List (List Bool) → ℕ → ℕ → Bool
 entry rows i j = item (row_of rows i) j
-
--- each row has so many bits
-pub record AreLong (columns : ℕ) (rows : List (List Bool)) : Type 0 where
-  pub each : (i : ℕ) → i < length rows → length (row_of rows i) ≡ columns
 
 -- rows that are as many and as long as others
 pub record HaveShapeOf (rows after : List (List Bool)) : Type 0 where
@@ -59,5 +56,5 @@ pub record IsClosure (rows after : List (List Bool)) : Type 0 where
 pub record IsTransposed (matrix after : Matrix) : Type 0 where
   pub count : length after.rows ≡ matrix.columns
   pub columns : after.columns ≡ length matrix.rows
-  pub long : AreLong after.columns after.rows
+  pub long : AreOfLength after.columns after.rows
   pub each : (i j : ℕ) → entry after.rows j i ≡ entry matrix.rows i j

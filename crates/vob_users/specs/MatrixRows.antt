@@ -4,11 +4,6 @@ use Rattle.vob_block.specs.Packing.{item}
 use Rattle.vob.specs.Bits.{AreCombined, GainsBits}
 use Rattle.vob_users.specs.Matrix.{row_of, entry, HaveShapeOf}
 
--- rows of one length
-pub record HaveOneLength (rows : List (List Bool)) : Type 0 where
-  pub each : (i k : ℕ) → i < length rows → k < length rows →
-      length (row_of rows i) ≡ length (row_of rows k)
-
 -- row i combined with row k in its place, and a flag that is true where it gained a bit
 pub record IsRowCombined (rows : List (List Bool)) (i k : ℕ) (after : List (List Bool))
     (gained : Bool) : Type 0 where

@@ -1,13 +1,14 @@
 -- The nodes of a graph that others lead to. Bit j of row i says that node i leads to node j.
-use Rattle.std.specs.Prelude.{◌≡◌, ℕ, ◌<◌, Bool, true, false, List, [], length, slice_index_or, All}
+use Rattle.std.specs.Prelude.{◌≡◌, ℕ, ◌<◌, Bool, true, false, List, [], length, slice_index_or}
 use Rattle.vob_block.specs.Packing.{item}
 use Rattle.vob.specs.Bits.{count_of}
+use Rattle.vob.specs.Vobs.{AreOfLength}
 use Rattle.vob_live.specs.Live.{IsWithin}
 
 -- a row for each of some nodes, and in each row a bit for each of them
 pub record IsMatrix (nodes : ℕ) (rows : List (List Bool)) : Type 0 where
   pub count : length rows ≡ nodes
-  pub square : All (λ row. length row ≡ nodes) rows
+  pub square : AreOfLength nodes rows
 
 -- nodes that lead to themselves alone
 abbrev pub IsClosed : List (List Bool) → List Bool → Type 0

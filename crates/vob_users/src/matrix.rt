@@ -3,9 +3,9 @@
 ghost use Rattle.std.specs.Prelude.{◌≡◌, ◌≢◌, ◌↔◌, ◌<◌, ◌≤◌, ℕ, [], false, length, map, replicate, slice_get, IsOk, IsTrue, IfOk};
 ghost use Rattle.vob.specs.Bits.{GainsBits, IsWritten};
 ghost use Rattle.vob_block.specs.Pointwise.{differ};
-ghost use Rattle.vob_live.specs.Live.{bits_of};
-ghost use Rattle.vob_users.specs.Matrix.{row_of, entry, AreLong, GetsRow, HaveShapeOf, IsClosure, IsEntryWritten, IsTransposed};
-ghost use Rattle.vob_users.specs.MatrixRows.{HaveOneLength, AreColumnsMarked, IsColumnMarked, IsLedThrough, IsRowCombined};
+ghost use Rattle.vob.specs.Vobs.{AreOfLength, bits_of};
+ghost use Rattle.vob_users.specs.Matrix.{row_of, entry, GetsRow, HaveShapeOf, IsClosure, IsEntryWritten, IsTransposed};
+ghost use Rattle.vob_users.specs.MatrixRows.{AreColumnsMarked, IsColumnMarked, IsLedThrough, IsRowCombined};
 
 use std::alloc::{AllocError, Global};
 use std::marker::Model;
@@ -20,7 +20,8 @@ pub struct BitMatrix {
 
 impl Model for BitMatrix {
     ghost use Rattle.std.specs.Prelude.{map};
-    ghost use Rattle.vob_users.specs.Matrix.{AreLong, Matrix};
+    ghost use Rattle.vob.specs.Vobs.{AreOfLength};
+    ghost use Rattle.vob_users.specs.Matrix.{Matrix};
 
     ghost Value = { Matrix };
 
@@ -30,7 +31,7 @@ impl Model for BitMatrix {
     } };
 
     ghost invariant = { λ matrix.
-        AreLong matrix.columns (map (λ row. row.bits) matrix.rows.items) };
+        AreOfLength matrix.columns (map (λ row. row.bits) matrix.rows.items) };
 }
 
 impl BitMatrix {
@@ -61,7 +62,7 @@ impl BitMatrix {
     /// Returns the number of columns.
     pub fn columns(&self) -> usize
         ensures columns { result ≡ self.now.columns }
-        ensures long { AreLong result self.now.rows }
+        ensures long { AreOfLength result self.now.rows }
     {
         self.columns
     }
@@ -132,7 +133,8 @@ impl BitMatrix {
 fn or_row(rows: &mut [Vob], into: usize, from: usize) -> bool
     requires into { into < length rows.old }
     requires from { from < length rows.old }
-    requires long { HaveOneLength (bits_of rows.old) }
+    requires long { length (row_of (bits_of rows.old) into)
+        ≡ length (row_of (bits_of rows.old) from) }
     ensures { IsRowCombined (bits_of rows.old) into from
         (bits_of rows.new) result }
 {
@@ -150,7 +152,7 @@ fn or_row(rows: &mut [Vob], into: usize, from: usize) -> bool
 /// Adds row `through` to each row with an edge to that node.
 fn lead_through(rows: &mut [Vob], through: usize)
     requires through { through < length rows.old }
-    requires long { HaveOneLength (bits_of rows.old) }
+    requires long { AreOfLength (length (row_of (bits_of rows.old) through)) (bits_of rows.old) }
     ensures { IsLedThrough (bits_of rows.old) through
         (bits_of rows.new) }
 {
@@ -164,7 +166,7 @@ fn lead_through(rows: &mut [Vob], through: usize)
 /// Makes each row hold all nodes that its node leads to, by Warshall's algorithm: after turn k, those
 /// that paths through nodes up to k lead to.
 fn close_rows(rows: &mut [Vob])
-    requires { HaveOneLength (bits_of rows.old) }
+    requires { AreOfLength (length (row_of (bits_of rows.old) 0)) (bits_of rows.old) }
     ensures { IsClosure (bits_of rows.old) (bits_of rows.new) }
 {
     for through in 0..rows.len() {
@@ -187,8 +189,8 @@ fn mark_column(rows: &mut [Vob], column: usize, bits: &Vob)
 
 /// Marks column i at the set bits of row i of `from`, for each of its rows.
 fn mark_columns(rows: &mut [Vob], from: &[Vob])
-    requires rows { AreLong (length rows.old) (bits_of from.now) }
-    requires long { AreLong (length from.now) (bits_of rows.old) }
+    requires rows { AreOfLength (length rows.old) (bits_of from.now) }
+    requires long { AreOfLength (length from.now) (bits_of rows.old) }
     ensures { AreColumnsMarked (bits_of rows.old) (bits_of from.now) (bits_of rows.new) }
 {
     for column in 0..from.len() {

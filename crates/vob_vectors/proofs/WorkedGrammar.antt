@@ -4,9 +4,11 @@
 use Rattle.std.specs.Prelude.{codes, slice_index_or, All}
 use Rattle.std.proofs.Common.{◌≡◌, ℕ, zero, suc, ◌<◌, Bool, true, List, [], ◌∷◌, length, refl}
 use Rattle.std.proofs.Common.{sym, subst, arith, lit<}
+use Rattle.std.proofs.lemmas.List.Elements.{All-from_get_or}
 use Rattle.vob_block.specs.Packing.{item}
 use Rattle.vob_live.specs.Live.{IsWithin, AreWithin}
-use Rattle.vob_users.specs.Matrix.{Matrix, AreLong, entry}
+use Rattle.vob.specs.Vobs.{AreOfLength}
+use Rattle.vob_users.specs.Matrix.{Matrix, entry}
 use Rattle.vob_users.specs.declared.grammar.Grammar.{Grammar}
 use Rattle.vob_users.specs.declared.grammar.Rule.{Rule}
 use Rattle.vob_users.specs.declared.grammar.Symbol.{Symbol}
@@ -108,8 +110,8 @@ row_long zero below = refl
 row_long (suc zero) below = refl
 row_long (suc (suc i)) below = absurd (omega (arith, below))
 
-rows_long : AreLong 2 rows
-rows_long = record { each = row_long }
+rows_long : AreOfLength 2 rows
+rows_long = All-from_get_or (λ row. length row ≡ 2) rows [] row_long
 
 within_rows : (others : List (List Bool)) → entry others 0 0 ≡ true → entry others 0 1 ≡ true
     → entry others 1 0 ≡ true → AreWithin rows others
@@ -180,7 +182,7 @@ module _ (grammar : Grammar) (a b c : Rule) (rules : grammar.rules.items ≡ a �
   first-rows = record {
     count = sym nonterminals;
     columns = sym terminals;
-    long = subst (λ (n : ℕ). AreLong n rows) (sym terminals) rows_long;
+    long = subst (λ (n : ℕ). AreOfLength n rows) (sym terminals) rows_long;
     closed = of_rules (λ rule. HasFirst nullable rule rows) (first-of a_is rows begins-0)
         (first-of b_is rows begins-1) (first-of c_is rows begins-2);
     least = first-within;

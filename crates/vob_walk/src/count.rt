@@ -16,6 +16,7 @@ pub fn count_ones_in<T: Block>(blocks: &mut Blocks<'_, T>, start: usize, stop: u
     requires order { start ≤ stop }
     requires enough { need stop T.BITS ≤ length blocks.old.items }
     ensures ones { result ≡ ones_between T.BITS (map T.number blocks.old.items) start stop }
+    ensures most { result ≤ stop - start }
     ensures reads { blocks.new.reads ≡ blocks.old.reads + blocks_met (Included start) (Excluded stop) stop T.BITS }
     ensures items { blocks.new.items ≡ blocks.old.items }
 {

@@ -2,7 +2,8 @@
 use Rattle.std.proofs.Common.{List, ℕ, ◌∙◌, subst, sym, arith}
 use Rattle.vob_live.specs.FlowFaults.{IsSound}
 use Rattle.vob_live.specs.LiveSets.{AddsMembers, IsPossible, IsSetOf}
-use Rattle.vob_live.proofs.SetLemmas.{AllZip-more, IsPossible-added}
+use Rattle.vob.proofs.VobsLemmas.{beside_more}
+use Rattle.vob_live.proofs.SetLemmas.{IsPossible-added}
 use Rattle.vob_live.proofs.live.possible_sets.Goals as goal
 
 pub set_of-requires : goal.set_of-requires
@@ -32,7 +33,7 @@ loop-flow-preserved c =
     let added = subst (λ (members : List ℕ). AddsMembers c.negate.new.self.bits members after)
     c.deref-in-loop-flow.ensures.value c.add_members.ensures in
     rw c.in_ok-push.ensures.items
-    (AllZip-more (λ flow set. IsPossible vars flow set.bits) c.args.nodes.now c.loop-flow.sets.items
+    (beside_more (λ flow set. IsPossible vars flow set.bits) c.args.nodes.now c.loop-flow.sets.items
     c.loop-flow.flow-index flow c.add_members.new.set c.loop-flow-test.true c.flow-item.is
     c.loop-flow.invariant
     (IsPossible-added vars flow set c.negate.new.self.bits after written c.negate.ensures.each added))

@@ -2,7 +2,7 @@
 use Rattle.std.proofs.Common.{List, ℕ, subst, sym}
 use Rattle.vob_live.specs.FlowFaults.{IsSound}
 use Rattle.vob_live.specs.LiveSets.{IsSetOf}
-use Rattle.vob_live.proofs.SetLemmas.{AllZip-more}
+use Rattle.vob.proofs.VobsLemmas.{beside_more}
 use Rattle.vob_live.proofs.live.read_sets.Goals as goal
 
 pub set_of-requires : goal.set_of-requires
@@ -21,6 +21,6 @@ loop-flow-preserved c =
     let is_set = subst (λ (members : List ℕ). IsSetOf vars members set.bits)
     c.deref.ensures.value c.in_ok-set_of.ensures in
     rw c.in_ok-push.ensures.items
-    (AllZip-more (λ flow set. IsSetOf vars flow.reads.items set.bits) nodes c.loop-flow.sets.items
+    (beside_more (λ flow set. IsSetOf vars flow.reads.items set.bits) nodes c.loop-flow.sets.items
     c.loop-flow.flow-index c.flow-item.result set c.loop-flow-test.true c.flow-item.is
     c.loop-flow.invariant is_set)

@@ -3,7 +3,7 @@ use Rattle.std.proofs.Common.{◌∙◌, List, Bool, sym, subst, arith}
 use Rattle.std.proofs.lemmas.List.{length-replicate}
 use Rattle.vob_users.specs.Grammar.{IsFirstClosed}
 use Rattle.vob_users.proofs.FirstLemmas.{places_fit}
-use Rattle.vob_users.proofs.ShapeLemmas.{AreLong-empty, AreLong-kept, HaveShapeOf-trans}
+use Rattle.vob_users.proofs.ShapeLemmas.{AreOfLength-empty, AreOfLength-kept, HaveShapeOf-trans}
 use Rattle.vob_users.proofs.grammar.solve_first.Goals as goal
 
 pub passes-smaller : goal.passes-smaller
@@ -20,7 +20,7 @@ returns-clause-first c =
     record {
       count = shape.count ∙ length-replicate _ _;
       columns = c.first_pass.ensures.columns ∙ c.passes.invariant.columns;
-      long = AreLong-kept c.args.grammar.now.terminals _ _ (AreLong-empty _ _) shape;
+      long = AreOfLength-kept c.args.grammar.now.terminals _ _ (AreOfLength-empty _ _) shape;
       closed = subst (λ (rows : List (List Bool)). IsFirstClosed c.args.nullable.now.bits
           c.args.grammar.now.rules.items rows) (sym (adds.same off))
           (rw c.deref.ensures.value at (adds.met off));

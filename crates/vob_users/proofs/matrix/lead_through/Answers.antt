@@ -1,5 +1,5 @@
 -- A row with a step to the node gets that node's row.
-use Rattle.std.proofs.Common.{◌∙◌, ◌<◌, false, length, unwrap_or, sym, ap, arith}
+use Rattle.std.proofs.Common.{◌∙◌, ◌<◌, [], false, length, unwrap_or, sym, ap, arith}
 use Rattle.std.proofs.lemmas.List.{length-map}
 use Rattle.std.proofs.lemmas.Option.{unwrap_or-slice_get}
 use Rattle.vob_block.specs.Packing.{item}
@@ -7,6 +7,14 @@ use Rattle.vob_users.proofs.ShapeLemmas.{row_of-items}
 use Rattle.vob_users.proofs.MatrixLemmas.{AreLedBefore-skip, AreLedBefore-more}
 use Rattle.vob_users.proofs.matrix.lead_through.Goals as goal
 use Rattle.vob_users.proofs.matrix.lead_through.Goals.{then-unwrap_or, else-unwrap_or}
+
+pub or_row-requires-clause-long : goal.or_row-requires-clause-long
+or_row-requires-clause-long c =
+    let shape = c.loop-row.invariant.shape in
+    let row = c.loop-row.row in
+    let count = length-map c.loop-row.rows (λ v. v.bits) in
+    shape.long row ∙ c.requires.long row [] (omega (arith, count, shape.count))
+    ∙ sym (shape.long c.args.through)
 
 pub loop-row-preserved : goal.loop-row-preserved
 loop-row-preserved c =

@@ -1,5 +1,5 @@
 -- A row of the others is as long as there are rows, and marks its column.
-use Rattle.std.proofs.Common.{◌∙◌, ◌<◌, Bool, List, length, sym, ap, subst, arith}
+use Rattle.std.proofs.Common.{[], ◌∙◌, ◌<◌, Bool, List, length, sym, ap, subst, arith}
 use Rattle.std.proofs.lemmas.List.{length-map}
 use Rattle.vob_live.specs.Live.{bits_of}
 use Rattle.vob_users.specs.MatrixRows.{IsColumnMarked}
@@ -14,7 +14,7 @@ mark_column-requires-clause-rows c =
     let inside : column < length from = omega arith in
     let bits = row_of-items from column c.index-from-column.result inside in
     ap (λ v. length v.bits) c.index-from-column.is ∙ ap length (sym bits)
-    ∙ c.requires.rows.each column (omega (arith, length-map from (λ v. v.bits)))
+    ∙ c.requires.rows column [] (omega (arith, length-map from (λ v. v.bits)))
     ∙ sym c.loop-column.auto.rows
 
 pub loop-column-preserved : goal.loop-column-preserved

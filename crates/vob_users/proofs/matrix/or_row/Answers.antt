@@ -1,6 +1,5 @@
 -- The rows are cut in two parts, one row in either; or the row is the same one.
 use Rattle.std.proofs.Common.{◌∙◌, ap, sym, arith, length}
-use Rattle.std.proofs.lemmas.List.{length-map}
 use Rattle.vob_users.proofs.ShapeLemmas.{row_of-low, row_of-high, set-low, set-high, IsRowCombined-items, IsRowCombined-same}
 use Rattle.vob_users.proofs.matrix.or_row.Goals as goal
 
@@ -8,10 +7,9 @@ pub or-requires : goal.or-requires
 or-requires c =
     let rows = c.args.rows.now in
     let parts = c.split_at_mut-low in
-    let count = length-map rows (λ v. v.bits) in
     ap length (sym (row_of-low rows parts.result.0.now parts.result.1.now c.args.from
     parts.ensures.value parts.ensures.front_len c.args.into _ c.if-into-from.true))
-    ∙ c.requires.long.each c.args.into c.args.from (omega (arith, count)) (omega (arith, count))
+    ∙ c.requires.long
     ∙ ap length (row_of-high rows parts.result.0.now parts.result.1.now c.args.from
     parts.ensures.value parts.ensures.front_len _ c.requires.from)
 
@@ -19,10 +17,9 @@ pub or-requires-then-from-into : goal.or-requires-then-from-into
 or-requires-then-from-into c =
     let rows = c.args.rows.now in
     let parts = c.split_at_mut-low-then-from-into in
-    let count = length-map rows (λ v. v.bits) in
     ap length (sym (row_of-high rows parts.result.0.now parts.result.1.now c.args.into
     parts.ensures.value parts.ensures.front_len _ c.requires.into))
-    ∙ c.requires.long.each c.args.into c.args.from (omega (arith, count)) (omega (arith, count))
+    ∙ c.requires.long
     ∙ ap length (row_of-low rows parts.result.0.now parts.result.1.now c.args.into
     parts.ensures.value parts.ensures.front_len c.args.from _ c.if-from-into.true)
 

@@ -49,11 +49,16 @@ returns-clause-some g c =
       },
     )
 
-pub returns-clause-longest : goal.returns-clause-longest
-returns-clause-longest g c =
+pub returns-clause-most : goal.returns-clause-most
+returns-clause-most g c =
     let some = returns-clause-some g c in
     let few = length-matches-le c.args.self.now.bits (Included some.0) (Excluded some.1) false in
-    omega (arith, ap length some.4.whole.rest, few, c.len.ensures.len, c.len.ensures.greatest)
+    omega (arith, ap length some.4.whole.rest, few)
+
+pub returns-clause-longest : goal.returns-clause-longest
+returns-clause-longest g c =
+    let few = returns-clause-most g c in
+    omega (arith, few, c.len.ensures.len, c.len.ensures.greatest)
 
 pub returns-clause-runs : goal.returns-clause-runs
 returns-clause-runs g c = walk_runs

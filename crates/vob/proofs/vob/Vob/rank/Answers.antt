@@ -20,8 +20,8 @@ count_ones_in-requires-clause-enough g c =
       length-packing w wide bits,
     )
 
-pub returns : goal.returns
-returns g c =
+pub returns-clause-count : goal.returns-clause-count
+returns-clause-count g c =
     let bits = c.args.self.now.bits in
     rank_is g.T.BitBlock.BITS g.met.T.BitBlock.wide_law bits c.args.index c.min.result _ _
     (omega (arith, c.min.ensures, c.len.ensures.len)) c.blocks-2.ensures.blocks

@@ -1,5 +1,5 @@
 -- Each row has a bit for each column.
-use Rattle.std.proofs.Common.{◌<◌, ◌∙◌, length, sym, ap, arith}
+use Rattle.std.proofs.Common.{[], ◌<◌, ◌∙◌, length, sym, ap, arith}
 use Rattle.std.proofs.lemmas.List.{length-map}
 use Rattle.vob_users.proofs.ShapeLemmas.{row_of-items}
 use Rattle.vob_users.proofs.matrix.BitMatrix.row.Goals as goal
@@ -12,5 +12,5 @@ returns-clause-long c =
     let inside : row < length items = omega (arith, length-map items (λ v. v.bits), count) in
     ap (λ v. length v.bits) c.index.ensures
     ∙ ap length (sym (row_of-items items row _ inside))
-    ∙ c.self.invariant.each row (omega (arith, length-map items (λ v. v.bits)))
+    ∙ c.self.invariant row [] (omega (arith, length-map items (λ v. v.bits)))
     ∙ ap (λ m. m.columns) c.self.view_is

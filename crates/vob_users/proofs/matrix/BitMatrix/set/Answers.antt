@@ -1,8 +1,8 @@
 -- The entry is written in its row, and the row in its place.
-use Rattle.std.proofs.Common.{◌<◌, ◌∙◌, length, sym, ap, subst, arith}
+use Rattle.std.proofs.Common.{[], ◌<◌, ◌∙◌, length, sym, ap, subst, arith}
 use Rattle.std.proofs.lemmas.List.{length-map}
 use Rattle.vob.specs.Bits.{IsWritten}
-use Rattle.vob_users.proofs.ShapeLemmas.{row_of-items, AreLong-kept, IsEntryWritten-items, IsWritten-items}
+use Rattle.vob_users.proofs.ShapeLemmas.{row_of-items, AreOfLength-kept, IsEntryWritten-items, IsWritten-items}
 use Rattle.vob_users.proofs.matrix.BitMatrix.set.Goals as goal
 
 pub set-requires : goal.set-requires
@@ -13,7 +13,7 @@ set-requires c =
     let inside : row < length items = omega (arith, length-map items (λ v. v.bits), count) in
     let long = ap (λ v. length v.bits) c.index_mut.ensures.value
     ∙ ap length (sym (row_of-items items row _ inside))
-    ∙ c.self.invariant.each row (omega (arith, length-map items (λ v. v.bits)))
+    ∙ c.self.invariant row [] (omega (arith, length-map items (λ v. v.bits)))
     ∙ ap (λ m. m.columns) c.self.view_is in
     record { in_range = omega (arith, long, c.requires.column) }
 
@@ -25,7 +25,7 @@ invariant_of-self c =
     let inside : row < length items = omega (arith, length-map items (λ v. v.bits), count) in
     let written = subst (λ v. IsWritten v.bits c.args.column c.args.value c.set.new.self.bits)
     c.index_mut.ensures.value c.set.ensures.written in
-    AreLong-kept c.self.inside.columns _ _ c.self.invariant
+    AreOfLength-kept c.self.inside.columns _ _ c.self.invariant
     (IsEntryWritten-items items row c.args.column c.args.value _ c.set.new.self inside
     written).shape
 

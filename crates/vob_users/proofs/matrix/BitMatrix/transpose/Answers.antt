@@ -2,10 +2,9 @@
 use Rattle.std.proofs.Common.{◌≡◌, ◌∙◌, List, Bool, false, length, replicate, sym, ap, subst, arith}
 use Rattle.std.proofs.lemmas.List.{length-map, length-replicate, with_items_is}
 use Rattle.vob.specs.Vob.{BitVector}
-use Rattle.vob_live.specs.Live.{bits_of}
-use Rattle.vob_users.specs.Matrix.{AreLong}
+use Rattle.vob.specs.Vobs.{AreOfLength, bits_of}
 use Rattle.vob_users.specs.MatrixRows.{AreColumnsMarked}
-use Rattle.vob_users.proofs.ShapeLemmas.{AreLong-kept}
+use Rattle.vob_users.proofs.ShapeLemmas.{AreOfLength-kept}
 use Rattle.vob_users.proofs.MatrixLemmas.{IsTransposed-marked}
 use Rattle.vob_users.proofs.matrix.BitMatrix.transpose.Goals as goal
 
@@ -15,19 +14,19 @@ mark_columns-requires-clause-rows c =
     let count = sym (length-map c.made.inside.rows.items (λ v. v.bits))
     ∙ ap (λ m. length m.rows) c.made.view_is ∙ ap length c.in_ok-made.ensures.entries
     ∙ length-replicate columns (replicate c.len.result false) in
-    subst (λ n. AreLong n (bits_of c.deref.result.now))
+    subst (λ n. AreOfLength n (bits_of c.deref.result.now))
     (sym (ap length c.deref_mut.ensures.value ∙ count))
-    (subst (λ (items : List BitVector). AreLong columns (bits_of items))
+    (subst (λ (items : List BitVector). AreOfLength columns (bits_of items))
     (sym c.deref.ensures.value) c.self.invariant)
 
 pub invariant_of-made : goal.invariant_of-made
 invariant_of-made c =
     let columns = c.made.inside.columns in
-    let start = subst (λ (items : List BitVector). AreLong columns (bits_of items))
+    let start = subst (λ (items : List BitVector). AreOfLength columns (bits_of items))
     (sym c.deref_mut.ensures.value) c.made.invariant in
     let after = with_items_is c.made.inside.rows c.mark_columns.new.rows (omega arith) in
-    subst (λ (items : List BitVector). AreLong columns (bits_of items)) (sym after)
-    (AreLong-kept columns _ _ start c.mark_columns.ensures.shape)
+    subst (λ (items : List BitVector). AreOfLength columns (bits_of items)) (sym after)
+    (AreOfLength-kept columns _ _ start c.mark_columns.ensures.shape)
 
 pub returns-clause-transposed : goal.returns-clause-transposed
 returns-clause-transposed c =
