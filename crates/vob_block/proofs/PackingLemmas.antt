@@ -1,10 +1,10 @@
 -- What blocks store, and that packing and unpacking undo each other on canonical storage.
 use Rattle.std.specs.Prelude.{All}
-use Rattle.std.proofs.Common.{◌≡◌, ◌≢◌, ℕ, ◌+◌, ◌*◌, ◌/◌, ◌%◌, ◌^◌, ◌<◌, ◌≤◌, Bool, false, List, []}
-use Rattle.std.proofs.Common.{◌∷◌, ◌++◌, length, get_or, set, refl, sym, ap, ◌∙◌, subst, arith, inl}
+use Rattle.std.proofs.Common.{◌≡◌, ◌≢◌, ℕ, ◌+◌, ◌*◌, ◌/◌, ◌%◌, ◌^◌, ◌<◌, ◌≤◌, Bool, false, List}
+use Rattle.std.proofs.Common.{length, get_or, set, refl, sym, ap, ◌∙◌, subst, arith, inl}
 use Rattle.std.proofs.Common.{inr, mod-lt, zero-add, div-add-mod'}
 use Rattle.std.proofs.lemmas.Bool.{cases_lt}
-use Rattle.std.proofs.lemmas.List.{ext_get_or, get_or-set_same, get_or-set_other, get_or_past, get_or_push, get_or_append_left, length_push}
+use Rattle.std.proofs.lemmas.List.{ext_get_or, get_or-set_same, get_or-set_other, get_or_past}
 use Rattle.std.proofs.lemmas.List.FromFn.{length-map-range_with_len, get_or-map-range_with_len}
 use Rattle.std.proofs.lemmas.List.Elements.{All-from_get_or, All-get_or}
 use Rattle.std.proofs.lemmas.Nat.{div-mul-add, mod-mul-add}
@@ -42,21 +42,6 @@ pub bit_at-set_other : (xs : List ℕ) (w k y i : ℕ) → i / w ≢ k → bit_a
     ≡ bit_at xs w i
 bit_at-set_other xs w k y i n = bit_at-is_place (set xs k y) w i
     ∙ ap (place (i % w)) (get_or-set_other xs k (i / w) y 0 n) ∙ sym (bit_at-is_place xs w i)
-
-pub bit_at-push_same : (xs : List ℕ) (w y i : ℕ) → i / w ≡ length xs → bit_at (xs ++ y ∷ []) w i
-    ≡ place (i % w) y
-bit_at-push_same xs w y i e = bit_at-is_place (xs ++ y ∷ []) w i
-    ∙ ap (place (i % w)) (get_or_push xs y 0 (i / w) (sym e))
-
-pub bit_at-push_other : (xs : List ℕ) (w y i : ℕ) → i / w ≢ length xs → bit_at (xs ++ y ∷ []) w i
-    ≡ bit_at xs w i
-bit_at-push_other xs w y i n = elim (cases_lt (i / w) (length xs)) [
-  | inl below ↦ bit_at-is_place (xs ++ y ∷ []) w i
-      ∙ ap (place (i % w)) (get_or_append_left xs (y ∷ []) 0 (i / w) below)
-      ∙ sym (bit_at-is_place xs w i)
-  | inr past ↦ bit_at-past (xs ++ y ∷ []) w i (omega (arith, length_push xs y))
-      ∙ sym (bit_at-past xs w i past)
-]
 
 -- ---- the list that some blocks unpack to
 
@@ -149,15 +134,16 @@ module _ (w : ℕ) (wide : 0 < w) where
   unpacking-packing bits = unpacking_from_items bits (length bits) (packing bits w) w refl
       (λ i _. bit_at-packing bits i)
 
-  -- two canonical storages of one length that store the same are the same
-  pub same_from_bit_at : (n : ℕ) (xs ys : List ℕ) → IsCanonical n xs w → IsCanonical n ys w
-      → ((i : ℕ) → bit_at xs w i ≡ bit_at ys w i) → xs ≡ ys
-  same_from_bit_at n xs ys g h same = ext_get_or 0 xs ys (g.count ∙ sym h.count) (λ k inside.
-      let there : k < length ys = omega (arith, g.count, h.count) in
+  -- blocks as many that store the same are the same
+  pub same_from_bits : (xs ys : List ℕ) → length xs ≡ length ys → All (λ x. x < 2 ^ w) xs
+      → All (λ x. x < 2 ^ w) ys
+      → ((i : ℕ) → i / w < length xs → bit_at xs w i ≡ bit_at ys w i) → xs ≡ ys
+  same_from_bits xs ys long xs-in ys-in same = ext_get_or 0 xs ys long (λ k inside.
       same_from_places w (get_or xs k 0) (get_or ys k 0)
-      (All-get_or (λ x. x < 2 ^ w) xs k 0 inside g.within)
-      (All-get_or (λ x. x < 2 ^ w) ys k 0 there h.within)
-      (λ j below. sym (bit_at-in_block xs w k j below) ∙ same (k * w + j)
+      (All-get_or (λ x. x < 2 ^ w) xs k 0 inside xs-in)
+      (All-get_or (λ x. x < 2 ^ w) ys k 0 (omega (arith, long)) ys-in)
+      (λ j below. sym (bit_at-in_block xs w k j below)
+      ∙ same (k * w + j) (omega (arith, div-mul-add k w j below))
       ∙ bit_at-in_block ys w k j below))
 
   -- canonical storage is the packing of the list that it unpacks to
@@ -167,8 +153,8 @@ module _ (w : ℕ) (wide : 0 < w) where
       let bits = unpacking n xs w in
       let packed = subst (λ (m : ℕ). IsCanonical m (packing bits w) w) (length-unpacking n xs w)
       (IsCanonical-packing bits) in
-      same_from_bit_at n (packing bits w) xs packed h
-      (λ i. bit_at-packing bits i ∙ sym (bit_at-is_item n xs h i))
+      same_from_bits (packing bits w) xs (packed.count ∙ sym h.count) packed.within h.within
+      (λ i _. bit_at-packing bits i ∙ sym (bit_at-is_item n xs h i))
 
   -- and nothing else is canonical
   pub canonical_from_packing : (n : ℕ) (xs : List ℕ) → xs ≡ packing (unpacking n xs w) w

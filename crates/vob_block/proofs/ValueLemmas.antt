@@ -10,8 +10,7 @@ use Rattle.std.proofs.lemmas.List.FromFn.{map-range_with_len_more}
 use Rattle.std.proofs.lemmas.List.Sums.{sum_by_push}
 use Rattle.std.proofs.lemmas.Nat.{pow-add}
 use Rattle.std.proofs.lemmas.Nat.Bits.{bit_at_cat_low, bit_at_cat_high}
-use Rattle.vob_block.specs.Places.{place, HasPlaces, value}
-use Rattle.vob_block.proofs.PlaceLemmas.{same_from_places}
+use Rattle.vob_block.specs.Places.{place, value}
 
 pub range-more : (n : ℕ) → range_with_len 0 (n + 1) ≡ range_with_len 0 n ++ n ∷ []
 range-more n = sym (map-id (range_with_len 0 (n + 1)))
@@ -60,8 +59,3 @@ place-value (suc w) j f h = rw (value-more w f) (elim (cases_lt j w) [
       ap (λ b. eqb b 1) (high ∙ ap (bit_at (cond (f w) 1 0)) lowest) ∙ bit-test (f w)
       ∙ ap f (sym last)
 ])
-
--- the one number within the width that has these places
-pub value_from_places : (w x : ℕ) (f : ℕ → Bool) → x < 2 ^ w → HasPlaces w x f → x ≡ value w f
-value_from_places w x f p h = same_from_places w x (value w f) p (value-lt w f)
-    (λ j k. h.each j k ∙ sym (place-value w j f k))

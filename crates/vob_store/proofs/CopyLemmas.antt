@@ -1,6 +1,6 @@
 -- Bits of some blocks written over those of others, at a plain width.
 use Rattle.std.proofs.Common.{◌≡◌, ◌⊎◌, ℕ, ◌+◌, ◌-◌, ◌*◌, ◌/◌, ◌%◌, ◌<◌, ◌≤◌, min, ◌&&◌, cond, List}
-use Rattle.std.proofs.Common.{length, get_or, set, leb, ltb, refl, sym, ap, ◌∙◌, subst, arith, inl}
+use Rattle.std.proofs.Common.{length, get_or, set, leb, ltb, sym, ap, ◌∙◌, subst, arith, inl}
 use Rattle.std.proofs.Common.{inr, mod-lt, div-add-mod', add-mul, one-mul, zero-add, zero-mul}
 use Rattle.std.proofs.lemmas.Bool.{cases_lt, cases_eq, lt-ltb, le-ltb, le-leb, cond-true, cond-false}
 use Rattle.std.proofs.lemmas.List.{get_or-set_same}
@@ -35,14 +35,6 @@ places-two w from k by y a b source whole below low high places =
     record { each = λ j less. both.each j less ∙ ap (bit_at source w) (omega (arith, whole)) }
 
 -- ---- one stretch after another
-
--- no bits
-pub AreCopied-none : {w at start : ℕ} {xs others : List ℕ} → AreCopied w at start 0 xs others xs
-AreCopied-none = record {
-  copied = λ j h. absurd (omega arith);
-  before = λ i _. refl;
-  behind = λ i _. refl;
-}
 
 -- no bits stand nowhere
 pub AreCopied-anywhere : {w at start : ℕ} {xs others ys : List ℕ} (a : ℕ)

@@ -33,8 +33,7 @@ pub Stores-filled_up : {X : Type 0} (number : X → ℕ) (w : ℕ) → 0 < w →
     → Stores w (t * w) (map number (xs ++ replicate (t - k) splat))
     (before ++ replicate (t * w - n) v)
 Stores-filled_up number w wide n k t before xs v splat enough longer stored its =
-    let both = Stores-behind w wide (k * w) (map number xs) stored.canonical ((t - k) * w)
-    (map number (replicate (t - k) splat)) (replicate ((t - k) * w) v) (mul-mod_left k w)
+    let both = Stores-behind _ wide _ _ stored.canonical _ _ _ (mul-mod_left k w)
     (Stores-splat number w wide (t - k) v splat its) in
     let all : k + (t - k) ≡ t = omega arith in
     let sum : k * w + (t - k) * w ≡ t * w = sym (add-mul k (t - k) w) ∙ ap (λ m. m * w) all in

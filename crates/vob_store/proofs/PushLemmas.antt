@@ -1,6 +1,6 @@
 -- One bit more behind canonical storage, at a plain width.
-use Rattle.std.proofs.Common.{◌≡◌, ◌≢◌, ℕ, ◌+◌, ◌-◌, zero, suc, ◌*◌, ◌/◌, ◌%◌, ◌^◌, ◌<◌, ◌≤◌, Bool}
-use Rattle.std.proofs.Common.{true, false, ◌&&◌, ◌||◌, cond, List, [], ◌∷◌, ◌++◌, length, eqb, leb}
+use Rattle.std.proofs.Common.{◌≡◌, ◌≢◌, ℕ, ◌+◌, zero, suc, ◌*◌, ◌/◌, ◌%◌, ◌^◌, ◌<◌, ◌≤◌, Bool}
+use Rattle.std.proofs.Common.{true, false, ◌&&◌, ◌||◌, cond, List, [], ◌∷◌, ◌++◌, length, eqb}
 use Rattle.std.proofs.Common.{sym, ap, ◌∙◌, subst, arith, inl, inr, div-add-mod'}
 use Rattle.std.proofs.lemmas.Bool.{cases_order, cases_eq, eq-eqb, ne_eqb}
 use Rattle.std.proofs.lemmas.List.{get_or_past, get_or_push, get_or_append_left, length_push}
@@ -10,7 +10,7 @@ use Rattle.vob_block.specs.Places.{place, HasPlaces}
 use Rattle.vob_block.specs.Packing.{item, need, IsCanonical, Stores}
 use Rattle.vob_block.proofs.NeedLemmas.{need_at_full}
 use Rattle.vob_store.proofs.AppendLemmas.{Stores-block}
-use Rattle.vob_store.proofs.PackLemmas.{mark-places, place-first}
+use Rattle.vob_store.proofs.PackLemmas.{place-first}
 
 first-lt : (v : Bool) (w : ℕ) → 0 < w → cond v 1 0 < 2 ^ w
 first-lt true w h = pow_below 0 w h
@@ -72,13 +72,3 @@ module _ (w : ℕ) (wide : 0 < w) (n : ℕ) (xs : List ℕ) (h : IsCanonical n x
       let few : capacity * w ≤ n / w * w = mul-le capacity w (n / w) w
       (omega (arith, h.count, needs.0)) (omega arith) in
       (omega (arith, div-add-mod' n w), omega (arith, needs.0, needs.1))
-
--- a bit that is moved up to a place and joined
-pub mark_at : (w x y moved mark p q : ℕ) (b : Bool) → mark ≡ cond b 1 0 → p ≡ q
-    → HasPlaces w moved (λ j. leb p j && place (j - p) mark)
-    → HasPlaces w y (λ j. place j x || place j moved)
-    → (j : ℕ) → j < w → place j y ≡ (place j x || (b && eqb j q))
-mark_at w x y moved mark p q b marked same up both j h =
-    both.each j h ∙ ap (λ t. place j x || t) (up.each j h
-    ∙ ap (λ z. leb p j && place (j - p) z) marked ∙ mark-places b p j
-    ∙ ap (λ n. b && eqb j n) same)

@@ -11,10 +11,9 @@ use Rattle.std.proofs.lemmas.List.Elements.{All-set}
 use Rattle.std.proofs.lemmas.Nat.{mul-le, le-div, div_below}
 use Rattle.vob_block.specs.Places.{place, HasPlaces}
 use Rattle.vob_block.specs.Pointwise.{differ}
-use Rattle.vob_block.specs.Packing.{need, bit_at, unpacking, IsCanonical}
+use Rattle.vob_block.specs.Packing.{bit_at, unpacking, IsCanonical}
 use Rattle.vob_block.proofs.BoolLemmas.{or-test, and-test, differ-test}
 use Rattle.vob_block.proofs.KernelLemmas.{differ-zero, zero-differ, or-zero, zero-or}
-use Rattle.vob_block.proofs.NeedLemmas.{need_enough}
 use Rattle.vob_block.proofs.PackingLemmas.{bit_at-in_block, bit_at-is_place, bit_at-set_same, bit_at-set_other, bit_at-is_item}
 use Rattle.vob_block.proofs.PlaceLemmas.{place-ones, same_from_places}
 use Rattle.vob_store.specs.Range.{HaveSameBits, IsRanged}
@@ -243,14 +242,6 @@ IsCanonical-ranged h ranged inside = record {
 }
 
 -- ---- the same of items with a number each, as the code reads and writes them
-
--- the blocks of so many bits have room for fewer
-pub room_of : {X : Type 0} (number : X → ℕ) (w : ℕ) → 0 < w → (n stop : ℕ) (items : List X)
-    → IsCanonical n (map number items) w → stop ≤ n → stop ≤ length items * w
-room_of number w wide n stop items h inside =
-    let rooms : need n w * w ≡ length items * w = ap (λ k. k * w)
-    (sym h.count ∙ length-map items number) in
-    omega (arith, rooms, need_enough w wide n, inside)
 
 module _ {X : Type 0} (number : X → ℕ) (w : ℕ) (wide : 0 < w) (f : Bool → Bool) (items : List X)
     (k : ℕ) (old new : X) (inside : k < length items) (read : old ≡ get_or items k old) where

@@ -37,7 +37,7 @@ module _ {X : Type 0} (number : X → ℕ) (w : ℕ) (wide : 0 < w) (n : ℕ) (i
     -- a full last block has no unused bit
     pub full_decides : n % u ≡ 0 → IsTrue true ↔ IsCanonical n (map number items) w
     full_decides full = (
-      (λ yes'. canonical_at_full_width number w wide n items (fit ∙ needed) u same within full),
+      (λ yes'. canonical_at_full_width number _ wide _ _ (fit ∙ needed) _ same within full),
       (λ h. refl),
     )
 
@@ -47,14 +47,14 @@ module _ {X : Type 0} (number : X → ℕ) (w : ℕ) (wide : 0 < w) (n : ℕ) (i
         (places : HasPlaces w (number y) (λ j. place j (number x) && place j m))
         (mask : HasPlaces w m (λ j. ltb j (n % u))) where
       there : n / u < length items
-      there = last_in_items number w wide n items (fit ∙ needed) u same partial
+      there = last_in_items number _ wide _ _ (fit ∙ needed) _ same partial
 
       last_is : number x ≡ get_or (map number items) (n / u) 0
       last_is = ap number read ∙ sym (get_or-map number items (n / u) x 0 there)
 
       masked : Stores w n (map number (set items (n / u) y)) (unpacking n (map number items) w)
-      masked = mask_last_at number w wide n items (fit ∙ needed) u same within partial x y m read
-          small places mask
+      masked = mask_last_at number _ wide _ _ (fit ∙ needed) _ same within partial _ _ _ read small
+          places mask
 
       same_canonical : number y ≡ number x → IsCanonical n (map number items) w
       same_canonical e = subst (λ (ys : List ℕ). IsCanonical n ys w)

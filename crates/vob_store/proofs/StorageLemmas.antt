@@ -1,35 +1,27 @@
 -- A read of canonical storage, whose blocks are items of a type X with a number each.
 use Rattle.std.specs.Prelude.{Some, None, slice_get}
-use Rattle.std.proofs.Common.{◌≡◌, ℕ, ◌*◌, ◌/◌, ◌%◌, ◌^◌, ◌-◌, ◌<◌, ◌≤◌, Bool, false, [], min, List, length, map, get_or, refl, sym, ap, ◌∙◌, subst, arith}
+use Rattle.std.proofs.Common.{◌≡◌, ℕ, ◌*◌, ◌/◌, ◌%◌, ◌^◌, ◌-◌, ◌<◌, ◌≤◌, Bool, false, [], min, List, length, map, get_or, refl, sym, ap, ◌∙◌, arith}
 use Rattle.std.proofs.lemmas.List.{get_or-map, length-map}
 use Rattle.std.proofs.lemmas.Option.{slice_get-get_or, slice_get_past}
 use Rattle.std.proofs.lemmas.Nat.{mul-le, div_below}
 use Rattle.vob_block.specs.Places.{place}
 use Rattle.vob_block.specs.Packing.{need, bit_at, unpacking, IsCanonical}
-use Rattle.vob_block.proofs.NeedLemmas.{div-lt-need, need_enough, need-zero}
+use Rattle.vob_block.proofs.NeedLemmas.{need_enough, need-zero}
 use Rattle.vob_block.proofs.PackingLemmas.{bit_at-is_place, bit_at-past, length-unpacking, get_or-unpacking}
 
-module _ {X : Type 0} (number : X → ℕ) (w : ℕ) (wide : 0 < w) (n : ℕ) (items : List X)
-    (h : IsCanonical n (map number items) w) (i v : ℕ) (width : v ≡ w) (inside : i < n) where
-  -- the block of a bit is there
-  pub block_in_range : i / v < length items
-  block_in_range =
-      let there = div-lt-need w wide n i inside in
-      rw width (omega (arith, h.count, length-map items number))
+-- the blocks of so many bits have room for fewer
+pub room_of : {X : Type 0} (number : X → ℕ) (w : ℕ) → 0 < w → (n stop : ℕ) (items : List X)
+    → IsCanonical n (map number items) w → stop ≤ n → stop ≤ length items * w
+room_of number w wide n stop items h inside =
+    let rooms : need n w * w ≡ length items * w = ap (λ k. k * w)
+    (sym h.count ∙ length-map items number) in
+    omega (arith, rooms, need_enough w wide n, inside)
 
-  -- and the bit's place in it is the bit
-  pub bit_is_place : (x : X) (b : Bool) → x ≡ get_or items (i / v) x → b
-      ≡ place (i % v) (number x) → slice_get (unpacking n (map number items) w) i ≡ Some b
-  bit_is_place x b read tested =
-      let xs = map number items in
-      let block : number x ≡ get_or xs (i / v) 0 =
-      ap number read ∙ sym (get_or-map number items (i / v) x 0 block_in_range) in
-      let bit : bit_at xs w i ≡ b = bit_at-is_place xs w i
-      ∙ subst (λ (u : ℕ). place (i % u) (get_or xs (i / u) 0) ≡ b) width
-      (ap (place (i % v)) (sym block) ∙ sym tested) in
-      slice_get-get_or (unpacking n xs w) i false
-      (subst (λ (m : ℕ). i < m) (sym (length-unpacking n xs w)) inside)
-      ∙ ap Some (get_or-unpacking n xs w i false inside ∙ bit)
+-- a bit of blocks is that of the list which they store
+pub stored-bit : (n : ℕ) (xs : List ℕ) (w i : ℕ) {b : Bool} → i < n → b ≡ bit_at xs w i
+    → slice_get (unpacking n xs w) i ≡ Some b
+stored-bit n xs w i inside is = slice_get-get_or (unpacking n xs w) i false
+    (omega (arith, length-unpacking n xs w)) ∙ ap Some (get_or-unpacking n xs w i false inside ∙ sym is)
 
 -- so many bits have room in the blocks that there is room for
 pub length-le-room : (w : ℕ) → 0 < w → (n blocks capacity : ℕ) → blocks ≡ need n w

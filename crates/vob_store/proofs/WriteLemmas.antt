@@ -7,7 +7,7 @@ use Rattle.std.proofs.Common.{Fits, ◌*◌, ◌≤◌, ◌≡◌, ◌≢◌, �
 use Rattle.std.proofs.Common.{false, not, ◌&&◌, ◌||◌, cond, List, length, map, get_or, set, eqb}
 use Rattle.std.proofs.Common.{refl, sym, ap, ◌∙◌, arith, inl, inr, mod-lt}
 use Rattle.std.proofs.lemmas.Bool.{cases_eq, eq-eqb, ne_eqb, cond-true, cond-false}
-use Rattle.std.proofs.lemmas.List.{get_or-map, map-set, length-map, length-set, get_or-set_same, get_or-set_other}
+use Rattle.std.proofs.lemmas.List.{map-set, length-map, length-set, get_or-set_same, get_or-set_other}
 use Rattle.std.proofs.lemmas.List.Elements.{All-set}
 use Rattle.vob_block.specs.Places.{place, HasPlaces}
 use Rattle.vob_block.specs.Packing.{item, bit_at, unpacking, IsCanonical, Stores}
@@ -15,6 +15,7 @@ use Rattle.vob_block.proofs.BoolLemmas.{or-test, and-test}
 use Rattle.vob_block.proofs.NeedLemmas.{div-lt-need}
 use Rattle.vob_block.proofs.PackingLemmas.{bit_at-is_place, bit_at-set_same, bit_at-set_other, length-unpacking, bit_at-is_item, stores_from_items}
 use Rattle.vob_block.proofs.PlaceLemmas.{place-pow}
+use Rattle.vob_store.proofs.BuildLemmas.{number_indexed}
 use Rattle.vob_store.proofs.PushLemmas.{eqb-places, eqb-blocks}
 
 -- ---- a block with another value at one place
@@ -85,28 +86,17 @@ module _ (w : ℕ) (wide : 0 < w) (xs : List ℕ) (index : ℕ) (v : Bool) (y : 
       ∙ sym (item-set bits index v i (omega (arith, length-unpacking n xs w))))
 
 -- the same of items with a number each; u is the width as the code read it
-module _ {X : Type 0} (number : X → ℕ) (w : ℕ) (wide : 0 < w) (n : ℕ) (items : List X)
-    (h : IsCanonical n (map number items) w) (index : ℕ) (inside : index < n) where
-  write_at_width : (v : Bool) (x y : X) → x ≡ get_or items (index / w) x → number y < 2 ^ w
-      → HasPlaces w (number y) (λ j. cond (eqb j (index % w)) v (place j (number x)))
-      → Stores w n (map number (set items (index / w) y))
-      (set (unpacking n (map number items) w) index v)
-  write_at_width v x y read small places =
-      let xs = map number items in
-      let there : index / w < length items = omega
-      (arith, h.count, div-lt-need w wide n index inside, length-map items number) in
-      let block : number x ≡ get_or xs (index / w) 0 =
-      ap number read ∙ sym (get_or-map number items (index / w) x 0 there) in
-      rw map-set (write_place w wide xs index v (number y) n h inside small
-      (λ j k. places.each j k ∙ ap (λ b. cond (eqb j (index % w)) v (place j b)) block))
-
-  pub write_at : (u : ℕ) → u ≡ w → (v : Bool) (x y : X) → x ≡ get_or items (index / u) x
-      → number y < 2 ^ w → HasPlaces w (number y)
-      (λ j. cond (eqb j (index % u)) v (place j (number x)))
-      → Stores w n (map number (set items (index / u) y))
-      (set (unpacking n (map number items) w) index v)
-  write_at u same v x y read small places = rw same
-      (write_at_width v x y (rw same at read) small (rw same at places))
+pub write_at : {X : Type 0} (number : X → ℕ) (w : ℕ) → 0 < w → (n : ℕ) (items : List X)
+    → IsCanonical n (map number items) w → (index : ℕ) → index < n → (u : ℕ) → u ≡ w → (v : Bool)
+    (x y : X) → x ≡ get_or items (index / u) x → number y < 2 ^ w
+    → HasPlaces w (number y) (λ j. cond (eqb j (index % u)) v (place j (number x)))
+    → Stores w n (map number (set items (index / u) y)) (set (unpacking n (map number items) w) index v)
+write_at number w wide n items h index inside u same v x y read small places =
+    let there : index / w < length items =
+    omega (arith, h.count, div-lt-need w wide n index inside, length-map items number) in
+    let block = number_indexed number items (index / w) x there (rw same at read) in
+    rw (same, map-set) (write_place w wide (map number items) index v (number y) n h inside small
+    (λ j k. (rw same at places).each j k ∙ ap (λ b. cond (eqb j (index % w)) v (place j b)) block))
 
 -- where a block stands in memory is a number that fits
 pub offset_fits : (i n size : ℕ) → i < n → n * size < 2 ^ 63 → Fits w64 (i * size)

@@ -13,13 +13,11 @@ returns-in_err-bytes-clause-nothing c = λ none.
 pub returns-clause-count : goal.returns-clause-count
 returns-clause-count c =
     let m = need_of_bytes c.args.len c.div_ceil.result c.div_ceil.ensures in
-    ap length c.truncate.ensures.items ∙ length-needed c.args.len c.div_ceil.result
-    c.args.blocks.now c.push_words.new.bytes.items c.requires m c.push_words.ensures.count
-    c.push_words.ensures.bits ∙ m
+    ap length c.truncate.ensures.items ∙ length-needed _ _ _ c.push_words.new.bytes.items c.requires
+    m c.push_words.ensures.count c.push_words.ensures.bits ∙ m
 
 pub returns-clause-bits : goal.returns-clause-bits
 returns-clause-bits c =
     let m = need_of_bytes c.args.len c.div_ceil.result c.div_ceil.ensures in
-    rw (c.truncate.ensures.items, ← m) (bytes_list-needed c.args.len c.div_ceil.result
-    c.args.blocks.now c.push_words.new.bytes.items c.requires m c.push_words.ensures.count
-    c.push_words.ensures.bits)
+    rw (c.truncate.ensures.items, ← m) (bytes_list-needed _ _ _ c.push_words.new.bytes.items
+    c.requires m c.push_words.ensures.count c.push_words.ensures.bits)

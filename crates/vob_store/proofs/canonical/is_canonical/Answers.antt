@@ -5,23 +5,19 @@ use Rattle.vob_store.proofs.canonical.is_canonical.Goals as goal
 
 pub returns-then-blocks-div_ceil : goal.returns-then-blocks-div_ceil
 returns-then-blocks-div_ceil g c =
-    count_refuses g.T.BitBlock.number g.T.BitBlock.BITS g.met.T.BitBlock.wide_law c.args.len
-    c.args.blocks.now c.BITS-width.result c.div_ceil.result c.BITS-width.ensures
+    count_refuses g.T.BitBlock.number _ g.met.T.BitBlock.wide_law _ _ _ _ c.BITS-width.ensures
     c.div_ceil.ensures c.if-blocks-div_ceil.true
 
 pub returns-then-used-eq0 : goal.returns-then-used-eq0
 returns-then-used-eq0 g c =
-    full_decides g.T.BitBlock.number g.T.BitBlock.BITS g.met.T.BitBlock.wide_law c.args.len
-    c.args.blocks.now c.BITS-width.result c.div_ceil.result c.BITS-width.ensures
+    full_decides g.T.BitBlock.number _ g.met.T.BitBlock.wide_law _ _ _ _ c.BITS-width.ensures
     c.div_ceil.ensures c.if-blocks-div_ceil.false c.all_in_range.ensures c.if-used-eq0.true
 
 pub returns : goal.returns
 returns g c =
     let number = g.T.BitBlock.number in
     let last = c.index-blocks-len.result in
-    last_decides number g.T.BitBlock.BITS g.met.T.BitBlock.wide_law c.args.len c.args.blocks.now
-    c.BITS-width.result c.div_ceil.result c.BITS-width.ensures c.div_ceil.ensures
-    c.if-blocks-div_ceil.false c.all_in_range.ensures c.if-used-eq0.false
-    last c.band.result (number c.low_mask.result) c.index-blocks-len.is c.band.ensures.within
-    c.band.ensures.places c.low_mask.ensures.places c.eq.result
+    last_decides number _ g.met.T.BitBlock.wide_law _ _ _ _ c.BITS-width.ensures c.div_ceil.ensures
+    c.if-blocks-div_ceil.false c.all_in_range.ensures c.if-used-eq0.false _ _ _
+    c.index-blocks-len.is c.band.ensures.within c.band.ensures.places c.low_mask.ensures.places _
     (rw c.eq.ensures (g.met.T.BitBlock.equal_law c.band.result last))

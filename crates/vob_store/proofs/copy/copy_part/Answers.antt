@@ -1,5 +1,5 @@
 -- The block is made of itself and of the bits, moved up to their place.
-use Rattle.std.proofs.Common.{◌/◌, ◌%◌, length, map, ap, arith}
+use Rattle.std.proofs.Common.{◌/◌, ◌%◌, length, ap, arith}
 use Rattle.std.proofs.lemmas.List.{length-map, map-set}
 use Rattle.vob_store.proofs.BuildLemmas.{number_indexed}
 use Rattle.vob_store.proofs.CopyLemmas.{block_and_place, block_inside, AreCopied-spliced}
@@ -12,16 +12,11 @@ returns-clause-copied g c =
     let u = c.BITS-width.result in
     let at = c.args.at in
     let own = c.args.own.now in
-    let whole = block_and_place w at u c.BITS-width.ensures in
-    let room = block_inside w (at / u) (at % u) at (length own)
-    whole
+    let whole = block_and_place _ at _ c.BITS-width.ensures in
+    let room = block_inside _ _ _ _ (length own) whole
     (omega (arith, c.requires.inside, c.if-cut-eq0.false)) in
-    rw map-set (AreCopied-spliced w g.met.T.BitBlock.wide_law (map number own)
-    (map number c.args.other.now.items) (at / u) (number c.spliced-2.result)
-    (omega (arith, room, length-map own number)) at (at % u) c.args.cut.start c.args.cut.count
-    (number c.index-own-k.result) (number c.bits_at.result) (number c.up-bits.result)
-    (number c.spliced.result) whole
-    (omega (arith, c.requires.one, ap (λ v. at % v) c.BITS-width.ensures))
-    (number_indexed number own (at / u) c.index-own-k.result room c.index-own-k.is)
-    c.bits_at.ensures.places c.up-bits.ensures.places c.spliced.ensures.places
-    c.spliced-2.ensures.places)
+    rw map-set (AreCopied-spliced _ g.met.T.BitBlock.wide_law _ _ _ _
+    (omega (arith, room, length-map own number)) _ _ _ _ _ _ _ _ whole
+    (omega (arith, c.requires.one, ap (λ v. at % v) c.BITS-width.ensures)) (number_indexed number
+    own (at / u) c.index-own-k.result room c.index-own-k.is) c.bits_at.ensures.places
+    c.up-bits.ensures.places c.spliced.ensures.places c.spliced-2.ensures.places)

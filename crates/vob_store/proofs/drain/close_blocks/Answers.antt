@@ -22,10 +22,10 @@ shift_down-requires-clause-inside g c = skip-below _ _ _ _ _ c.BITS-width.ensure
 
 pub returns-then-places-eq0 : goal.returns-then-places-eq0
 returns-then-places-eq0 g c =
-    AreBuilt-moved g.T.BitBlock.number g.T.BitBlock.BITS g.met.T.BitBlock.wide_law c.args.by
-    c.args.blocks.now c.copy_within.new.self c.copy_within.ensures.len c.BITS-width.result
-    c.BITS-width.ensures c.args.first g.T.BitBlock.ZERO c.if-places-eq0.true
-    c.copy_within.ensures.by_index.0 c.copy_within.ensures.by_index.1
+    AreBuilt-moved g.T.BitBlock.number _ g.met.T.BitBlock.wide_law c.args.by c.args.blocks.now
+    c.copy_within.new.self c.copy_within.ensures.len _ c.BITS-width.ensures c.args.first
+    g.T.BitBlock.ZERO c.if-places-eq0.true c.copy_within.ensures.by_index.0
+    c.copy_within.ensures.by_index.1
 
 pub returns-else-places-eq0 : goal.returns-else-places-eq0
 returns-else-places-eq0 g c = AreBuilt-by _ _ _ _ _ _ _ c.BITS-width.ensures c.shift_down.ensures

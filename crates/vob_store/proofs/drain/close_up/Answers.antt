@@ -39,9 +39,7 @@ offset_bounds-blocks-first-3 g c = offset_fits _ _ _ (first-inside _ _ _ _ _
 
 pub returns : goal.returns
 returns g c =
-    AreBuilt-spliced_at g.T.BitBlock.number g.T.BitBlock.BITS g.met.T.BitBlock.wide_law c.args.by
-    c.args.blocks.now c.close_blocks.new.blocks c.close_blocks.auto.blocks c.BITS-width.result
-    c.BITS-width.ensures c.args.from _ c.index-blocks-first.result c.spliced.result
-    c.index-blocks-first-2.result c.close_blocks.ensures
-    (omega (arith, c.requires.positive, c.requires.inside)) c.index-blocks-first.is
-    c.index-blocks-first-2.is c.spliced.ensures.places
+    AreBuilt-spliced_at g.T.BitBlock.number _ g.met.T.BitBlock.wide_law c.args.by c.args.blocks.now
+    c.close_blocks.new.blocks c.close_blocks.auto.blocks _ c.BITS-width.ensures c.args.from _ _ _ _
+    c.close_blocks.ensures (omega (arith, c.requires.positive, c.requires.inside))
+    c.index-blocks-first.is c.index-blocks-first-2.is c.spliced.ensures.places

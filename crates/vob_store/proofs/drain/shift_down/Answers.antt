@@ -23,11 +23,10 @@ loop-k-preserved g c =
     c.index-blocks-k-in-loop-k.result (omega arith) c.index-blocks-k-in-loop-k.is
     ∙ h.rest (k + skip + 1) (omega arith) in
     record {
-      built = AreBuilt-shifted number g.T.BitBlock.BITS g.met.T.BitBlock.wide_law c.args.first skip
-          c.args.places c.requires.below c.args.blocks.now c.loop-k.blocks c.loop-k.auto.blocks k
-          c.index-blocks-k.result c.funnel_down.result
-          (number c.index-blocks-k-in-loop-k.result) c.loop-k.auto.k (omega arith) h.built
-          (h.rest (k + skip) (omega arith)) c.index-blocks-k.is next c.funnel_down.ensures.places;
+      built = AreBuilt-shifted number _ g.met.T.BitBlock.wide_law c.args.first skip c.args.places
+          c.requires.below c.args.blocks.now c.loop-k.blocks c.loop-k.auto.blocks k _ _ _
+          c.loop-k.auto.k (omega arith) h.built (h.rest (k + skip) (omega arith))
+          c.index-blocks-k.is next c.funnel_down.ensures.places;
       rest = rw map-set (λ i above. get_or-set_other (map number c.loop-k.blocks) k i
           (number c.funnel_down.result) 0 (λ e. absurd (omega arith)) ∙ h.rest i (omega arith));
     }
@@ -45,9 +44,9 @@ returns g c =
     ap number c.ZERO.ensures ∙ g.met.T.BitBlock.zero_number_law
     ∙ sym (get_or_past source (last + skip + 1) 0
     (omega (arith, length-map c.args.blocks.now number, c.requires.inside))) in
-    AreBuilt-upto _ (AreBuilt-shifted number g.T.BitBlock.BITS g.met.T.BitBlock.wide_law c.args.first
-    skip c.args.places c.requires.below c.args.blocks.now c.loop-k.blocks c.loop-k.auto.blocks
-    last c.index-blocks-last.result c.funnel_down-2.result (number c.ZERO.result) first
-    (omega (arith, c.requires.inside)) (AreBuilt-upto _ h.built (omega (arith, c.loop-k-test.false)))
+    AreBuilt-upto _ (AreBuilt-shifted number _ g.met.T.BitBlock.wide_law c.args.first skip
+    c.args.places c.requires.below c.args.blocks.now c.loop-k.blocks c.loop-k.auto.blocks last _ _ _
+    first (omega (arith, c.requires.inside))
+    (AreBuilt-upto _ h.built (omega (arith, c.loop-k-test.false)))
     (h.rest (last + skip) (omega (arith, end))) c.index-blocks-last.is none
     c.funnel_down-2.ensures.places) (omega (arith, c.requires.inside))

@@ -29,8 +29,7 @@ returns-clause-stores g c =
     let number = g.T.BitBlock.number in
     let enough = need_enough w g.met.T.BitBlock.wide_law c.args.new_len in
     let room = ap (λ k. k * w) c.block_count.ensures in
-    let filled = unpacking-filled w c.args.len c.block_count.result c.args.new_len _
-    (map number c.fill_up.new.blocks.items) c.args.value
+    let filled = unpacking-filled w c.args.len c.block_count.result c.args.new_len _ _ c.args.value
     (length-unpacking c.args.len (map number c.args.blocks.now.items) w) c.fill_up.ensures.stores
     c.requires.longer (omega (arith, enough, room)) in
     rw (take_at c.mask_last.new.blocks _ c.fill_up.new.blocks.len

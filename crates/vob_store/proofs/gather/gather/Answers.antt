@@ -29,11 +29,8 @@ loop-count-preserved g c =
         length_push bits bit ∙ ap (λ k. k + 1) h.1,
         Yields-more g.I.Iterator.next_gives c.args.items.now bits c.loop-count.items bit
             c.next.new.self h.2 c.in-Some.ensures.steps,
-        gather_more g.T.BitBlock.BITS (number c.loop-count.block) (number c.bor-block.result)
-            c.loop-count.count (number c.first_place-mark.result) (number c.up.result) bits bit
-            h.1 h.3 c.first_place-mark.ensures c.up.ensures.places c.bor-block.ensures.places,
+        gather_more _ _ _ _ _ _ bits bit h.1 h.3 c.first_place-mark.ensures c.up.ensures.places
+            c.bor-block.ensures.places,
       );
-      goes_on = goes_further g.I.Iterator.can_next g.I.Iterator.remaining c.args.items.now
-          c.loop-count.items c.next.new.self bit c.loop-count.invariant.goes_on
-          c.in-Some.ensures.goes;
+      goes_on = goes_further _ _ _ _ _ _ c.loop-count.invariant.goes_on c.in-Some.ensures.goes;
     }

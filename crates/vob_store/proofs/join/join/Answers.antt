@@ -29,9 +29,8 @@ pub join_into-requires : goal.join_into-requires
 join_into-requires g c =
     let number = g.T.BitBlock.number in
     record {
-      room = rw c.deref_mut.ensures.value (HaveRoom-filled g.T.BitBlock.BITS g.met.T.BitBlock.wide_law
-          c.args.len c.args.more (map number c.args.own.now.items) _
-          (map number c.args.other.now.items) c.block_count.result c.block_count.ensures
+      room = rw c.deref_mut.ensures.value (HaveRoom-filled _ g.met.T.BitBlock.wide_law c.args.len
+          c.args.more (map number c.args.own.now.items) _ _ _ c.block_count.ensures
           c.fill_up.ensures.stores c.requires.other);
     }
 
@@ -40,7 +39,6 @@ returns-clause-joined g c =
     let number = g.T.BitBlock.number in
     rw (take_at c.join_into.new.own _ c.fill_up.new.blocks.len
     (c.join_into.auto.own ∙ c.deref_mut.ensures.len))
-    (IsJoined-filled g.T.BitBlock.BITS g.met.T.BitBlock.wide_law c.args.len c.args.more
-    (map number c.args.own.now.items) _ (map number c.args.other.now.items)
-    c.block_count.result c.block_count.ensures c.fill_up.ensures.stores
-    (map number c.join_into.new.own) (rw c.deref_mut.ensures.value at c.join_into.ensures.joined))
+    (IsJoined-filled _ g.met.T.BitBlock.wide_law c.args.len c.args.more
+    (map number c.args.own.now.items) _ _ _ c.block_count.ensures c.fill_up.ensures.stores _
+    (rw c.deref_mut.ensures.value at c.join_into.ensures.joined))

@@ -3,7 +3,7 @@ use Rattle.std.specs.Prelude.{is_ok}
 use Rattle.std.proofs.Common.{◌≡◌, refl, ◌+◌, ◌++◌, true, length, map, arith, ◌∙◌}
 use Rattle.std.proofs.lemmas.Bool.{cond-true}
 use Rattle.std.proofs.lemmas.List.{length-append, length-map, map-append}
-use Rattle.vob_block.specs.Packing.{need, unpacking}
+use Rattle.vob_block.specs.Packing.{need}
 use Rattle.vob_block.proofs.NeedLemmas.{need_least}
 use Rattle.vob_store.proofs.AppendLemmas.{Stores-behind}
 use Rattle.vob_store.proofs.join.join_copied.Goals as goal
@@ -14,8 +14,7 @@ returns-clause-joined g c =
     let number = g.T.BitBlock.number in
     let xs = c.args.blocks.now.items in
     let ys = c.args.others.now in
-    let joined = Stores-behind w g.met.T.BitBlock.wide_law c.args.len (map number xs)
-    c.requires.canonical c.args.more (map number ys) (unpacking c.args.more (map number ys) w)
+    let joined = Stores-behind _ g.met.T.BitBlock.wide_law _ _ c.requires.canonical _ _ _
     c.requires.full (record { canonical = c.requires.other; bits = refl }) in
     let count : length xs + length ys ≡ need (c.args.len + c.args.more) w =
     omega (

@@ -19,10 +19,8 @@ loop-k-preserved g c =
     (rw h.items at c.block-block.ensures.block)
     ∙ sym (ap (λ k. get_or source k 0) (add-one c.loop-k.k)) in
     record {
-      built = rw map-set (AreBuilt-funnel g.T.BitBlock.BITS g.met.T.BitBlock.wide_law source
-          c.args.from (map number c.loop-k.own) c.loop-k.k (number c.funnel_down.result)
-          (number c.loop-k.before) (number c.block-block.result) c.requires.below h.built
-          (omega (arith, length-map c.loop-k.own number, c.loop-k.auto.own)) h.before read
+      built = rw map-set (AreBuilt-funnel _ g.met.T.BitBlock.wide_law _ _ _ _ _ _ _ c.requires.below
+          h.built (omega (arith, length-map c.loop-k.own number, c.loop-k.auto.own)) h.before read
           c.funnel_down.ensures.places);
       before = read;
       items = c.block-block.ensures.items ∙ h.items;
@@ -39,10 +37,8 @@ returns-then-count-own-clause-built g c =
     ap number c.ZERO.ensures ∙ g.met.T.BitBlock.zero_number_law
     ∙ sym (get_or_past source (c.loop-k.k + 1) 0
     (omega (arith, length-map c.args.other.now.items number))) in
-    rw (map-set, ← end) (AreBuilt-upto _ (AreBuilt-funnel g.T.BitBlock.BITS g.met.T.BitBlock.wide_law
-    source c.args.from (map number c.loop-k.own) c.loop-k.k
-    (number c.funnel_down-then-count-own.result) (number c.loop-k.before) (number c.ZERO.result) c.requires.below h.built
-    (omega (arith, length-map c.loop-k.own number)) h.before none
+    rw (map-set, ← end) (AreBuilt-upto _ (AreBuilt-funnel _ g.met.T.BitBlock.wide_law _ _ _ _ _ _ _
+    c.requires.below h.built (omega (arith, length-map c.loop-k.own number)) h.before none
     c.funnel_down-then-count-own.ensures.places) (omega arith))
 
 pub returns-else-count-own-clause-built : goal.returns-else-count-own-clause-built

@@ -5,9 +5,8 @@ use Rattle.vob_store.proofs.last.extend_last.Goals as goal
 
 pub bounds-blocks-last : goal.bounds-blocks-last
 bounds-blocks-last g c =
-    last_in_canonical g.T.BitBlock.number g.T.BitBlock.BITS g.met.T.BitBlock.wide_law c.args.len
-    c.args.blocks.now c.requires.canonical c.BITS-width.result c.BITS-width.ensures
-    c.requires.partial
+    last_in_canonical g.T.BitBlock.number _ g.met.T.BitBlock.wide_law _ _ c.requires.canonical _
+    c.BITS-width.ensures c.requires.partial
 
 pub offset_bounds-blocks-last : goal.offset_bounds-blocks-last
 offset_bounds-blocks-last g c = offset_fits _ _ _ (bounds-blocks-last g c) c.well_formed.0.1
@@ -18,13 +17,11 @@ bounds-blocks-last-2 g c =
     c.requires.partial
 
 pub offset_bounds-blocks-last-2 : goal.offset_bounds-blocks-last-2
-offset_bounds-blocks-last-2 g c =
-    offset_fits _ _ _ (bounds-blocks-last-2 g c) c.well_formed.0.1
+offset_bounds-blocks-last-2 g c = offset_fits _ _ _ (bounds-blocks-last-2 g c) c.well_formed.0.1
 
 pub returns : goal.returns
 returns g c =
     let number = g.T.BitBlock.number in
-    Stores-topped number g.T.BitBlock.BITS g.met.T.BitBlock.wide_law c.args.len c.args.blocks.now
-    c.requires.canonical c.BITS-width.result c.BITS-width.ensures c.requires.partial
-    c.index-blocks-last.result c.bor.result (number c.args.more) (number c.up.result)
-    c.index-blocks-last.is c.up.ensures.places c.bor.ensures.within c.bor.ensures.places
+    Stores-topped number _ g.met.T.BitBlock.wide_law _ _ c.requires.canonical _ c.BITS-width.ensures
+    c.requires.partial _ _ _ _ c.index-blocks-last.is c.up.ensures.places c.bor.ensures.within
+    c.bor.ensures.places

@@ -18,9 +18,9 @@ loop-k-preserved g c =
     let read = number_indexed number c.loop-k.blocks c.loop-k.k c.index-blocks-k.result inside
     c.index-blocks-k.is ∙ h.rest c.loop-k.k (omega arith) in
     record {
-      built = rw map-set (AreBuilt-negated g.T.BitBlock.BITS g.met.T.BitBlock.wide_law
-          (map number c.args.blocks.now) xs c.loop-k.k (number c.index-blocks-k.result) y read
-          c.bnot.ensures.places h.built (omega (arith, length-map c.loop-k.blocks number)));
+      built = rw map-set (AreBuilt-negated _ g.met.T.BitBlock.wide_law
+          (map number c.args.blocks.now) _ _ _ _ read c.bnot.ensures.places h.built
+          (omega (arith, length-map c.loop-k.blocks number)));
       rest = rw map-set (λ i above. get_or-set_other xs c.loop-k.k i y 0
           (λ e. absurd (omega arith)) ∙ h.rest i (omega arith));
     }

@@ -8,9 +8,8 @@ use Rattle.vob_store.proofs.mask.truncate_to.Goals as goal
 pub mask_last-requires : goal.mask_last-requires
 mask_last-requires g c =
     rw (c.deref_mut.ensures.value, c.truncate.ensures.items)
-    (length-kept g.T.BitBlock.number g.T.BitBlock.BITS g.met.T.BitBlock.wide_law c.args.len
-    c.args.blocks.now.items c.requires.count c.args.new_len c.requires.shorter
-    c.BITS.result c.div_ceil.result c.BITS.ensures c.div_ceil.ensures)
+    (length-kept g.T.BitBlock.number _ g.met.T.BitBlock.wide_law _ _ c.requires.count _
+    c.requires.shorter _ _ c.BITS.ensures c.div_ceil.ensures)
 
 pub returns-clause-stores : goal.returns-clause-stores
 returns-clause-stores g c =
@@ -18,9 +17,8 @@ returns-clause-stores g c =
     let w = g.T.BitBlock.BITS in
     let long : length c.mask_last.new.blocks ≡ c.truncate.new.self.len =
     omega (arith, c.mask_last.auto.blocks, c.deref_mut.ensures.len) in
-    let kept = unpacking-kept number w g.met.T.BitBlock.wide_law c.args.len c.args.blocks.now.items
-    c.requires.count c.args.new_len c.requires.shorter c.BITS.result c.div_ceil.result
-    c.BITS.ensures c.div_ceil.ensures in
+    let kept = unpacking-kept number _ g.met.T.BitBlock.wide_law _ _ c.requires.count _
+    c.requires.shorter _ _ c.BITS.ensures c.div_ceil.ensures in
     rw (take_at c.mask_last.new.blocks _ c.truncate.new.self.len long)
     (record {
       canonical = c.mask_last.ensures.canonical;

@@ -12,9 +12,9 @@ push_packed-requires g c =
     let number = g.T.BitBlock.number in
     let taken = c.top_up-taken.result in
     let news = c.top_up-taken.new.blocks in
-    let stored = Stores-parts w g.met.T.BitBlock.wide_law c.args.len
-    (unpacking c.args.len (map number c.args.blocks.now.items) w) c.args.bits.now taken
-    (map number news) c.top_up-taken.ensures.inside c.top_up-taken.ensures.whole
+    let stored = Stores-parts _ g.met.T.BitBlock.wide_law c.args.len
+    (unpacking c.args.len (map number c.args.blocks.now.items) w) c.args.bits.now taken _
+    c.top_up-taken.ensures.inside c.top_up-taken.ensures.whole
     (rw c.deref_mut.ensures.value at c.top_up-taken.ensures.stores) in
     let left = take_at news (drop (length news) c.args.blocks.now.items) c.args.blocks.now.len
     (c.top_up-taken.auto.blocks ∙ c.deref_mut.ensures.len) in
@@ -36,7 +36,8 @@ returns-clause-stores g c =
     let news = c.top_up-taken.new.blocks in
     let left = take_at news (drop (length news) c.args.blocks.now.items) c.args.blocks.now.len
     (c.top_up-taken.auto.blocks ∙ c.deref_mut.ensures.len) in
-    rw (rw (left, take_rest) at c.push_packed.ensures.blocks) (Stores-parts w
-    g.met.T.BitBlock.wide_law c.args.len (unpacking c.args.len (map number c.args.blocks.now.items) w)
-    c.args.bits.now c.top_up-taken.result (map number news) c.top_up-taken.ensures.inside
-    c.top_up-taken.ensures.whole (rw c.deref_mut.ensures.value at c.top_up-taken.ensures.stores))
+    rw (rw (left, take_rest) at c.push_packed.ensures.blocks) (Stores-parts _
+    g.met.T.BitBlock.wide_law c.args.len
+    (unpacking c.args.len (map number c.args.blocks.now.items) w) c.args.bits.now
+    c.top_up-taken.result _ c.top_up-taken.ensures.inside c.top_up-taken.ensures.whole
+    (rw c.deref_mut.ensures.value at c.top_up-taken.ensures.stores))

@@ -1,5 +1,5 @@
 -- The first piece of what is left is the first block of its packing.
-use Rattle.std.proofs.Common.{◌++◌, length, map, ◌∙◌, refl, arith, min, ap}
+use Rattle.std.proofs.Common.{length, map, ◌∙◌, refl, arith, min, ap}
 use Rattle.std.proofs.lemmas.List.{length-append, length-map, map_push}
 use Rattle.vob_block.specs.Packing.{packing}
 use Rattle.vob_block.proofs.PackingLemmas.{length-packing}
@@ -20,8 +20,8 @@ push_reserved-requires g c =
     c.loop-rest-test.true in
     omega (
       arith,
-      packed-lt w g.met.T.BitBlock.wide_law (map number c.loop-rest.blocks.items)
-          (olds ++ packing c.args.bits.now w) c.loop-rest.rest.now h.packed some,
+      packed-lt w g.met.T.BitBlock.wide_law (map number c.loop-rest.blocks.items) _
+          c.loop-rest.rest.now h.packed some,
       length-append olds (packing c.args.bits.now w),
       length-packing w g.met.T.BitBlock.wide_law c.args.bits.now,
       length-map c.args.blocks.now.items number,
@@ -40,11 +40,9 @@ loop-rest-preserved g c =
     c.loop-rest-test.true in
     record {
       packed = rw (c.push_reserved.ensures.items, map_push) (packed_more w g.met.T.BitBlock.wide_law
-          (map number c.loop-rest.blocks.items) _ rest h.packed c.split_at.result.1.now
-          (number c.pack_block.result) c.min.result some
-          (c.min.ensures ∙ ap (min (length rest)) c.BITS-width.ensures)
-          c.split_at.ensures.back c.pack_block.ensures.within
-          (rw c.split_at.ensures.front at c.pack_block.ensures.places));
+          (map number c.loop-rest.blocks.items) _ rest h.packed _ _ _ some
+          (c.min.ensures ∙ ap (min (length rest)) c.BITS-width.ensures) c.split_at.ensures.back
+          c.pack_block.ensures.within (rw c.split_at.ensures.front at c.pack_block.ensures.places));
       capacity = c.push_reserved.ensures.capacity ∙ h.capacity;
     }
 

@@ -11,8 +11,7 @@ loop-k-init g c =
     record {
       ranged = IsRanged-none (omega arith);
       small = subst (λ (x : ℕ). x < 2 ^ g.T.BitBlock.BITS) (sym zero) (pow_pos g.T.BitBlock.BITS);
-      flag = gathered_none g.T.BitBlock.BITS (g.T.BitBlock.number c.ZERO-changed.result)
-          (map g.T.BitBlock.number c.args.blocks.now) zero;
+      flag = gathered_none _ _ (map g.T.BitBlock.number c.args.blocks.now) zero;
     }
 
 pub loop-k-preserved : goal.loop-k-preserved
@@ -28,11 +27,10 @@ loop-k-preserved g c =
     let new = c.block-new.result in
     let ones = ap number c.ONES.ensures ∙ g.met.T.BitBlock.ones_number_law in
     let row : k * w + w ≡ (k + 1) * w = omega (arith, add-mul k 1 w, one-mul w) in
-    let one = IsRanged-ends (IsRanged-item number w g.met.T.BitBlock.wide_law g.C.Change.of_bit now k
-    old new inside c.index-blocks-k.is 0 w (number c.ONES.result) (omega arith)
-    (HasPlaces-all w (number c.ONES.result) ones) c.block-new.ensures.within
-    c.block-new.ensures.places) (omega arith) row in
-    let same = same_item number w g.met.T.BitBlock.wide_law g.C.Change.of_bit now k old new inside
+    let one = IsRanged-ends (IsRanged-item number _ g.met.T.BitBlock.wide_law g.C.Change.of_bit _ _
+    _ new inside c.index-blocks-k.is 0 w _ (omega arith) (HasPlaces-all _ _ ones)
+    c.block-new.ensures.within c.block-new.ensures.places) (omega arith) row in
+    let same = same_item number _ g.met.T.BitBlock.wide_law g.C.Change.of_bit _ _ _ new inside
     c.index-blocks-k.is c.in_range.ensures c.block-new.ensures.within in
     let low = mul-le c.args.from w k w c.loop-k.auto.k (omega arith) in
     record {
@@ -52,9 +50,9 @@ returns g c =
     let h = c.loop-k.invariant in
     record {
       ranged = IsRanged-ends h.ranged refl (ap (λ k. k * g.T.BitBlock.BITS) last);
-      changed = not_flag c.ne.result (g.T.PartialEq.eq c.loop-k.changed c.ZERO.result)
-          c.ne.ensures (
-            (λ e. h.flag.0 (test.0 e ∙ zero)),
-            (λ all. test.1 (h.flag.1 all ∙ sym zero)),
-          );
+      changed = not_flag _ _ c.ne.ensures (
+        (λ e. h.flag.0 (test.0 e ∙ zero)),
+        (λ all. test.1
+            (h.flag.1 all ∙ sym zero)),
+      );
     }

@@ -3,17 +3,15 @@ use Rattle.vob_store.proofs.RangeLemmas.{IsRanged-item, same_item, not_flag}
 use Rattle.vob_store.proofs.range.change_places.Goals as goal
 
 pub returns-clause-ranged : goal.returns-clause-ranged
-returns-clause-ranged g c = IsRanged-item g.T.BitBlock.number g.T.BitBlock.BITS g.met.T.BitBlock.wide_law
-    g.C.Change.of_bit c.args.blocks.now c.args.k c.index-blocks-k.result c.block-new.result
-    c.requires.inside c.index-blocks-k.is c.args.from c.args.to
-    (g.T.BitBlock.number c.mask_between.result) c.requires.to c.mask_between.ensures
-    c.block-new.ensures.within c.block-new.ensures.places
+returns-clause-ranged g c = IsRanged-item g.T.BitBlock.number _ g.met.T.BitBlock.wide_law
+    g.C.Change.of_bit _ _ _ c.block-new.result c.requires.inside c.index-blocks-k.is c.args.from
+    c.args.to _ c.requires.to c.mask_between.ensures c.block-new.ensures.within
+    c.block-new.ensures.places
 
 pub returns-clause-changed : goal.returns-clause-changed
 returns-clause-changed g c =
-    let same = same_item g.T.BitBlock.number g.T.BitBlock.BITS g.met.T.BitBlock.wide_law
-    g.C.Change.of_bit c.args.blocks.now c.args.k c.index-blocks-k.result c.block-new.result
-    c.requires.inside c.index-blocks-k.is c.in_range.ensures c.block-new.ensures.within in
+    let same = same_item g.T.BitBlock.number _ g.met.T.BitBlock.wide_law g.C.Change.of_bit _ _ _
+    c.block-new.result c.requires.inside c.index-blocks-k.is c.in_range.ensures
+    c.block-new.ensures.within in
     let test = g.met.T.BitBlock.equal_law c.index-blocks-k.result c.block-new.result in
-    not_flag c.ne.result (g.T.PartialEq.eq c.index-blocks-k.result c.block-new.result)
-    c.ne.ensures ((λ e. same.0 (test.0 e)), (λ all. test.1 (same.1 all)))
+    not_flag _ _ c.ne.ensures ((λ e. same.0 (test.0 e)), (λ all. test.1 (same.1 all)))

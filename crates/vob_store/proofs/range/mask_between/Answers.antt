@@ -5,7 +5,5 @@ use Rattle.vob_store.proofs.range.mask_between.Goals as goal
 pub returns : goal.returns
 returns g c =
     let number = g.T.BitBlock.number in
-    HasPlaces-between g.T.BitBlock.BITS c.args.from c.args.to (number c.low_mask-2.result)
-    (number c.low_mask.result) (number c.bnot.result) (number c.band.result)
-    c.low_mask-2.ensures.places c.low_mask.ensures.places c.bnot.ensures.places
-    c.band.ensures.places
+    HasPlaces-between _ _ _ _ _ _ _ c.low_mask-2.ensures.places c.low_mask.ensures.places
+    c.bnot.ensures.places c.band.ensures.places

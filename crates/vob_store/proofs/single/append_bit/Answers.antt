@@ -23,11 +23,9 @@ pub returns-in_ok-push-clause-stores : goal.returns-in_ok-push-clause-stores
 returns-in_ok-push-clause-stores g c =
     let number = g.T.BitBlock.number in
     let w = g.T.BitBlock.BITS in
-    rw (c.in_ok-push.ensures.items, map_push) (Stores-behind w g.met.T.BitBlock.wide_law c.args.len
-    (map number c.args.blocks.now.items) c.requires 1 (number c.first_place.result ∷ [])
-    (c.args.value ∷ []) (rw c.BITS-width.ensures at c.if-len-width-eq0.true)
-    (Stores-bit w g.met.T.BitBlock.wide_law c.args.value (number c.first_place.result)
-    c.first_place.ensures))
+    rw (c.in_ok-push.ensures.items, map_push) (Stores-behind _ g.met.T.BitBlock.wide_law _ _
+    c.requires _ _ _ (rw c.BITS-width.ensures at c.if-len-width-eq0.true) (Stores-bit w
+    g.met.T.BitBlock.wide_law c.args.value (number c.first_place.result) c.first_place.ensures))
 
 pub returns-else-len-width-eq0-clause-stores : goal.returns-else-len-width-eq0-clause-stores
 returns-else-len-width-eq0-clause-stores g c =

@@ -4,6 +4,5 @@ use Rattle.vob_store.proofs.single.block_bit.Goals as goal
 
 pub returns : goal.returns
 returns g c =
-    bit_is_at_place g.T.BitBlock.number g.T.BitBlock.BITS g.met.T.BitBlock.wide_law c.args.blocks.now
-    c.args.index c.BITS-width.result c.BITS-width.ensures c.requires
-    c.index-blocks-index.result c.bit.result c.index-blocks-index.is c.bit.ensures
+    bit_is_at_place g.T.BitBlock.number _ g.met.T.BitBlock.wide_law _ _ _ c.BITS-width.ensures
+    c.requires _ _ c.index-blocks-index.is c.bit.ensures

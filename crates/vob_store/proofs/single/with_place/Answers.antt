@@ -9,18 +9,17 @@ returns-then-value-clause-places g c =
     let number = g.T.BitBlock.number in
     let w = g.T.BitBlock.BITS in
     let one = ap number c.ONE.ensures ∙ g.met.T.BitBlock.one_number_law in
-    let mask = mask-is w c.args.j c.requires (number c.ONE.result) (number c.up-mask.result) one
-    c.up-mask.ensures.within c.up-mask.ensures.places in
-    HasPlaces-marked w (number c.args.block) (number c.bor.result) (number c.up-mask.result)
-    c.args.j c.args.value c.if-value.true mask c.bor.ensures.places
+    let mask = mask-is _ c.args.j c.requires _ _ one c.up-mask.ensures.within
+    c.up-mask.ensures.places in
+    HasPlaces-marked _ (number c.args.block) _ _ c.args.j _ c.if-value.true mask
+    c.bor.ensures.places
 
 pub returns-else-value-clause-places : goal.returns-else-value-clause-places
 returns-else-value-clause-places g c =
     let number = g.T.BitBlock.number in
     let w = g.T.BitBlock.BITS in
     let one = ap number c.ONE.ensures ∙ g.met.T.BitBlock.one_number_law in
-    let mask = mask-is w c.args.j c.requires (number c.ONE.result) (number c.up-mask.result) one
-    c.up-mask.ensures.within c.up-mask.ensures.places in
-    HasPlaces-unmarked w (number c.args.block) (number c.band.result) (number c.bnot.result)
-    (number c.up-mask.result) c.args.j c.args.value c.if-value.false mask
+    let mask = mask-is _ c.args.j c.requires _ _ one c.up-mask.ensures.within
+    c.up-mask.ensures.places in
+    HasPlaces-unmarked _ (number c.args.block) _ _ _ c.args.j _ c.if-value.false mask
     c.bnot.ensures.places c.band.ensures.places

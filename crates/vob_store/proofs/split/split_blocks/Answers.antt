@@ -7,9 +7,8 @@ use Rattle.vob_store.proofs.FunnelLemmas.{start-le, need-le-tail, Stores-tail}
 use Rattle.vob_store.proofs.split.split_blocks.Goals as goal
 
 pub offset_bounds-blocks-at : goal.offset_bounds-blocks-at
-offset_bounds-blocks-at g c = start-le g.T.BitBlock.number g.T.BitBlock.BITS g.met.T.BitBlock.wide_law
-    c.args.len c.args.at c.args.blocks.now c.requires.count c.requires.inside
-    c.BITS-width.result c.BITS-width.ensures
+offset_bounds-blocks-at g c = start-le g.T.BitBlock.number _ g.met.T.BitBlock.wide_law _ _ _
+    c.requires.count c.requires.inside _ c.BITS-width.ensures
 
 pub slice_bounds-split_into-count : goal.slice_bounds-split_into-count
 slice_bounds-split_into-count g c = start-le g.T.BitBlock.number _ g.met.T.BitBlock.wide_law _ _ _
@@ -18,8 +17,8 @@ slice_bounds-split_into-count g c = start-le g.T.BitBlock.number _ g.met.T.BitBl
 pub slice_bounds-split_into-start : goal.slice_bounds-split_into-start
 slice_bounds-split_into-start g c =
     let start : c.args.at / c.BITS-width.result ≤ length c.args.blocks.now =
-    start-le g.T.BitBlock.number g.T.BitBlock.BITS g.met.T.BitBlock.wide_law _ _ _
-    c.requires.count c.requires.inside _ c.BITS-width.ensures in
+    start-le g.T.BitBlock.number _ g.met.T.BitBlock.wide_law _ _ _ c.requires.count
+    c.requires.inside _ c.BITS-width.ensures in
     search rules
 
 pub split_into-requires-clause-some : goal.split_into-requires-clause-some
@@ -30,8 +29,8 @@ split_into-requires-clause-some g c =
 
 pub split_into-requires-clause-count : goal.split_into-requires-clause-count
 split_into-requires-clause-count g c =
-    let fits = need-le-tail g.T.BitBlock.number g.T.BitBlock.BITS g.met.T.BitBlock.wide_law _ _ _
-    c.requires.count c.requires.inside _ c.BITS-width.ensures in
+    let fits = need-le-tail g.T.BitBlock.number _ g.met.T.BitBlock.wide_law _ _ _ c.requires.count
+    c.requires.inside _ c.BITS-width.ensures in
     omega (arith, c.deref_mut.ensures.len, c.in_ok-resize.ensures.len, fits)
 
 pub mask_last-requires : goal.mask_last-requires
@@ -49,9 +48,17 @@ returns g c =
     let whole : length c.mask_last.new.blocks ≡ count =
     omega (arith, c.mask_last.auto.blocks, c.deref_mut-2.ensures.len) in
     let same = length-map moved number in
-    rw (take_at c.mask_last.new.blocks _ count whole) (Stores-tail number g.T.BitBlock.BITS
-    g.met.T.BitBlock.wide_law c.args.len c.args.at c.args.blocks.now c.requires.count
-    c.requires.inside _ c.BITS-width.ensures (map number moved) _
-    (omega (arith, same, long, c.in_ok-resize.ensures.len, c.block_count-count.ensures))
-    (AreBuilt-upto _ c.split_into.ensures (omega (arith, same, c.split_into.auto.rest)))
-    (rw (c.deref_mut-2.ensures.value, take_at moved _ count long) at c.mask_last.ensures))
+    rw (take_at c.mask_last.new.blocks _ count whole) (Stores-tail number _
+    g.met.T.BitBlock.wide_law _ _ _ c.requires.count c.requires.inside _ c.BITS-width.ensures
+    (map number moved) _ (omega (
+      arith,
+      same,
+      long,
+      c.in_ok-resize.ensures.len,
+      c.block_count-count.ensures,
+    )) (AreBuilt-upto _ c.split_into.ensures (omega (
+      arith,
+      same,
+      c.split_into.auto.rest,
+    ))) (rw (c.deref_mut-2.ensures.value, take_at moved _ count long) at
+    c.mask_last.ensures))

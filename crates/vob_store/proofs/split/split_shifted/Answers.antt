@@ -1,5 +1,5 @@
 -- Each block is made of the two that hold its bits.
-use Rattle.std.proofs.Common.{◌+◌, ◌-◌, map, length, arith}
+use Rattle.std.proofs.Common.{◌+◌, ◌-◌, length, arith}
 use Rattle.std.proofs.lemmas.List.{length-map, map-set}
 use Rattle.vob_store.proofs.BuildLemmas.{AreBuilt-none, AreBuilt-upto, number_indexed}
 use Rattle.vob_store.proofs.FunnelLemmas.{AreBuilt-funnel}
@@ -16,9 +16,7 @@ loop-k-preserved g c =
     c.index-blocks-k.is in
     let high = number_indexed number blocks (c.loop-k.k + 1) c.index-blocks-k-in-loop-k.result
     (omega arith) c.index-blocks-k-in-loop-k.is in
-    rw map-set (AreBuilt-funnel g.T.BitBlock.BITS g.met.T.BitBlock.wide_law (map number blocks)
-    c.args.from (map number c.loop-k.rest) c.loop-k.k (number c.funnel_down.result)
-    (number c.index-blocks-k.result) (number c.index-blocks-k-in-loop-k.result) c.requires.below
+    rw map-set (AreBuilt-funnel _ g.met.T.BitBlock.wide_law _ _ _ _ _ _ _ c.requires.below
     c.loop-k.invariant (omega (arith, length-map c.loop-k.rest number, c.loop-k.auto.rest)) low high
     c.funnel_down.ensures.places)
 
@@ -28,10 +26,7 @@ returns g c =
     let last = length c.args.rest.now - 1 in
     let low = number_indexed number c.args.blocks.now last c.index-blocks-last.result (omega arith)
     c.index-blocks-last.is in
-    rw map-set (AreBuilt-upto _ (AreBuilt-funnel g.T.BitBlock.BITS g.met.T.BitBlock.wide_law
-    (map number c.args.blocks.now) c.args.from (map number c.loop-k.rest) last
-    (number c.funnel_down-2.result) (number c.index-blocks-last.result)
-    (number c.block_or_zero.result) c.requires.below
-    (AreBuilt-upto _ c.loop-k.invariant (omega arith))
-    (omega (arith, length-map c.loop-k.rest number, c.loop-k.auto.rest)) low
-    c.block_or_zero.ensures c.funnel_down-2.ensures.places) (omega arith))
+    rw map-set (AreBuilt-upto _ (AreBuilt-funnel _ g.met.T.BitBlock.wide_law _ _ _ _ _ _ _
+    c.requires.below (AreBuilt-upto _ c.loop-k.invariant (omega arith))
+    (omega (arith, length-map c.loop-k.rest number, c.loop-k.auto.rest)) low c.block_or_zero.ensures
+    c.funnel_down-2.ensures.places) (omega arith))

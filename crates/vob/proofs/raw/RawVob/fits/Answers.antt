@@ -6,6 +6,5 @@ use Rattle.vob.proofs.raw.RawVob.fits.Goals as goal
 pub returns : goal.returns
 returns g c =
     let inside = c.self.inside in
-    rw (← c.self.view_is) (count_decides g.T.BitBlock.number g.T.BitBlock.BITS g.met.T.BitBlock.wide_law
-    inside.len inside.vec.items c.BITS.result c.div_ceil.result c.BITS.ensures
-    c.div_ceil.ensures c.len.result (omega (arith, c.len.ensures, inside.vec.ok)))
+    rw (← c.self.view_is) (count_decides g.T.BitBlock.number _ g.met.T.BitBlock.wide_law _ _ _ _
+    c.BITS.ensures c.div_ceil.ensures _ (omega (arith, c.len.ensures, inside.vec.ok)))

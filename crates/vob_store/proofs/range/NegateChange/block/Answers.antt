@@ -3,5 +3,4 @@ use Rattle.vob_store.proofs.RangeLemmas.{HasPlaces-negated}
 use Rattle.vob_store.proofs.range.NegateChange.block.Goals as goal
 
 pub returns-clause-places : goal.returns-clause-places
-returns-clause-places g c = HasPlaces-negated g.T.BitBlock.BITS (g.T.BitBlock.number c.args.block)
-    (g.T.BitBlock.number c.args.mask) (g.T.BitBlock.number c.bxor.result) c.bxor.ensures.places
+returns-clause-places g c = HasPlaces-negated _ _ _ _ c.bxor.ensures.places
