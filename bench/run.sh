@@ -1,10 +1,10 @@
 #!/usr/bin/env bash
 # Times Conthiral beside vob 4.0.1 and its peers: bench/run.sh [CPU] [FILTER]. CPU is x86-64-v2 (the
 # default) or x86-64-v3; FILTER is a part of the names of the rows. Builds everything, compares all
-# checksums, times, writes bench/results/CPU.tsv and its table CPU.md (with a FILTER, both into
-# bench/out), and prints the table. TURNS (21) is of how many turns the least time is taken, or of up
-# to four times as many where a row isn't settled; CHECK=1 stops behind the checksums; JUMPS=anywhere
-# leaves jumps to the compilers (apart).
+# checksums, times, and writes bench/out/CPU.tsv. TURNS (21) is the number of turns of which the least
+# time is taken; a row that isn't settled gets up to four times as many. CHECK=1 stops after the
+# checksums; JUMPS=anywhere leaves jumps to the compilers (apart). `bench/report.py merge` of three such
+# files gives one of bench/results, whose readings took TURNS=3.
 #
 # Wants rt, cargo, g++ and Debian's packages librust-fixedbitset-dev librust-bit-vec-dev
 # librust-bit-set-dev librust-smallbitvec-dev librust-num-traits-dev libboost-dev. Nothing is

@@ -216,7 +216,8 @@ pub fn twin_offer(library: Twin, call: Call) -> Offer {
         (Twin::VectorBool, Call::ExtendFromSlice | Call::ExtendAligned | Call::ExtendShifted) => {
             Offer::Other("insert")
         }
-        (Twin::VectorBool, Call::SetAll | Call::SetRange) => Offer::Other("std::fill"),
+        (Twin::VectorBool, Call::SetAll) => Offer::Other("std::fill"),
+        (Twin::VectorBool, Call::SetRange) => NO_FLAG,
         (Twin::VectorBool, Call::CopyRange) => Offer::Other("std::copy"),
         (Twin::VectorBool, Call::SplitOff) => Offer::Other("a copy of the range"),
         (Twin::VectorBool, Call::DrainAligned | Call::DrainShifted) => {
