@@ -110,7 +110,13 @@ fn miss<F: Fn(&Vob) -> bool>(vob: Vob, rounds: usize, missed: F) -> Result<u64, 
 fn dealt(vob: &Vob, pulls: &[End], out: &mut Vec<Option<usize>>) -> Result<u64, AllocError> {
     out.clear();
     deal(&mut vob.iter_set_bits(..), pulls, out)?;
-    Ok(sum(out.iter().copied().flatten()))
+    let mut sum: u64 = 0;
+    for index in out.iter() {
+        if let Some(index) = index {
+            sum = sum.wrapping_add(*index as u64);
+        }
+    }
+    Ok(sum)
 }
 
 /// Pulls from both ends in turn.
