@@ -1,13 +1,14 @@
 -- Bits of some blocks written over those of others, at a plain width.
-use Rattle.std.proofs.Common.{◌≡◌, ◌⊎◌, ℕ, ◌+◌, ◌-◌, ◌*◌, ◌/◌, ◌%◌, ◌<◌, ◌≤◌, min, ◌&&◌, cond, List}
-use Rattle.std.proofs.Common.{length, get_or, set, leb, ltb, sym, ap, ◌∙◌, subst, arith, inl}
+use Rattle.std.proofs.Common.{◌≡◌, ◌⊎◌, ℕ, ◌+◌, ◌-◌, ◌*◌, ◌/◌, ◌%◌, ◌<◌, ◌≤◌, min, ◌&&◌, cond, List, [], ◌∷◌, refl}
+use Rattle.std.proofs.Common.{length, get_or, map, set, leb, ltb, sym, ap, ◌∙◌, subst, arith, inl}
 use Rattle.std.proofs.Common.{inr, mod-lt, div-add-mod', add-mul, one-mul, zero-add, zero-mul}
 use Rattle.std.proofs.lemmas.Bool.{cases_lt, cases_eq, lt-ltb, le-ltb, le-leb, cond-true, cond-false}
-use Rattle.std.proofs.lemmas.List.{get_or-set_same}
+use Rattle.std.proofs.Math.Nat.{div-lt_iff_lt-mul}
+use Rattle.std.proofs.lemmas.List.{get_or-map, get_or-set_same, get_or_past, length-map}
 use Rattle.std.proofs.lemmas.Nat.{mul-le, le-div, div-mul-add, mod-mul-add}
 use Rattle.vob_block.specs.Places.{place, HasPlaces}
 use Rattle.vob_block.specs.Packing.{bit_at}
-use Rattle.vob_block.proofs.PackingLemmas.{bit_at-in_block, bit_at-is_place, bit_at-set_same, bit_at-set_other}
+use Rattle.vob_block.proofs.PackingLemmas.{bit_at-in_block, bit_at-is_place, bit_at-past, bit_at-set_same, bit_at-set_other}
 use Rattle.vob_store.specs.Copying.{AreCopied}
 use Rattle.vob_store.proofs.FunnelLemmas.{places-funnel}
 
@@ -51,6 +52,26 @@ AreCopied-anywhere {w} {at} {start} {xs} {others} {ys} a h = record {
       | inr past ↦ h.behind i (omega (arith, past))
     ]
 
+-- no bits
+pub AreCopied-nothing : (w at start : ℕ) (xs others : List ℕ) {n : ℕ} → n ≡ 0
+    → AreCopied w at start n xs others xs
+AreCopied-nothing w at start xs others none = record {
+  copied = λ j below. absurd (omega (arith, none, below));
+  before = λ i _. refl;
+  behind = λ i _. refl;
+}
+
+-- the same bits of other blocks
+pub AreCopied-source : {w at start n : ℕ} {olds others xs after : List ℕ}
+    → AreCopied w at start n olds others after
+    → ((j : ℕ) → j < n → bit_at others w (start + j) ≡ bit_at xs w (start + j))
+    → AreCopied w at start n olds xs after
+AreCopied-source h same = record {
+  copied = λ j below. h.copied j below ∙ same j below;
+  before = h.before;
+  behind = h.behind;
+}
+
 -- some bits, and those behind them
 pub AreCopied-then : {w at start n m : ℕ} {olds others mid after : List ℕ}
     → AreCopied w at start n olds others mid
@@ -66,6 +87,68 @@ AreCopied-then {w} {at} {start} {n} {m} {olds} {others} {mid} {after} p q = reco
   ];
   before = λ i less. q.before i (omega arith) ∙ p.before i less;
   behind = λ i past. q.behind i (omega arith) ∙ p.behind i (omega arith);
+}
+
+-- some bits, and those before them
+pub AreCopied-first : {w at start n m : ℕ} {olds others mid after : List ℕ}
+    → AreCopied w (at + n) (start + n) m olds others mid
+    → AreCopied w at start n mid others after
+    → AreCopied w at start (n + m) olds others after
+AreCopied-first {w} {at} {start} {n} {m} {olds} {others} {mid} {after} p q = record {
+  copied = λ j below. elim (cases_lt j n) [
+    | inl low ↦ q.copied j low
+    | inr high ↦
+        let here : at + j ≡ at + n + (j - n) = omega arith in
+        q.behind (at + j) (omega arith) ∙ ap (bit_at mid w) here ∙ p.copied (j - n) (omega arith)
+        ∙ ap (bit_at others w) (omega arith)
+  ];
+  before = λ i less. q.before i less ∙ p.before i (omega arith);
+  behind = λ i past. q.behind i (omega arith) ∙ p.behind i (omega arith);
+}
+
+-- a first part, and what is left
+pub AreCopied-two : {w at start n count : ℕ} {olds others mid after : List ℕ} → n ≤ count
+    → AreCopied w at start n olds others mid
+    → AreCopied w (at + n) (start + n) (count - n) mid others after
+    → AreCopied w at start count olds others after
+AreCopied-two {w} {at} {start} {n} {count} {olds} {others} {mid} {after} few front back =
+    let all : n + (count - n) ≡ count = omega (arith, few) in
+    subst (λ (m : ℕ). AreCopied w at start m olds others after) all (AreCopied-then front back)
+
+-- moved down by the first stretch first, and up by the last one first: the others are still as they
+-- were
+pub AreCopied-down : {w at start n m : ℕ} {olds mid after : List ℕ} → at ≤ start
+    → AreCopied w at start n olds olds mid → AreCopied w (at + n) (start + n) m mid mid after
+    → AreCopied w at start (n + m) olds olds after
+AreCopied-down {w} {at} {start} {n} order p q =
+    AreCopied-then p (AreCopied-source q (λ j _. p.behind (start + n + j) (omega (arith, order))))
+
+pub AreCopied-up : {w at start n m : ℕ} {olds mid after : List ℕ} → start ≤ at
+    → AreCopied w (at + n) (start + n) m olds olds mid → AreCopied w at start n mid mid after
+    → AreCopied w at start (n + m) olds olds after
+AreCopied-up {w} {at} {start} {n} order p q = AreCopied-first p
+    (AreCopied-source q (λ j below. p.before (start + j) (omega (arith, order, below))))
+
+-- ---- one word
+
+-- a word holds its own places
+pub places-first : (w x : ℕ) → HasPlaces w x (λ j. bit_at (x ∷ []) w (0 + j))
+places-first w x = record {
+  each = λ j below. sym (bit_at-in_block (x ∷ []) w 0 j below)
+      ∙ ap (bit_at (x ∷ []) w) (omega (arith, zero-mul w));
+}
+
+-- and moved down it holds those from one on
+pub places-moved : (w : ℕ) → 0 < w → (x y n : ℕ)
+    → HasPlaces w y (λ j. ltb (j + n) w && place (j + n) x)
+    → HasPlaces w y (λ j. bit_at (x ∷ []) w (0 + n + j))
+places-moved w wide x y n moved = record {
+  each = λ j below. moved.each j below ∙ elim (cases_lt (j + n) w) [
+    | inl less ↦ ap (λ b. b && place (j + n) x) (lt-ltb (j + n) w less)
+        ∙ (places-first w x).each (j + n) less ∙ ap (bit_at (x ∷ []) w) (omega arith)
+    | inr past ↦ ap (λ b. b && place (j + n) x) (le-ltb (j + n) w past)
+        ∙ sym (bit_at-past (x ∷ []) w (0 + n + j) (le-div 1 (0 + n + j) w wide (omega (arith, past, one-mul w))))
+  ];
 }
 
 -- ---- one block
@@ -227,6 +310,64 @@ module _ (w : ℕ) (wide : 0 < w) (at count head whole u : ℕ) (same : u ≡ w)
     | inr past ↦ omega (arith, past, head-le.0, mod-lt (at + (head + whole * w)) wide)
   ])
 
+  -- so many bits stand in two blocks at most
+  pub part_one : count ≤ w → (at + head) % w + (count - head) ≤ w
+  part_one few = elim (cases_lt head count) [
+    | inl more ↦ omega (arith, at_block more, div-add-mod' (at + head) w, few)
+    | inr past ↦ omega (arith, mod-lt (at + head) wide, past)
+  ]
+
+  -- the whole blocks begin where the first part ends
+  pub AreCopied-middle : {start : ℕ} {olds others after : List ℕ}
+      → AreCopied w ((at + head) / u * w) start (whole * w) olds others after
+      → AreCopied w (at + head) start (whole * w) olds others after
+  AreCopied-middle {start} {olds} {others} {after} middle = elim whole_at [
+    | inl none ↦
+        let zero : whole * w ≡ 0 = ap (λ q. q * w) none ∙ zero-mul w in
+        subst (λ (n : ℕ). AreCopied w (at + head) start n olds others after) (sym zero)
+        (AreCopied-anywhere (at + head)
+        (subst (λ (n : ℕ). AreCopied w ((at + head) / u * w) start n olds others after) zero middle))
+    | inr here ↦
+        let there : (at + head) / u * w ≡ at + head =
+        ap (λ v. (at + head) / v * w) same ∙ here in
+        subst (λ (p : ℕ). AreCopied w p start (whole * w) olds others after) there middle
+  ]
+
+  units : head + whole * u ≡ head + whole * w
+  units = ap (λ v. head + whole * v) same
+
+  -- moved within some blocks, the first part first
+  pub AreCopied-parts_down : {start : ℕ} {olds a b c : List ℕ} → at ≤ start
+      → AreCopied w at start head olds olds a
+      → AreCopied w ((at + head) / u * w) (start + head) (whole * w) a a b
+      → AreCopied w (at + (head + whole * u)) (start + (head + whole * u))
+      (count - (head + whole * u)) b b c → AreCopied w at start count olds olds c
+  AreCopied-parts_down {start} {olds} {a} {b} {c} order front middle back =
+      let all : head + whole * w + (count - (head + whole * w)) ≡ count =
+      omega (arith, whole-le) in
+      subst (λ (n : ℕ). AreCopied w at start n olds olds c) all
+      (AreCopied-down order (AreCopied-down order front (AreCopied-middle middle)) (subst (λ (d : ℕ).
+      AreCopied w (at + d) (start + d) (count - d) b b c) units back))
+
+  -- or the last part first
+  pub AreCopied-parts_up : {start : ℕ} {olds a b c : List ℕ} → start ≤ at
+      → AreCopied w (at + (head + whole * u)) (start + (head + whole * u))
+      (count - (head + whole * u)) olds olds a
+      → AreCopied w ((at + head) / u * w) (start + head) (whole * w) a a b
+      → AreCopied w at start head b b c → AreCopied w at start count olds olds c
+  AreCopied-parts_up {start} {olds} {a} {b} {c} order back middle front =
+      let d = head + whole * w in
+      let end : at + d ≡ at + head + whole * w = omega arith in
+      let source : start + d ≡ start + head + whole * w = omega arith in
+      let last : AreCopied w (at + d) (start + d) (count - d) olds olds a = subst (λ (d : ℕ).
+      AreCopied w (at + d) (start + d) (count - d) olds olds a) units back in
+      let placed : AreCopied w (at + head + whole * w) (start + head + whole * w) (count - d) olds
+      olds a = subst (λ (s : ℕ). AreCopied w (at + head + whole * w) s (count - d) olds olds a)
+      source (subst (λ (p : ℕ). AreCopied w p (start + d) (count - d) olds olds a) end last) in
+      let all : head + (whole * w + (count - d)) ≡ count = omega (arith, whole-le) in
+      subst (λ (n : ℕ). AreCopied w at start n olds olds c) all (AreCopied-up order
+      (AreCopied-up (omega (arith, order)) placed (AreCopied-middle middle)) front)
+
   -- the three parts are the stretch
   pub AreCopied-parts : {start : ℕ} {olds others a b c : List ℕ}
       → AreCopied w at start head olds others a
@@ -235,22 +376,84 @@ module _ (w : ℕ) (wide : 0 < w) (at count head whole u : ℕ) (same : u ≡ w)
       (count - (head + whole * u)) b others c
       → AreCopied w at start count olds others c
   AreCopied-parts {start} {olds} {others} {a} {b} {c} front middle back =
-      let units : head + whole * u ≡ head + whole * w = ap (λ v. head + whole * v) same in
-      let placed : AreCopied w (at + head) (start + head) (whole * w) a others b =
-      elim whole_at [
-        | inl none ↦
-            let zero : whole * w ≡ 0 = ap (λ q. q * w) none ∙ zero-mul w in
-            subst (λ (n : ℕ). AreCopied w (at + head) (start + head) n a others b) (sym zero)
-            (AreCopied-anywhere (at + head)
-            (subst (λ (n : ℕ). AreCopied w ((at + head) / u * w) (start + head) n a others b) zero
-            middle))
-        | inr here ↦
-            let there : (at + head) / u * w ≡ at + head =
-            ap (λ v. (at + head) / v * w) same ∙ here in
-            subst (λ (p : ℕ). AreCopied w p (start + head) (whole * w) a others b) there middle
-      ] in
       let all : head + whole * w + (count - (head + whole * w)) ≡ count =
       omega (arith, whole-le) in
       subst (λ (n : ℕ). AreCopied w at start n olds others c) all
-      (AreCopied-then (AreCopied-then front placed) (subst (λ (d : ℕ).
+      (AreCopied-then (AreCopied-then front (AreCopied-middle middle)) (subst (λ (d : ℕ).
       AreCopied w (at + d) (start + d) (count - d) b others c) units back))
+
+-- ---- blocks moved within some blocks
+
+-- a block more, made of two neighbours that are still as they were
+module _ (w : ℕ) (wide : 0 < w) (olds xs : List ℕ) (first from places k y a b : ℕ)
+    (below : places < w) (room : first + k < length xs) (low : a ≡ get_or olds (from + k) 0)
+    (high : b ≡ get_or olds (from + k + 1) 0)
+    (made : HasPlaces w y (λ j. cond (ltb (j + places) w) (place (j + places) a)
+    (place (j + places - w) b))) where
+  moved_places : HasPlaces w y (λ j. bit_at olds w (from * w + places + k * w + j))
+  moved_places = places-two w (from * w + places + k * w) (from + k) places y a b olds
+      (omega (arith, add-mul from k w)) below low high made
+
+  pub AreCopied-moved_down : AreCopied w (first * w) (from * w + places) (k * w) olds olds xs
+      → AreCopied w (first * w) (from * w + places) ((k + 1) * w) olds olds (set xs (first + k) y)
+  AreCopied-moved_down h = AreCopied-next w wide xs olds (first + k) y room olds first
+      (from * w + places) k (from * w + places + k * w) refl refl h moved_places
+
+  pub AreCopied-moved_up : (n : ℕ)
+      → AreCopied w ((first + (k + 1)) * w) (from * w + places + (k + 1) * w) (n * w) olds olds xs
+      → AreCopied w ((first + k) * w) (from * w + places + k * w) ((n + 1) * w) olds olds
+      (set xs (first + k) y)
+  AreCopied-moved_up n h =
+      let ys = set xs (first + k) y in
+      let at : (first + (k + 1)) * w ≡ (first + k) * w + w =
+      omega (arith, add-mul first (k + 1) w, add-mul k 1 w, one-mul w, add-mul first k w) in
+      let source : from * w + places + (k + 1) * w ≡ from * w + places + k * w + w =
+      omega (arith, add-mul k 1 w, one-mul w) in
+      let all : w + n * w ≡ (n + 1) * w = omega (arith, add-mul n 1 w, one-mul w) in
+      subst (λ (m : ℕ). AreCopied w ((first + k) * w) (from * w + places + k * w) m olds olds ys) all
+      (AreCopied-first (rw (at, source) at h)
+      (AreCopied-block w wide xs olds (first + k) y room (from * w + places + k * w) moved_places))
+
+-- whole blocks as they are, of items with a number each
+module _ {X : Type 0} (number : X → ℕ) (w : ℕ) (wide : 0 < w) (first from n : ℕ)
+    (items after : List X) (d : X) (long : length after ≡ length items)
+    (inside : first + n ≤ length items) (source : from + n ≤ length items) where
+  read : (k m : ℕ) → k < length items → m < length items → get_or after k d ≡ get_or items m d
+      → get_or (map number after) k 0 ≡ get_or (map number items) m 0
+  read k m below there is = get_or-map number after k d 0 (omega (arith, below, long))
+      ∙ ap number is ∙ sym (get_or-map number items m d 0 there)
+
+  same_at : (i : ℕ) → get_or after (i / w) d ≡ get_or items (i / w) d
+      → bit_at (map number after) w i ≡ bit_at (map number items) w i
+  same_at i is = bit_at-is_place (map number after) w i
+      ∙ ap (place (i % w)) (elim (cases_lt (i / w) (length items)) [
+        | inl below ↦ read (i / w) (i / w) below below is
+        | inr past ↦
+            get_or_past (map number after) (i / w) 0 (omega (arith, past, long, length-map after number))
+            ∙ sym (get_or_past (map number items) (i / w) 0
+            (omega (arith, past, length-map items number)))
+      ]) ∙ sym (bit_at-is_place (map number items) w i)
+
+  pub AreCopied-whole : ((k : ℕ) (d : X) → first ≤ k → k < first + n
+      → get_or after k d ≡ get_or items (from + (k - first)) d)
+      → ((k : ℕ) (d : X) → k < first → get_or after k d ≡ get_or items k d)
+      → ((k : ℕ) (d : X) → first + n ≤ k → get_or after k d ≡ get_or items k d)
+      → AreCopied w (first * w) (from * w) (n * w) (map number items) (map number items)
+      (map number after)
+  AreCopied-whole moved below above = record {
+    copied = λ j less.
+        let q = j / w in
+        let few : q < n = (div-lt_iff_lt-mul wide).1 less in
+        let there : from + (first + q - first) ≡ from + q = omega arith in
+        let whole = div-add-mod' j w in
+        ap (bit_at (map number after) w) (omega (arith, add-mul first q w, whole))
+        ∙ bit_at-in_block (map number after) w (first + q) (j % w) (mod-lt j wide)
+        ∙ ap (place (j % w)) (read (first + q) (from + q) (omega (arith, few, inside))
+        (omega (arith, few, source)) (moved (first + q) d (omega arith) (omega (arith, few))
+        ∙ ap (λ k. get_or items k d) there))
+        ∙ sym (bit_at-in_block (map number items) w (from + q) (j % w) (mod-lt j wide))
+        ∙ ap (bit_at (map number items) w) (omega (arith, add-mul from q w, whole));
+    before = λ i less. same_at i (below (i / w) d ((div-lt_iff_lt-mul wide).1 less));
+    behind = λ i past. same_at i (above (i / w) d
+        (le-div (first + n) i w wide (omega (arith, past, add-mul first n w))));
+  }

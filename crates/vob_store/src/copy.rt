@@ -1,6 +1,6 @@
 //! Copying: bits of some blocks written over those of others. Each block that is written takes its
 //! bits from two neighbours, where the offsets lie apart.
-ghost use Rattle.std.specs.Prelude.{◌≡◌, ◌+◌, ◌*◌, ◌/◌, ◌%◌, ◌^◌, ◌<◌, ◌≤◌, All, map, length, slice_index_or};
+ghost use Rattle.std.specs.Prelude.{◌≡◌, ℕ, ◌+◌, ◌*◌, ◌/◌, ◌%◌, ◌^◌, ◌<◌, ◌≤◌, List, [], ◌∷◌, All, map, length, slice_index_or};
 ghost use Rattle.vob_block.specs.Places.{HasPlaces};
 ghost use Rattle.vob_block.specs.Packing.{bit_at};
 ghost use Rattle.vob_store.specs.Copying.{AreCopied};
@@ -29,7 +29,7 @@ fn read_or_zero<T: BitBlock>(other: &mut Blocks<'_, T>, k: usize) -> T
 }
 
 /// A block of the bits from index `from` on, false past the end. Two blocks are read at most.
-fn bits_at<T: BitBlock>(other: &mut Blocks<'_, T>, from: usize) -> T
+pub fn bits_at<T: BitBlock>(other: &mut Blocks<'_, T>, from: usize) -> T
     ensures places { HasPlaces T.BITS (T.number result)
         (λ j. bit_at (map T.number other.old.items) T.BITS (from + j)) }
     ensures items { other.new.items ≡ other.old.items }
@@ -45,6 +45,42 @@ fn bits_at<T: BitBlock>(other: &mut Blocks<'_, T>, from: usize) -> T
     low.funnel_down(read_or_zero(other, k + 1), places)
 }
 
+/// Writes the first `count` places of `bits` over those from index `at` on, in one block.
+pub(crate) fn write_part<T: BitBlock>(own: &mut [T], at: usize, bits: T, count: usize)
+    requires one { at % T.BITS + count ≤ T.BITS }
+    requires inside { at + count ≤ length own.old * T.BITS }
+    ensures { (others : List ℕ) (start : ℕ)
+        → HasPlaces T.BITS (T.number bits) (λ j. bit_at others T.BITS (start + j))
+        → AreCopied T.BITS at start count (map T.number own.old) others (map T.number own.new) }
+{
+    if count == 0 {
+        return;
+    }
+    let width = T::BITS;
+    let k = at / width;
+    let used = at % width;
+    let block = own[k];
+    own[k] = spliced(spliced(block, bits.up(used), used), block, used + count);
+}
+
+/// Writes the first `count` places of `word` over the bits from index `at` on, in two blocks at most.
+pub fn write_bits<T: BitBlock>(own: &mut [T], at: usize, word: T, count: usize)
+    requires few { count ≤ T.BITS }
+    requires inside { at + count ≤ length own.old * T.BITS }
+    requires fits { at + count ≤ usize.MAX }
+    ensures copied { AreCopied T.BITS at 0 count (map T.number own.old) (T.number word ∷ [])
+        (map T.number own.new) }
+    ensures within { All (λ n. n < 2 ^ T.BITS) (map T.number own.new) }
+{
+    let width = T::BITS;
+    let head = count.min(width - at % width);
+    write_part(own, at, word, head);
+    if head < count {
+        write_part(own, at + head, word.down(head), count - head);
+    }
+    T::all_in_range(own);
+}
+
 /// Writes the bits of a stretch of `other` over those from `at` on, in one block.
 fn copy_part<T: BitBlock>(own: &mut [T], at: usize, other: &mut Blocks<'_, T>, cut: Stretch)
     requires one { at % T.BITS + cut.count ≤ T.BITS }
@@ -54,15 +90,7 @@ fn copy_part<T: BitBlock>(own: &mut [T], at: usize, other: &mut Blocks<'_, T>, c
     ensures items { other.new.items ≡ other.old.items }
     ensures reads { other.new.reads ≤ other.old.reads + 2 }
 {
-    if cut.count == 0 {
-        return;
-    }
-    let width = T::BITS;
-    let k = at / width;
-    let used = at % width;
-    let block = own[k];
-    let bits = bits_at(other, cut.start).up(used);
-    own[k] = spliced(spliced(block, bits, used), block, used + cut.count);
+    write_part(own, at, bits_at(other, cut.start), cut.count);
 }
 
 /// Stores the blocks of a stretch of `other`, from block `first` on.

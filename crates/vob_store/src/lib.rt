@@ -11,6 +11,7 @@ pub mod gather;
 pub mod join;
 mod last;
 pub mod mask;
+pub mod moving;
 pub mod pack;
 pub mod range;
 pub mod room;

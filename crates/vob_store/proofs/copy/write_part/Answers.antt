@@ -2,11 +2,15 @@
 use Rattle.std.proofs.Common.{◌/◌, ◌%◌, length, ap, arith}
 use Rattle.std.proofs.lemmas.List.{length-map, map-set}
 use Rattle.vob_store.proofs.BuildLemmas.{number_indexed}
-use Rattle.vob_store.proofs.CopyLemmas.{block_and_place, block_inside, AreCopied-spliced}
-use Rattle.vob_store.proofs.copy.copy_part.Goals as goal
+use Rattle.vob_store.proofs.CopyLemmas.{AreCopied-nothing, block_and_place, block_inside, AreCopied-spliced}
+use Rattle.vob_store.proofs.copy.write_part.Goals as goal
 
-pub returns-clause-copied : goal.returns-clause-copied
-returns-clause-copied g c =
+pub returns-then-count-eq0 : goal.returns-then-count-eq0
+returns-then-count-eq0 g c = λ others start places.
+    AreCopied-nothing _ _ _ _ _ c.if-count-eq0.true
+
+pub returns : goal.returns
+returns g c = λ others start places.
     let number = g.T.BitBlock.number in
     let w = g.T.BitBlock.BITS in
     let u = c.BITS-width.result in
@@ -14,9 +18,9 @@ returns-clause-copied g c =
     let own = c.args.own.now in
     let whole = block_and_place _ at _ c.BITS-width.ensures in
     let room = block_inside _ _ _ _ (length own) whole
-    (omega (arith, c.requires.inside, c.if-cut-eq0.false)) in
+    (omega (arith, c.requires.inside, c.if-count-eq0.false)) in
     rw map-set (AreCopied-spliced _ g.met.T.BitBlock.wide_law _ _ _ _
     (omega (arith, room, length-map own number)) _ _ _ _ _ _ _ _ whole
     (omega (arith, c.requires.one, ap (λ v. at % v) c.BITS-width.ensures)) (number_indexed number
-    own (at / u) c.index-own-k.result room c.index-own-k.is) c.bits_at.ensures.places
-    c.up-bits.ensures.places c.spliced.ensures.places c.spliced-2.ensures.places)
+    own (at / u) c.index-own-k.result room c.index-own-k.is) places
+    c.up.ensures.places c.spliced.ensures.places c.spliced-2.ensures.places)
