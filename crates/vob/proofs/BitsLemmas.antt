@@ -108,6 +108,14 @@ count_at_most value (b ∷ bits) = omega (
   count_at_most value bits,
 )
 
+-- each bit is set or unset
+pub counts_add_up : (bits : List Bool) → count_of true bits + count_of false bits ≡ length bits
+counts_add_up [] = refl
+counts_add_up (true ∷ bits) =
+    omega (arith, count_cons true true bits, count_cons false true bits, counts_add_up bits)
+counts_add_up (false ∷ bits) =
+    omega (arith, count_cons true false bits, count_cons false false bits, counts_add_up bits)
+
 -- so many bits at the start that have a value
 pub leading_count : (value : Bool) (n : ℕ) (bits : List Bool) → n ≤ length bits
     → ((i : ℕ) → i < n → item bits i ≡ value) → n ≤ count_of value bits

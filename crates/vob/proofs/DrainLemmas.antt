@@ -84,3 +84,31 @@ module _ {V E : Type 0} (bits_in : V → List Bool) (bits after : List Bool) (fr
     inside,
     drained_or_some (IsRangeOf-own from to (length bits) order inside) result taken left nothing,
   )
+
+  -- or a copy of them
+  pub sliced_ok : {low high : Bound ℕ} → IsRangeOf low high (length bits) from to
+      → (result : Result V E) → IfOk result (λ v. bits_in v ≡ take (to - from) (drop from bits))
+      → IfOk result (λ v. bits_in v ≡ bits_within low high bits)
+  sliced_ok range (Ok v) taken =
+      taken ∙ sym (bits_within-cut _ _ bits from to range.order range.inside range.each)
+  sliced_ok range (Err e) taken = tt
+
+  sliced_or_some : {low high : Bound ℕ} → IsRangeOf low high (length bits) from to
+      → (result : Result V E) → IfOk result (λ v. bits_in v ≡ take (to - from) (drop from bits))
+      → (from ≡ to → IsOk result) → MatchResult result (λ v. bits_in v ≡ bits_within low high bits)
+      (λ _. bits_within low high bits ≢ [])
+  sliced_or_some range (Ok v) taken nothing = sliced_ok range (Ok v) taken
+  sliced_or_some range (Err e) taken nothing =
+      λ none. false≢true (nothing (drained_none bits range none))
+
+  pub sliced_some : from ≤ to → to ≤ length bits → (result : Result V E)
+      → IfOk result (λ v. bits_in v ≡ take (to - from) (drop from bits))
+      → (from ≡ to → IsOk result) → ForSomeRange (length bits) (λ low high. MatchResult result
+      (λ v. bits_in v ≡ bits_within low high bits) (λ _. bits_within low high bits ≢ []))
+  sliced_some order inside result taken nothing = (
+    from,
+    to,
+    order,
+    inside,
+    sliced_or_some (IsRangeOf-own from to (length bits) order inside) result taken nothing,
+  )

@@ -7,6 +7,7 @@ pub mod DrainLemmas
 pub mod ExtendingLemmas
 pub mod HashLemmas
 pub mod IndicesLemmas
+pub mod MovesLemmas
 pub mod PairLemmas
 pub mod RangeLemmas
 pub mod RestLemmas
@@ -17,3 +18,4 @@ pub mod SelectLemmas
 pub mod SetsLemmas
 pub mod TextLemmas
 pub mod VobsLemmas
+pub mod WordsLemmas

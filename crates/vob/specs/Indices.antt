@@ -7,6 +7,11 @@ pub record IsMadeOf (n : ℕ) (indices : List ℕ) (bits : List Bool) : Type 0 w
   pub len : length bits ≡ n
   pub each : (i : ℕ) → IsTrue (item bits i) ↔ Contains indices i
 
+-- a list whose bits at the given indices were set, and no others
+pub record IsSetAt (indices : List ℕ) (bits after : List Bool) : Type 0 where
+  pub len : length after ≡ length bits
+  pub each : (i : ℕ) → IsTrue (item after i) ↔ (IsTrue (item bits i) ⊎ Contains indices i)
+
 -- of some indices the one at a position is the first that is at or past a length
 pub record IsFirstOutside (len : ℕ) (indices : List ℕ) (position : ℕ) : Type 0 where
   pub inside : position < length indices

@@ -5,6 +5,7 @@ pub mod Extending
 pub mod Fed
 pub mod Indices
 pub mod Laws
+pub mod Moves
 pub mod PackingLaws
 pub mod Ranges
 pub mod Raw

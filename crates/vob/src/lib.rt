@@ -31,10 +31,12 @@
 
 pub mod bulk;
 pub mod copy;
+pub mod edit;
 mod error;
 pub mod iter;
 pub mod laws;
 mod macros;
+pub mod moves;
 pub mod ops;
 pub mod prelude;
 pub mod ranges;
@@ -43,6 +45,7 @@ pub mod runs;
 pub mod sets;
 pub mod text;
 pub mod vob;
+pub mod words;
 
 pub use error::{IndicesError, VobError};
 pub use iter::{

@@ -4,7 +4,7 @@ ghost use Rattle.std.proofs.Common.{rules, ap};
 ghost use Rattle.std.specs.Cmp.{booleans_Decides};
 ghost use Rattle.std.specs.Cmp.Lexicographic.{pointwise_decides};
 ghost use Rattle.std.specs.Cmp.Rules.{comparing};
-ghost use Rattle.vob_block.specs.Pointwise.{differ, pointwise};
+ghost use Rattle.vob_block.specs.Pointwise.{differ, pointwise, without};
 ghost use Rattle.vob.specs.Bits.{AreCombined, GainsBits, IsChanged, LosesBits};
 ghost use Rattle.vob.specs.Fed.{hash_words};
 ghost use Rattle.vob.specs.Same.{same_bits};
@@ -13,7 +13,7 @@ ghost use Rattle.vob.specs.Vob.{HaveSameLength, BecomesPointwise};
 use crate::vob::Vob;
 use std::alloc::AllocError;
 use std::hash::{Hash, Hasher};
-use std::ops::{BitAnd, BitAndAssign, BitOr, BitOrAssign, BitXor, BitXorAssign};
+use std::ops::{BitAnd, BitAndAssign, BitOr, BitOrAssign, BitXor, BitXorAssign, Not, Sub};
 use vob_block::Block;
 use vob_store::combined::{And, CombineInto, Or, Xor};
 use vob_store::fill::fill;
@@ -168,6 +168,36 @@ impl<'a, 'b, T: Block> BitXor<&'b Vob<T>> for &'a Vob<T> {
         let mut made = self.clone()?;
         made.xor(other);
         Ok(made)
+    }
+}
+
+impl<'a, 'b, T: Block> Sub<&'b Vob<T>> for &'a Vob<T> {
+    type Output = Result<Vob<T>, AllocError>;
+
+    ghost can_sub = { λ vob other. HaveSameLength vob.now other.now };
+
+    ghost sub_gives = { λ vob other result. IfOk result
+        (λ made. made.bits ≡ pointwise without vob.now.bits other.now.bits) };
+
+    /// Returns the bits that the left one has and the right one hasn't, in a new Vob. Fails if memory
+    /// runs out. The lengths must be equal. vob 4.0.1 has no such operator.
+    fn sub(self, other: &'b Vob<T>) -> Result<Vob<T>, AllocError> {
+        let mut made = self.clone()?;
+        made.and_not(other);
+        Ok(made)
+    }
+}
+
+impl<T: Block> Not for Vob<T> {
+    type Output = Vob<T>;
+
+    ghost not_gives = { λ vob result. (result.bits ≡ map not vob.bits)
+        × (result.capacity ≡ vob.capacity) };
+
+    /// Returns every bit negated, in the same blocks. vob 4.0.1 has no such operator.
+    fn not(mut self) -> Vob<T> {
+        self.negate();
+        self
     }
 }
 

@@ -2,14 +2,15 @@
 //! another set. vob 4.0.1 has none of these calls.
 ghost use Rattle.std.specs.Prelude.{◌≡◌, ◌≢◌, ◌↔◌, ℕ, ◌<◌, ◌≤◌, ◌/◌, ◌*◌, ◌&&◌, ◌||◌, true, false, take};
 ghost use Rattle.std.specs.Prelude.{length, replicate, slice_index_or, All, Err, IfOk, IfSome, IsTrue};
-ghost use Rattle.std.specs.Prelude.{MatchOption, None};
+ghost use Rattle.std.specs.Prelude.{MatchOption, None, OnErr, OnOk, slice_set, ◌+◌, ◌++◌, ◌-◌};
 ghost use Rattle.vob_block.specs.Pointwise.{differ, pointwise, without};
 ghost use Rattle.vob.specs.Bits.{AreCombined, IsWritten, LosesBits, count_of};
-ghost use Rattle.vob.specs.Indices.{HasSet, IsFirstOutside, IsMadeOf};
+ghost use Rattle.vob.specs.Extending.{RefusesMore};
+ghost use Rattle.vob.specs.Indices.{HasSet, IsFirstOutside, IsMadeOf, IsSetAt};
 ghost use Rattle.vob.specs.Sets.{AreDisjoint, HasBit, HasOnly, HasOther, HasShared, IsBit, IsIndexOfRank, IsNext, IsPrevious, IsSubset};
 ghost use Rattle.vob.specs.Vob.{HaveSameLength};
 
-use crate::error::IndicesError;
+use crate::error::{IndicesError, VobError};
 use crate::vob::Vob;
 use std::alloc::Global;
 use vob_block::Block;
@@ -48,12 +49,62 @@ impl<T: Block> Vob<T> {
         })
     }
 
+    /// Sets the bits at the given indices. An index may stand among them more than once. Fails if an
+    /// index is at or past the length, names the first one, and changes nothing.
+    ///
+    /// ```
+    /// let mut vob = vob::vob!(alloc; true, false, false)?;
+    /// vob.set_indices(&[2])?;
+    /// assert!(rt; vob == vob::vob!(alloc; true, false, true)?);
+    /// ```
+    pub fn set_indices(&mut self, indices: &[usize]) -> Result<(), IndicesError>
+        ensures set { OnOk result (IsSetAt indices.now self.old.bits self.new.bits) }
+        ensures err { OnErr result (self.new.bits ≡ self.old.bits) }
+        ensures out_of_range { (position : ℕ)
+            → (result ≡ Err (IndicesError.OutOfRange position))
+            ↔ IsFirstOutside (length self.old.bits) indices.now position }
+        ensures memory { result ≢ Err IndicesError.Memory }
+        ensures capacity { self.new.capacity ≡ self.old.capacity }
+    {
+        if let Some(position) = first_outside(indices, self.len()) {
+            return Err(IndicesError::OutOfRange { position });
+        }
+        self.set_each(indices);
+        Ok(())
+    }
+
+    /// Sets bit `index`. If it is past the end, unset bits are appended up to it first. Fails if the
+    /// length would exceed `usize::MAX`, or if memory runs out, and then changes no bit.
+    ///
+    /// ```
+    /// let mut vob = vob::vob!(alloc; true)?;
+    /// vob.grow_and_set(2)?;
+    /// assert!(rt; vob == vob::vob!(alloc; true, false, true)?);
+    /// ```
+    pub fn grow_and_set(&mut self, index: usize) -> Result<(), VobError>
+        ensures ok { OnOk result (self.new.bits ≡ slice_set (self.old.bits
+            ++ replicate (index + 1 - length self.old.bits) false) index true) }
+        ensures err { OnErr result (self.new.bits ≡ self.old.bits) }
+        ensures refused { RefusesMore T.BITS self.old (index + 1 - length self.old.bits) result }
+        ensures capacity { self.old.capacity ≤ self.new.capacity }
+    {
+        if index == usize::MAX {
+            return Err(VobError::TooLong);
+        }
+        if index >= self.len() {
+            self.resize(index + 1, false)?;
+        }
+        self.set(index, true);
+        Ok(())
+    }
+
     /// Sets the bits at the given indices up to the first one that is past the end. Returns true if
     /// none is.
     fn set_each(&mut self, indices: &[usize]) -> bool
         ensures inside { IsTrue result ↔ All (λ i. i < length self.old.bits) indices.now }
         ensures set { IsTrue result
             → HasSet indices.now (length indices.now) self.old.bits self.new.bits }
+        ensures capacity { self.new.capacity ≡ self.old.capacity }
     {
         if !self.set_fours(indices) {
             return false;
@@ -74,6 +125,7 @@ impl<T: Block> Vob<T> {
             → slice_index_or indices.now k 0 < length self.old.bits) }
         ensures set { IsTrue result
             → HasSet indices.now (length indices.now / 4 * 4) self.old.bits self.new.bits }
+        ensures capacity { self.new.capacity ≡ self.old.capacity }
     {
         for turn in 0..indices.len() / 4 {
             let position = 4 * turn;
@@ -94,6 +146,7 @@ impl<T: Block> Vob<T> {
         ensures inside { IsTrue result ↔ index < length self.old.bits }
         ensures written { IsTrue result → IsWritten self.old.bits index true self.new.bits }
         ensures len { length self.new.bits ≡ length self.old.bits }
+        ensures capacity { self.new.capacity ≡ self.old.capacity }
     {
         let inside = index < self.len();
         if inside {
@@ -205,6 +258,27 @@ impl<T: Block> Vob<T> {
         ensures below { IfSome result (λ i. i ≤ from) }
     {
         previous_index(&mut self.blocks(), false, self.len(), from)
+    }
+
+    /// Counts the set bits.
+    ///
+    /// ```
+    /// let vob = vob::vob!(alloc; true, false, true)?;
+    /// assert_eq!(rt; vob.count_ones(), 2);
+    /// ```
+    pub fn count_ones(&self) -> usize
+        ensures count { result ≡ count_of true self.now.bits }
+        ensures most { result ≤ length self.now.bits }
+    {
+        self.rank(self.len())
+    }
+
+    /// Counts the unset bits.
+    pub fn count_zeros(&self) -> usize
+        ensures count { result ≡ count_of false self.now.bits }
+        ensures most { result ≤ length self.now.bits }
+    {
+        self.len() - self.count_ones()
     }
 
     /// Counts the set bits below `index`: all of them if it is past the end.

@@ -1,5 +1,5 @@
 -- The fours of indices so far are below the length, and the bits at them are set.
-use Rattle.std.proofs.Common.{ℕ, ◌<◌, ◌*◌, length, get_or}
+use Rattle.std.proofs.Common.{◌≡◌, ℕ, ◌<◌, ◌*◌, length, get_or}
 use Rattle.vob.specs.Indices.{HasSet}
 use Rattle.vob.proofs.vob.Vob.set_fours.Given as goal
 
@@ -7,4 +7,5 @@ abbrev pub invariant-loop-turn : goal.invariant-loop-turn
 invariant-loop-turn g l = record {
   set : HasSet l.fn.indices (l.turn * 4) l.fn.self.bits l.self.bits;
   lower : (k : ℕ) → k < l.turn * 4 → get_or l.fn.indices k 0 < length l.fn.self.bits;
+  capacity : l.self.capacity ≡ l.fn.self.capacity;
 }
