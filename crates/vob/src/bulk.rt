@@ -65,7 +65,7 @@ impl<T: Block> Vob<T> {
         ensures ok { OnOk result (self.new.bits ≡ self.old.bits ++ other.now) }
         ensures err { OnErr result (self.new.bits ≡ self.old.bits) }
 
-        // A length that is too great is refused first, and memory only where there is no room.
+        // A length that is too great fails first. Memory is asked for only if there is no room.
         ensures refused { RefusesMore T.BITS self.old (length other.now) result }
         ensures capacity { self.old.capacity ≤ self.new.capacity }
     {
@@ -119,8 +119,8 @@ impl<T: Block> Vob<T> {
         ensures err { IfErr result (RefusesItem I.next_gives items self.old self.new 0) }
         ensures capacity { self.old.capacity ≤ self.new.capacity }
     {
-        // An item at a time is pushed where a block may be wanted for it; those behind it are
-        // gathered in a register up to the end of the block.
+        // An item is pushed if it may need a block. Those after it are gathered in a register, up
+        // to the end of the block.
         'turns: while let Some(bit) = items.next() {
             self.push(bit)?;
             if self.fill_last(&mut items) {
@@ -156,7 +156,7 @@ impl<T: Block> Vob<T> {
         ensures ok { OnOk result (self.new.bits ≡ self.old.bits ++ other.now.bits) }
         ensures err { OnErr result (self.new.bits ≡ self.old.bits) }
 
-        // A length that is too great is refused first, and memory only where there is no room.
+        // A length that is too great fails first. Memory is asked for only if there is no room.
         ensures refused { RefusesMore T.BITS self.old (length other.now.bits) result }
         ensures capacity { self.old.capacity ≤ self.new.capacity }
     {

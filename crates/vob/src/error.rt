@@ -38,8 +38,8 @@ impl VobError {
     ghost use Rattle.std.specs.Prelude.{◌≡◌};
     ghost use Rattle.vob.specs.Refusal.{refusal_number};
 
-    /// Returns the number of the refusal: 1 for `TooLong`, 2 for `Memory`, 4 for `PastEnd`. 3 is
-    /// that of storage that isn't canonical, which is returned as it came.
+    /// Returns the number of the refusal: 1 for `TooLong`, 2 for `Memory`, 4 for `PastEnd`. The
+    /// number 3 is for storage that isn't canonical, which is returned as it came.
     pub fn number(self) -> u8
         ensures { result ≡ refusal_number self }
     {

@@ -12,14 +12,14 @@ ghost use Rattle.vob_walk.specs.Laws.{NoMatchIsNone, MatchesAreCounted, MatchesA
 ghost use Rattle.vob_walk.specs.Laws.{NoneIsForGood};
 ghost use Rattle.vob_walk.specs.Once.{EachIsGivenOnce, MatchesAreGivenOnce, NoneComesLast};
 
-/// Cutting a list and joining the parts gives it back, so a `split_off` and an `extend_from_vob` of
-/// the part that both succeed leave the old bits.
+/// Cutting a list and joining the parts gives it back. So a `split_off` and an `extend_from_vob` of
+/// the part leave the old bits if both succeed.
 pub fn join_undoes_cut()
     ensures { JoinUndoesCut }
 {}
 
-/// Draining from an index up to the length on leaves and gives the parts below it and from it on, so
-/// `drain(at..)` and `split_off(at)` that both succeed leave and give the same bits.
+/// Draining from an index to the length or past it leaves the bits below the index and gives the
+/// others. So `drain(at..)` and `split_off(at)` leave and give the same bits if both succeed.
 pub fn drain_from_is_split()
     ensures { DrainFromIsSplit }
 {}
@@ -34,7 +34,7 @@ pub fn equal_where_lists_are()
     ensures { EqualWhereListsAre }
 {}
 
-/// Lists are equal exactly if their lengths and their blocks are, so two Vobs of one block type are
+/// Lists are equal exactly if their lengths and their blocks are. So two Vobs of one block type are
 /// equal exactly if `len` and `get_storage` are.
 pub fn equal_where_storage_is()
     ensures { EqualWhereStorageIs }

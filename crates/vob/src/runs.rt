@@ -12,15 +12,15 @@ use std::ops::Range;
 use vob_block::{Block, Blocks};
 use vob_walk::{block_in_hand, next_in_hand};
 
-/// The runs of a Vob in order, seen as the list of those still to come, the bits, the index below
-/// which each run was given, and how many blocks were read and how many are unread.
+/// The runs of a Vob, in order. Seen as the runs still to come, the bits, the end of the last run
+/// returned, and how many blocks are read and unread.
 #[derive(Drop)]
 pub struct Runs<'a, T: Block> {
     blocks: Blocks<'a, T>,
     len: usize,
     // 0, or the end of the run that was given last.
     at: usize,
-    // Where the next run is looked for: at `at`, and at the end where none was found from there on.
+    // Where the search for the next run begins: `at`, or the end if no run is left.
     from: usize,
     // The block of index `from`, unless that is 0 or the end.
     hand: T,

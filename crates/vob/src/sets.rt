@@ -117,8 +117,8 @@ impl<T: Block> Vob<T> {
         true
     }
 
-    /// The same for the indices that make whole fours. Four a turn, as a turn's own steps are a third
-    /// of those that one index takes.
+    /// Does the same with the indices that make whole fours. It takes four a turn: the steps of the
+    /// turn cost a third of those of an index.
     fn set_fours(&mut self, indices: &[usize]) -> bool
         ensures inside { IsTrue result
             ↔ ((k : ℕ) → k < length indices.now / 4 * 4

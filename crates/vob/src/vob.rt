@@ -405,8 +405,8 @@ impl Vob<usize> {
         ensures bits { IfOk result (λ vob.
             GivesAll I.into_iter_gives I.IntoIter.next_gives iter vob.bits) }
 
-        // More items than a length can count are refused, and memory only where there is an item
-        // or a hint at one.
+        // More items than a length can count fail. Memory is asked for only if there is an item or
+        // a hint at one.
         ensures refused { RefusesItems I.into_iter_gives I.IntoIter.next_gives
             I.IntoIter.remaining iter result }
     {

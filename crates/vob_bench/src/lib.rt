@@ -1,6 +1,6 @@
-//! Workloads for a benchmark, to be called from another language, by their names. Each builds its
-//! Vobs once, does one call (or one list of calls) a round, and returns a checksum, so that nothing
-//! that is timed can be left out. `NONE` is returned if memory runs out or no workload has the name.
+//! Workloads for a benchmark, called from another language by name. Each builds its Vobs once, then
+//! does one call or one list of calls a round. It returns a checksum, so that a compiler leaves out
+//! nothing that is timed. `NONE` is returned if memory runs out or no workload has the name.
 #![tactic(auto)]
 
 mod bits;

@@ -91,8 +91,8 @@ pub trait BitBlock: Copy + Eq + Hash + Debug {
         ensures places { HasPlaces BITS (number result) (λ j. place ((j + (BITS - n)) % BITS) (number self)) }
         ensures within { number result < 2 ^ BITS };
 
-    /// Returns the block that begins at place `from` of two neighbours, of which `self` is the lower
-    /// one: the places of `self` from `from` on, then the low places of `high`. This is a funnel shift.
+    /// Returns the block that begins at place `from` of `self` and its upper neighbour `high`. It has
+    /// the places of `self` from `from` on, then low places of `high`. This is a funnel shift.
     final fn funnel_down(self, high: Self, from: usize) -> Self
         requires positive { 0 < from }
         requires below { from < BITS }

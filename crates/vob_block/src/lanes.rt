@@ -12,11 +12,11 @@ use std::simd::prelude::*;
 // How many blocks a turn takes, as two chunks of eight.
 const TURN: usize = 16;
 
-// In so many blocks a loop more, for the rest, takes less than lanes save.
+// With this many blocks, a second loop for the rest costs less than lanes save.
 const MANY: usize = 512;
 
-/// A way to combine two blocks, or two in each of eight lanes: what becomes of the own one, and where it
-/// differs from what it was. Both are answered, since one may be had from the other with less work.
+/// A way to combine two blocks, or two in each of eight lanes. It returns the new own block, and where
+/// that differs from the old one: each may be had from the other with less work.
 pub(crate) trait Combine {
     ghost connective: { Connective };
 
@@ -102,14 +102,14 @@ impl Combine for AndNot {
     }
 }
 
-/// Does nothing: lanes at hand are in the range of their type, which a proof sees at a parameter.
+/// Does nothing: lanes are in the range of their type, which a proof sees at a parameter.
 #[inline(always)]
 fn in_range(lanes: usizex8)
     ensures { Each1 (λ x. x < 2 ^ 64) lanes }
 {}
 
-/// Combines the eight blocks from `at` on, and answers `changed` with where they differ from what they
-/// were.
+/// Combines the eight blocks from `at` on. Returns `changed` or-ed with where they differ from
+/// before.
 #[inline(always)]
 fn combine_chunk<C: Combine>(
     own: &mut [usize],
@@ -131,8 +131,7 @@ fn combine_chunk<C: Combine>(
     changed | differing
 }
 
-/// Combines the blocks of so many turns, and leaves the rest. The number is 0 exactly where none of
-/// them changed.
+/// Combines the blocks of `turns` turns, and leaves the rest. Returns 0 exactly if none changed.
 #[inline(always)]
 fn combine_turns<C: Combine>(
     own: &mut [usize],
@@ -168,8 +167,8 @@ fn combine_one<C: Combine>(own: &mut [usize], other: &mut Blocks<'_, usize>) -> 
     differing != 0
 }
 
-/// Combines blocks of which turns leave a rest, and answers whether one changed: where they are many by
-/// turns and then the rest, and else all one at a time, of which a compiler takes four or more at once.
+/// Combines blocks that don't fill whole turns, and returns whether one changed. Many are combined by
+/// turns, then the rest. Few are combined one at a time: a compiler makes four or more of that at once.
 #[inline(always)]
 fn combine_with_rest<C: Combine>(own: &mut [usize], other: &mut Blocks<'_, usize>) -> bool
     requires { length own.old ≡ length other.old.items }
@@ -191,7 +190,7 @@ fn combine_with_rest<C: Combine>(own: &mut [usize], other: &mut Blocks<'_, usize
     changed != 0
 }
 
-/// Combines the blocks, and answers whether one changed. Whole turns have a loop of their own.
+/// Combines the blocks, and returns whether one changed. Whole turns have a loop of their own.
 #[inline(always)]
 pub(crate) fn combine_blocks<C: Combine>(own: &mut [usize], other: &mut Blocks<'_, usize>) -> bool
     requires { length own.old ≡ length other.old.items }

@@ -22,7 +22,7 @@ pub(crate) trait Word: PrimInt {
     // The number that a block is.
     ghost number: { Self → ℕ };
 
-    /// Does nothing: a block at hand is in the range of its type, which generic code can't see.
+    /// Does nothing: a block is in the range of its type, which generic code can't see.
     fn in_range(self)
         ensures { number self < 2 ^ BITS };
 
@@ -114,7 +114,7 @@ pub(crate) trait Word: PrimInt {
         self.count_ones() as usize
     }
 
-    /// The first true place, or `BITS` where no place is true.
+    /// Returns the first true place, or `BITS` if no place is true.
     #[inline(always)]
     final fn zeros_low(self) -> usize
         ensures { HasZerosLow BITS (number self) result }
@@ -123,7 +123,7 @@ pub(crate) trait Word: PrimInt {
         self.trailing_zeros() as usize
     }
 
-    /// `BITS - 1` minus the last true place, or `BITS` where no place is true.
+    /// Returns `BITS - 1` minus the last true place, or `BITS` if no place is true.
     #[inline(always)]
     final fn zeros_high(self) -> usize
         ensures { HasZerosHigh BITS (number self) result }

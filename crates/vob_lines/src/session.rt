@@ -176,8 +176,8 @@ fn status_after(written: io::Result<()>, status: u8) -> u8
 /// Reads command lines, and writes a line for each reply. Returns the exit status:
 ///
 /// - 0: each line was read and run;
-/// - 1: reading or writing failed, or input hadn't ended after 1,048,576 reads of at most 4096 bytes
-///   each, and what was written is a prefix of what would have been;
+/// - 1: reading or writing failed, or input hadn't ended after 1,048,576 reads of at most 4096
+///   bytes; what was written is a prefix of the output;
 /// - 2: a line can't be read, nothing was run, and `bad line` and its number is all that was
 ///   written;
 /// - 3: memory was refused before a line that can't be read was found, nothing was run, and

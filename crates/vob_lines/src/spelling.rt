@@ -120,7 +120,7 @@ pub fn bytes_of(alloc: Global, word: &[u8]) -> Result<Vec<u8>, LineError>
     Ok(bytes)
 }
 
-/// Where the range begins whose text stands before its dots.
+/// Returns where a range begins, by the text before its dots.
 fn start_of(text: &[u8]) -> Result<Bound<usize>, LineError>
     ensures ok { IfOk result (λ start. IsStart text.now start) }
     ensures err { OnlyUnreadable result ((start : _) → IsStart text.now start → ⊥) }
@@ -148,7 +148,7 @@ fn end_of(text: &[u8]) -> Result<Bound<usize>, LineError>
     }
 }
 
-/// Returns what stands before the first two dots of a word, and what after them.
+/// Returns the text before the first two dots of a word, and the text after them.
 fn around_dots(word: &[u8]) -> Result<(&[u8], &[u8]), LineError>
     ensures ok { IfOk result (λ parts. word.now ≡ parts.0.now ++ (codes ".." ++ parts.1.now)) }
     ensures alone { IfOk result (λ parts. (start end : _) → (range : IsRange word.now start end)

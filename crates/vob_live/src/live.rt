@@ -257,10 +257,10 @@ fn solve(alloc: Global, vars: usize, nodes: &[Flow]) -> Result<Live, AllocError>
     Ok(live)
 }
 
-/// Returns the least sets that meet the flow equations. After a node is live what is live before a
-/// node that comes next; before it what it reads, and what is live after it and not written there.
-/// Fails with the first node that names a variable or a node that isn't there, or if memory runs
-/// out.
+/// Returns the least sets that meet the flow equations. A variable is live after a node if it is
+/// live before a next node. It is live before a node that reads it, or that doesn't write it if it
+/// is live after. Fails with the first node that names a variable or a node that isn't there, or if
+/// memory runs out.
 pub fn liveness(alloc: Global, vars: usize, nodes: &[Flow]) -> Result<Live, LiveError>
     ensures live { IfOk result (AreLive vars nodes.now) }
 

@@ -1,6 +1,6 @@
-//! Each test is about a few calls. A request that is refused was either for what the calls work on,
-//! and the test ends at once; or one of the calls answers it, and all is as it was. A test whose calls
-//! all answered Ok prints `answered`.
+//! Each test is about a few calls. If memory for what they work on is refused, the test ends at once.
+//! If memory is refused to a call, that call fails and all is as it was. If each call returns Ok, the
+//! test prints `answered`.
 mod blocks;
 mod growth;
 mod lines;

@@ -20,8 +20,8 @@ pub enum Command<T> {
     Copy {
         which: usize,
     },
-    /// Makes a Vob of `len` bits in a copy of these blocks: `RawVob::from_parts` and `into_vob`,
-    /// and `mask_last_block` between them if `mask` and the blocks are as many as the length needs.
+    /// Makes a Vob of `len` bits in a copy of these blocks, by `RawVob::from_parts` and `into_vob`.
+    /// If `mask`, and if the length needs as many blocks, `mask_last_block` is called between them.
     /// `Refused(3)` if the blocks are not the length's canonical ones.
     FromRaw {
         len: usize,
@@ -242,7 +242,7 @@ pub enum Reply<T> {
     Dealt(Vec<Option<usize>>),
     /// No Vob has that number, or the call's condition doesn't hold; nothing was done.
     Skipped,
-    /// The call was refused, and all Vobs are as they were: 1, 2 and 4 are numbers of
-    /// `VobError::number`, and 3 is blocks that aren't the canonical ones of their length.
+    /// The call was refused, and all Vobs are as they were. The numbers are those of
+    /// `VobError::number`, or 3 for blocks that aren't the canonical ones of their length.
     Refused(u8),
 }

@@ -37,7 +37,7 @@ fn word_of_bytes(bytes: [u8; 8]) -> usize
     reverse_each_byte(usize::from_le_bytes(bytes))
 }
 
-/// Up to eight bytes, and zeros behind them.
+/// Returns up to eight bytes with zeros after them.
 fn eight_bytes(bytes: &[u8]) -> [u8; 8]
     requires { length bytes.now ≤ 8 }
     ensures { (k : ℕ) → slice_index result k ≡ slice_index bytes.now k }
@@ -49,7 +49,7 @@ fn eight_bytes(bytes: &[u8]) -> [u8; 8]
     all
 }
 
-/// Puts the block of up to eight bytes, if any, behind others, in the room that is there.
+/// Appends the block of up to eight bytes, if any, in the room that is there.
 fn push_bytes(blocks: &mut Vec<usize>, bytes: &[u8])
     requires few { length bytes.now ≤ 8 }
     requires room { length blocks.old.items + need (8 * length bytes.now) 64 ≤ vec_capacity blocks.old }
@@ -97,7 +97,7 @@ fn push_words(bytes: &mut Vec<u8>, blocks: &[usize])
     }
 }
 
-/// The bytes of `len` bits: as many as they need, with false bits behind them in the last one.
+/// Returns the bytes of `len` bits: as many as they need, the last one filled with false bits.
 pub fn block_bytes(alloc: Global, blocks: &[usize], len: usize) -> Result<Vec<u8>, AllocError>
     requires { IsCanonical len blocks.now 64 }
     ensures count { IfOk result (λ bytes. length bytes.items ≡ need len 8) }

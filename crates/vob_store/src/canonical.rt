@@ -6,8 +6,8 @@ ghost use Rattle.vob_block.specs.Packing.{need, unpacking, IsCanonical, packing}
 use crate::mask::mask_last;
 use vob_block::BitBlock;
 
-/// Whether the blocks are as many as `len` bits need, and false from bit `len` on. Only the last of
-/// so many blocks can be otherwise, so no other one is read.
+/// Returns whether the blocks are as many as `len` bits need, and false from bit `len` on. Only the
+/// last block can be otherwise, so no other one is read.
 pub fn is_canonical<T: BitBlock>(blocks: &[T], len: usize) -> bool
     ensures { IsTrue result ↔ IsCanonical len (map T.number blocks.now) T.BITS }
 {

@@ -72,7 +72,7 @@ impl Combine for Without {
 
 /// A way to combine blocks that is stored in the first ones.
 pub trait CombineInto: Combine {
-    /// Stores in `own` both combined, and answers whether a block changed. Each block of `other` is
+    /// Stores in `own` both combined, and returns whether a block changed. Each block of `other` is
     /// read once.
     fn combine_into<T: BitBlock>(own: &mut [T], other: &mut Blocks<'_, T>) -> bool
         requires { length own.old ≡ length other.old.items }

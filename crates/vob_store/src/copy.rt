@@ -8,14 +8,14 @@ ghost use Rattle.vob_store.specs.Copying.{AreCopied};
 use crate::drain::spliced;
 use vob_block::{BitBlock, Blocks};
 
-/// What is copied: so many bits, or whole blocks of them, from index `start` on.
+/// What is copied from index `start` on: `count` bits, or bits of `count` whole blocks.
 #[derive(Clone, Copy)]
 pub struct Stretch {
     pub start: usize,
     pub count: usize,
 }
 
-/// BitBlock `k`, or an empty one where there is none. It is read once at most.
+/// Returns block `k`, or an empty one if there is none. It is read once at most.
 fn read_or_zero<T: BitBlock>(other: &mut Blocks<'_, T>, k: usize) -> T
     ensures block { T.number result ≡ slice_index_or (map T.number other.old.items) k 0 }
     ensures items { other.new.items ≡ other.old.items }
@@ -108,8 +108,8 @@ fn copy_whole<T: BitBlock>(own: &mut [T], first: usize, other: &mut Blocks<'_, T
     }
 }
 
-/// Writes the bits of a stretch of `other` over those from `at` on: up to the end of a block, then
-/// whole blocks, and then what is left. Two blocks are read at most for each written.
+/// Writes the bits of a stretch of `other` over those from `at` on: to the end of a block, then
+/// whole blocks, then the rest. Two blocks are read at most for each written.
 pub fn copy_bits<T: BitBlock>(own: &mut [T], at: usize, other: &mut Blocks<'_, T>, cut: Stretch)
     requires inside { at + cut.count ≤ length own.old * T.BITS }
     requires own { at + cut.count ≤ usize.MAX }

@@ -1,4 +1,4 @@
-//! Draining: bits are taken out from among others, and those behind them close up in place.
+//! Draining: bits are removed from among others, and those after them close up in place.
 ghost use Rattle.std.specs.Prelude.{◌≡◌, ◌+◌, ◌-◌, ◌*◌, ◌/◌, ◌<◌, ◌≤◌, ◌++◌, if◌then◌else◌, nat_lt, map, length, take, drop, vec_capacity};
 ghost use Rattle.vob_block.specs.Places.{place, HasPlaces};
 ghost use Rattle.vob_block.specs.Packing.{unpacking, IsCanonical, Stores};
@@ -7,7 +7,7 @@ ghost use Rattle.vob_store.specs.Building.{AreBuilt, closed_bit};
 use crate::mask::truncate_to;
 use vob_block::BitBlock;
 
-/// Moves the bits of all blocks behind the first ones down by some blocks and some places. Each
+/// Moves the bits of all blocks after the first ones down by some blocks and some places. Each
 /// block is made of two neighbours, which are read before it is written.
 fn shift_down<T: BitBlock>(blocks: &mut [T], first: usize, skip: usize, places: usize)
     requires inside { first + skip < length blocks.old }
@@ -23,7 +23,7 @@ fn shift_down<T: BitBlock>(blocks: &mut [T], first: usize, skip: usize, places: 
     blocks[last] = blocks[last + skip].funnel_down(T::ZERO, places);
 }
 
-/// Moves the bits of all blocks behind the first ones down by `by`.
+/// Moves the bits of all blocks after the first ones down by `by`.
 fn close_blocks<T: BitBlock>(blocks: &mut [T], first: usize, by: usize)
     requires inside { first * T.BITS + by ≤ length blocks.old * T.BITS }
     ensures { AreBuilt T.BITS (length blocks.old - by / T.BITS) (map T.number blocks.new)
@@ -49,7 +49,7 @@ pub(crate) fn spliced<T: BitBlock>(low: T, high: T, from: usize) -> T
     low.band(mask).bor(high.band(mask.bnot()))
 }
 
-/// Moves the bits behind the first `from + by` ones down by `by`, and so takes out those before.
+/// Moves the bits after the first `from + by` ones down by `by`, and so removes those before.
 fn close_up<T: BitBlock>(blocks: &mut [T], from: usize, by: usize)
     requires positive { 0 < by }
     requires inside { from + by ≤ length blocks.old * T.BITS }
@@ -64,7 +64,7 @@ fn close_up<T: BitBlock>(blocks: &mut [T], from: usize, by: usize)
     blocks[first] = spliced(block, blocks[first], from % width);
 }
 
-/// Takes the bits from index `from` to below `to` out of `len` bits, and closes up those behind.
+/// Removes the bits from index `from` to below `to` of `len` bits, and closes up those after.
 pub fn remove_bits<T: BitBlock>(blocks: &mut Vec<T>, len: usize, from: usize, to: usize)
     requires canonical { IsCanonical len (map T.number blocks.old.items) T.BITS }
     requires some { from < to }

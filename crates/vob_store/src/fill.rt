@@ -1,4 +1,4 @@
-//! Bits of one value: a block of them, all bits made it, and others of it added behind them.
+//! Bits of one value: a block of them, all bits made it, and more of it appended.
 ghost use Rattle.std.specs.Prelude.{◌≡◌, ◌+◌, ◌-◌, ◌*◌, ◌^◌, ◌≤◌, ◌++◌, if◌then◌else◌, map, length, replicate, vec_capacity, IsOk, IfOk};
 ghost use Rattle.vob_block.specs.Packing.{need, unpacking, IsCanonical, Stores};
 
@@ -58,7 +58,7 @@ fn fill_last<T: BitBlock>(blocks: &mut [T], len: usize, value: bool)
     }
 }
 
-/// Adds bits of one `value` behind `len` bits until `count` blocks are full, in the room that is
+/// Appends bits of one `value` to `len` bits until `count` blocks are full, in the room that is
 /// there.
 pub(crate) fn fill_up<T: BitBlock>(blocks: &mut Vec<T>, len: usize, count: usize, value: bool)
     requires canonical { IsCanonical len (map T.number blocks.old.items) T.BITS }
@@ -74,7 +74,7 @@ pub(crate) fn fill_up<T: BitBlock>(blocks: &mut Vec<T>, len: usize, count: usize
     let _ = blocks.resize(count, splat(value));
 }
 
-/// Adds bits of one `value` behind `len` bits, up to `new_len` bits, in the room that is there.
+/// Appends bits of one `value` to `len` bits, up to `new_len` bits, in the room that is there.
 pub fn append_fill<T: BitBlock>(blocks: &mut Vec<T>, len: usize, new_len: usize, value: bool)
     requires canonical { IsCanonical len (map T.number blocks.old.items) T.BITS }
     requires longer { len ≤ new_len }

@@ -1,5 +1,5 @@
-//! Joining: the bits of some blocks behind those of others. Blocks are stored whole, each made of two
-//! neighbours where the offset lies within a block.
+//! Joining: the bits of some blocks after those of others. Blocks are stored whole, each made of two
+//! neighbours if the offset lies within a block.
 ghost use Rattle.std.specs.Prelude.{◌≡◌, ◌≢◌, ◌+◌, ◌-◌, ◌*◌, ◌%◌, ◌<◌, ◌≤◌, ◌∷◌, map, length, vec_capacity};
 ghost use Rattle.vob_block.specs.Packing.{bit_at, IsCanonical};
 ghost use Rattle.vob_block.specs.Reading.{AreReadOnce};
@@ -45,7 +45,7 @@ fn join_shifted<T: BitBlock>(own: &mut [T], first: T, other: &mut Blocks<'_, T>,
     }
 }
 
-/// Stores the bits of `other` behind the first `used` ones.
+/// Stores the bits of `other` after the first `used` ones.
 fn join_behind<T: BitBlock>(own: &mut [T], used: usize, other: &mut Blocks<'_, T>)
     requires whole { used ≡ 0 → length own.old ≡ length other.old.items }
     requires some { used ≢ 0 → 0 < length own.old }
@@ -65,7 +65,7 @@ fn join_behind<T: BitBlock>(own: &mut [T], used: usize, other: &mut Blocks<'_, T
     }
 }
 
-/// Stores the bits of `other` behind `len` bits, whose blocks have room for them.
+/// Stores the bits of `other` after `len` bits, whose blocks have room for them.
 fn join_into<T: BitBlock>(own: &mut [T], len: usize, other: &mut Blocks<'_, T>, more: usize)
     requires room { HaveRoom T.BITS len more (map T.number own.old) (map T.number other.old.items) }
     ensures joined { IsJoined T.BITS len more (map T.number own.old) (map T.number other.old.items)
@@ -77,7 +77,7 @@ fn join_into<T: BitBlock>(own: &mut [T], len: usize, other: &mut Blocks<'_, T>, 
     T::all_in_range(own);
 }
 
-/// Joins the `more` bits of `other` behind `len` bits, in the room that is there.
+/// Appends the `more` bits of `other` to `len` bits, in the room that is there.
 pub fn join<T: BitBlock>(own: &mut Vec<T>, len: usize, other: &mut Blocks<'_, T>, more: usize)
     requires canonical { IsCanonical len (map T.number own.old.items) T.BITS }
     requires other { IsCanonical more (map T.number other.old.items) T.BITS }
@@ -92,7 +92,7 @@ pub fn join<T: BitBlock>(own: &mut Vec<T>, len: usize, other: &mut Blocks<'_, T>
     join_into(own, len, other, more);
 }
 
-/// Copies the blocks of `more` bits behind `len` bits that fill theirs, in the room that is there.
+/// Appends the blocks of `more` bits to `len` bits that fill theirs, in the room that is there.
 fn join_copied<T: BitBlock>(blocks: &mut Vec<T>, len: usize, others: &[T], more: usize)
     requires canonical { IsCanonical len (map T.number blocks.old.items) T.BITS }
     requires other { IsCanonical more (map T.number others.now) T.BITS }
@@ -106,7 +106,7 @@ fn join_copied<T: BitBlock>(blocks: &mut Vec<T>, len: usize, others: &[T], more:
     let _ = blocks.extend_from_slice(others);
 }
 
-/// Joins the `more` bits of `others` behind `len` bits, in the room that is there. Behind whole blocks
+/// Appends the `more` bits of `others` to `len` bits, in the room that is there. After whole blocks
 /// the others are copied all at once.
 pub fn join_slice<T: BitBlock>(blocks: &mut Vec<T>, len: usize, others: &[T], more: usize)
     requires canonical { IsCanonical len (map T.number blocks.old.items) T.BITS }

@@ -5,8 +5,7 @@ ghost use Rattle.vob_block.specs.Packing.{item, unpacking, IsCanonical, Stores};
 
 use vob_block::BitBlock;
 
-/// Puts the places of `more` behind the bits that stand in the last block: as many bits as find
-/// room there.
+/// Puts the places of `more` after the bits of the last block: as many as fit there.
 pub(crate) fn extend_last<T: BitBlock>(blocks: &mut [T], len: usize, more: T)
     requires canonical { IsCanonical len (map T.number blocks.old) T.BITS }
     requires partial { len % T.BITS ≢ 0 }

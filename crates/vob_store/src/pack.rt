@@ -22,7 +22,7 @@ fn pack_block<T: BitBlock>(bits: &[bool]) -> T
     block
 }
 
-/// Puts the blocks of some bits behind others, in the room that is there.
+/// Appends the blocks of some bits, in the room that is there.
 pub fn push_packed<T: BitBlock>(blocks: &mut Vec<T>, bits: &[bool])
     requires room { length blocks.old.items + need (length bits.now) T.BITS ≤ vec_capacity blocks.old }
     ensures blocks { map T.number blocks.new.items
@@ -38,7 +38,7 @@ pub fn push_packed<T: BitBlock>(blocks: &mut Vec<T>, bits: &[bool])
     }
 }
 
-/// Puts the first of some bits into the places that the last block has left, and answers how many.
+/// Puts the first of some bits into the places that the last block has left, and returns how many.
 fn top_up<T: BitBlock>(blocks: &mut [T], len: usize, bits: &[bool]) -> usize
     requires { IsCanonical len (map T.number blocks.old) T.BITS }
     ensures inside { result ≤ length bits.now }
@@ -56,7 +56,7 @@ fn top_up<T: BitBlock>(blocks: &mut [T], len: usize, bits: &[bool]) -> usize
     taken
 }
 
-/// Adds some bits behind `len` bits, in the room that is there.
+/// Appends some bits to `len` bits, in the room that is there.
 pub fn append_slice<T: BitBlock>(blocks: &mut Vec<T>, len: usize, bits: &[bool])
     requires canonical { IsCanonical len (map T.number blocks.old.items) T.BITS }
     requires room { need (len + length bits.now) T.BITS ≤ vec_capacity blocks.old }

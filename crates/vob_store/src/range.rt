@@ -64,7 +64,7 @@ fn mask_between<T: BitBlock>(from: usize, to: usize) -> T
     T::low_mask(to).band(T::low_mask(from).bnot())
 }
 
-/// Changes the places of block `k` from `from` to below `to`, and answers whether the block
+/// Changes the places of block `k` from `from` to below `to`, and returns whether the block
 /// changed.
 fn change_places<C: Change, T: BitBlock>(blocks: &mut [T], k: usize, from: usize, to: usize) -> bool
     requires inside { k < length blocks.old }
@@ -82,7 +82,7 @@ fn change_places<C: Change, T: BitBlock>(blocks: &mut [T], k: usize, from: usize
     old != new
 }
 
-/// Changes all places of the blocks from `from` to below `to`, and answers whether one changed.
+/// Changes all places of the blocks from `from` to below `to`, and returns whether one changed.
 fn change_blocks<C: Change, T: BitBlock>(blocks: &mut [T], from: usize, to: usize) -> bool
     requires order { from ≤ to }
     requires inside { to ≤ length blocks.old }
@@ -102,8 +102,8 @@ fn change_blocks<C: Change, T: BitBlock>(blocks: &mut [T], from: usize, to: usiz
     changed != T::ZERO
 }
 
-/// The same in two parts. The second begins at a multiple of eight blocks, so that vectors of 64-bit
-/// blocks lie across no lines of the cache there, where the memory begins at one.
+/// Does the same in two parts. The second begins at a multiple of eight blocks. So no vector of
+/// 64-bit blocks crosses a line of the cache there, if the memory begins at one.
 fn change_lines<C: Change, T: BitBlock>(blocks: &mut [T], from: usize, to: usize) -> bool
     requires order { from ≤ to }
     requires inside { to ≤ length blocks.old }
@@ -118,7 +118,7 @@ fn change_lines<C: Change, T: BitBlock>(blocks: &mut [T], from: usize, to: usize
     first | rest
 }
 
-/// Changes the bits from index `start` to below `stop`, and answers whether one changed.
+/// Changes the bits from index `start` to below `stop`, and returns whether one changed.
 fn change_some<C: Change, T: BitBlock>(blocks: &mut [T], start: usize, stop: usize) -> bool
     requires some { start < stop }
     requires inside { stop ≤ length blocks.old * T.BITS }
@@ -141,7 +141,7 @@ fn change_some<C: Change, T: BitBlock>(blocks: &mut [T], start: usize, stop: usi
     head | middle | tail
 }
 
-/// Changes the bits from index `start` to below `stop` of `len` bits, and answers whether one
+/// Changes the bits from index `start` to below `stop` of `len` bits, and returns whether one
 /// changed.
 pub fn change_range<C: Change, T: BitBlock>(
     blocks: &mut [T],

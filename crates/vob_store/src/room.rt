@@ -12,7 +12,7 @@ pub fn block_count<T: BitBlock>(len: usize) -> usize
     len.div_ceil(T::BITS)
 }
 
-/// Makes room for `total` bits. Memory is asked for only where there is less.
+/// Makes room for `total` bits. Memory is asked for only if there is less.
 pub fn reserve_bits<T: BitBlock>(blocks: &mut Vec<T>, total: usize) -> Result<(), AllocError>
     ensures items { blocks.new.items ≡ blocks.old.items }
     ensures ok { OnOk result (need total T.BITS ≤ vec_capacity blocks.new) }

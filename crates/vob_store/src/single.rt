@@ -34,8 +34,8 @@ pub fn first_place<T: BitBlock>(value: bool) -> T
     if value { T::ONE } else { T::ZERO }
 }
 
-/// Adds a bit behind the last one, with a block more where the last one is full. Memory is asked for
-/// only where there is no room for it.
+/// Appends a bit, with a block more if the last one is full. Memory is asked for only if there is no
+/// room for it.
 pub fn append_bit<T: BitBlock>(
     blocks: &mut Vec<T>,
     len: usize,
@@ -74,7 +74,7 @@ fn with_place<T: BitBlock>(block: T, j: usize, value: bool) -> T
     }
 }
 
-/// Writes bit `index`, and answers whether it changed.
+/// Writes bit `index`, and returns whether it changed.
 pub fn write_bit<T: BitBlock>(blocks: &mut [T], len: usize, index: usize, value: bool) -> bool
     requires canonical { IsCanonical len (map T.number blocks.old) T.BITS }
     requires in_range { index < len }

@@ -9,7 +9,7 @@ use crate::room::block_count;
 use std::alloc::{AllocError, Global};
 use vob_block::BitBlock;
 
-/// BitBlock `k`, or an empty one where there is none.
+/// Returns block `k`, or an empty one if there is none.
 fn block_or_zero<T: BitBlock>(blocks: &[T], k: usize) -> T
     ensures { T.number result ≡ slice_index_or (map T.number blocks.now) k 0 }
 {
@@ -66,7 +66,7 @@ pub fn split_blocks<T: BitBlock>(
     rest.resize(count, T::ZERO)?;
     let width = T::BITS;
     split_into(&mut rest, &blocks[at / width..], at % width);
-    // There may be bits of the blocks behind.
+    // The last block may hold bits of the block after it.
     mask_last(&mut rest, bits);
     Ok(rest)
 }

@@ -1,5 +1,5 @@
 //! Which nonterminals of a context-free grammar can become empty, and which terminals can begin
-//! what they stand for: a user of `get`, of `set`, and of a bit matrix whose rows are or-ed.
+//! what they stand for. A user of `get`, of `set`, and of a bit matrix whose rows are or-ed.
 ghost use Rattle.std.specs.Prelude.{◌≡◌, ◌≢◌, ◌↔◌, ℕ, ◌<◌, length, All, IsTrue, IfOk, IfErr, OnOk, IsOk, Err};
 ghost use Rattle.vob_users.specs.Grammar.{AreFirst, AreNullable, HasFirst, HasNull, IsFirstClosed, IsNull, IsNullClosed};
 ghost use Rattle.vob_users.specs.GrammarFaults.{IsBadRule, IsFault, IsRule, IsSymbol, IsRuleOf};
@@ -33,8 +33,8 @@ pub struct Grammar {
     pub rules: Vec<Rule>,
 }
 
-/// A bit for each nonterminal, true if it can become empty; and for each a row with a bit for each
-/// terminal, true if that can begin what the nonterminal stands for.
+/// A bit for each nonterminal, true if it can become empty. A row for each nonterminal, with a bit
+/// for each terminal: true if that can begin what the nonterminal stands for.
 #[derive(Debug, Drop)]
 pub struct FirstSets {
     pub nullable: Vob<usize>,

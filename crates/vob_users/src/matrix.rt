@@ -108,9 +108,9 @@ impl BitMatrix {
         or_row(&mut self.rows, into, from)
     }
 
-    /// Makes entry (i, j) true wherever a path of one edge or more leads from node i to node j, and
-    /// false elsewhere: a true entry (i, j) is an edge from i to j. A node without a row leads
-    /// nowhere. No memory is asked for.
+    /// Makes entry (i, j) true if a path of one edge or more leads from node i to node j, and false
+    /// otherwise. A true entry (i, j) is an edge from i to j. A node without a row leads nowhere.
+    /// No memory is asked for.
     pub fn close(&mut self)
         ensures closure { IsClosure self.old.rows self.new.rows }
         ensures columns { self.new.columns ≡ self.old.columns }
@@ -163,8 +163,8 @@ fn lead_through(rows: &mut [Vob], through: usize)
     }
 }
 
-/// Makes each row hold all nodes that its node leads to, by Warshall's algorithm: after turn k, those
-/// that paths through nodes up to k lead to.
+/// Makes each row hold all nodes that its node leads to, by Warshall's algorithm. After turn k it
+/// holds those that paths through nodes up to k lead to.
 fn close_rows(rows: &mut [Vob])
     requires { AreOfLength (length (row_of (bits_of rows.old) 0)) (bits_of rows.old) }
     ensures { IsClosure (bits_of rows.old) (bits_of rows.new) }

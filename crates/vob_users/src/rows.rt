@@ -1,4 +1,4 @@
-//! The rows of a table that a filter keeps, a bit each: a user of the calls on all bits, and of walks
+//! The rows of a table that a filter keeps, a bit each. A user of the calls on all bits, and of walks
 //! over set bits.
 ghost use Rattle.std.specs.Prelude.{◌≡◌, true, drop, length, reverse, take, IfOk};
 ghost use Rattle.std.specs.declared.ops.Bound.TheVariants.{Included, Excluded, Unbounded};

@@ -28,7 +28,7 @@ impl Model for Slots {
 }
 
 impl Slots {
-    /// So many free slots.
+    /// Makes `count` free slots.
     pub fn new(alloc: Global, count: usize) -> Result<Slots, AllocError>
         ensures { IfOk result (λ slots. slots ≡ replicate count false) }
     {

@@ -1,5 +1,4 @@
-//! Tests of packed vectors of bits, of their users, and of commands on them; and worked values of the
-//! definitions.
+//! Tests of packed vectors of bits, and of walks over them.
 #![tactic(auto)]
 
 #[cfg(test)]

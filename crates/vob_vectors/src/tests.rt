@@ -1,17 +1,12 @@
 //! Rows worked out by hand, and patterns against lists of bits.
-mod commands;
 mod constructors;
 mod copies;
 mod counts;
 mod draining;
 mod examples;
-mod grammar;
 mod growing;
 mod hints;
 mod lanes;
-mod lengths;
-mod live;
-mod matrix;
 mod paths;
 mod pointwise;
 mod ranges;
@@ -22,6 +17,5 @@ mod sets;
 mod single_bits;
 mod support;
 mod text;
-mod users;
 mod walk_patterns;
 mod walks;

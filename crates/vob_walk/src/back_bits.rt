@@ -15,8 +15,8 @@ pub(crate) struct BackBits<T: BitBlock> {
     // The true places are indices still to give. Beside a run there are none.
     word: T,
     at: usize,
-    // Behind the last index that is left of a block whose places were all true, and else `at`. So the
-    // last one is known before, and a loop waits for no place to be looked for.
+    // One past the last index left of a block whose places were all true, and else `at`. So the last
+    // index is known before, and a loop waits for no search.
     past: usize,
 }
 

@@ -55,7 +55,7 @@ impl<T: BitBlock> BlockBits<T> {
         requires count { left ≡ length (block_indices T.BITS at (T.number word)) }
         ensures { result ≡ block_indices T.BITS at (T.number word) }
     {
-        // Where no place is true this is no index, and may be past the greatest one.
+        // If no place is true, this is no index, and may have wrapped.
         let ready = at.wrapping_add(word.zeros_low());
         BlockBits {
             word,

@@ -92,9 +92,9 @@ fn ones_in_blocks<T: BitBlock>(blocks: &mut Blocks<'_, T>, start: usize, end: us
     }
 }
 
-/// How many places are true in twice `half` blocks from `start` on. Reads each of them once: those of
-/// both halves side by side, so that no count waits for the one before, in a loop that a compiler
-/// still turns into one over vectors where the processor has them for it.
+/// Counts the true places of twice `half` blocks from `start` on, and reads each block once. Both
+/// halves are read side by side, so that no count waits for the one before. A compiler still makes it
+/// a loop over vectors, if the processor can count in them.
 #[inline(always)]
 fn ones_in_halves<T: BitBlock>(blocks: &mut Blocks<'_, T>, start: usize, half: usize) -> usize
     requires count { start + half + half ≤ length blocks.old.items }

@@ -61,8 +61,8 @@ fn fill_front<T: BitBlock>(
     }
 }
 
-/// Where the back has no index in hand, it gets those of the last block that has some, or else what
-/// the front has. So it has none afterwards only where none is left at all.
+/// If the back has no index in hand, gives it those of the last block that has some, or else what
+/// the front has. So it has none afterwards only if none is left at all.
 #[inline(always)]
 fn fill_back<T: BitBlock>(
     unread: &mut Unread<'_, T>,

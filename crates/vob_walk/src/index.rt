@@ -139,8 +139,8 @@ impl<'a, T: Block> IterUnsetBits<'a, T> {
         }
     }
 
-    /// Counts the indices that are left. vob 4.0.1 overrides `Iterator::count`, and panics or wraps if
-    /// the range ends before it starts, and after some answers `None`.
+    /// Counts the indices that are left. vob 4.0.1 overrides `Iterator::count`. It panics or wraps if
+    /// the range ends before it starts, and sometimes after `None`.
     pub fn count(self) -> usize
         ensures { result ≡ length self.entry.rest }
     {

@@ -1,5 +1,5 @@
-//! The next index whose bit has a value, and the previous one: by the block of the index that is
-//! looked at first, and from there on by the scan for a block that isn't without such bits.
+//! The next index whose bit has a value, and the previous one. The block of the first index is
+//! searched, and then the next block that has such a bit.
 ghost use Rattle.std.specs.Prelude.{◌≡◌, ◌==◌, if◌then◌else◌, ◌+◌, ◌-◌, ◌/◌, ◌<◌, ◌≤◌, length, map, min, slice_index_or, option_map, unwrap_or, MatchOption};
 ghost use Rattle.vob_block.specs.Packing.{need};
 ghost use Rattle.vob_walk.specs.Next.{HasNoBit, IsFirstBit, IsLastBit, IsFirstPlace, IsLastPlace, FindsUp, FindsDown};
@@ -10,7 +10,7 @@ use crate::walk::End;
 use crate::window::{bits_of_value, block_without};
 use vob_block::{BitBlock, Blocks};
 
-/// The first place from `from` on whose bit has the value, or `BITS` where there is none.
+/// Returns the first place from `from` on whose bit has the value, or `BITS` if there is none.
 #[inline(always)]
 fn first_place<T: BitBlock>(block: T, value: bool, from: usize) -> usize
     requires { from < T.BITS }
@@ -25,7 +25,7 @@ fn first_place<T: BitBlock>(block: T, value: bool, from: usize) -> usize
     }
 }
 
-/// One more than the last place up to `upto` whose bit has the value, or 0 where there is none.
+/// Returns one past the last place up to `upto` whose bit has the value, or 0 if there is none.
 #[inline(always)]
 fn past_last_place<T: BitBlock>(block: T, value: bool, upto: usize) -> usize
     requires { upto < T.BITS }
@@ -90,7 +90,7 @@ pub fn next_in_hand<T: BitBlock>(
     (at + first_place(found.1, value, 0).min(len - at), found.1)
 }
 
-/// One more than the last index up to `upto` whose bit has the value, or 0 where there is none.
+/// Returns one past the last index up to `upto` whose bit has the value, or 0 if there is none.
 #[inline(always)]
 fn past_last_index_of<T: BitBlock>(blocks: &mut Blocks<'_, T>, value: bool, upto: usize) -> usize
     requires count { upto / T.BITS < length blocks.old.items }
@@ -136,8 +136,8 @@ pub fn next_index<T: BitBlock>(
         return None;
     }
     let block = blocks.block(from / T::BITS);
-    // Who asks behind each index that was given meets the next one at once where most bits have the
-    // value: a processor foretells that branch, and so waits for no count of zeros.
+    // If most bits have the value, the next index after a found one is mostly `from` itself. A
+    // processor predicts this branch, and so waits for no count of zeros.
     if block.bit(from % T::BITS) == value {
         return Some(from);
     }

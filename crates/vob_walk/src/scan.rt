@@ -1,5 +1,5 @@
-//! The blocks of a walk that neither end has read, and the next one, from either end, that has a bit
-//! of the value that is looked for.
+//! The blocks of a walk that neither end has read, and the next one from either end that has a bit
+//! of the value.
 ghost use Rattle.std.specs.Prelude.{◌≡◌, ℕ, ◌+◌, ◌-◌, ◌*◌, ◌^◌, ◌<◌, ◌≤◌, [], ◌++◌, map, length};
 ghost use Rattle.vob_block.specs.Packing.{need, unpacking};
 ghost use Rattle.std.specs.declared.ops.Bound.{Bound};

@@ -1,4 +1,4 @@
-//! The index of a true bit by its rank, which is how many true bits stand below it.
+//! The index of a true bit by its rank, which is the number of true bits below it.
 ghost use Rattle.std.specs.Prelude.{◌≡◌, ℕ, ◌+◌, ◌*◌, ◌/◌, ◌<◌, ◌≤◌, true, length, map, option_map, unwrap_or, MatchOption};
 ghost use Rattle.vob_block.specs.Packing.{bit_at};
 ghost use Rattle.vob_block.specs.Places.{place, true_places};

@@ -23,7 +23,7 @@ pub trait IndexWalk {
         ensures reads { IsPulled (walk self.old) (result ∷ []) (walk self.new) };
 }
 
-/// Pulls at a walk, and appends an answer for each pull. Room for the answers is made first: if memory
+/// Pulls at a walk, and appends the result of each pull. Room for the results is made first: if memory
 /// runs out, nothing was pulled. vob 4.0.1 has no call like it.
 pub fn deal<W: IndexWalk>(
     walk: &mut W,

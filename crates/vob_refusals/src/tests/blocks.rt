@@ -1,4 +1,4 @@
-//! What blocks answer: they ask for no memory.
+//! What blocks return: they ask for no memory.
 use super::support::{FIRST, request, same, same_list, tell};
 use std::process::Abort;
 use vob_block::{BitBlock, Blocks};

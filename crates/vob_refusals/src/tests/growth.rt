@@ -1,4 +1,4 @@
-//! Calls that make room behind the bits: refused, they leave the bits and the blocks.
+//! Calls that make room for more bits: if refused, they leave the bits and the blocks.
 use super::support::{FIRST, check_blocks, push, request, same, tell, vob_of};
 use super::unhinted::Unhinted;
 use std::process::Abort;
@@ -20,7 +20,7 @@ fn is_grown(rt: &impl Abort, answer: Result<(), VobError>, vob: &Vob<u8>, len: u
     false
 }
 
-/// Pushes true bits up to the capacity, which is the answer.
+/// Pushes true bits up to the capacity, which is returned.
 fn fill(rt: &impl Abort, vob: &mut Vob<u8>) -> usize {
     for _ in vob.len()..vob.capacity() {
         push(rt, vob);
@@ -36,7 +36,7 @@ fn check_full(rt: &impl Abort, vob: &Vob<u8>, full: usize) {
     }
 }
 
-/// A push behind as many true bits as the capacity.
+/// A push after as many true bits as the capacity.
 fn is_pushed(rt: &impl Abort, vob: &mut Vob<u8>) -> bool {
     let full = fill(rt, vob);
     let answer = vob.push(true);
@@ -62,7 +62,7 @@ fn a_push_asks_for_memory_only_at_the_capacity(rt: HostRuntime) {
     tell(&rt, is_pushed(&rt, &mut vob));
 }
 
-/// Joins `11111` behind `111`.
+/// Joins `11111` to `111`.
 fn join_five(rt: &impl Abort, vob: &mut Vob<u8>, five: &Vob<u8>) {
     for _ in 0..3 {
         push(rt, vob);
@@ -97,7 +97,7 @@ fn a_join_that_is_refused_leaves_all_bits(rt: HostRuntime) {
     tell(&rt, is_grown(&rt, answer, &vob, 1002));
 }
 
-/// Whether the room behind `101`, for 999 bits, is taken back.
+/// Whether the room after `101`, for 999 bits, is given back.
 fn is_shrunk(rt: &impl Abort, vob: &mut Vob<u8>) -> bool {
     check_blocks(rt, vob, 3, &[5]);
     let room = vob.capacity();
@@ -138,7 +138,7 @@ fn a_slice_that_is_refused_leaves_all_bits(rt: HostRuntime) {
     tell(&rt, is_grown(&rt, answer, &vob, 102));
 }
 
-/// Whether `110` was joined behind eight true bits. If not, a first part of it was.
+/// Whether `110` was joined to eight true bits. If not, a prefix of it was.
 fn is_extended(rt: &impl Abort, answer: Result<(), VobError>, vob: &Vob<u8>) -> bool {
     if answer.is_ok() {
         check_blocks(rt, vob, 11, &[255, 3]);

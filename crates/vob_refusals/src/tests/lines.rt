@@ -42,7 +42,7 @@ fn refused_by(rt: &impl Abort, written: &[u8]) -> &'static str {
     panic!(rt; "no answer of these lines: {text}");
 }
 
-/// Prints what was refused, and whether all was answered, behind so many requests.
+/// Prints what was refused, and whether all succeeded, after `behind` requests.
 fn check_lines(rt: &(impl Abort + AllocGlobal + Print), behind: usize) {
     request(rt, behind);
     let Ok(mut written) = Vec::with_capacity(rt.alloc(), 100) else {
@@ -79,7 +79,7 @@ fn lines_are_answered_or_refused_from_9_on(rt: HostRuntime) {
     check_lines(&rt, FIRST - 8);
 }
 
-/// Whether a bad line is told, of lines for whose input there is memory; else `memory` is.
+/// Whether a bad line is reported, of lines for whose input there is memory; else `memory` is.
 fn is_bad_line_told(rt: &(impl Abort + AllocGlobal), lines: &[u8], told: &[u8]) -> bool {
     // The room for what is written and the input take a request each.
     request(rt, FIRST - 2);

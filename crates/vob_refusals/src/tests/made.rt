@@ -135,7 +135,7 @@ fn are_combined(rt: &impl Abort, one: &Vob<u8>, two: &Vob<u8>) -> bool {
     both && either && differing
 }
 
-/// Whether the operators on `101` and `110` were answered, behind so many requests.
+/// Whether the operators on `101` and `110` succeeded, after `behind` requests.
 fn are_operators_answered(rt: &(impl Abort + AllocGlobal), behind: usize) -> bool {
     request(rt, behind);
     let Ok(one) = vob_of(rt.alloc(), "101") else {

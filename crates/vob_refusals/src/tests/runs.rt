@@ -1,6 +1,5 @@
-//! Runs of commands: refused before the first of them, they ran none. Where one command was
-//! refused, all is as after the same run with a command in its place that is skipped, and where none
-//! was, as after the same run.
+//! Runs of commands: if memory is refused before the first, none is run. If it is refused to one
+//! command, all is as if that one was skipped. Else all is as after the same run.
 use super::support::{FIRST, request, same, same_list, tell};
 use std::alloc::{AllocError, Global};
 use std::ops::Bound::{Excluded, Included, Unbounded};
@@ -91,8 +90,8 @@ fn skip<C: Runs>(rt: &impl Abort, at: usize, commands: &mut [C], replies: &mut [
     *replies.get_mut(at).expect(rt, "its reply") = Reply::Skipped;
 }
 
-/// Compares what a run left with what the same commands leave once more. Where none was refused,
-/// one may be refused now, and there is nothing to compare.
+/// Compares what a run left with what the same commands leave once more. If none was refused, one
+/// may be refused now, and there is nothing to compare.
 fn check_again<C: Runs>(
     rt: &(impl Abort + AllocGlobal),
     was_refused: bool,
@@ -147,8 +146,8 @@ fn vob_of_nine<C: Runs>(rt: &impl Abort, alloc: Global) -> Result<Vob<C::Stored>
     Ok(raw.into_vob().ok().expect(rt, "nine bits"))
 }
 
-/// Whether nine pops at nine bits were answered behind a reply that was there. If not, the bits and
-/// the reply are as they were.
+/// Whether nine pops at nine bits were run, and appended replies to one that was there. If not, the
+/// bits and the reply are as they were.
 fn are_popped<C: Runs>(rt: &impl Abort, alloc: Global) -> Result<bool, AllocError> {
     let pops: Vec<C> = pops(alloc)?;
     let mut vobs = Vec::with_capacity(alloc, 1)?;
@@ -195,7 +194,7 @@ fn makers<C: Runs>(alloc: Global) -> Result<Vec<C>, AllocError> {
     Ok(commands)
 }
 
-/// Whether they were run, behind so many requests.
+/// Whether they were run, after `behind` requests.
 fn are_made<C: Runs>(rt: &(impl Abort + AllocGlobal), behind: usize) -> bool {
     request(rt, behind);
     is_run(rt, makers::<C>(rt.alloc()))
@@ -231,13 +230,13 @@ fn vobs_of_words_are_made_or_refused_from_9_on(rt: HostRuntime) {
     tell(&rt, are_made::<UsizeCommand>(&rt, FIRST - 8));
 }
 
-/// Commands that each make room behind whole blocks, for more than the room before; the last gives it back.
+/// Commands that each make room after whole blocks, for more than the room before; the last gives it back.
 fn growers<C: Runs>(alloc: Global) -> Result<Vec<C>, AllocError> {
     let (which, value) = (0, true);
     let slice = [true; 399].to_vec(alloc)?;
     let items = [false; 599].to_vec(alloc)?;
     let mut commands = Vec::with_capacity(alloc, 9)?;
-    // False bits tell that a refused call kept them: what is resized behind them is true.
+    // False bits show that a refused call kept them: what is appended to them is true.
     let kept = Command::FromElem {
         value: false,
         len: 128,
@@ -256,7 +255,7 @@ fn growers<C: Runs>(alloc: Global) -> Result<Vec<C>, AllocError> {
     Ok(commands)
 }
 
-/// Whether they were run, behind so many requests.
+/// Whether they were run, after `behind` requests.
 fn are_grown<C: Runs>(rt: &(impl Abort + AllocGlobal), behind: usize) -> bool {
     request(rt, behind);
     is_run(rt, growers::<C>(rt.alloc()))
@@ -302,7 +301,7 @@ fn vobs_of_words_grow_or_are_refused_from_13_on(rt: HostRuntime) {
     tell(&rt, are_grown::<UsizeCommand>(&rt, FIRST - 12));
 }
 
-/// Commands that combine two Vobs in a new one, and such that answer a list.
+/// Commands that combine two Vobs in a new one, and such that return a list.
 fn readers<C: Runs>(alloc: Global) -> Result<Vec<C>, AllocError> {
     let (which, other, value) = (0, 1, true);
     let pulls = [End::Front, End::Back].to_vec(alloc)?;
@@ -325,7 +324,7 @@ fn readers<C: Runs>(alloc: Global) -> Result<Vec<C>, AllocError> {
     Ok(commands)
 }
 
-/// Whether they were run, behind so many requests.
+/// Whether they were run, after `behind` requests.
 fn are_answered<C: Runs>(rt: &(impl Abort + AllocGlobal), behind: usize) -> bool {
     request(rt, behind);
     is_run(rt, readers::<C>(rt.alloc()))

@@ -8,11 +8,11 @@ use vob::{Vob, VobError};
 use vob_block::Block;
 
 /// How many requests are made before those of a test, where the first of these are refused:
-/// `tools/refuse` refuses the next four in turn. A test whose calls make more requests stands here
-/// more often, each time behind four fewer.
+/// `tools/refuse` refuses the next four in turn. A test whose calls make more requests is there
+/// more often, each time after four fewer.
 pub const FIRST: usize = 20;
 
-/// Makes so many requests for memory, before those of a test.
+/// Makes `times` requests for memory, before those of a test.
 pub fn request(rt: &(impl Abort + AllocGlobal), times: usize) {
     for _ in 0..times {
         let room = Vec::<u8>::with_capacity(rt.alloc(), 1).expect(rt, "memory for nothing");
@@ -20,19 +20,19 @@ pub fn request(rt: &(impl Abort + AllocGlobal), times: usize) {
     }
 }
 
-/// Prints `answered`, where all calls of a test answered Ok.
+/// Prints `answered` if all calls of a test returned Ok.
 pub fn tell(rt: &(impl Abort + Print), answered: bool) {
     if answered {
         println!(rt; "answered").expect(rt, "output");
     }
 }
 
-/// Compares an answer with what is wanted.
+/// Compares a result with what is wanted.
 pub fn same<V: PartialEq + Debug + Drop>(rt: &impl Abort, what: &str, found: V, wanted: V) {
     assert_eq!(rt; found, wanted, "{what}");
 }
 
-/// Compares a list of blocks or of answers with what is wanted.
+/// Compares a list of blocks or of results with what is wanted.
 pub fn same_list<V: PartialEq + Debug>(rt: &impl Abort, what: &str, found: &[V], wanted: &[V]) {
     assert_eq!(rt; found, wanted, "{what}");
 }

@@ -1,4 +1,4 @@
-//! Pulls at a walk over indices: refused, they leave the walk and the answers that were there.
+//! Pulls at a walk over indices: if refused, they leave the walk and the results that were there.
 use super::support::{FIRST, request, same, same_list, tell, vob_of};
 use std::alloc::Global;
 use std::process::Abort;
@@ -9,8 +9,8 @@ fn pulled<W: IndexWalk>(walk: &mut W) -> Option<usize> {
     walk.pull(End::Front)
 }
 
-/// Whether many pulls at the back were answered behind an answer that was there, by `indices`, the
-/// last one first. If not, that one stands alone, and the walk's next index is still the first.
+/// Whether many pulls at the back appended `indices`, the last one first, to a result that was
+/// there. If not, that result is alone, and the walk's next index is still the first.
 fn is_dealt<W: IndexWalk>(
     rt: &impl Abort,
     walk: &mut W,
@@ -33,8 +33,8 @@ fn is_dealt<W: IndexWalk>(
     false
 }
 
-/// Whether pulls at the walk over the set bits of `1011011` were answered, of which each end had
-/// given one. If not, 3 and 5 are left behind the next index.
+/// Whether pulls at the walk over the set bits of `1011011` succeeded, of which each end had given
+/// one. If not, 3 and 5 are left after the next index.
 fn are_set_dealt(rt: &impl Abort, alloc: Global, vob: &Vob<u8>) -> bool {
     let Ok(mut answers) = [Some(9)].to_vec(alloc) else {
         return false;
@@ -48,8 +48,7 @@ fn are_set_dealt(rt: &impl Abort, alloc: Global, vob: &Vob<u8>) -> bool {
     dealt
 }
 
-/// Whether pulls at the walk over its unset bits were answered. If not, 4 is left behind the next
-/// index.
+/// Whether pulls at the walk over its unset bits succeeded. If not, 4 is left after the next index.
 fn are_unset_dealt(rt: &impl Abort, alloc: Global, vob: &Vob<u8>) -> bool {
     let Ok(mut answers) = [Some(9)].to_vec(alloc) else {
         return false;
@@ -61,7 +60,7 @@ fn are_unset_dealt(rt: &impl Abort, alloc: Global, vob: &Vob<u8>) -> bool {
     dealt
 }
 
-/// Whether they were answered behind so many requests.
+/// Whether they succeeded after `behind` requests.
 fn are_pulls_answered(rt: &(impl Abort + AllocGlobal), behind: usize) -> bool {
     request(rt, behind);
     let Ok(vob) = vob_of(rt.alloc(), "1011011") else {

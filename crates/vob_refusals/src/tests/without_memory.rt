@@ -168,7 +168,7 @@ fn append(vob: &mut Vob<u8>, other: &Vob<u8>) -> Result<(), VobError> {
     Ok(())
 }
 
-/// Refuses to cut `101` past its end, takes all its bits, and puts `110` behind them.
+/// Refuses to cut `101` past its end, takes all its bits, and appends `110` to them.
 fn check_moved(rt: &impl Abort, vob: &mut Vob<u8>, other: &Vob<u8>) {
     let refusal = vob.split_off(4).err();
     same(rt, "past the end", refusal, Some(VobError::PastEnd));
@@ -263,7 +263,7 @@ fn other_operators_change_their_left_side(rt: HostRuntime) {
     tell(&rt, true);
 }
 
-/// What a hasher answers that was fed the Vob.
+/// Returns the hash of the Vob.
 fn hash_of(vob: &Vob<u8>) -> u64 {
     let mut state = DefaultHasher::new();
     vob.hash(&mut state);

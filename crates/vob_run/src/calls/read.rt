@@ -67,8 +67,8 @@ pub(crate) fn is_empty<T: Block>(vobs: &[Vob<T>], which: usize) -> Reply<T>
     }
 }
 
-// The bits, in a vector that has room for all of them by one request, or the refusal of that one:
-// `collect` asks for less if the room for all was refused.
+// Returns the bits, in a vector that has room for all of them by one request, or that request's
+// failure. `collect` would then ask for less.
 fn bits_of<T: Block>(alloc: Global, vob: &Vob<T>) -> Result<Vec<bool>, AllocError>
     ensures { IfOk result (λ bits. bits.items ≡ vob.now.bits) }
 {

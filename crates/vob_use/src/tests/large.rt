@@ -7,7 +7,7 @@ use std::io;
 use std::io::Read;
 use std::process::Abort;
 
-/// This text, so many times.
+/// This text, `times` times.
 fn repeated(alloc: Global, text: &str, times: usize) -> Result<Vec<u8>, AllocError> {
     let mut all = Vec::new(alloc);
     for _ in 0..times {
@@ -16,7 +16,7 @@ fn repeated(alloc: Global, text: &str, times: usize) -> Result<Vec<u8>, AllocErr
     Ok(all)
 }
 
-/// A first text, a second one so many times, and a last one.
+/// A first text, a second one `times` times, and a last one.
 fn text_of(
     rt: &(impl Abort + AllocGlobal),
     first: &str,
@@ -108,7 +108,7 @@ impl Read for Pieces<'_> {
     }
 }
 
-/// What comes of the pushes where so many bytes at most come at a time.
+/// What comes of the pushes if at most `most` bytes come at a time.
 fn check_pieces(rt: &(impl Abort + AllocGlobal), most: usize) {
     let input = pushes(rt);
     let mut pieces = Pieces {

@@ -1,4 +1,4 @@
-//! Rows of lines and what they answer, by reasoning on the lists of bits.
+//! Rows of lines and their replies, by reasoning on the lists of bits.
 
 use super::expect_rows;
 

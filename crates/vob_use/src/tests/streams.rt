@@ -32,7 +32,7 @@ fn reading_ends_though_the_input_does_not(rt: HostRuntime) {
 }
 
 /// A reader of one byte at a time and a writer, which fail in this way after a number of calls, and
-/// go on: a failure that is passed over isn't told by the next call.
+/// go on. The next call doesn't report a failure that is passed over.
 #[derive(Drop)]
 struct Failing<'a> {
     input: &'a [u8],
@@ -90,7 +90,7 @@ const LINES: &[u8] = b"new 0\npush 0 1\npush 0 0\npush 0 1\nbits 0\nblocks 0\nle
 
 const ANSWERS: &[u8] = b"vob 0\ndone\ndone\ndone\nbits 101\nblocks 5\nnumber 3\nbit none\n";
 
-/// What comes of an input that fails in each way after so many reads, if there are more.
+/// What comes of an input that fails in each way after `reads` reads, if there are more.
 fn expect_after(
     rt: &(impl Abort + AllocGlobal),
     reads: usize,
@@ -125,7 +125,8 @@ fn a_failed_read_is_told_by_the_status_alone(rt: HostRuntime) {
     expect_after(&rt, 13, b"new 0\nfoo 0\n", b"bad line 2\n", 2);
 }
 
-/// What comes of lines that take so many writes, if one fails in this way after so many.
+/// What comes of lines that take `writes` writes, if one fails in this way after `calls_left` of
+/// them.
 fn expect_written(
     rt: &(impl Abort + AllocGlobal),
     lines: &[u8],
@@ -165,7 +166,7 @@ fn a_failed_write_is_told_by_the_status(rt: HostRuntime) {
     }
 }
 
-/// A writer that takes at most so many bytes a call, and counts its calls.
+/// A writer that takes at most `most` bytes a call, and counts its calls.
 #[derive(Drop)]
 struct Sipping {
     most: usize,
@@ -187,7 +188,7 @@ impl Write for Sipping {
 }
 
 /// What a writer takes of a Vob of 9000 true bits: `vob 0`, `bits ` and the digits, with a line feed
-/// each, 6 + 9006 bytes in pieces of at most 4096.
+/// each. It is 6 + 9006 bytes, in pieces of at most 4096.
 fn expect_taken(
     rt: &(impl Abort + AllocGlobal),
     most: usize,

@@ -140,13 +140,8 @@ fn room_is_made_counted_from_the_length(rt: HostRuntime) {
     same(&rt, "room that is there already", 0, vob.capacity(), room);
     push(&rt, &mut vob, true);
     vob.reserve(64).expect(&rt, "memory");
-    same(
-        &rt,
-        "room for 64 bits behind one",
-        0,
-        vob.capacity() >= 128,
-        true,
-    );
+    let fits = vob.capacity() >= 128;
+    same(&rt, "room for 64 bits behind one", 0, fits, true);
     vob.shrink_to_fit();
     check_blocks(&rt, &vob, 1, &[1]);
 }

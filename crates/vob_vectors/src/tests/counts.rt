@@ -173,21 +173,11 @@ fn check_counts_after<T: Block>(
     let vob = pattern::<T>(rt, 0, len);
     let pulled = front.saturating_add(back);
     let set = set_left(&vob, 0, 0).saturating_sub(pulled);
-    same(
-        rt,
-        "set bits left of",
-        len,
-        set_left(&vob, front, back),
-        set,
-    );
+    let found = set_left(&vob, front, back);
+    same(rt, "set bits left of", len, found, set);
     let unset = unset_left(&vob, 0, 0).saturating_sub(pulled);
-    same(
-        rt,
-        "unset bits left of",
-        len,
-        unset_left(&vob, front, back),
-        unset,
-    );
+    let found = unset_left(&vob, front, back);
+    same(rt, "unset bits left of", len, found, unset);
 }
 
 #[test]

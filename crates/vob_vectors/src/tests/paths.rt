@@ -1,10 +1,8 @@
 //! The paths by which users name types and calls, each used once.
 use super::support::{same, vob_of};
-use std::slice;
 use vob::iter::{End, IndexWalk, count_ones_in, deal};
 use vob::vob_block::{BitBlock, Block, Blocks};
 use vob::{Vob, VobError};
-use vob_run::run::{Command, Reply, UsizeCommand, run, run_usize};
 
 #[test]
 fn walks_are_named_at_the_root_and_in_their_module(rt: HostRuntime) {
@@ -17,22 +15,12 @@ fn walks_are_named_at_the_root_and_in_their_module(rt: HostRuntime) {
     same(&rt, "set bits", 0, [set.count(), same_set.count()], [2, 2]);
     let unset: vob::IterUnsetBits<'_, u8> = three.iter_unset_bits(..);
     let same_unset: vob::iter::IterUnsetBits<'_, u8> = three.iter_unset_bits(..);
-    same(
-        &rt,
-        "unset bits",
-        0,
-        [unset.count(), same_unset.count()],
-        [1, 1],
-    );
+    let found = [unset.count(), same_unset.count()];
+    same(&rt, "unset bits", 0, found, [1, 1]);
     let blocks: vob::StorageIter<'_, u8> = three.iter_storage();
     let same_blocks: vob::iter::StorageIter<'_, u8> = three.iter_storage();
-    same(
-        &rt,
-        "blocks",
-        0,
-        [blocks.count(), same_blocks.count()],
-        [1, 1],
-    );
+    let found = [blocks.count(), same_blocks.count()];
+    same(&rt, "blocks", 0, found, [1, 1]);
 }
 
 /// The number of bits, over any block type.
@@ -63,19 +51,4 @@ fn pulls_are_named_in_the_module_of_their_calls(rt: HostRuntime) {
         IndexWalk::pull(&mut walk, End::Back),
     ];
     same(&rt, "both ends", 0, ends, [Some(1), None]);
-}
-
-#[test]
-fn commands_are_named_in_the_module_of_their_calls(rt: HostRuntime) {
-    let mut vobs: Vec<Vob<u8>> = Vec::new(rt.alloc());
-    let mut replies = Vec::new(rt.alloc());
-    let new = Command::New { capacity: 0 };
-    let commands = slice::from_ref(&new);
-    run(rt.alloc(), commands, &mut vobs, &mut replies).expect(&rt, "memory");
-    same(&rt, "new", 0, replies.pop(), Some(Reply::Made(0)));
-    let mut words: Vec<Vob> = Vec::new(rt.alloc());
-    let mut replies = Vec::new(rt.alloc());
-    let commands = slice::from_ref(&UsizeCommand::Fresh);
-    run_usize(rt.alloc(), commands, &mut words, &mut replies).expect(&rt, "memory");
-    same(&rt, "fresh", 0, replies.pop(), Some(Reply::Made(0)));
 }

@@ -140,13 +140,8 @@ fn a_hasher_is_fed_the_blocks_and_not_the_length(rt: HostRuntime) {
     for block in many.get_storage() {
         state.write_u8(*block);
     }
-    same(
-        &rt,
-        "each block once, in order",
-        0,
-        hash_of(&many),
-        state.finish(),
-    );
+    let found = hash_of(&many);
+    same(&rt, "each block once, in order", 0, found, state.finish());
 }
 
 /// A call on patterns of `len` bits, against the bits one by one.

@@ -115,11 +115,12 @@ fn blocks_in_hand_are_not_read_again(rt: HostRuntime) {
     let ten = vob_of(&rt, "1011011101");
     assert!(rt; ten.len() == 10);
     let (third, mut runs) = third_of_ten(&ten);
+    let found = (third, runs.next());
     same(
         &rt,
         "the last two runs",
         0,
-        (third, runs.next()),
+        found,
         (Some(5..8), Some(9..10)),
     );
     let none = vob_of::<u8>(&rt, "");

@@ -150,13 +150,8 @@ fn check_difference<T: Block>(
         let stays = vob.get(index) == Some(true) && other.get(index) == Some(false);
         same(rt, "what is left", index, left.get(index), Some(stays));
     }
-    same(
-        rt,
-        "again",
-        vob.len(),
-        left.len() == other.len() && left.and_not(other),
-        false,
-    );
+    let found = left.len() == other.len() && left.and_not(other);
+    same(rt, "again", vob.len(), found, false);
 }
 
 /// Two patterns of a length, a pattern and a part of it, and one and its complement.

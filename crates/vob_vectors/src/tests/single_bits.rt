@@ -20,13 +20,8 @@ fn write_unchecked<T: Block>(vob: &mut Vob<T>, index: usize, value: bool) -> Opt
 fn check_row<T: Block>(rt: &(impl Abort + AllocGlobal), digits: &str, blocks: &str) {
     let vob = vob_of::<T>(rt, digits);
     check_bits(rt, &vob, digits);
-    same(
-        rt,
-        "past the end",
-        digits.len(),
-        vob.get(digits.len()),
-        None,
-    );
+    let found = vob.get(digits.len());
+    same(rt, "past the end", digits.len(), found, None);
     let text = format!(in rt.alloc(); "{:?}", vob.get_storage()).expect(rt, "memory");
     same(rt, digits, 0, text.as_str(), blocks);
 }
@@ -191,13 +186,8 @@ fn the_walk_gives_the_bits_from_both_ends(rt: HostRuntime) {
     let mut other = walk.clone();
     same(&rt, "bit", 1, other.next(), vob.get(1));
     same(&rt, "bit", 17, other.next_back(), vob.get(17));
-    same(
-        &rt,
-        "left of the clone",
-        0,
-        other.size_hint(),
-        (15, Some(15)),
-    );
+    let found = other.size_hint();
+    same(&rt, "left of the clone", 0, found, (15, Some(15)));
     same(&rt, "the first walk stays", 0, walk.len(), 17);
     same(&rt, "bit", 1, walk.next(), vob.get(1));
 }
@@ -218,21 +208,11 @@ fn collected_bits_are_those_that_get_reads(rt: HostRuntime) {
 fn a_cloned_walk_over_blocks_goes_on_from_the_same_place(rt: HostRuntime) {
     let vob = pattern::<u8>(&rt, 1, 19);
     let mut blocks = vob.iter_storage();
-    same(
-        &rt,
-        "block",
-        0,
-        blocks.next(),
-        vob.get_storage().first().copied(),
-    );
+    let found = blocks.next();
+    same(&rt, "block", 0, found, vob.get_storage().first().copied());
     let others = blocks.clone();
-    same(
-        &rt,
-        "left of the clone",
-        0,
-        others.size_hint(),
-        (2, Some(2)),
-    );
+    let found = others.size_hint();
+    same(&rt, "left of the clone", 0, found, (2, Some(2)));
     // Of each five bits the second and the last are false; these two blocks begin with the fourth
     // and the second of five.
     let wanted = [0b1011_0101, 0b110];

@@ -6,8 +6,6 @@ use std::fmt::Display;
 use std::process::Abort;
 use vob::{DigitsError, IndicesError, Vob, VobError};
 use vob_block::Block;
-use vob_users::grammar::GrammarError;
-use vob_users::live::LiveError;
 
 /// A pattern of each length up to 130 is written as its digits, which are read back.
 fn check_digits<T: Block>(rt: &(impl Abort + AllocGlobal)) {
@@ -127,14 +125,6 @@ fn errors_say_why_and_go_into_any_error(rt: HostRuntime) {
     check_error(&rt, DigitsError::Memory, "out of memory");
     let digit = DigitsError::BadDigit(7);
     check_error(&rt, digit, "neither 0 nor 1 at index 7");
-    let symbol = GrammarError::BadSymbol { rule: 12 };
-    check_error(&rt, symbol, "rule 12 names a symbol that isn't there");
-    check_error(&rt, GrammarError::Memory, "out of memory");
-    let variable = LiveError::BadVariable { node: 7 };
-    check_error(&rt, variable, "node 7 names no variable");
-    let next = LiveError::BadNext { node: 10 };
-    check_error(&rt, next, "node 10 leads to no node");
-    check_error(&rt, LiveError::Memory, "out of memory");
     check_bits(
         &rt,
         &bits_of(rt.alloc(), "10").ok().expect(&rt, "bits"),

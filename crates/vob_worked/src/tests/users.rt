@@ -1,9 +1,11 @@
 //! The worked users: which nodes of small graphs lead to which, against lists of bits; slots that
 //! are taken one after another; the rows of a filter; and the free stretches of two calendars.
-use super::support::{check_bits, same, vob_of, write};
+use super::support::{check_bits, check_error, same, vob_of};
 use std::process::Abort;
 use vob::Vob;
 use vob_users::calendar::{Calendar, common_stretches};
+use vob_users::grammar::GrammarError;
+use vob_users::live::LiveError;
 use vob_users::loops::clear_those;
 use vob_users::reachable::{is_square, reach};
 use vob_users::rows::{count_between, count_rows, kept_rows, page, page_back, select};
@@ -68,13 +70,8 @@ fn every_graph_of_three_nodes_is_followed(rt: HostRuntime) {
         for start in 0..NODES {
             let reached = reached_from(&rt, &rows, start);
             for (node, wanted) in plainly_reached(&rt, &rows, start).iter().enumerate() {
-                same(
-                    &rt,
-                    "graph",
-                    graph as usize,
-                    reached.get(node),
-                    Some(*wanted),
-                );
+                let found = reached.get(node);
+                same(&rt, "graph", graph as usize, found, Some(*wanted));
             }
         }
     }
@@ -92,9 +89,9 @@ fn a_chain_is_followed_from_its_head(rt: HostRuntime) {
         rows.push(row).expect(&rt, "memory");
     }
     for start in [0, 99, 199] {
-        let mut wanted = Vob::from_elem(rt.alloc(), false, 200).expect(&rt, "memory");
+        let mut wanted = Vob::new(rt.alloc());
         for node in 0..200 {
-            write(&mut wanted, node, node <= start);
+            wanted.push(node <= start).expect(&rt, "memory");
         }
         assert!(rt; reached_from(&rt, &rows, start) == wanted, "from {start}");
     }
@@ -102,20 +99,20 @@ fn a_chain_is_followed_from_its_head(rt: HostRuntime) {
 
 #[test]
 fn rows_of_another_length_are_seen(rt: HostRuntime) {
-    let nodes = vob_of::<usize>(&rt, "00");
+    let nodes = vob_of(&rt, "00");
     let mut rows = Vec::new(rt.alloc());
-    rows.push(vob_of::<usize>(&rt, "11")).expect(&rt, "memory");
+    rows.push(vob_of(&rt, "11")).expect(&rt, "memory");
     same(&rt, "a row is missing", 1, is_square(&nodes, &rows), false);
-    rows.push(vob_of::<usize>(&rt, "111")).expect(&rt, "memory");
+    rows.push(vob_of(&rt, "111")).expect(&rt, "memory");
     same(&rt, "a row is too long", 3, is_square(&nodes, &rows), false);
     rows.pop();
-    rows.push(vob_of::<usize>(&rt, "11")).expect(&rt, "memory");
+    rows.push(vob_of(&rt, "11")).expect(&rt, "memory");
     same(&rt, "square", 2, is_square(&nodes, &rows), true);
 }
 
 #[test]
 fn a_filter_keeps_the_rows_of_its_set_bits(rt: HostRuntime) {
-    let filter = vob_of::<usize>(&rt, "01011");
+    let filter = vob_of(&rt, "01011");
     let rows = kept_rows(rt.alloc(), &filter).expect(&rt, "memory");
     same(&rt, "rows", 0, rows.as_slice(), &[1, 3, 4]);
     let none = kept_rows(rt.alloc(), &Vob::new(rt.alloc())).expect(&rt, "memory");
@@ -124,7 +121,7 @@ fn a_filter_keeps_the_rows_of_its_set_bits(rt: HostRuntime) {
 
 #[test]
 fn free_slots_are_taken_from_the_first_on(rt: HostRuntime) {
-    let mut taken = vob_of::<usize>(&rt, "1010");
+    let mut taken = vob_of(&rt, "1010");
     for (at, slot) in [Some(1), Some(3), None].into_iter().enumerate() {
         same(&rt, "slot", at, take_slot(&mut taken), slot);
     }
@@ -160,13 +157,8 @@ fn rows_are_selected_by_columns(rt: HostRuntime) {
     let rows = select(&first, &second, &without).expect(&rt, "memory");
     check_bits(&rt, &rows, "100101");
     same(&rt, "rows", 0, count_rows(&rows), 3);
-    same(
-        &rt,
-        "rows from 1 to below 5",
-        0,
-        count_between(&rows, 1, 5),
-        1,
-    );
+    let found = count_between(&rows, 1, 5);
+    same(&rt, "rows from 1 to below 5", 0, found, 1);
     let next = page(rt.alloc(), &rows, 1, 1).expect(&rt, "memory");
     same(&rt, "a page", 0, next.as_slice(), &[3]);
     let last = page_back(rt.alloc(), &rows, 0, 2).expect(&rt, "memory");
@@ -205,4 +197,16 @@ fn loop_unsets_those_of_another(rt: HostRuntime) {
     others.set(3, true);
     clear_those(&mut vob, &others);
     check_bits(&rt, &vob, "10001");
+}
+
+#[test]
+fn errors_say_which_rule_or_node_is_wrong(rt: HostRuntime) {
+    let symbol = GrammarError::BadSymbol { rule: 12 };
+    check_error(&rt, symbol, "rule 12 names a symbol that isn't there");
+    check_error(&rt, GrammarError::Memory, "out of memory");
+    let variable = LiveError::BadVariable { node: 7 };
+    check_error(&rt, variable, "node 7 names no variable");
+    let next = LiveError::BadNext { node: 10 };
+    check_error(&rt, next, "node 10 leads to no node");
+    check_error(&rt, LiveError::Memory, "out of memory");
 }

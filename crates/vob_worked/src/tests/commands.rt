@@ -2,10 +2,11 @@
 use super::support::same;
 use std::ops::Bound::{Excluded, Included, Unbounded};
 use std::process::Abort;
+use std::slice;
 use vob::{End, Vob};
 use vob_block::Block;
-use vob_run::run::run;
-use vob_run::{Command, Reply};
+use vob_run::run::{run, run_usize};
+use vob_run::{Command, Reply, UsizeCommand};
 
 /// Runs the commands on no Vobs, and compares the replies as they print.
 fn check_run<T: Block>(rt: &(impl Abort + AllocGlobal), commands: &[Command<T>], replies: &str) {
@@ -146,4 +147,19 @@ fn numbers_that_no_vob_has_are_skipped(rt: HostRuntime) {
     add(&rt, &mut commands, Command::Storage { which });
     let replies = "[Made(0), Skipped, Skipped, Skipped, Skipped, Skipped]";
     check_run(&rt, &commands, replies);
+}
+
+#[test]
+fn commands_are_named_in_the_module_of_their_calls(rt: HostRuntime) {
+    let mut vobs: Vec<Vob<u8>> = Vec::new(rt.alloc());
+    let mut replies = Vec::new(rt.alloc());
+    let new = Command::New { capacity: 0 };
+    let commands = slice::from_ref(&new);
+    run(rt.alloc(), commands, &mut vobs, &mut replies).expect(&rt, "memory");
+    same(&rt, "new", 0, replies.pop(), Some(Reply::Made(0)));
+    let mut words: Vec<Vob> = Vec::new(rt.alloc());
+    let mut replies = Vec::new(rt.alloc());
+    let commands = slice::from_ref(&UsizeCommand::Fresh);
+    run_usize(rt.alloc(), commands, &mut words, &mut replies).expect(&rt, "memory");
+    same(&rt, "fresh", 0, replies.pop(), Some(Reply::Made(0)));
 }

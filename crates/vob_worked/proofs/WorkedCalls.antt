@@ -22,7 +22,7 @@ use Rattle.vob_run.specs.Outcomes.{greatest_length}
 use Rattle.vob_run.specs.Step.{step}
 use Rattle.vob_run.specs.Run.{IsStep, IsRun}
 use Rattle.vob_run.specs.Widths.{step_answers, step_lists}
-use Rattle.vob_vectors.proofs.WorkedBits.{bits}
+use Rattle.vob_worked.proofs.WorkedBits.{bits}
 
 abbrev two : List (List Bool)
 two = bits (codes "101") ∷ bits (codes "110") ∷ []

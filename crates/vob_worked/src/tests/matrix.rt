@@ -78,13 +78,8 @@ fn small_graphs_are_closed(rt: HostRuntime) {
 
 /// Compares each entry with whether it is wanted.
 fn check_entry(rt: &impl Abort, matrix: &BitMatrix, row: usize, column: usize, wanted: bool) {
-    same(
-        rt,
-        "entry of a row",
-        row,
-        matrix.get(row, column),
-        Some(wanted),
-    );
+    let found = matrix.get(row, column);
+    same(rt, "entry of a row", row, found, Some(wanted));
 }
 
 #[test]

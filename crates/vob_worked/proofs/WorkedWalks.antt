@@ -8,7 +8,7 @@ use Rattle.vob_walk.specs.declared.walk.End.TheVariants.{Front, Back}
 use Rattle.vob_walk.specs.Matches.{within, matches, blocks_met}
 use Rattle.vob_walk.specs.Walk.{end_item, without_end, answers, left_after, given_count}
 use Rattle.vob_walk.specs.Once.{given_at}
-use Rattle.vob_vectors.proofs.WorkedBits.{bits}
+use Rattle.vob_worked.proofs.WorkedBits.{bits}
 
 abbrev greatest : ℕ
 greatest = 2 ^ 64 - 1

@@ -15,7 +15,7 @@ use Rattle.vob_users.specs.declared.grammar.Symbol.{Symbol}
 use Rattle.vob_users.specs.declared.grammar.Symbol.TheVariants.{Terminal, Nonterminal}
 use Rattle.vob_users.specs.Grammar.{IsNull, HasNull, IsNullClosed, AreNullable, IsHead}
 use Rattle.vob_users.specs.Grammar.{MayBegin, HasFirst, IsFirstClosed, AreFirst}
-use Rattle.vob_vectors.proofs.WorkedBits.{bits}
+use Rattle.vob_worked.proofs.WorkedBits.{bits}
 
 abbrev nullable : List Bool
 nullable = bits (codes "01")

@@ -1,0 +1,8 @@
+//! Users and runs of commands, by rows worked out by hand and against plain lists.
+mod commands;
+mod grammar;
+mod lengths;
+mod live;
+mod matrix;
+mod support;
+mod users;
