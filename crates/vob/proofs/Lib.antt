@@ -8,6 +8,7 @@ pub mod ExtendingLemmas
 pub mod HashLemmas
 pub mod IndicesLemmas
 pub mod MovesLemmas
+pub mod OrderLemmas
 pub mod PairLemmas
 pub mod RangeLemmas
 pub mod RestLemmas

@@ -6,6 +6,7 @@ pub mod Fed
 pub mod Indices
 pub mod Laws
 pub mod Moves
+pub mod Order
 pub mod PackingLaws
 pub mod Ranges
 pub mod Raw

@@ -38,6 +38,7 @@ pub mod laws;
 mod macros;
 pub mod moves;
 pub mod ops;
+pub mod order;
 pub mod prelude;
 pub mod ranges;
 pub mod raw;

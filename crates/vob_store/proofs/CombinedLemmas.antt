@@ -55,7 +55,7 @@ count-split p a (suc n) m =
 
 module _ (f : Bool → Bool → Bool) (w : ℕ) (xs ys : List ℕ) where
   -- the places of a block that both combined make are the bits there
-  combined-in_block : (k x y z : ℕ) → x ≡ get_or xs k 0 → y ≡ get_or ys k 0
+  pub combined-in_block : (k x y z : ℕ) → x ≡ get_or xs k 0 → y ≡ get_or ys k 0
       → HasPlaces w z (λ j. f (place j x) (place j y)) → (j : ℕ) → j < w
       → combined_bit f w xs ys (k * w + j) ≡ place j z
   combined-in_block k x y z is its places j less =

@@ -5,6 +5,7 @@ pub mod CopyLemmas
 pub mod CutLemmas
 pub mod DrainLemmas
 pub mod FillLemmas
+pub mod FirstLemmas
 pub mod FunnelLemmas
 pub mod GatherLemmas
 pub mod JoinLemmas

@@ -17,6 +17,13 @@ abbrev pub HaveNone : (Bool → Bool → Bool) → ℕ → ℕ → ℕ → List 
 HaveNone f width from to blocks others = (i : ℕ) → from ≤ i / width → i / width < to
     → combined_bit f width blocks others i ≡ false
 
+-- index i is that of the first
+pub record IsFirstCombined (f : Bool → Bool → Bool) (width : ℕ) (blocks others : List ℕ) (i : ℕ)
+    : Type 0 where
+  pub inside : i / width < length blocks
+  pub there : combined_bit f width blocks others i ≡ true
+  pub before : (j : ℕ) → j < i → combined_bit f width blocks others j ≡ false
+
 -- reads stop with the chunk of 64 blocks that holds the first true bit of both combined: if bit i
 -- is true, no block past its chunk was read
 abbrev pub StopsAtChunk : (Bool → Bool → Bool) → ℕ → List ℕ → List ℕ → ℕ → ℕ → Type 0

@@ -7,6 +7,7 @@ pub mod combined;
 pub mod copy;
 pub mod drain;
 pub mod fill;
+pub mod first;
 pub mod gather;
 pub mod join;
 mod last;
