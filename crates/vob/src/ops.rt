@@ -14,8 +14,7 @@ use crate::vob::Vob;
 use std::alloc::AllocError;
 use std::hash::{Hash, Hasher};
 use std::ops::{BitAnd, BitAndAssign, BitOr, BitOrAssign, BitXor, BitXorAssign, Not, Sub};
-use vob_block::Block;
-use vob_store::combined::{And, CombineInto, Or, Xor};
+use vob_block::{And, Block, Combine, Or, Xor};
 use vob_store::fill::fill;
 use vob_store::mask::negate;
 use vob_store::same::same_blocks;
@@ -108,7 +107,7 @@ impl<T: Block> Vob<T> {
     /// Combines the other's bits into these, and returns whether a bit changed. Reads each block
     /// of the other once.
     #[inline(always)]
-    pub(crate) fn combine<C: CombineInto>(&mut self, other: &Vob<T>) -> bool
+    pub(crate) fn combine<C: Combine>(&mut self, other: &Vob<T>) -> bool
         requires same { HaveSameLength self.old other.now }
         requires none { C.of_bits false false ≡ false }
         ensures bits { self.new.bits ≡ pointwise C.of_bits self.old.bits other.now.bits }
@@ -116,7 +115,7 @@ impl<T: Block> Vob<T> {
         ensures changed { IsTrue result ↔ (self.new.bits ≢ self.old.bits) }
         ensures capacity { self.new.capacity ≡ self.old.capacity }
     {
-        C::combine_into(self.vec.as_mut_slice(), &mut other.blocks())
+        T::combine_into::<C>(self.vec.as_mut_slice(), &mut other.blocks())
     }
 }
 

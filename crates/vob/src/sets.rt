@@ -13,8 +13,8 @@ ghost use Rattle.vob.specs.Vob.{HaveSameLength};
 use crate::error::{IndicesError, VobError};
 use crate::vob::Vob;
 use std::alloc::Global;
-use vob_block::Block;
-use vob_store::combined::{And, Combine, Or, Without, Xor, count_combined, has_none};
+use vob_block::{And, Block, Combine, Or, Without, Xor};
+use vob_store::combined::{count_combined, has_none};
 use vob_walk::{count_ones_in, index_of_rank, next_index, previous_index};
 
 impl<T: Block> Vob<T> {

@@ -8,7 +8,7 @@ use Rattle.std.proofs.lemmas.List.{ext_get_or, get_or-set_same, get_or-set_other
 use Rattle.std.proofs.lemmas.List.Elements.{All-from_get_or}
 use Rattle.std.proofs.lemmas.Nat.{pow_pos}
 use Rattle.vob_block.specs.Places.{place, HasPlaces}
-use Rattle.vob_block.specs.Kernel.{Takes, AreTaken}
+use Rattle.vob_block.specs.Kernel.{Takes}
 use Rattle.vob_block.specs.Pointwise.{IsCombined, differ, without}
 use Rattle.vob_block.proofs.BoolLemmas.{same_from_differ, differ-same}
 use Rattle.vob_block.proofs.PlaceLemmas.{same_from_places, place-zero}
@@ -95,95 +95,97 @@ module _ (w : ℕ) (f : Bool → Bool → Bool) (others : List ℕ) where
       );
     }
 
-module _ (w : ℕ) (f : Bool → Bool → Bool) (olds others : List ℕ) where
-  pub AreTaken-none : (changed : ℕ) → changed ≡ 0 → AreTaken w f olds others olds 0 changed
-  AreTaken-none changed e = record {
+  pub Takes-none : (before : List ℕ) (k changed : ℕ) → Takes w f others before before k 0 changed changed
+  Takes-none before k changed = record {
     count = refl;
-    done = λ i h. absurd (omega arith);
-    within = λ i h. absurd (omega arith);
-    rest = λ i h. refl;
-    flag = (λ _ i h. absurd (omega arith), λ _. e);
+    done = λ i from less. absurd (omega arith);
+    within = λ i from less. absurd (omega arith);
+    below = λ i less. refl;
+    above = λ i more. refl;
+    flag = (λ e. (e, λ i from less. absurd (omega arith)), λ both. both.0);
   }
 
-  module _ (before after : List ℕ) (k m changed later : ℕ)
-      (h : AreTaken w f olds others before k changed)
-      (step : Takes w f others before after k m changed later) where
-    -- by those taken earlier, or these
-    by_place : (P : ℕ → Type 0) → ((i : ℕ) → i < k → P i) → ((i : ℕ) → k ≤ i → i < k + m → P i)
-        → (i : ℕ) → i < k + m → P i
-    by_place P earlier these i less = elim (cases_lt i k) [
-      | inl below ↦ earlier i below
-      | inr above ↦ these i above less
+  -- some, and then those that follow them
+  module _ (before between after : List ℕ) (k m n at changed sooner later : ℕ)
+      (first : Takes w f others before between k m changed sooner) (is : at ≡ k + m)
+      (second : Takes w f others between after at n sooner later) where
+    by_place : (P : ℕ → Type 0) → ((i : ℕ) → k ≤ i → i < k + m → P i)
+        → ((i : ℕ) → at ≤ i → i < at + n → P i) → (i : ℕ) → k ≤ i → i < k + (m + n) → P i
+    by_place P these those i from less = elim (cases_lt i (k + m)) [
+      | inl below ↦ these i from below
+      | inr above ↦ those i (omega arith) (omega arith)
     ]
 
-    pub AreTaken-more : AreTaken w f olds others after (k + m) later
-    AreTaken-more = record {
-      count = step.count ∙ h.count;
-      done = by_place (λ i. HasPlaces w (get_or after i 0)
-          (λ j. f (place j (get_or olds i 0)) (place j (get_or others i 0))))
-          (λ i less. subst (λ (x : ℕ). HasPlaces w x
-          (λ j. f (place j (get_or olds i 0)) (place j (get_or others i 0))))
-          (sym (step.below i less)) (h.done i less))
-          (λ i from less. subst (λ (x : ℕ). HasPlaces w (get_or after i 0)
-          (λ j. f (place j x) (place j (get_or others i 0)))) (h.rest i from)
-          (step.done i from less));
-      within = by_place (λ i. get_or after i 0 < 2 ^ w)
-          (λ i less. subst (λ (x : ℕ). x < 2 ^ w) (sym (step.below i less)) (h.within i less))
-          step.within;
-      rest = λ i above. step.above i above ∙ h.rest i (omega arith);
-      flag = (
-        λ e.
-            let parts = step.flag.0 e in
-            by_place (λ i. get_or after i 0 ≡ get_or olds i 0)
-            (λ i less. step.below i less ∙ h.flag.0 parts.0 i less)
-            (λ i from less. parts.1 i from less ∙ h.rest i from),
-        λ all. step.flag.1 (
-          h.flag.1 (λ i less. sym (step.below i less) ∙ all i (omega arith)),
-          λ i from less. all i less ∙ sym (h.rest i from),
-        ),
-      );
-    }
+    pub Takes-more : Takes w f others before after k (m + n) changed later
+    Takes-more =
+        let made = λ (x y i : ℕ). HasPlaces w x (λ j. f (place j y) (place j (get_or others i 0))) in
+        let kept = λ (i : ℕ) (less : i < k + m). second.below i (omega arith) in
+        let fresh = λ (i : ℕ) (from : at ≤ i). first.above i (omega arith) in
+        record {
+          count = second.count ∙ first.count;
+          done = by_place (λ i. made (get_or after i 0) (get_or before i 0) i)
+              (λ i from less. subst (λ (x : ℕ). made x (get_or before i 0) i) (sym (kept i less))
+              (first.done i from less))
+              (λ i from less. subst (λ (y : ℕ). made (get_or after i 0) y i) (fresh i from)
+              (second.done i from less));
+          within = by_place (λ i. get_or after i 0 < 2 ^ w)
+              (λ i from less. subst (λ (x : ℕ). x < 2 ^ w) (sym (kept i less))
+              (first.within i from less)) second.within;
+          below = λ i less. second.below i (omega arith) ∙ first.below i less;
+          above = λ i more. second.above i (omega arith) ∙ first.above i (omega arith);
+          flag = (
+            λ e.
+                let those = second.flag.0 e in
+                let these = first.flag.0 those.0 in (
+                  these.0,
+                  by_place (λ i. get_or after i 0 ≡ get_or before i 0)
+                      (λ i from less. kept i less ∙ these.1 i from less)
+                      (λ i from less. those.1 i from less ∙ fresh i from),
+                ),
+            λ all. second.flag.1 (
+              first.flag.1 (all.0, λ i from less. sym (kept i less) ∙ all.1 i from (omega arith)),
+              λ i from less. all.1 i (omega arith) (omega arith) ∙ sym (fresh i from),
+            ),
+          );
+        }
 
-  -- at the end every block is taken, and changed is 0 exactly where all are as they were
-  module _ (news : List ℕ) (k changed : ℕ) (h : AreTaken w f olds others news k changed)
-      (whole : k ≡ length olds) where
-    within-taken : (i : ℕ) → i < length news → get_or news i 0 < 2 ^ w
-    within-taken i less = h.within i (omega (arith, h.count))
-
-    flag-taken : (same : Bool) → ((same ≡ true → changed ≡ 0) × (changed ≡ 0 → same ≡ true))
+  -- at the end every block is taken, and the flag is 0 exactly where all are as they were
+  module _ (olds news : List ℕ) (m changed later : ℕ) (h : Takes w f others olds news 0 m changed later)
+      (none : changed ≡ 0) (whole : m ≡ length olds) where
+    flag-taken : (same : Bool) → ((same ≡ true) ↔ (later ≡ 0))
         → (not same ≡ true → news ≢ olds) × (news ≢ olds → not same ≡ true)
     flag-taken true test = (
       (λ e. absurd (false≢true e)),
       (λ differs. absurd (differs (ext_get_or 0 news olds h.count
-          (λ i less. h.flag.0 (test.0 refl) i (omega (arith, h.count)))))),
+          (λ i less. (h.flag.0 (test.0 refl)).1 i (omega arith) (omega (arith, h.count)))))),
     )
     flag-taken false test = (
       (λ _ e. absurd (false≢true
-          (test.1 (h.flag.1 (λ i less. ap (λ xs. get_or xs i 0) e))))),
+          (test.1 (h.flag.1 (none, λ i from less. ap (λ xs. get_or xs i 0) e))))),
       (λ _. refl),
     )
 
-    pub IsCombined-taken : (same : Bool) → ((same ≡ true) ↔ (changed ≡ 0))
+    pub IsCombined-taken : (same : Bool) → ((same ≡ true) ↔ (later ≡ 0))
         → IsCombined w f olds others news (not same)
     IsCombined-taken same test = record {
-      places = record { count = h.count; each = λ i less. h.done i (omega arith) };
-      within = All-from_get_or (λ x. x < 2 ^ w) news 0 within-taken;
+      places = record { count = h.count; each = λ i less. h.done i (omega arith) (omega arith) };
+      within = All-from_get_or (λ x. x < 2 ^ w) news 0
+          (λ i less. h.within i (omega arith) (omega (arith, h.count)));
       flag = flag-taken same test;
     }
 
--- the same where the blocks are items with a number each, as the code reads and writes them
-module _ {X : Type 0} (number : X → ℕ) (w : ℕ) (f : Bool → Bool → Bool) (olds others own : List X)
-    (k changed : ℕ) (h : AreTaken w f (map number olds) (map number others) (map number own) k
-    changed) (small : changed < 2 ^ w) (inside : k < length own) where
-  pub item-more : (old other new diff after : X) → old ≡ get_or own k old → slice_get others k
+-- one block, where the blocks are items with a number each, as the code reads and writes them
+module _ {X : Type 0} (number : X → ℕ) (w : ℕ) (f : Bool → Bool → Bool) (others own : List X)
+    (k changed : ℕ) (small : changed < 2 ^ w) (inside : k < length own) where
+  pub Takes-item : (old other new diff after : X) → old ≡ get_or own k old → slice_get others k
       ≡ Some other
       → number old < 2 ^ w → number new < 2 ^ w → number diff < 2 ^ w → number after < 2 ^ w
       → HasPlaces w (number new) (λ j. f (place j (number old)) (place j (number other)))
       → HasPlaces w (number diff) (λ j. differ (place j (number old)) (place j (number new)))
       → HasPlaces w (number after) (λ j. place j changed || place j (number diff))
-      → AreTaken w f (map number olds) (map number others) (map number (set own k new)) (k + 1)
+      → Takes w f (map number others) (map number own) (map number (set own k new)) k 1 changed
       (number after)
-  item-more old other new diff after read their old-in new-in diff-in after-in places differs
+  Takes-item old other new diff after read their old-in new-in diff-in after-in places differs
       packed =
       let is : number old ≡ get_or (map number own) k 0 =
       ap number read ∙ sym (get_or-map number own k old 0 inside) in
@@ -193,8 +195,6 @@ module _ {X : Type 0} (number : X → ℕ) (w : ℕ) (f : Bool → Bool → Bool
       let room : k < length (map number own) = omega (arith, length-map own number) in
       let taken = subst (λ (y : ℕ). HasPlaces w (number new)
       (λ j. f (place j (number old)) (place j y))) its places in
-      rw map-set (AreTaken-more w f (map number olds) (map number others) (map number own)
-      (set (map number own) k (number new)) k 1 changed (number after) h
-      (Takes-one w f (map number others) (map number own) k changed room small
+      rw map-set (Takes-one w f (map number others) (map number own) k changed room small
       (number old) (number new) (number diff) (number after) is old-in new-in
-      diff-in after-in taken differs packed))
+      diff-in after-in taken differs packed)

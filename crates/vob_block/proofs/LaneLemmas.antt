@@ -1,39 +1,56 @@
--- Eight blocks combined at once, over the connective.
-use Rattle.std.proofs.Common.{◌≡◌, ℕ, ◌+◌, ◌-◌, ◌^◌, ◌<◌, ◌≤◌, ◌↔◌, List, [], ◌∷◌, length, get_or, set, bit_and, bit_or, bit_xor, refl, sym, ap, ◌∙◌, subst, arith}
+-- Eight blocks combined at once.
+use Rattle.std.proofs.Common.{◌≡◌, ℕ, ◌+◌, ◌-◌, ◌^◌, ◌<◌, ◌≤◌, ◌↔◌, Bool, ◌&&◌, ◌||◌, List, [], ◌∷◌, length, get_or, bit_and, bit_or, bit_xor, refl, sym, ap, ◌∙◌, subst, arith}
 use Rattle.std.specs.Int.Bits.{xor_self, xor_assoc, xor_add_and, or_add_and}
-use Rattle.std.proofs.lemmas.Nat.{and_le_l, and_le_r, or_lt, xor_lt}
-use Rattle.std.specs.Prelude.{Some, slice_get}
-use Rattle.std.proofs.lemmas.Option.{get_or_from_slice_get}
+use Rattle.std.proofs.lemmas.Nat.{and_le_l, and_le_r}
 use Rattle.std.proofs.lemmas.List.{ext_get_or}
 use Rattle.std.proofs.lemmas.Simd.{length-zip2, length-chunk, length-put_chunk, get_or-chunk}
 use Rattle.std.proofs.lemmas.Simd.{get_or-zip2, get_or-put_chunk_below, get_or-put_chunk_at}
 use Rattle.std.proofs.lemmas.Simd.{get_or-put_chunk_above, Each1-get_or}
 use lib.Lanes.{zip2, chunk, put_chunk, fold_l, Each1}
 use Rattle.vob_block.specs.Places.{place, HasPlaces}
-use Rattle.vob_block.specs.Kernel.{Connective, conjunction, disjunction, exclusive, difference}
-use Rattle.vob_block.specs.Kernel.{on_bits, on_numbers, Takes}
-use Rattle.vob_block.specs.Pointwise.{differ}
-use Rattle.vob_block.proofs.BoolLemmas.{differ-both}
-use Rattle.vob_block.proofs.PlaceLemmas.{place-and, place-or, place-xor}
-use Rattle.vob_block.proofs.KernelLemmas.{Takes-one}
+use Rattle.vob_block.specs.Kernel.{Takes}
+use Rattle.vob_block.specs.Pointwise.{IsPointwise, differ, without}
+use Rattle.vob_block.proofs.PlaceLemmas.{place-and, place-or, place-xor, place-without}
 
-pub place-on_numbers : (o : Connective) (a b j : ℕ)
-    → place j (on_numbers o a b) ≡ on_bits o (place j a) (place j b)
-place-on_numbers conjunction a b j = place-and a b j
-place-on_numbers disjunction a b j = place-or a b j
-place-on_numbers exclusive a b j = place-xor a b j
-place-on_numbers difference a b j = place-xor a (bit_and a b) j
-    ∙ ap (differ (place j a)) (place-and a b j) ∙ differ-both (place j a) (place j b)
+-- ---- the lanes of a connective
 
-on_numbers-in : (o : Connective) (a b : ℕ) → a < 2 ^ 64 → b < 2 ^ 64 → on_numbers o a b < 2 ^ 64
-on_numbers-in conjunction a b a-in b-in = omega (arith, and_le_l a b)
-on_numbers-in disjunction a b a-in b-in = or_lt 64 a b a-in b-in
-on_numbers-in exclusive a b a-in b-in = xor_lt 64 a b a-in b-in
-on_numbers-in difference a b a-in b-in =
-    xor_lt 64 a (bit_and a b) a-in (omega (arith, and_le_l a b))
+-- lanes are combined place by place if numbers are
+lanes-of : (f : Bool → Bool → Bool) (make : ℕ → ℕ → ℕ)
+    → ((x y j : ℕ) → place j (make x y) ≡ f (place j x) (place j y)) → (xs ys : List ℕ)
+    → length xs ≡ length ys → IsPointwise 64 f xs ys (zip2 make xs ys)
+lanes-of f make law xs ys same = record {
+  count = length-zip2 make xs ys same;
+  each = λ k less. record {
+    each = λ j _. ap (place j) (get_or-zip2 make xs ys k 0 0 0 less (omega (arith, same)))
+        ∙ law (get_or xs k 0) (get_or ys k 0) j;
+  };
+}
+
+pub lanes-and : (xs ys : List ℕ) → length xs ≡ length ys
+    → IsPointwise 64 ◌&&◌ xs ys (zip2 bit_and xs ys)
+lanes-and = lanes-of ◌&&◌ bit_and place-and
+
+pub lanes-or : (xs ys : List ℕ) → length xs ≡ length ys
+    → IsPointwise 64 ◌||◌ xs ys (zip2 bit_or xs ys)
+lanes-or = lanes-of ◌||◌ bit_or place-or
+
+pub lanes-xor : (xs ys : List ℕ) → length xs ≡ length ys
+    → IsPointwise 64 differ xs ys (zip2 bit_xor xs ys)
+lanes-xor = lanes-of differ bit_xor place-xor
+
+zip-without : (xs ys : List ℕ)
+    → zip2 (λ x y. bit_xor x (bit_and x y)) xs ys ≡ zip2 bit_xor xs (zip2 bit_and xs ys)
+zip-without [] ys = refl
+zip-without (x ∷ xs) [] = refl
+zip-without (x ∷ xs) (y ∷ ys) = ap (λ zs. bit_xor x (bit_and x y) ∷ zs) (zip-without xs ys)
+
+pub lanes-without : (xs ys : List ℕ) → length xs ≡ length ys
+    → IsPointwise 64 without xs ys (zip2 bit_xor xs (zip2 bit_and xs ys))
+lanes-without xs ys same = subst (IsPointwise 64 without xs ys) (zip-without xs ys)
+    (lanes-of without (λ x y. bit_xor x (bit_and x y)) place-without xs ys same)
 
 -- "xor" twice with one number
-pub xor-undone : (x y : ℕ) → bit_xor x (bit_xor x y) ≡ y
+xor-undone : (x y : ℕ) → bit_xor x (bit_xor x y) ≡ y
 xor-undone x y = sym (xor_assoc x x y) ∙ ap (λ z. bit_xor z y) (xor_self x)
 
 -- what both have is where "and not" differs
@@ -44,14 +61,6 @@ zip-undone (x ∷ xs) [] = refl
 zip-undone (x ∷ xs) (y ∷ ys) =
     let one = sym (xor-undone x (bit_and x y)) in
     let more = zip-undone xs ys in cc
-
--- "and not" in lanes, by "and" and then "xor"
-pub zip-difference : (xs ys : List ℕ)
-    → zip2 bit_xor xs (zip2 bit_and xs ys) ≡ zip2 (on_numbers difference) xs ys
-zip-difference [] ys = refl
-zip-difference (x ∷ xs) [] = refl
-zip-difference (x ∷ xs) (y ∷ ys) =
-    ap (λ zs. bit_xor x (bit_and x y) ∷ zs) (zip-difference xs ys)
 
 -- ---- the flag: the lanes of what changed, taken together
 
@@ -131,56 +140,23 @@ flag_zero changed old new long same =
       λ h. all.1 (refl, parts.1 ((before.0 h.0).1, these.1 h.1)),
     )
 
--- ---- one block
-
--- as the code reads and writes it
-module _ (o : Connective) (others before : List ℕ) (k changed old their new diff : ℕ)
-    (inside : k < length before) (is : old ≡ get_or before k 0)
-    (its : slice_get others k ≡ Some their) (result : new ≡ on_numbers o old their)
-    (differs : diff ≡ bit_xor old new) (changed-in : changed < 2 ^ 64) (old-in : old < 2 ^ 64)
-    (their-in : their < 2 ^ 64) where
-  pub Takes-block : Takes 64 (on_bits o) others before (set before k new) k 1 changed
-      (bit_or changed diff)
-  Takes-block =
-      let fits : ℕ → Type 0 = λ x. x < 2 ^ 64 in
-      let new-in = subst fits (sym result) (on_numbers-in o old their old-in their-in) in
-      let diff-in = subst fits (sym differs) (xor_lt 64 old new old-in new-in) in
-      let at = get_or_from_slice_get others k their 0 its in
-      Takes-one 64 (on_bits o) others before k changed inside changed-in old new diff
-      (bit_or changed diff) is old-in new-in diff-in (or_lt 64 changed diff changed-in diff-in)
-      (record {
-        each = λ j h. ap (place j) (result ∙ ap (on_numbers o old) (sym at))
-            ∙ place-on_numbers o old (get_or others k 0) j;
-      })
-      (record { each = λ j h. ap (place j) differs ∙ place-xor old new j })
-      (record { each = λ j h. place-or changed diff j })
-
 -- ---- the eight blocks from k on
 
-module _ (o : Connective) (others before changed new : List ℕ) (k : ℕ)
+module _ (f : Bool → Bool → Bool) (others before changed new : List ℕ) (k : ℕ)
     (room : k + 8 ≤ length before) (enough : k + 8 ≤ length others) (lanes : length changed ≡ 8)
-    (is : new ≡ zip2 (on_numbers o) (chunk k 8 before) (chunk k 8 others)) where
+    (made : IsPointwise 64 f (chunk k 8 before) (chunk k 8 others) new) where
   long-old : length (chunk k 8 before) ≡ 8
   long-old = length-chunk k 8 before room
 
   long-new : length new ≡ 8
-  long-new = ap length is ∙ length-zip2 (on_numbers o) (chunk k 8 before) (chunk k 8 others)
-      (long-old ∙ sym (length-chunk k 8 others enough)) ∙ long-old
-
-  new_at : (j : ℕ) → j < 8 → get_or new j 0 ≡ on_numbers o (get_or before (k + j) 0)
-      (get_or others (k + j) 0)
-  new_at j less = ap (λ xs. get_or xs j 0) is
-      ∙ get_or-zip2 (on_numbers o) (chunk k 8 before) (chunk k 8 others) j 0 0 0
-      (omega (arith, long-old)) (omega (arith, length-chunk k 8 others enough))
-      ∙ ap (λ x. on_numbers o x (get_or (chunk k 8 others) j 0)) (get_or-chunk k 8 before j 0 less)
-      ∙ ap (on_numbers o (get_or before (k + j) 0)) (get_or-chunk k 8 others j 0 less)
+  long-new = made.count ∙ long-old
 
   -- by the lane of a block
   by_lane : (P : ℕ → Type 0) → ((j : ℕ) → j < 8 → P (k + j)) → (i : ℕ) → k ≤ i → i < k + 8 → P i
   by_lane P each i from less = subst P (omega arith) (each (i - k) (omega arith))
 
   pub Takes-lanes : (diff : List ℕ) → diff ≡ zip2 bit_xor (chunk k 8 before) new
-      → Each1 (λ x. x < 2 ^ 64) new → Takes 64 (on_bits o) others before
+      → Each1 (λ x. x < 2 ^ 64) new → Takes 64 f others before
       (put_chunk k before new) k 8 (fold_l bit_or 0 changed)
       (fold_l bit_or 0 (zip2 bit_or changed diff))
   Takes-lanes diff differs fit =
@@ -195,10 +171,14 @@ module _ (o : Connective) (others before changed new : List ℕ) (k : ℕ)
       record {
         count = length-put_chunk k before new;
         done = by_lane (λ i. HasPlaces 64 (get_or after i 0)
-            (λ j. on_bits o (place j (get_or before i 0)) (place j (get_or others i 0))))
+            (λ j. f (place j (get_or before i 0)) (place j (get_or others i 0))))
             (λ j less. record {
-              each = λ p h. ap (place p) (at j less ∙ new_at j less)
-                  ∙ place-on_numbers o (get_or before (k + j) 0) (get_or others (k + j) 0) p;
+              each = λ p h. ap (place p) (at j less)
+                  ∙ (made.each j (omega (arith, long-old))).each p h
+                  ∙ ap (λ x. f (place p x) (place p (get_or (chunk k 8 others) j 0)))
+                  (get_or-chunk k 8 before j 0 less)
+                  ∙ ap (λ y. f (place p (get_or before (k + j) 0)) (place p y))
+                  (get_or-chunk k 8 others j 0 less);
             });
         within = by_lane (λ i. get_or after i 0 < 2 ^ 64)
             (λ j less. subst (λ (x : ℕ). x < 2 ^ 64) (sym (at j less))

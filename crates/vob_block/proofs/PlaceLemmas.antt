@@ -18,7 +18,8 @@ use Rattle.std.proofs.lemmas.Nat.Bits.{bit_at_cat_low, bit_at_cat_high, bit_at_n
 use Rattle.std.proofs.lemmas.Nat.Bits.{same_from_bits_below}
 use mir.Val.{bits}
 use Rattle.vob_block.specs.Places.{place, HasPlaces}
-use Rattle.vob_block.specs.Pointwise.{differ}
+use Rattle.vob_block.specs.Pointwise.{differ, without}
+use Rattle.vob_block.proofs.BoolLemmas.{differ-both}
 
 -- a bit is 0 or 1, so its tests for 1 go together as the bits do
 tests-min : (a b : ℕ) → a < 2 → b < 2 → eqb (min a b) 1 ≡ (eqb a 1 && eqb b 1)
@@ -76,6 +77,11 @@ tests-sum (suc zero) (suc (suc b)) h k = absurd (omega arith)
 pub place-xor : (a b j : ℕ) → place j (bit_xor a b) ≡ differ (place j a) (place j b)
 place-xor a b j = ap (λ c. eqb c 1) (bit_at_xor a b j)
     ∙ tests-sum _ _ (bit_at-lt a j) (bit_at-lt b j)
+
+pub place-without : (a b j : ℕ) → place j (bit_xor a (bit_and a b)) ≡ without (place j a) (place j b)
+place-without a b j =
+    place-xor a (bit_and a b) j ∙ ap (differ (place j a)) (place-and a b j)
+    ∙ differ-both (place j a) (place j b)
 
 -- the low w places of y are those of `y % 2 ^ w`
 place-mod : (w y j : ℕ) → j < w → place j (y % 2 ^ w) ≡ place j y

@@ -1,12 +1,10 @@
 //! A block by its bits alone, with no arithmetic.
 ghost use Rattle.std.specs.Prelude.{◌≡◌, ◌≢◌, ◌==◌, ℕ, ◌+◌, ◌-◌, ◌%◌, ◌^◌, ◌<◌, if◌then◌else◌, ◌≤◌};
-ghost use Rattle.std.specs.Prelude.{◌&&◌, ◌||◌, ◌↔◌, not, nat_le, nat_lt, IsTrue, length, All, map};
+ghost use Rattle.std.specs.Prelude.{◌&&◌, ◌||◌, ◌↔◌, not, nat_le, nat_lt, IsTrue, All, map};
 ghost use Rattle.std.specs.Prelude.{true, false};
 ghost use Rattle.vob_block.specs.Places.{place, HasPlaces, HasZerosLow, HasZerosHigh, true_places};
-ghost use Rattle.vob_block.specs.Pointwise.{IsCombined, differ, without};
-ghost use Rattle.vob_block.specs.Reading.{AreReadOnce};
+ghost use Rattle.vob_block.specs.Pointwise.{differ};
 
-use crate::blocks::Blocks;
 use std::fmt::Debug;
 use std::hash::Hash;
 
@@ -141,82 +139,6 @@ pub trait BitBlock: Copy + Eq + Hash + Debug {
         ensures { result ≡ place j (number self) }
     {
         self.band(Self::ONE.up(j)) != Self::ZERO
-    }
-
-    /// Keeps in `own` the places that both have, and returns whether a block changed. Each block of
-    /// `other` is read once.
-    fn and_into(own: &mut [Self], other: &mut Blocks<'_, Self>) -> bool
-        requires { length own.old ≡ length other.old.items }
-        ensures combined { IsCombined BITS ◌&&◌ (map number own.old) (map number other.old.items)
-            (map number own.new) result }
-        ensures read { AreReadOnce other.old other.new }
-    {
-        let mut changed = Self::ZERO;
-        for k in 0..own.len() {
-            let old = own[k];
-            old.in_range();
-            let new = old.band(other.block(k));
-            own[k] = new;
-            changed = changed.bor(old.bxor(new));
-        }
-        changed != Self::ZERO
-    }
-
-    /// Adds to `own` the places that the other has, and returns whether a block changed. Each block of
-    /// `other` is read once.
-    fn or_into(own: &mut [Self], other: &mut Blocks<'_, Self>) -> bool
-        requires { length own.old ≡ length other.old.items }
-        ensures combined { IsCombined BITS ◌||◌ (map number own.old) (map number other.old.items)
-            (map number own.new) result }
-        ensures read { AreReadOnce other.old other.new }
-    {
-        let mut changed = Self::ZERO;
-        for k in 0..own.len() {
-            let old = own[k];
-            old.in_range();
-            let new = old.bor(other.block(k));
-            own[k] = new;
-            changed = changed.bor(old.bxor(new));
-        }
-        changed != Self::ZERO
-    }
-
-    /// Keeps in `own` the places that exactly one has, and returns whether a block changed. Each block
-    /// of `other` is read once.
-    fn xor_into(own: &mut [Self], other: &mut Blocks<'_, Self>) -> bool
-        requires { length own.old ≡ length other.old.items }
-        ensures combined { IsCombined BITS differ (map number own.old) (map number other.old.items)
-            (map number own.new) result }
-        ensures read { AreReadOnce other.old other.new }
-    {
-        let mut changed = Self::ZERO;
-        for k in 0..own.len() {
-            let old = own[k];
-            old.in_range();
-            let new = old.bxor(other.block(k));
-            own[k] = new;
-            changed = changed.bor(old.bxor(new));
-        }
-        changed != Self::ZERO
-    }
-
-    /// Removes from `own` the places that the other has, and returns whether a block changed. Each
-    /// block of `other` is read once.
-    fn and_not_into(own: &mut [Self], other: &mut Blocks<'_, Self>) -> bool
-        requires { length own.old ≡ length other.old.items }
-        ensures combined { IsCombined BITS without (map number own.old) (map number other.old.items)
-            (map number own.new) result }
-        ensures read { AreReadOnce other.old other.new }
-    {
-        let mut changed = Self::ZERO;
-        for k in 0..own.len() {
-            let old = own[k];
-            old.in_range();
-            let new = old.band(other.block(k).bnot());
-            own[k] = new;
-            changed = changed.bor(old.bxor(new));
-        }
-        changed != Self::ZERO
     }
 
     // `==` on blocks is `==` on their numbers.

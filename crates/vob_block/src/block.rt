@@ -2,7 +2,7 @@
 ghost use Rattle.std.specs.Prelude.{◌≡◌, pos};
 ghost use Rattle.num_traits.specs.Laws.{bit_len};
 
-use crate::bit_block::BitBlock;
+use crate::kernel::Kernel;
 use num_traits::PrimInt;
 use std::fmt::Debug;
 use std::hash::Hash;
@@ -11,7 +11,7 @@ use std::hash::Hash;
 /// those of `BitBlock`, and its number is the value that `PrimInt` states.
 ///
 /// vob 4.0.1 takes any `T: Debug + PrimInt`, signed types too.
-pub trait Block: BitBlock + PrimInt + Hash + Debug {
+pub trait Block: Kernel + PrimInt + Hash + Debug {
     // The number is the value that `PrimInt` states.
     ghost number_law: { (x : Self) → Self.value x ≡ pos (Self.number x) };
 

@@ -1,108 +1,22 @@
 //! The kernels at `usize`, eight blocks at a time.
-ghost use Rattle.std.specs.Prelude.{◌≡◌, ◌+◌, ◌*◌, ◌^◌, ◌<◌, ◌≤◌, length, bit_or, bit_xor};
-ghost use Rattle.std.specs.Simd.Lanes.{Each1, zip2, fold_l};
-ghost use Rattle.vob_block.specs.Kernel.{Connective, conjunction, disjunction, exclusive, difference};
-ghost use Rattle.vob_block.specs.Kernel.{on_bits, on_numbers, Takes, AreTaken};
+ghost use Rattle.std.specs.Prelude.{◌≡◌, ◌+◌, ◌*◌, ◌^◌, ◌<◌, ◌≤◌, length, bit_or};
+ghost use Rattle.std.specs.Simd.Lanes.{Each1, fold_l};
+ghost use Rattle.vob_block.specs.Kernel.{Takes};
 ghost use Rattle.vob_block.specs.Pointwise.{IsCombined};
 ghost use Rattle.vob_block.specs.Reading.{AreReadOnce};
 
 use crate::blocks::Blocks;
+use crate::combine::{Combine, combine_block, combine_from};
+use crate::kernel::Kernel;
 use std::simd::prelude::*;
 
 // How many blocks a turn takes, as two chunks of eight.
 const TURN: usize = 16;
 
-// With this many blocks, a second loop for the rest costs less than lanes save.
+// In so many blocks a loop more, for the rest, takes less than lanes save.
 const MANY: usize = 512;
 
-/// A way to combine two blocks, or two in each of eight lanes. It returns the new own block, and where
-/// that differs from the old one: each may be had from the other with less work.
-pub(crate) trait Combine {
-    ghost connective: { Connective };
-
-    fn block(own: usize, other: usize) -> (usize, usize)
-        ensures combined { result.0 ≡ on_numbers connective own other }
-        ensures differs { result.1 ≡ bit_xor own result.0 };
-
-    fn lanes(own: usizex8, others: usizex8) -> (usizex8, usizex8)
-        ensures combined { result.0 ≡ zip2 (on_numbers connective) own others }
-        ensures differs { result.1 ≡ zip2 bit_xor own result.0 };
-}
-
-pub(crate) struct And;
-
-impl Combine for And {
-    ghost connective = { conjunction };
-
-    #[inline(always)]
-    fn block(own: usize, other: usize) -> (usize, usize) {
-        let new = own & other;
-        (new, own ^ new)
-    }
-
-    #[inline(always)]
-    fn lanes(own: usizex8, others: usizex8) -> (usizex8, usizex8) {
-        let new = own & others;
-        (new, own ^ new)
-    }
-}
-
-pub(crate) struct Or;
-
-impl Combine for Or {
-    ghost connective = { disjunction };
-
-    #[inline(always)]
-    fn block(own: usize, other: usize) -> (usize, usize) {
-        let new = own | other;
-        (new, own ^ new)
-    }
-
-    #[inline(always)]
-    fn lanes(own: usizex8, others: usizex8) -> (usizex8, usizex8) {
-        let new = own | others;
-        (new, own ^ new)
-    }
-}
-
-pub(crate) struct Xor;
-
-impl Combine for Xor {
-    ghost connective = { exclusive };
-
-    #[inline(always)]
-    fn block(own: usize, other: usize) -> (usize, usize) {
-        let new = own ^ other;
-        (new, own ^ new)
-    }
-
-    #[inline(always)]
-    fn lanes(own: usizex8, others: usizex8) -> (usizex8, usizex8) {
-        let new = own ^ others;
-        (new, own ^ new)
-    }
-}
-
-pub(crate) struct AndNot;
-
-// What both have is where it differs.
-impl Combine for AndNot {
-    ghost connective = { difference };
-
-    #[inline(always)]
-    fn block(own: usize, other: usize) -> (usize, usize) {
-        let both = own & other;
-        (own ^ both, both)
-    }
-
-    #[inline(always)]
-    fn lanes(own: usizex8, others: usizex8) -> (usizex8, usizex8) {
-        let both = own & others;
-        (own ^ both, both)
-    }
-}
-
-/// Does nothing: lanes are in the range of their type, which a proof sees at a parameter.
+/// Does nothing: lanes at hand are in the range of their type, which a proof sees at a parameter.
 #[inline(always)]
 fn in_range(lanes: usizex8)
     ensures { Each1 (λ x. x < 2 ^ 64) lanes }
@@ -119,7 +33,7 @@ fn combine_chunk<C: Combine>(
 ) -> usizex8
     requires own { at + 8 ≤ length own.old }
     requires other { at + 8 ≤ length other.old.items }
-    ensures taken { Takes 64 (on_bits C.connective) other.old.items own.old own.new at 8
+    ensures taken { Takes 64 C.of_bits other.old.items own.old own.new at 8
         (fold_l bit_or 0 changed) (fold_l bit_or 0 result) }
     ensures items { other.new.items ≡ other.old.items }
     ensures reads { other.new.reads ≡ other.old.reads + 8 }
@@ -140,8 +54,7 @@ fn combine_turns<C: Combine>(
 ) -> usize
     requires same { length own.old ≡ length other.old.items }
     requires inside { 16 * turns ≤ length own.old }
-    ensures taken { AreTaken 64 (on_bits C.connective) own.old other.old.items own.new (16 * turns)
-        result }
+    ensures taken { Takes 64 C.of_bits other.old.items own.old own.new 0 (16 * turns) 0 result }
     ensures items { other.new.items ≡ other.old.items }
     ensures reads { other.new.reads ≡ other.old.reads + 16 * turns }
 {
@@ -154,55 +67,43 @@ fn combine_turns<C: Combine>(
     changed.reduce_or()
 }
 
-/// Combines the one block that there is, with no loop.
-#[inline(always)]
-fn combine_one<C: Combine>(own: &mut [usize], other: &mut Blocks<'_, usize>) -> bool
-    requires own { length own.old ≡ 1 }
-    requires other { length other.old.items ≡ 1 }
-    ensures combined { IsCombined 64 (on_bits C.connective) own.old other.old.items own.new result }
-    ensures read { AreReadOnce other.old other.new }
-{
-    let (new, differing) = C::block(own[0], other.block(0));
-    own[0] = new;
-    differing != 0
-}
-
-/// Combines blocks that don't fill whole turns, and returns whether one changed. Many are combined by
-/// turns, then the rest. Few are combined one at a time: a compiler makes four or more of that at once.
+/// Combines blocks of which turns leave a rest, and returns whether one changed: if they are many by
+/// turns and then the rest, and else all one at a time, of which a compiler takes four or more at once.
 #[inline(always)]
 fn combine_with_rest<C: Combine>(own: &mut [usize], other: &mut Blocks<'_, usize>) -> bool
     requires { length own.old ≡ length other.old.items }
-    ensures combined { IsCombined 64 (on_bits C.connective) own.old other.old.items own.new result }
+    ensures combined { IsCombined 64 C.of_bits own.old other.old.items own.new result }
     ensures read { AreReadOnce other.old other.new }
 {
-    let mut from = 0;
-    let mut changed = 0;
-    if own.len() >= MANY {
-        let turns = own.len() / TURN;
-        from = TURN * turns;
-        changed = combine_turns::<C>(own, other, turns);
+    if own.len() < MANY {
+        return combine_from::<C, usize>(own, other, 0, 0) != 0;
     }
-    for k in from..own.len() {
-        let (new, differing) = C::block(own[k], other.block(k));
-        own[k] = new;
-        changed |= differing;
-    }
-    changed != 0
+    let turns = own.len() / TURN;
+    let changed = combine_turns::<C>(own, other, turns);
+    combine_from::<C, usize>(own, other, TURN * turns, changed) != 0
 }
 
-/// Combines the blocks, and returns whether one changed. Whole turns have a loop of their own.
+/// Combines the blocks, and returns whether one changed. A block that is alone needs no loop, and whole
+/// turns have a loop of their own.
 #[inline(always)]
-pub(crate) fn combine_blocks<C: Combine>(own: &mut [usize], other: &mut Blocks<'_, usize>) -> bool
+fn combine_blocks<C: Combine>(own: &mut [usize], other: &mut Blocks<'_, usize>) -> bool
     requires { length own.old ≡ length other.old.items }
-    ensures combined { IsCombined 64 (on_bits C.connective) own.old other.old.items own.new result }
+    ensures combined { IsCombined 64 C.of_bits own.old other.old.items own.new result }
     ensures read { AreReadOnce other.old other.new }
 {
     if own.len() == 1 {
-        return combine_one::<C>(own, other);
+        return combine_block::<C, usize>(own, other, 0, 0) != 0;
     }
     let turns = own.len() / TURN;
     if TURN * turns == own.len() {
         return combine_turns::<C>(own, other, turns) != 0;
     }
     combine_with_rest::<C>(own, other)
+}
+
+impl Kernel for usize {
+    #[inline(always)]
+    fn combine_into<C: Combine>(own: &mut [usize], other: &mut Blocks<'_, usize>) -> bool {
+        combine_blocks::<C>(own, other)
+    }
 }

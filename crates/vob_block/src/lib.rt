@@ -4,6 +4,8 @@
 pub mod bit_block;
 pub mod block;
 mod blocks;
+pub mod combine;
+pub mod kernel;
 mod lanes;
 mod narrow;
 mod wide;
@@ -12,3 +14,5 @@ mod word;
 pub use bit_block::BitBlock;
 pub use block::Block;
 pub use blocks::Blocks;
+pub use combine::{And, Combine, Or, Without, Xor};
+pub use kernel::Kernel;

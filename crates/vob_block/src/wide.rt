@@ -1,11 +1,9 @@
-//! Three types as blocks: `u64`, `u128` and `usize`, whose kernels take eight blocks at a time.
+//! Three types as blocks: `u64`, `u128` and `usize`.
 ghost use Rattle.std.specs.Prelude.{◌-◌, ◌^◌};
 ghost use Rattle.std.proofs.Common.{refl, ap, arith, eq-eqb, eqb-true, lit<};
 
 use crate::bit_block::BitBlock;
 use crate::block::Block;
-use crate::blocks::Blocks;
-use crate::lanes::{And, AndNot, Or, Xor, combine_blocks};
 use crate::word::Word;
 use std::hash::Hash;
 
@@ -365,22 +363,6 @@ impl BitBlock for usize {
     #[inline(always)]
     fn without_first(self) -> Self {
         <usize as Word>::without_first(self)
-    }
-
-    fn and_into(own: &mut [Self], other: &mut Blocks<'_, Self>) -> bool {
-        combine_blocks::<And>(own, other)
-    }
-
-    fn or_into(own: &mut [Self], other: &mut Blocks<'_, Self>) -> bool {
-        combine_blocks::<Or>(own, other)
-    }
-
-    fn xor_into(own: &mut [Self], other: &mut Blocks<'_, Self>) -> bool {
-        combine_blocks::<Xor>(own, other)
-    }
-
-    fn and_not_into(own: &mut [Self], other: &mut Blocks<'_, Self>) -> bool {
-        combine_blocks::<AndNot>(own, other)
     }
 
     ghost equal_law = { λ x y. (eqb-true x y, eq-eqb x y) };

@@ -1,13 +1,17 @@
 -- Blocks combined one after another: how many places are true so far, and whether one is.
 use Rattle.std.specs.List.{range_with_len}
 use Rattle.std.proofs.Common.{◌≡◌, ◌↔◌, ℕ, zero, suc, ◌+◌, ◌-◌, ◌*◌, ◌/◌, ◌%◌, ◌^◌, ◌<◌, ◌≤◌, Bool}
-use Rattle.std.proofs.Common.{◌||◌, cond, List, get_or, count_by, refl, sym, ap, ◌∙◌}
+use Rattle.std.proofs.Common.{◌||◌, cond, List, All, length, get_or, count_by, refl, sym, ap, ◌∙◌}
 use Rattle.std.proofs.Common.{subst, arith, inl, inr, add-mul, mod-lt}
 use Rattle.std.proofs.lemmas.Bool.{cases_eq}
+use Rattle.std.proofs.lemmas.List.{ext_get_or}
+use Rattle.std.proofs.lemmas.List.Elements.{All-get_or}
 use Rattle.std.proofs.lemmas.List.Sums.{sum_by-cons}
 use Rattle.std.proofs.lemmas.Nat.{div-mul-add, mul-le, pow_pos}
 use Rattle.vob_block.specs.Places.{place, HasPlaces, true_places}
 use Rattle.vob_block.specs.Packing.{bit_at}
+use Rattle.vob_block.specs.Pointwise.{differ}
+use Rattle.vob_block.proofs.BoolLemmas.{same_from_differ, differ-same}
 use Rattle.vob_block.proofs.KernelLemmas.{or-zero, zero-or}
 use Rattle.vob_block.proofs.PackingLemmas.{bit_at-in_block, bit_at-is_place}
 use Rattle.vob_block.proofs.PlaceLemmas.{same_from_places, place-zero}
@@ -155,3 +159,21 @@ module _ (f : Bool → Bool → Bool) (w : ℕ) (xs ys : List ℕ) where
       let found = IsFound-more wide 0 0 0 (IsFound-start 0 0 refl) (omega arith) x y z z is its
       z-in z-in places packed in
       (found.none, found.zero)
+
+-- no place differs exactly if the blocks are the same
+module _ (w : ℕ) (wide : 0 < w) (xs ys : List ℕ) (same : length xs ≡ length ys)
+    (mine : All (λ x. x < 2 ^ w) xs) (theirs : All (λ y. y < 2 ^ w) ys) where
+  pub HaveNone-differ : HaveNone differ w 0 (length xs) xs ys ↔ (xs ≡ ys)
+  HaveNone-differ = (
+    λ none. ext_get_or 0 xs ys same (λ k inside.
+        same_from_places w (get_or xs k 0) (get_or ys k 0)
+        (All-get_or (λ x. x < 2 ^ w) xs k 0 inside mine)
+        (All-get_or (λ y. y < 2 ^ w) ys k 0 (omega (arith, same)) theirs) (λ j less.
+        let at : (k * w + j) / w ≡ k = div-mul-add k w j less in
+        same_from_differ (place j (get_or xs k 0)) (place j (get_or ys k 0))
+        (sym (ap (λ b. differ b (bit_at ys w (k * w + j))) (bit_at-in_block xs w k j less)
+        ∙ ap (differ (place j (get_or xs k 0))) (bit_at-in_block ys w k j less))
+        ∙ none (k * w + j) (omega arith) (omega (arith, at))))),
+    λ e i above below. ap (λ zs. differ (bit_at xs w i) (bit_at zs w i)) (sym e)
+        ∙ differ-same (bit_at xs w i),
+  )

@@ -15,7 +15,6 @@ pub mod RangeLemmas
 pub mod RawLemmas
 pub mod ReverseLemmas
 pub mod RoomLemmas
-pub mod SameLemmas
 pub mod SplatLemmas
 pub mod StorageLemmas
 pub mod TextLemmas

@@ -4,4 +4,3 @@ pub mod Copying
 pub mod Gathering
 pub mod Joining
 pub mod Range
-pub mod Same

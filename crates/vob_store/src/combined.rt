@@ -1,113 +1,12 @@
-//! The blocks of two slices combined, place by place: stored, counted, or asked for a true place.
-ghost use Rattle.std.specs.Prelude.{◌≡◌, ◌↔◌, ◌+◌, ◌-◌, ◌^◌, ◌<◌, ◌≤◌, ◌&&◌, ◌||◌, Bool, map, length, IsTrue};
-ghost use Rattle.vob_block.specs.Places.{place, HasPlaces};
-ghost use Rattle.vob_block.specs.Pointwise.{differ, without, IsCombined};
+//! The blocks of two slices combined, place by place: counted, or asked for a true place.
+ghost use Rattle.std.specs.Prelude.{◌≡◌, ◌↔◌, ◌+◌, ◌-◌, ◌≤◌, map, length, IsTrue};
 ghost use Rattle.vob_block.specs.Reading.{AreReadOnce};
 ghost use Rattle.vob_store.specs.Combined.{ones_combined, HaveNone, StopsAtChunk};
 
-use vob_block::{BitBlock, Blocks};
+use vob_block::{BitBlock, Blocks, Combine};
 
 // How many blocks are read for one test. A test after each block takes more than twice as long.
 const CHUNK: usize = 64;
-
-/// A way to combine two blocks.
-pub trait Combine {
-    // What it makes of two bits.
-    ghost of_bits: { Bool → Bool → Bool };
-
-    /// What it makes of the places of both blocks.
-    fn block<T: BitBlock>(own: T, other: T) -> T
-        ensures places { HasPlaces T.BITS (T.number result)
-            (λ j. of_bits (place j (T.number own)) (place j (T.number other))) }
-        ensures within { T.number result < 2 ^ T.BITS };
-}
-
-/// The places that both have.
-pub struct And;
-
-impl Combine for And {
-    ghost of_bits = { ◌&&◌ };
-
-    #[inline(always)]
-    fn block<T: BitBlock>(own: T, other: T) -> T {
-        own.band(other)
-    }
-}
-
-/// The places that either has.
-pub struct Or;
-
-impl Combine for Or {
-    ghost of_bits = { ◌||◌ };
-
-    #[inline(always)]
-    fn block<T: BitBlock>(own: T, other: T) -> T {
-        own.bor(other)
-    }
-}
-
-/// The places that one has and the other hasn't.
-pub struct Xor;
-
-impl Combine for Xor {
-    ghost of_bits = { differ };
-
-    #[inline(always)]
-    fn block<T: BitBlock>(own: T, other: T) -> T {
-        own.bxor(other)
-    }
-}
-
-/// The places that the first has and the other hasn't.
-pub struct Without;
-
-impl Combine for Without {
-    ghost of_bits = { without };
-
-    #[inline(always)]
-    fn block<T: BitBlock>(own: T, other: T) -> T {
-        own.band(other.bnot())
-    }
-}
-
-/// A way to combine blocks that is stored in the first ones.
-pub trait CombineInto: Combine {
-    /// Stores in `own` both combined, and returns whether a block changed. Each block of `other` is
-    /// read once.
-    fn combine_into<T: BitBlock>(own: &mut [T], other: &mut Blocks<'_, T>) -> bool
-        requires { length own.old ≡ length other.old.items }
-        ensures combined { IsCombined T.BITS Self.of_bits (map T.number own.old)
-            (map T.number other.old.items) (map T.number own.new) result }
-        ensures read { AreReadOnce other.old other.new };
-}
-
-impl CombineInto for And {
-    #[inline(always)]
-    fn combine_into<T: BitBlock>(own: &mut [T], other: &mut Blocks<'_, T>) -> bool {
-        T::and_into(own, other)
-    }
-}
-
-impl CombineInto for Or {
-    #[inline(always)]
-    fn combine_into<T: BitBlock>(own: &mut [T], other: &mut Blocks<'_, T>) -> bool {
-        T::or_into(own, other)
-    }
-}
-
-impl CombineInto for Xor {
-    #[inline(always)]
-    fn combine_into<T: BitBlock>(own: &mut [T], other: &mut Blocks<'_, T>) -> bool {
-        T::xor_into(own, other)
-    }
-}
-
-impl CombineInto for Without {
-    #[inline(always)]
-    fn combine_into<T: BitBlock>(own: &mut [T], other: &mut Blocks<'_, T>) -> bool {
-        T::and_not_into(own, other)
-    }
-}
 
 /// How many places are true in both combined. Each block of `other` is read once.
 pub fn count_combined<C: Combine, T: BitBlock>(own: &[T], other: &mut Blocks<'_, T>) -> usize

@@ -2,8 +2,7 @@
 ghost use Rattle.std.specs.Prelude.{◌≡◌, ℕ, ◌+◌, ◌/◌, ◌≤◌, true, length, map, option_map, unwrap_or, MatchOption};
 ghost use Rattle.vob_store.specs.Combined.{combined_bit, HaveNone, IsFirstCombined};
 
-use crate::combined::Combine;
-use vob_block::{BitBlock, Blocks};
+use vob_block::{BitBlock, Blocks, Combine};
 
 /// The index of the first true bit of both combined. The blocks of `other` are read up to the one that
 /// holds it, once each.

@@ -1,7 +1,7 @@
 //! What blocks return: they ask for no memory.
 use super::support::{FIRST, request, same, same_list, tell};
 use std::process::Abort;
-use vob_block::{BitBlock, Blocks};
+use vob_block::{BitBlock, Blocks, Kernel};
 
 /// Places 1 and 2, with places 0 and 1.
 fn check_operators(rt: &impl Abort) {
