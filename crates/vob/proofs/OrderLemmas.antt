@@ -1,12 +1,13 @@
 -- Where two lists of bits differ first, by their blocks, and the order that this gives.
 use Rattle.std.specs.Prelude.{Option, Some, None, MatchOption}
 use Rattle.std.specs.Ordering.{bool_cmp, nat_cmp, ordering_then}
+use Rattle.std.specs.declared.cmp.Ordering.{Ordering}
 use Rattle.std.specs.declared.cmp.Ordering.TheVariants.{Less, Equal, Greater}
 use Rattle.std.specs.Cmp.Lexicographic.{slice_cmp}
-use Rattle.std.proofs.Common.{◌≡◌, ◌≢◌, ℕ, zero, suc, ◌/◌, ◌%◌, ◌<◌, ◌≤◌, min, nat_lt, nat_eq, Bool, true, false, List}
+use Rattle.std.proofs.Common.{◌≡◌, ◌≢◌, ℕ, zero, suc, ◌/◌, ◌%◌, ◌<◌, ◌≤◌, max, min, nat_lt, nat_eq, Bool, true, false, not, List}
 use Rattle.std.proofs.Common.{[], ◌∷◌, cond, length, map, take, refl, sym, ap, ◌∙◌, arith, inl, inr}
 use Rattle.std.proofs.lemmas.Bool.{cases_lt, cases_eq, cond-true, cond-false, false≢true, lt-ltb, le-ltb, eq-eqb, ne_eqb}
-use Rattle.std.proofs.lemmas.List.{get_or_past, length-take-le}
+use Rattle.std.proofs.lemmas.List.{get_or_past, length-take-le, take-map}
 use Rattle.vob_block.specs.Packing.{item, need, bit_at, unpacking, IsCanonical}
 use Rattle.vob_block.specs.Pointwise.{differ}
 use Rattle.vob_block.proofs.BoolLemmas.{differ-same, same_from_differ}
@@ -60,14 +61,14 @@ module _ (w : ℕ) (wide : 0 < w) (n m : ℕ) (xs ys : List ℕ) (bits others : 
   long = (sym (ap length is) ∙ length-unpacking n xs w, sym (ap length its) ∙ length-unpacking m ys w)
 
   -- a bit that differs is below one of the lengths
-  pub differs-below : (i : ℕ) → both i ≡ true → (i / w < k) × (i < n + m)
+  pub differs-below : (i : ℕ) → both i ≡ true → (i / w < k) × (i < max n m)
   differs-below i true_bit = elim (cases_lt (i / w) k) [
     | inr past ↦ absurd (false≢true (sym (ap (λ b. differ b (bit_at (take k ys) w i))
         (bit_at-past (take k xs) w i (omega (arith, past, length-take-le k xs blocks-le.0)))
         ∙ ap (differ false)
         (bit_at-past (take k ys) w i (omega (arith, past, length-take-le k ys blocks-le.1))))
         ∙ true_bit))
-    | inl inside ↦ elim (cases_lt i (n + m)) [
+    | inl inside ↦ elim (cases_lt i (max n m)) [
       | inl less ↦ (inside, less)
       | inr far ↦ absurd (false≢true (sym (bit-within i inside
           ∙ ap (λ b. differ b (item others i)) (get_or_past bits i false (omega (arith, far, long.0)))
@@ -113,6 +114,12 @@ same_bits true true same o = refl
 same_bits true false same o = absurd (false≢true (sym same))
 same_bits false true same o = absurd (false≢true same)
 same_bits false false same o = refl
+
+other_is : (b c : Bool) → b ≢ c → b ≡ not c
+other_is true true other = absurd (other refl)
+other_is true false other = refl
+other_is false true other = refl
+other_is false false other = absurd (other refl)
 
 -- the first bits that differ decide
 pub cmp_difference : (bits others : List Bool) (i : ℕ) → IsFirstDifference bits others i
@@ -175,3 +182,22 @@ cmp_lengths bits others all =
             ∙ sym (cond-false (nat_eq n m) Equal Greater (ne_eqb n m other))
       ] ∙ sym (cond-false (nat_lt n m) Less equal (le-ltb n m past))
     ]
+
+-- ---- the two cases of the first bits that differ
+
+module _ (bits others : List Bool) (i : ℕ) (first : IsFirstDifference bits others i) where
+  pub cmp_greater : item bits i ≡ true → slice_cmp bool_cmp bits others ≡ Greater
+  cmp_greater set = cmp_difference bits others i first
+      ∙ ap (λ b. bool_cmp b (item others i)) set
+      ∙ ap (bool_cmp true) (other_is (item others i) true (λ e. first.differ (set ∙ sym e)))
+
+  pub cmp_less : item bits i ≡ false → slice_cmp bool_cmp bits others ≡ Less
+  cmp_less unset = cmp_difference bits others i first
+      ∙ ap (λ b. bool_cmp b (item others i)) unset
+      ∙ ap (bool_cmp false) (other_is (item others i) false (λ e. first.differ (unset ∙ sym e)))
+
+-- the first blocks of a slice that was lent, by their numbers
+pub first_blocks : {X : Type 0} (number : X → ℕ) (k : ℕ) {items lent part : List X}
+    → part ≡ take k lent → lent ≡ items → map number part ≡ take k (map number items)
+first_blocks number k {items} front value =
+    ap (map number) (front ∙ ap (take k) value) ∙ sym (take-map number k items)

@@ -33,6 +33,7 @@ pub mod bulk;
 pub mod copy;
 pub mod edit;
 mod error;
+pub mod fused;
 pub mod iter;
 pub mod laws;
 mod macros;

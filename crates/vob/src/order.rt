@@ -1,15 +1,16 @@
 //! Where two Vobs differ first, and the order that this gives. vob 4.0.1 has none of these calls.
 ghost use Rattle.std.specs.Prelude.{Some};
 ghost use Rattle.std.specs.Ordering.{bool_cmp};
-ghost use Rattle.std.specs.Cmp.{booleans_po, booleans_total, booleans_ties, on_po, on_total};
+ghost use Rattle.std.specs.Cmp.{bool_cmp_total, on_po, on_total};
+ghost use Rattle.std.specs.Cmp.Rules.{comparing};
+ghost use Rattle.std.proofs.Common.{refl, rules};
 ghost use Rattle.std.specs.Cmp.Lexicographic.{lists_agrees, lists_po, lists_ties, lists_total};
 ghost use Rattle.std.specs.Cmp.Lexicographic.{slice_cmp, slice_partial_cmp};
 ghost use Rattle.vob.specs.Order.{IsDifference};
 
 use crate::vob::Vob;
 use std::cmp::Ordering;
-use vob_block::{Block, Blocks};
-use vob_store::combined::Xor;
+use vob_block::{Block, Blocks, Xor};
 use vob_store::first::first_combined;
 use vob_store::room::block_count;
 
@@ -38,7 +39,7 @@ impl<T: Block> PartialOrd for Vob<T> {
     ghost partial_cmp = { λ vob other. slice_partial_cmp (λ bit bit'. Some (bool_cmp bit bit'))
         vob.bits other.bits };
 
-    ghost laws = { on_po (λ vob. vob.bits) (lists_po booleans_po) };
+    ghost laws = { on_po (λ vob. vob.bits) (lists_po ⟦<bool as PartialOrd>⟧.laws) };
 
     /// Returns the order that `cmp` returns.
     fn partial_cmp(&self, other: &Vob<T>) -> Option<Ordering> {
@@ -49,7 +50,13 @@ impl<T: Block> PartialOrd for Vob<T> {
 impl<T: Block> Ord for Vob<T> {
     ghost cmp = { λ vob other. slice_cmp bool_cmp vob.bits other.bits };
 
-    ghost total = { on_total (λ vob. vob.bits) (lists_total booleans_total) };
+    ghost total = { on_total (λ vob. vob.bits) (lists_total bool_cmp_total) };
+
+    ghost matches_partial_cmp = { λ vob other. lists_agrees ⟦<bool as Ord>⟧.matches_partial_cmp
+        vob.bits other.bits };
+
+    ghost matches_eq = { λ vob other. lists_ties bool_cmp ⟦<bool as Ord>⟧.matches_eq
+        vob.bits other.bits };
 
     /// Returns the order of the lists of bits, as that of two `Vec<bool>`: the first bits that differ
     /// decide, and an unset bit comes first. If there are none, the shorter list comes first.

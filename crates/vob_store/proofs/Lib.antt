@@ -7,6 +7,7 @@ pub mod DrainLemmas
 pub mod FillLemmas
 pub mod FirstLemmas
 pub mod FunnelLemmas
+pub mod FusedLemmas
 pub mod GatherLemmas
 pub mod JoinLemmas
 pub mod PackLemmas

@@ -8,6 +8,7 @@ pub mod copy;
 pub mod drain;
 pub mod fill;
 pub mod first;
+pub mod fused;
 pub mod gather;
 pub mod join;
 mod last;

@@ -1,0 +1,87 @@
+-- By the lemma on two others combined, at the clauses of the way to combine.
+use Rattle.std.proofs.Common.{◌≡◌, ◌⊎◌, ◌<◌, ◌||◌, List, Bool, true, subst, refl, sym, ap, length, drop, ◌∙◌}
+use Rattle.std.proofs.lemmas.List.{take_at}
+use Rattle.vob_block.specs.Pointwise.{pointwise}
+use Rattle.vob_block.proofs.PointwiseLemmas.{length-pointwise}
+use Rattle.vob.specs.Bits.{count_of}
+use Rattle.vob.proofs.BitsLemmas.{GainsBits-by, or_more}
+use Rattle.vob.proofs.CombineLemmas.{added_here, as_many}
+use Rattle.vob.proofs.vob.Vob.or_combine.Goals as goal
+
+pub or_combined-requires-clause-first : goal.or_combined-requires-clause-first
+or_combined-requires-clause-first g c = ap length c.as_mut_slice.ensures.value ∙ as_many g.T.BitBlock.number g.T.BitBlock.BITS
+    g.met.T.BitBlock.wide_law c.self.inside.len c.self.inside.vec.items c.blocks-2.result.items
+    c.args.self.now.bits c.args.first.now.bits c.self.invariant (ap (λ v. v.bits) c.self.view_is)
+    c.requires.first c.blocks-2.ensures.blocks
+
+pub or_combined-requires-clause-second : goal.or_combined-requires-clause-second
+or_combined-requires-clause-second g c = ap length c.as_mut_slice.ensures.value ∙ as_many g.T.BitBlock.number g.T.BitBlock.BITS
+    g.met.T.BitBlock.wide_law c.self.inside.len c.self.inside.vec.items c.blocks-3.result.items
+    c.args.self.now.bits c.args.second.now.bits c.self.invariant (ap (λ v. v.bits) c.self.view_is)
+    c.requires.second c.blocks-3.ensures.blocks
+
+pub invariant_of-self : goal.invariant_of-self
+invariant_of-self g c =
+    let left = take_at c.or_combined.new.own
+    (drop (length c.or_combined.new.own) c.self.inside.vec.items) c.self.inside.vec.len
+    (c.or_combined.auto.own ∙ c.as_mut_slice.ensures.len) in
+    let after = added_here g.T.BitBlock.number g.T.BitBlock.of_bits g.T.BitBlock.BITS
+    g.met.T.BitBlock.wide_law g.met.T.BitBlock.of_bits_number_law c.self.inside.len
+    c.self.inside.vec.items c.args.self.now.bits c.args.first.now.bits c.args.second.now.bits
+    c.self.invariant (ap (λ v. v.bits) c.self.view_is) c.requires.first c.requires.second
+    g.C.Combine.of_bits c.requires.none c.or_combined.result c.as_mut_slice.ensures.value left
+    _ _ c.blocks-2.ensures.blocks c.blocks-3.ensures.blocks c.or_combined.ensures in
+    after.canonical
+
+pub returns-clause-bits : goal.returns-clause-bits
+returns-clause-bits g c =
+    let left = take_at c.or_combined.new.own
+    (drop (length c.or_combined.new.own) c.self.inside.vec.items) c.self.inside.vec.len
+    (c.or_combined.auto.own ∙ c.as_mut_slice.ensures.len) in
+    let after = added_here g.T.BitBlock.number g.T.BitBlock.of_bits g.T.BitBlock.BITS
+    g.met.T.BitBlock.wide_law g.met.T.BitBlock.of_bits_number_law c.self.inside.len
+    c.self.inside.vec.items c.args.self.now.bits c.args.first.now.bits c.args.second.now.bits
+    c.self.invariant (ap (λ v. v.bits) c.self.view_is) c.requires.first c.requires.second
+    g.C.Combine.of_bits c.requires.none c.or_combined.result c.as_mut_slice.ensures.value left
+    _ _ c.blocks-2.ensures.blocks c.blocks-3.ensures.blocks c.or_combined.ensures in
+    after.stored
+
+pub returns-clause-each : goal.returns-clause-each
+returns-clause-each g c =
+    let left = take_at c.or_combined.new.own
+    (drop (length c.or_combined.new.own) c.self.inside.vec.items) c.self.inside.vec.len
+    (c.or_combined.auto.own ∙ c.as_mut_slice.ensures.len) in
+    let after = added_here g.T.BitBlock.number g.T.BitBlock.of_bits g.T.BitBlock.BITS
+    g.met.T.BitBlock.wide_law g.met.T.BitBlock.of_bits_number_law c.self.inside.len
+    c.self.inside.vec.items c.args.self.now.bits c.args.first.now.bits c.args.second.now.bits
+    c.self.invariant (ap (λ v. v.bits) c.self.view_is) c.requires.first c.requires.second
+    g.C.Combine.of_bits c.requires.none c.or_combined.result c.as_mut_slice.ensures.value left
+    _ _ c.blocks-2.ensures.blocks c.blocks-3.ensures.blocks c.or_combined.ensures in
+    after.each
+
+pub returns-clause-changed : goal.returns-clause-changed
+returns-clause-changed g c =
+    let left = take_at c.or_combined.new.own
+    (drop (length c.or_combined.new.own) c.self.inside.vec.items) c.self.inside.vec.len
+    (c.or_combined.auto.own ∙ c.as_mut_slice.ensures.len) in
+    let after = added_here g.T.BitBlock.number g.T.BitBlock.of_bits g.T.BitBlock.BITS
+    g.met.T.BitBlock.wide_law g.met.T.BitBlock.of_bits_number_law c.self.inside.len
+    c.self.inside.vec.items c.args.self.now.bits c.args.first.now.bits c.args.second.now.bits
+    c.self.invariant (ap (λ v. v.bits) c.self.view_is) c.requires.first c.requires.second
+    g.C.Combine.of_bits c.requires.none c.or_combined.result c.as_mut_slice.ensures.value left
+    _ _ c.blocks-2.ensures.blocks c.blocks-3.ensures.blocks c.or_combined.ensures in
+    after.flag
+
+pub returns-clause-more : goal.returns-clause-more
+returns-clause-more g c =
+    let bits = c.args.self.now.bits in
+    let firsts = c.args.first.now.bits in
+    let seconds = c.args.second.now.bits in
+    let others = pointwise g.C.Combine.of_bits firsts seconds in
+    let both = pointwise ◌||◌ bits others in
+    let long = length-pointwise g.C.Combine.of_bits firsts seconds
+    (sym c.requires.first ∙ c.requires.second) in
+    GainsBits-by _ _ _ (returns-clause-changed g c)
+    (subst (λ (after : List Bool). (after ≡ bits) ⊎ (count_of true bits < count_of true after))
+    {x = both} (sym {b = both} (returns-clause-bits g c))
+    (or_more bits others (c.requires.first ∙ sym long)))
