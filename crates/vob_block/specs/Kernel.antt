@@ -38,7 +38,7 @@ pub record Takes (width : ℕ) (f : Bool → Bool → Bool) (others before after
       × ((i : ℕ) → k ≤ i → i < k + m → slice_index_or after i 0 ≡ slice_index_or before i 0))
 
 -- the first k blocks are combined with the others, the rest are as they were, and changed is 0
--- exactly where none of the first k changed
+-- exactly if none of the first k changed
 pub record AreTaken (width : ℕ) (f : Bool → Bool → Bool) (blocks others after : List ℕ)
     (k changed : ℕ) : Type 0 where
   pub count : length after ≡ length blocks

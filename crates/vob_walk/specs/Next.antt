@@ -35,7 +35,7 @@ pub record IsLastPlace (x : ℕ) (value : Bool) (b j : ℕ) : Type 0 where
   pub between : (i : ℕ) → j ≤ i → i < b → place i x ≢ value
 
 -- a search up from index `from`, whose block is in hand, ends at the first index whose bit has the
--- value, with its block, or at `stop`. Each block behind the one in hand was read once, up to there
+-- value, with its block, or at `stop`. Each block after the one in hand was read once, up to there
 pub record FindsUp {X : Type 0} (width : ℕ) (number : X → ℕ) (value : Bool)
     (before after : Reading X) (from stop : ℕ) (found : ℕ × X) : Type 0 where
   pub above : from ≤ found.0
