@@ -109,22 +109,22 @@ module _ {X : Type 0} (w : ℕ) (wide : 0 < w) (number : X → ℕ) (n : ℕ) (x
         }
 
     module _ (more : from ≢ n) {y z : Reading X} (held : y.items ≡ x.items)
-        (counted : y.reads ≡ x.reads + cond (from == 0) 1 0) {start : ℕ × X}
-        (search : FindsUp w number true y z from n start) where
+        (counted : y.reads ≡ x.reads + cond (from == 0) 1 0) {start : ℕ} {first : X}
+        (search : FindsUp w number true y z from n start first) where
       some : from < n
       some = omega (arith, on.within, more)
 
       after_start : z.items ≡ x.items
       after_start = search.items ∙ held
 
-      unset_below : (i : ℕ) → at ≤ i → i < start.0 → item bits i ≢ true
+      unset_below : (i : ℕ) → at ≤ i → i < start → item bits i ≢ true
       unset_below i above below same = elim (cases_lt i from) [
         | inl less ↦ passed_there i above less same
         | inr more ↦ search.between i more below
             (bit-is y held i (omega (arith, below, search.within)) ∙ same)
       ]
 
-      reads_so_far : z.reads + (need n w - min (start.0 / w + 1) (need n w))
+      reads_so_far : z.reads + (need n w - min (start / w + 1) (need n w))
           ≡ x.reads + unread_from w n from
       reads_so_far = omega (
         arith,
@@ -139,11 +139,11 @@ module _ {X : Type 0} (w : ℕ) (wide : 0 < w) (number : X → ℕ) (n : ℕ) (x
         search.reads,
         counted,
         div-lt-need w wide n from some,
-        quotients_rise w wide from start.0 search.above,
+        quotients_rise w wide from start search.above,
       )
 
       -- no set bit is left
-      module _ (none : start.0 ≡ n) where
+      module _ (none : start ≡ n) where
         none_left : (i : ℕ) → at ≤ i → i < length bits → item bits i ≢ true
         none_left i above inside = unset_below i above (omega (arith, none, inside, long))
 
@@ -165,31 +165,31 @@ module _ {X : Type 0} (w : ℕ) (wide : 0 < w) (number : X → ℕ) (n : ℕ) (x
           rises = rises_so_far;
         }
 
-      module _ (inside : start.0 ≢ n) {u : Reading X} {stop : ℕ × X}
-          (behind : FindsUp w number false z u start.0 n stop) where
-        first_there : IsFirstFrom true bits at start.0
+      module _ (inside : start ≢ n) {u : Reading X} {stop : ℕ} {last : X}
+          (behind : FindsUp w number false z u start n stop last) where
+        first_there : IsFirstFrom true bits at start
         first_there =
-            let below : start.0 < n = omega (arith, search.within, inside) in record {
+            let below : start < n = omega (arith, search.within, inside) in record {
               above = omega (arith, on.order, search.above);
               inside = omega (arith, below, long);
-              there = sym (bit-is y held start.0 below) ∙ search.there below;
+              there = sym (bit-is y held start below) ∙ search.there below;
               between = unset_below;
             }
 
-        run_there : IsFirstRun bits at start.0 stop.0
-        run_there = IsFirstRun-between bits at start.0 stop.0 first_there ended_there behind.above
+        run_there : IsFirstRun bits at start stop
+        run_there = IsFirstRun-between bits at start stop first_there ended_there behind.above
             (omega (arith, behind.within, long))
             (λ i above below same. behind.between i above below
             (bit-is z after_start i (omega (arith, below, behind.within)) ∙ same))
             (λ below.
-            let inside : stop.0 < n = omega (arith, below, long) in
-            sym (bit-is z after_start stop.0 inside) ∙ behind.there inside)
+            let inside : stop < n = omega (arith, below, long) in
+            sym (bit-is z after_start stop inside) ∙ behind.there inside)
 
         pub GivesRun-next : GivesRun (walk_of x at from)
-            (Some record { start = start.0; end = stop.0 }) (walk_of u stop.0 stop.0)
+            (Some record { start = start; end = stop }) (walk_of u stop stop)
         GivesRun-next = record {
-          gives = runs_from-first bits at record { start = start.0; end = stop.0 } run_there
-              ∙ ap (λ l. record { start = start.0; end = stop.0 } ∷ runs_from l stop.0)
+          gives = runs_from-first bits at record { start = start; end = stop } run_there
+              ∙ ap (λ l. record { start = start; end = stop } ∷ runs_from l stop)
               (sym (same_bits u (behind.items ∙ after_start)));
           bits = same_bits u (behind.items ∙ after_start);
           run = (run_there, refl);
@@ -197,15 +197,15 @@ module _ {X : Type 0} (w : ℕ) (wide : 0 < w) (number : X → ℕ) (n : ℕ) (x
             arith,
             reads_so_far,
             behind.reads,
-            unread-some w wide n stop.0 (omega (arith, run_there.run.some)),
-            div-lt-need w wide n start.0 (omega (arith, search.within, inside)),
+            unread-some w wide n stop (omega (arith, run_there.run.some)),
+            div-lt-need w wide n start (omega (arith, search.within, inside)),
           );
           rises = omega (
             arith,
             rises_so_far,
             behind.reads,
-            div-lt-need w wide n start.0 (omega (arith, search.within, inside)),
-            quotients_rise w wide start.0 stop.0 behind.above,
+            div-lt-need w wide n start (omega (arith, search.within, inside)),
+            quotients_rise w wide start stop behind.above,
           );
         }
 

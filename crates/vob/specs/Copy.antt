@@ -17,7 +17,7 @@ abbrev pub written_over : ℕ → List Bool → List Bool → List Bool
 written_over at others bits = replaced at (at + length others) others bits
 
 -- as many bits of others from one index on stand in place of those from another on, and each bit
--- before and behind is as it was
+-- before and after is as it was
 pub record IsCopied (at start count : ℕ) (bits others after : List Bool) : Type 0 where
   pub len : length after ≡ length bits
   pub copied : (j : ℕ) → j < count → item after (at + j) ≡ item others (start + j)

@@ -18,7 +18,7 @@ pub record IsFirstOutside (len : ℕ) (indices : List ℕ) (position : ℕ) : Ty
   pub outside : len ≤ slice_index_or indices position 0
   pub lower : (k : ℕ) → k < position → slice_index_or indices k 0 < len
 
--- a list whose bits at the first so many indices were set, and no others
+-- a list whose bits at the first `count` indices were set, and no others
 pub record HasSet (indices : List ℕ) (count : ℕ) (bits after : List Bool) : Type 0 where
   pub len : length after ≡ length bits
   pub given : (k : ℕ) → k < count → item after (slice_index_or indices k 0) ≡ true

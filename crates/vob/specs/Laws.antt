@@ -20,7 +20,7 @@ DrainFromIsSplit =
     → (bits_outside (Included at) Unbounded bits ≡ take at bits)
     × (bits_within (Included at) Unbounded bits ≡ drop at bits)
 
--- a list with others pushed behind it, one after another
+-- a list with others pushed to it, one after another
 abbrev pub pushes : List Bool → List Bool → List Bool
 pushes bits [] = bits
 pushes bits (value ∷ others) = pushes (bits ++ value ∷ []) others

@@ -13,7 +13,7 @@ abbrev pub DifferenceIsAndNot : Type 0
 DifferenceIsAndNot =
     (bits others : List Bool) → pointwise without bits others ≡ pointwise ◌&&◌ bits (map not others)
 
--- so many bits are all false exactly where none of them is counted
+-- n bits are all false exactly if none of them is counted
 abbrev pub NoneIsCounted : Type 0
 NoneIsCounted =
     (bits : List Bool) (n : ℕ) → length bits ≡ n

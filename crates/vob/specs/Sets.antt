@@ -29,13 +29,13 @@ pub record IsLastUpTo (value : Bool) (bits : List Bool) (upto i : ℕ) : Type 0 
   pub there : item bits i ≡ value
   pub between : (j : ℕ) → i < j → j ≤ upto → j < length bits → item bits j ≢ value
 
--- an answer is that first index, and None where no index at or above has such a bit
+-- a result is that first index, and None if no index at or above has such a bit
 pub record IsNext (value : Bool) (bits : List Bool) (from : ℕ) (answer : Option ℕ) : Type 0 where
   pub some : (i : ℕ) → (answer ≡ Some i) ↔ IsFirstFrom value bits from i
   pub none : (answer ≡ None)
       ↔ ((i : ℕ) → from ≤ i → i < length bits → item bits i ≢ value)
 
--- an answer is that last index, and None where no index at or below has such a bit
+-- a result is that last index, and None if no index at or below has such a bit
 pub record IsPrevious (value : Bool) (bits : List Bool) (upto : ℕ) (answer : Option ℕ)
     : Type 0 where
   pub some : (i : ℕ) → (answer ≡ Some i) ↔ IsLastUpTo value bits upto i

@@ -7,7 +7,7 @@ use Rattle.vob.specs.Vob.{BitVector}
 abbrev pub bits_of : List BitVector → List (List Bool)
 bits_of vobs = map (λ vob. vob.bits) vobs
 
--- each list has so many bits
+-- each list has `len` bits
 abbrev pub AreOfLength : ℕ → List (List Bool) → Type 0
 AreOfLength len lists = All (λ bits. length bits ≡ len) lists
 

@@ -10,7 +10,7 @@ use std::iter::FusedIterator;
 use std::marker::Model;
 use std::ops::Range;
 use vob_block::{Block, Blocks};
-use vob_walk::{block_in_hand, next_in_hand};
+use vob_walk::{Found, block_in_hand, next_in_hand};
 
 /// The runs of a Vob, in order. Seen as the runs still to come, the bits, the end of the last run
 /// returned, and how many blocks are read and unread.
@@ -87,17 +87,18 @@ impl<'a, T: Block> Iterator for Runs<'a, T> {
         if self.from == self.len {
             return None;
         }
-        let hand = block_in_hand(&mut self.blocks, self.hand, self.from);
-        let start = next_in_hand(&mut self.blocks, true, self.len, (self.from, hand));
-        if start.0 == self.len {
+        let index = self.from;
+        let block = block_in_hand(&mut self.blocks, self.hand, index);
+        let start = next_in_hand(&mut self.blocks, true, self.len, Found { index, block });
+        if start.index == self.len {
             self.from = self.len;
             return None;
         }
         let stop = next_in_hand(&mut self.blocks, false, self.len, start);
-        self.at = stop.0;
-        self.from = stop.0;
-        self.hand = stop.1;
-        Some(start.0..stop.0)
+        self.at = stop.index;
+        self.from = stop.index;
+        self.hand = stop.block;
+        Some(start.index..stop.index)
     }
 }
 

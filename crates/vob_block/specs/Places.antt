@@ -14,13 +14,13 @@ pub record HasPlaces (width x : ℕ) (f : ℕ → Bool) : Type 0 where
 unfoldable pub value : ℕ → (ℕ → Bool) → ℕ
 value width f = sum_by (λ j. if f j then 2 ^ j else 0) (range_with_len 0 width)
 
--- n places below the first true one are false, the whole width where none is true
+-- n places below the first true one are false, the whole width if none is true
 pub record HasZerosLow (width x n : ℕ) : Type 0 where
   pub bound : n ≤ width
   pub zeros : (j : ℕ) → j < n → place j x ≡ false
   pub first : n < width → place n x ≡ true
 
--- n places above the last true one are false, the whole width where none is true
+-- n places above the last true one are false, the whole width if none is true
 pub record HasZerosHigh (width x n : ℕ) : Type 0 where
   pub bound : n ≤ width
   pub zeros : (j : ℕ) → j < n → place (width - 1 - j) x ≡ false

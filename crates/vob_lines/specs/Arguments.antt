@@ -4,7 +4,7 @@ use Rattle.std.specs.declared.ops.Bound.{Bound}
 use Rattle.vob_walk.specs.declared.walk.End.{End}
 use Rattle.vob_lines.specs.Spelling.{digit, initial, letters, Writes, WritesBytes, IsRange}
 
--- what a word behind the first one stands for
+-- what a word after the first one stands for
 pub data Argument : Type 0 where
   number : ℕ → Argument
   bit : Bool → Argument

@@ -4,7 +4,7 @@ use Rattle.std.specs.List.{slice_split}
 use Rattle.std.specs.Str.Lines.{lines}
 
 -- the lines of a text, cut at each line feed; one carriage return before a line feed belongs to no
--- line, and what stands behind the last line feed is a line unless it is empty
+-- line, and what stands after the last line feed is a line unless it is empty
 unfoldable pub lines_of : List ℕ → List (List ℕ)
 lines_of text = lines text
 

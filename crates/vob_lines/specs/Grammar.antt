@@ -8,7 +8,7 @@ use Rattle.vob_run.specs.Call.{Shrink, Bits, Storage, Walk, Count, Fresh, WithCa
 use Rattle.vob_run.specs.Call.{FromBytes, FromSlice, FromItems, FromRecord}
 use Rattle.vob_lines.specs.Arguments.{Argument, number, bit, bits, bytes, range, pulls, AllSpell}
 
--- a line: its first word, and the arguments behind it
+-- a line: its first word, and the arguments after it
 pub record Form : Type 0 where
   pub word : List ℕ
   pub arguments : List Argument

@@ -34,7 +34,7 @@ pub data Kinds : Type 0 where
   numbers : Kinds
   before : Kind → Kinds → Kinds
 
--- the kinds of the words behind a keyword
+-- the kinds of the words after a keyword
 abbrev pub kinds_of : Keyword → Kinds
 kinds_of Fresh = nothing
 kinds_of (Number word) = before a_number nothing
@@ -70,7 +70,7 @@ Are words nothing = words ≡ []
 Are words numbers = (values : List ℕ) × AllSpell words (map number values)
 Are words (before kind kinds) = (begins : Begins words kind) × Are begins.rest kinds
 
--- a call has this keyword, and these words behind it spell its arguments
+-- a call has this keyword, and these words after it spell its arguments
 pub record IsLine (keyword : Keyword) (words : List (List ℕ)) (call : Call) : Type 0 where
   pub word : (form_of call).word ≡ word_of keyword
   pub spelled : AllSpell words (form_of call).arguments

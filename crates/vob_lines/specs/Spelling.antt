@@ -40,13 +40,13 @@ abbrev pub WritesBytes : List ℕ → List ℕ → Type 0
 WritesBytes word [] = word ≡ codes "-"
 WritesBytes word (byte ∷ bytes) = ArePairs word (byte ∷ bytes)
 
--- the text of a start: a numeral where it is included, one behind `>` where it is excluded
+-- the text of a start: a numeral if it is included, one after `>` if it is excluded
 abbrev pub IsStart : List ℕ → Bound ℕ → Type 0
 IsStart text Unbounded = text ≡ []
 IsStart text (Included n) = Writes text n
 IsStart text (Excluded n) = (numeral : List ℕ) × (text ≡ codes ">" ++ numeral) × Writes numeral n
 
--- the text of an end: a numeral where it is excluded, one behind `=` where it is included
+-- the text of an end: a numeral if it is excluded, one after `=` if it is included
 abbrev pub IsEnd : List ℕ → Bound ℕ → Type 0
 IsEnd text Unbounded = text ≡ []
 IsEnd text (Excluded n) = Writes text n

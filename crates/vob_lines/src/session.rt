@@ -177,7 +177,7 @@ fn status_after(written: io::Result<()>, status: u8) -> u8
 ///
 /// - 0: each line was read and run;
 /// - 1: reading or writing failed, or input hadn't ended after 1,048,576 reads of at most 4096
-///   bytes; what was written is a prefix of the output;
+///   bytes; what is written is a prefix;
 /// - 2: a line can't be read, nothing was run, and `bad line` and its number is all that was
 ///   written;
 /// - 3: memory was refused before a line that can't be read was found, nothing was run, and

@@ -27,18 +27,18 @@ module _ (lists : List (List Bool)) where
       if nat_lt (length bits) greatest_length then leaves lists which done (bits ++ value ∷ [])
       else tells lists (refused 1)
 
-  -- the bits of another list behind those of this one, unless they are too many
+  -- the bits of another list after those of this one, unless they are too many
   abbrev pub extended : ℕ → List Bool → List Bool → Outcome
   extended which more bits =
       unless_long lists (length bits + length more) (leaves lists which done (bits ++ more))
 
-  -- the bits from an index on split off, into a list behind the others, unless it is past the end
+  -- the bits from an index on split off, into a list after the others, unless it is past the end
   abbrev pub split : ℕ → ℕ → List Bool → Outcome
   split which index bits =
       if nat_lt (length bits) index then tells lists (refused 4)
       else divides lists which (take index bits) (drop index bits)
 
-  -- the bits of a range taken out, into a list behind the others
+  -- the bits of a range taken out, into a list after the others
   abbrev pub drained : ℕ → Bound ℕ → Bound ℕ → List Bool → Outcome
   drained which start end bits =
       divides lists which (bits_outside start end bits) (bits_within start end bits)

@@ -32,11 +32,11 @@ module _ (lists : List (List Bool)) where
   abbrev pub leaves : ℕ → Answer → List Bool → Outcome
   leaves which answer bits = outcome answer (slice_set lists which bits)
 
-  -- one list more behind the others, whose number is told
+  -- one list more after the others, whose number is told
   abbrev pub makes : List Bool → Outcome
   makes bits = outcome (made (length lists)) (lists ++ bits ∷ [])
 
-  -- a list made two: these bits in its place, and those in a list more behind the others
+  -- a list made two: these bits in its place, and those in a list more after the others
   abbrev pub divides : ℕ → List Bool → List Bool → Outcome
   divides which kept given =
       outcome (made (length lists)) (slice_set lists which kept ++ given ∷ [])

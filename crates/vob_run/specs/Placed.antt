@@ -1,4 +1,4 @@
--- What becomes of a Vob that is to stand behind the others. No public contract cites this page.
+-- What becomes of a Vob that is to stand after the others. No public contract cites this page.
 use Rattle.std.specs.Prelude.{◌≡◌, ◌⊎◌, List, [], ◌∷◌, ◌++◌, length}
 use Rattle.vob.specs.Vob.{BitVector}
 use Rattle.vob_run.specs.Answer.{Answer, made, refused}

@@ -6,12 +6,12 @@ use Rattle.vob_block.specs.Packing.{bit_at}
 pub record AreBuilt (width k : ℕ) (blocks : List ℕ) (wanted : ℕ → Bool) : Type 0 where
   pub each : (i : ℕ) → i / width < k → bit_at blocks width i ≡ wanted i
 
--- bit i where the bits of others stand behind the first n of some blocks
+-- bit i where the bits of others stand after the first n of some blocks
 abbrev pub joined_bit : ℕ → ℕ → List ℕ → List ℕ → ℕ → Bool
 joined_bit width n blocks others i =
     if nat_lt i n then bit_at blocks width i else bit_at others width (i - n)
 
--- bit i where as many bits from one index on were taken out, and those behind closed up
+-- bit i where as many bits from one index on were taken out, and those after them closed up
 abbrev pub closed_bit : ℕ → ℕ → ℕ → List ℕ → ℕ → Bool
 closed_bit width from by blocks i =
     if nat_lt i from then bit_at blocks width i else bit_at blocks width (i + by)

@@ -15,7 +15,7 @@ abbrev pub Gives : {S : Type 0} → (S → Option Bool → S → Type 0) → S �
 Gives steps from bits to ended =
     MatchBool ended (YieldsThen steps from bits None to) (Yields steps from bits to)
 
--- the items that calls gave, at most so many, are the first places of a block, and no other place is
+-- the items that calls gave, at most `room`, are the first places of a block, and no other place is
 -- true
 pub record Gathers {S : Type 0} (steps : S → Option Bool → S → Type 0) (from to : S)
     (room width x count : ℕ) (ended : Bool) : Type 0 where

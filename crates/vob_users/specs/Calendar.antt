@@ -23,11 +23,11 @@ pub record IsCommonStretch (first second : List Bool) (start end : ℕ) : Type 0
   pub before : (i : ℕ) → i + 1 ≡ start → ¬ IsFreeInBoth first second i
   pub after : ¬ IsFreeInBoth first second end
 
--- whether a stretch has so many slots
+-- whether a stretch has `least` slots or more
 abbrev pub is_long : ℕ → Range ℕ → Bool
 is_long least stretch = nat_le least (stretch.end - stretch.start)
 
--- a list has each such stretch of at least so many slots, no other, and in order
+-- a list has each such stretch of at least `least` slots, no other, and in order
 pub record AreCommon (first second : List Bool) (least : ℕ) (stretches : List (Range ℕ))
     : Type 0 where
   pub each : All (λ s. IsCommonStretch first second s.start s.end × (s.start + least ≤ s.end))

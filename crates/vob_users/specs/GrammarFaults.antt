@@ -8,7 +8,7 @@ use Rattle.vob_users.specs.declared.grammar.Rule.{Rule}
 use Rattle.vob_users.specs.declared.grammar.Symbol.{Symbol}
 use Rattle.vob_users.specs.declared.grammar.Symbol.TheVariants.{Terminal, Nonterminal}
 
--- one of so many terminals or of so many nonterminals
+-- one of these numbers of terminals or of nonterminals
 abbrev pub IsSymbol : ℕ → ℕ → Symbol → Type 0
 IsSymbol terminals nonterminals (Terminal t) = t < terminals
 IsSymbol terminals nonterminals (Nonterminal a) = a < nonterminals

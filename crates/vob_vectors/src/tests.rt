@@ -1,7 +1,6 @@
 //! Rows worked out by hand, and patterns against lists of bits.
 mod constructors;
 mod copies;
-mod counts;
 mod draining;
 mod examples;
 mod growing;
@@ -11,11 +10,6 @@ mod paths;
 mod pointwise;
 mod ranges;
 mod raw;
-mod reads;
-mod runs;
-mod sets;
 mod single_bits;
 mod support;
 mod text;
-mod walk_patterns;
-mod walks;

@@ -197,7 +197,7 @@ module _ {X : Type 0} (w : ℕ) (wide : 0 < w) (number : X → ℕ) (value : Boo
     FindsUp-block : (k j i : ℕ) (block : X) → k * w < stop → number block ≡ get_or xs k 0 → j < w
         → place j (number block) ≡ value → from ≤ k * w + j → HasNoBit w xs value from (k * w + j)
         → y.reads + (from / w + 1) ≡ x.reads + (k + 1) → y.items ≡ x.items
-        → i ≡ min (k * w + j) stop → FindsUp w number value x y from stop (i, block)
+        → i ≡ min (k * w + j) stop → FindsUp w number value x y from stop i block
     FindsUp-block k j i block begins read inside there above none reads items is =
         let at : (k * w + j) / w ≡ k = div-mul-add k w j inside in record {
           above = omega arith;
@@ -238,7 +238,7 @@ module _ {X : Type 0} (w : ℕ) (wide : 0 < w) (number : X → ℕ) (value : Boo
 
       -- in the block in hand
       pub FindsUp-here : (i : ℕ) → j < w → y.reads ≡ x.reads → y.items ≡ x.items
-          → i ≡ min (from / w * w + j) stop → FindsUp w number value x y from stop (i, block)
+          → i ≡ min (from / w * w + j) stop → FindsUp w number value x y from stop i block
       FindsUp-here i inside reads items is = FindsUp-block (from / w) j i block
           (omega (arith, div-add-mod' from w)) read inside (first.there inside)
           (omega (arith, div-add-mod' from w)) passed (omega arith) items is
@@ -254,7 +254,7 @@ module _ {X : Type 0} (w : ℕ) (wide : 0 < w) (number : X → ℕ) (value : Boo
 
         -- in none
         pub FindsUp-none : (found : X) → Scans Front number skip x y a b None
-            → FindsUp w number value x y from stop (stop, found)
+            → FindsUp w number value x y from stop stop found
         FindsUp-none found scan = record {
           above = omega arith;
           within = omega arith;
@@ -270,7 +270,7 @@ module _ {X : Type 0} (w : ℕ) (wide : 0 < w) (number : X → ℕ) (value : Boo
         -- in one behind it
         pub FindsUp-behind : (p : ℕ × X) (m i : ℕ) → Scans Front number skip x y a b (Some p)
             → number p.1 < 2 ^ w → IsFirstPlace w (number p.1) value 0 m
-            → i ≡ min (p.0 * w + m) stop → FindsUp w number value x y from stop (i, p.1)
+            → i ≡ min (p.0 * w + m) stop → FindsUp w number value x y from stop i p.1
         FindsUp-behind p m i scan within head is =
             let k = p.0 in
             let read = scan.found.0.same in

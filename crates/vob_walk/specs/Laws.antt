@@ -56,7 +56,7 @@ FirstMatchIsLeast =
     → (i < length bits) × IsTrue (within low high i) × (item bits i ≡ value)
     × ((j : ℕ) → j < i → IsTrue (within low high j) → item bits j ≢ value)
 
--- where none is given, no bit within the range has the value
+-- if none is given, no bit within the range has the value
 abbrev pub NoMatchIsNone : Type 0
 NoMatchIsNone =
     (bits : List Bool) (value : Bool) (low high : Bound ℕ) → matches bits value low high ≡ []

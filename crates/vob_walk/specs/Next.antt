@@ -35,17 +35,17 @@ pub record IsLastPlace (x : ℕ) (value : Bool) (b j : ℕ) : Type 0 where
   pub between : (i : ℕ) → j ≤ i → i < b → place i x ≢ value
 
 -- a search up from index `from`, whose block is in hand, ends at the first index whose bit has the
--- value, with its block, or at `stop`. Each block behind the one in hand was read once, up to there
+-- value, with its block, or at `stop`. Each block after the one in hand was read once, up to there
 pub record FindsUp {X : Type 0} (width : ℕ) (number : X → ℕ) (value : Bool)
-    (before after : Reading X) (from stop : ℕ) (found : ℕ × X) : Type 0 where
-  pub above : from ≤ found.0
-  pub within : found.0 ≤ stop
-  pub there : found.0 < stop → bit_at (map number before.items) width found.0 ≡ value
-  pub between : HasNoBit width (map number before.items) value from found.0
-  pub block : found.0 < stop
-      → number found.1 ≡ slice_index_or (map number before.items) (found.0 / width) 0
+    (before after : Reading X) (from stop at : ℕ) (held : X) : Type 0 where
+  pub above : from ≤ at
+  pub within : at ≤ stop
+  pub there : at < stop → bit_at (map number before.items) width at ≡ value
+  pub between : HasNoBit width (map number before.items) value from at
+  pub block : at < stop
+      → number held ≡ slice_index_or (map number before.items) (at / width) 0
   pub reads : after.reads + (from / width + 1)
-      ≡ before.reads + min (found.0 / width + 1) (need stop width)
+      ≡ before.reads + min (at / width + 1) (need stop width)
   pub items : after.items ≡ before.items
 
 -- a search down from index `upto` ends one above the last index whose bit has the value, or at 0.

@@ -18,6 +18,6 @@ mod window;
 
 pub use count::count_ones_in;
 pub use index::{IterSetBits, IterUnsetBits};
-pub use next::{block_in_hand, next_in_hand, next_index, previous_index};
+pub use next::{Found, block_in_hand, next_in_hand, next_index, previous_index};
 pub use select::index_of_rank;
 pub use walk::{End, IndexWalk, deal};

@@ -54,28 +54,37 @@ pub fn block_in_hand<T: BitBlock>(blocks: &mut Blocks<'_, T>, hand: T, from: usi
     if from == 0 { blocks.block(0) } else { hand }
 }
 
-/// Returns the first index from `from.0` to below `len` whose bit has the value, with its block. If
-/// there is none, returns `len`; the block is then unspecified. `from.1` is the block of `from.0`, which
-/// isn't read again. The blocks after it are read, once each, until one has such a bit.
+/// An index, and the block that holds its bit.
+#[derive(Clone, Copy)]
+pub struct Found<T: BitBlock> {
+    pub index: usize,
+    pub block: T,
+}
+
+/// Returns the first index from `from` to below `len` whose bit has the value, with its block. If there
+/// is none, returns `len`; the block is then unspecified. The block of `from` isn't read again. The
+/// blocks after it are read, once each, until one has such a bit.
 #[inline(always)]
 pub fn next_in_hand<T: BitBlock>(
     blocks: &mut Blocks<'_, T>,
     value: bool,
     len: usize,
-    from: (usize, T),
-) -> (usize, T)
-    requires inside { from.0 < len }
+    from: Found<T>,
+) -> Found<T>
+    requires inside { from.index < len }
     requires count { need len T.BITS ≤ length blocks.old.items }
-    requires hand { T.number from.1
-        ≡ slice_index_or (map T.number blocks.old.items) (from.0 / T.BITS) 0 }
-    ensures { FindsUp T.BITS T.number value blocks.old blocks.new from.0 len result }
+    requires hand { T.number from.block
+        ≡ slice_index_or (map T.number blocks.old.items) (from.index / T.BITS) 0 }
+    ensures { FindsUp T.BITS T.number value blocks.old blocks.new from.index len result.index
+        result.block }
 {
-    let (index, block) = from;
+    let Found { index, block } = from;
     let k = index / T::BITS;
     let place = first_place(block, value, index % T::BITS);
     if place < T::BITS {
         let at = k * T::BITS;
-        return (at + place.min(len - at), block);
+        let index = at + place.min(len - at);
+        return Found { index, block };
     }
     let rest = Span {
         side: End::Front,
@@ -83,11 +92,13 @@ pub fn next_in_hand<T: BitBlock>(
         end: len.div_ceil(T::BITS),
     };
     let Some(found) = next_other(blocks, block_without(value), rest) else {
-        return (len, block);
+        return Found { index: len, block };
     };
-    found.1.in_range();
-    let at = found.0 * T::BITS;
-    (at + first_place(found.1, value, 0).min(len - at), found.1)
+    let (k, block) = found;
+    block.in_range();
+    let at = k * T::BITS;
+    let index = at + first_place(block, value, 0).min(len - at);
+    Found { index, block }
 }
 
 /// Returns one past the last index up to `upto` whose bit has the value, or 0 if there is none.
@@ -141,8 +152,13 @@ pub fn next_index<T: BitBlock>(
     if block.bit(from % T::BITS) == value {
         return Some(from);
     }
-    let (index, _) = next_in_hand(blocks, value, len, (from, block));
-    if index < len { Some(index) } else { None }
+    let index = from;
+    let next = next_in_hand(blocks, value, len, Found { index, block });
+    if next.index < len {
+        Some(next.index)
+    } else {
+        None
+    }
 }
 
 /// Returns the last index up to `upto` and below `len` whose bit has the value. Reads the blocks from

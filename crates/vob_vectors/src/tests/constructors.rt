@@ -62,10 +62,8 @@ fn bytes_give_their_greatest_bit_first(rt: HostRuntime) {
     check_made(&rt, three, 24, &[16744449]);
     let eight = Vob::from_bytes(alloc, &[0xa0, 0x12, 0x35, 0xca, 0x31, 0x95, 0x7c, 0x51]);
     check_made(&rt, eight, 64, &[0x8a3e_a98c_53ac_4805]);
-    let nine = Vob::from_bytes(
-        alloc,
-        &[0xa0, 0x12, 0x35, 0xca, 0x31, 0x95, 0x7c, 0x51, 0x80],
-    );
+    let bytes = [0xa0, 0x12, 0x35, 0xca, 0x31, 0x95, 0x7c, 0x51, 0x80];
+    let nine = Vob::from_bytes(alloc, &bytes);
     check_made(&rt, nine, 72, &[0x8a3e_a98c_53ac_4805, 1]);
 }
 

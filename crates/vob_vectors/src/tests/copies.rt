@@ -12,8 +12,8 @@ fn copy<T: Block>(vob: &mut Vob<T>, at: usize, other: &Vob<T>, start: usize, end
     }
 }
 
-/// Each of so many bits from `at` on is the other's from `start` on, and the others are old: of a
-/// Vob of this length, and another that is ten bits longer.
+/// Copies a part over a Vob of this length, from another that is ten bits longer. From `at` on its
+/// bits are the other's, and the rest is old.
 fn check_part<T: Block>(
     rt: &(impl Abort + AllocGlobal),
     len: usize,

@@ -119,7 +119,7 @@ fn joins_leave_what_pushes_leave(rt: HostRuntime) {
     }
 }
 
-/// A pattern with items behind it, by a slice and by an iterator, is what pushes leave.
+/// A pattern with items appended, by a slice and by an iterator, is what pushes leave.
 fn check_growth<T: Block>(
     rt: &(impl Abort + AllocGlobal),
     seed: usize,
@@ -140,7 +140,7 @@ fn check_growth<T: Block>(
     check_same(rt, &extended, &pushed);
 }
 
-/// As many equal bits behind a pattern are what pushes leave; cut off, what was there is left.
+/// Equal bits after a pattern are what pushes leave; cut off, what was there is left.
 fn check_resize<T: Block>(rt: &(impl Abort + AllocGlobal), value: bool, first: usize, more: usize) {
     let before = pattern::<T>(rt, 1, first);
     let mut pushed = copy_of(rt, &before);

@@ -76,11 +76,8 @@ impl Iterator for Countdown {
 fn all_items_come_behind_the_bits(rt: HostRuntime) {
     let items = [true, true, false];
     let mut vob = vob_of::<usize>(&rt, "101");
-    vob.extend(Hinted {
-        rest: &items,
-        lower: 0,
-    })
-    .expect(&rt, "memory");
+    let (rest, lower) = (items.as_slice(), 0);
+    vob.extend(Hinted { rest, lower }).expect(&rt, "memory");
     check_blocks(&rt, &vob, 6, &[29]);
     vob.truncate(9);
     check_blocks(&rt, &vob, 6, &[29]);
@@ -89,11 +86,8 @@ fn all_items_come_behind_the_bits(rt: HostRuntime) {
     // More come than the hint promised.
     let items = [true, true, false, true, false];
     let mut vob = Vob::new(rt.alloc());
-    vob.extend(Hinted {
-        rest: &items,
-        lower: 2,
-    })
-    .expect(&rt, "memory");
+    let (rest, lower) = (items.as_slice(), 2);
+    vob.extend(Hinted { rest, lower }).expect(&rt, "memory");
     check_blocks(&rt, &vob, 5, &[11]);
 }
 

@@ -33,8 +33,8 @@ fn check_patterns(rt: &(impl Abort + AllocGlobal), len: usize) {
     }
 }
 
-/// Each call on false bits and on a Vob in which one bit alone is true: whether it changed, and
-/// which of these two is left.
+/// Each call on false bits and on a Vob with one true bit: whether it changed, and which of these
+/// two is left.
 fn check_one_bit(rt: &(impl Abort + AllocGlobal), len: usize, index: usize) {
     let none = filled::<usize>(rt, false, len);
     let mut one = filled::<usize>(rt, false, len);

@@ -33,8 +33,8 @@ pub(super) fn combine<T: Block>(
     }
 }
 
-/// What the three forms of an operator make of two Vobs of one length: a new Vob, the left side in
-/// place, `assigned` being like it, and the left side itself. `and_not` has no operator.
+/// What the three forms of an operator make of two Vobs of one length. They give a new Vob, the
+/// left side in place, which is `assigned`, and the left side itself. `and_not` has no operator.
 fn forms(rt: &impl Abort, call: Call, vob: Vob, mut assigned: Vob, other: &Vob) -> (Vob, Vob, Vob) {
     assert!(rt; vob.len() == other.len() && assigned.len() == other.len());
     let made = match call {
@@ -119,7 +119,7 @@ fn vobs_are_equal_where_their_lists_are(rt: HostRuntime) {
     }
 }
 
-/// What a hasher answers that was fed the Vob.
+/// Returns the hash of the Vob.
 fn hash_of<T: Block>(vob: &Vob<T>) -> u64 {
     let mut state = DefaultHasher::new();
     vob.hash(&mut state);
@@ -199,12 +199,8 @@ fn one_bit_in_many_blocks_is_a_change(rt: HostRuntime) {
     other.set(575, !pattern_bit(0, 575));
     let changed = combine(&rt, Call::Xor, &mut nine, &other);
     same(&rt, "xor", 576, changed, true);
-    check_blocks(
-        &rt,
-        &nine,
-        576,
-        &[0, 0, 0, 0, 0, 0, 0, 0, 0x8000_0000_0000_0000],
-    );
+    let blocks = [0, 0, 0, 0, 0, 0, 0, 0, 0x8000_0000_0000_0000];
+    check_blocks(&rt, &nine, 576, &blocks);
     let mut eight = pattern::<usize>(&rt, 0, 512);
     let changed = combine(&rt, Call::And, &mut eight, &pattern(&rt, 0, 512));
     same(&rt, "and", 512, changed, false);

@@ -6,8 +6,8 @@ use std::process::Abort;
 use vob::{IndicesError, Vob};
 use vob_block::Block;
 
-/// The pattern of a length, in which the bits from one index to below another are made a value or,
-/// with none, negated; and whether one changed.
+/// Makes the pattern of a length, and sets the bits of a range to a value or, with none, negates
+/// them. Returns whether one changed too.
 fn changed_pattern<T: Block>(
     rt: &(impl Abort + AllocGlobal),
     len: usize,

@@ -27,7 +27,7 @@ fn check_taken<T: Block>(rt: &impl Abort, raw: RawVob<T>, digits: &str, blocks: 
     check_bits(rt, &vob, digits);
 }
 
-/// Raw storage that isn't taken, and is handed back.
+/// Raw storage that isn't taken, and is returned.
 fn check_refused<T: Block>(rt: &(impl Abort + AllocGlobal), len: usize, blocks: &[T]) -> RawVob<T> {
     let refused = raw_of(rt, len, blocks).into_vob().err();
     let raw = refused.expect(rt, "this storage isn't canonical");
@@ -43,7 +43,7 @@ fn masked<T: Block>(rt: &impl Abort, raw: RawVob<T>) -> RawVob<T> {
     raw
 }
 
-/// Adds a block behind the last one.
+/// Appends a block.
 fn push_block<T: Block>(raw: &mut RawVob<T>, block: T) -> Result<(), AllocError>
     ensures len { raw.new.len ≡ raw.old.len }
     ensures blocks { OnOk result (raw.new.blocks ≡ raw.old.blocks ++ block ∷ []) }

@@ -1,6 +1,5 @@
-//! What the tests share: Vobs of digits and of patterns, what is compared, and a check at each
-//! block type. An assertion, and a call with a long contract, cost the proof of a function far more
-//! than a call of a function without one: so most tests assert, and take memory, by these.
+//! What the tests share: Vobs of digits and of patterns, and what is compared. Proofs of assertions and of calls with long contracts take long. So most tests
+//! assert, and take memory, by these.
 ghost use Rattle.std.specs.Iterator.{IsFinite};
 
 use std::fmt::Debug;
@@ -9,20 +8,7 @@ use std::process::Abort;
 use vob::Vob;
 use vob_block::Block;
 
-macro_rules! at_each_block_type {
-    ($check:ident($($argument:expr),*)) => {{
-        $check::<u8>($($argument),*);
-        $check::<u16>($($argument),*);
-        $check::<u32>($($argument),*);
-        $check::<u64>($($argument),*);
-        $check::<u128>($($argument),*);
-        $check::<usize>($($argument),*);
-    }};
-}
-
-pub(super) use at_each_block_type;
-
-/// Compares an answer with what is wanted; the number says where: at which bit or which length.
+/// Compares a result with what is wanted; the number says where: at which bit or which length.
 pub fn same<V: PartialEq + Debug + Drop>(
     rt: &impl Abort,
     what: &str,
@@ -40,7 +26,7 @@ pub fn listed<V: Drop, W: Iterator<Item = V>>(rt: &(impl Abort + AllocGlobal), w
     walk.collect(rt.alloc()).expect(rt, "memory")
 }
 
-/// Adds a bit behind the last one.
+/// Appends a bit.
 pub fn push<T: Block>(rt: &impl Abort, vob: &mut Vob<T>, value: bool) {
     vob.push(value).expect(rt, "memory");
 }
@@ -50,7 +36,7 @@ pub fn resize<T: Block>(rt: &impl Abort, vob: &mut Vob<T>, len: usize, value: bo
     vob.resize(len, value).expect(rt, "memory");
 }
 
-/// Adds the bits of another Vob behind the last one.
+/// Appends the bits of another Vob.
 pub fn join<T: Block>(rt: &impl Abort, vob: &mut Vob<T>, other: &Vob<T>) {
     vob.extend_from_vob(other).expect(rt, "memory");
 }

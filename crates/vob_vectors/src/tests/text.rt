@@ -1,4 +1,4 @@
-//! A Vob as digits and as bytes, and as serde writes and reads it where it stands; errors as text.
+//! A Vob as digits and as bytes, and as serde writes and reads it within a struct; errors as text.
 use super::support::{check_bits, check_same, pattern, pattern_digits, same, vob_of};
 use serde::{Deserialize, Serialize};
 use std::alloc::Global;
@@ -125,11 +125,8 @@ fn errors_say_why_and_go_into_any_error(rt: HostRuntime) {
     check_error(&rt, DigitsError::Memory, "out of memory");
     let digit = DigitsError::BadDigit(7);
     check_error(&rt, digit, "neither 0 nor 1 at index 7");
-    check_bits(
-        &rt,
-        &bits_of(rt.alloc(), "10").ok().expect(&rt, "bits"),
-        "101",
-    );
+    let read = bits_of(rt.alloc(), "10").ok().expect(&rt, "bits");
+    check_bits(&rt, &read, "101");
     let error = bits_of(rt.alloc(), "1 0").err().expect(&rt, "an error");
     check_error(&rt, error, "neither 0 nor 1 at index 1");
 }

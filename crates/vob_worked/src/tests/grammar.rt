@@ -1,11 +1,11 @@
 //! Which nonterminals of grammars can become empty, and which terminals can begin what they stand
-//! for: grammars worked by hand, a long chain, and rules with symbols that aren't there.
+//! for. Grammars worked by hand, a long chain, and rules with symbols that aren't there.
 use super::matrix::check_rows;
 use super::support::{check_bits, same};
 use std::process::Abort;
 use vob_users::grammar::{Grammar, GrammarError, Rule, Symbol, first_sets, nullable};
 
-/// A grammar of so many symbols, without a rule.
+/// A grammar of these numbers of symbols, without a rule.
 fn empty(rt: &impl AllocGlobal, nonterminals: usize, terminals: usize) -> Grammar {
     Grammar {
         terminals,
@@ -14,7 +14,7 @@ fn empty(rt: &impl AllocGlobal, nonterminals: usize, terminals: usize) -> Gramma
     }
 }
 
-/// Puts a rule behind the others.
+/// Appends a rule.
 fn add(rt: &(impl Abort + AllocGlobal), grammar: &mut Grammar, left: usize, right: &[Symbol]) {
     let right = right.to_vec(rt.alloc()).expect(rt, "memory");
     grammar
@@ -32,9 +32,9 @@ fn place(names: &str, name: u8) -> usize {
         .unwrap_or(usize::MAX)
 }
 
-/// Puts the rule of a text behind the others: a name for the left side, and behind `=` one for each
-/// symbol of the right side. `nonterminals` has the names of the first nonterminals, `terminals`
-/// those of the first terminals.
+/// Appends the rule of a text: a name for the left side, and after `=` one for each symbol of the
+/// right side. `nonterminals` has the names of the first nonterminals, `terminals` those of the
+/// first terminals.
 fn add_text(
     rt: &(impl Abort + AllocGlobal),
     grammar: &mut Grammar,
@@ -92,38 +92,22 @@ type Row = (
     &'static [&'static str],
 );
 
+#[rattlefmt::skip]
 const GRAMMARS: [Row; 10] = [
     // e stands for E', t for T', and i for id. Only e and t have an empty right side, and each
     // other right side has a terminal or a nonterminal that isn't nullable. F begins with ( or id,
     // and so does T, and so E; e begins with +, t with *.
-    (
-        ("EeTtF", "+*()i"),
-        &["E=Te", "e=+Te", "e=", "T=Ft", "t=*Ft", "t=", "F=(E)", "F=i"],
-        "01010",
-        &["00101", "10000", "00101", "01000", "00101"],
-    ),
+    (("EeTtF", "+*()i"), &["E=Te", "e=+Te", "e=", "T=Ft", "t=*Ft", "t=", "F=(E)", "F=i"],
+        "01010", &["00101", "10000", "00101", "01000", "00101"]),
     // B, C and D can each be empty, so A can, and begins with what any of them begins with. A's
     // rule comes first, so that one pass doesn't find it.
-    (
-        ("ABCD", "bcd"),
-        &["A=BCD", "B=b", "B=", "C=c", "C=", "D=d", "D="],
-        "1111",
-        &["111", "100", "010", "001"],
-    ),
+    (("ABCD", "bcd"), &["A=BCD", "B=b", "B=", "C=c", "C=", "D=d", "D="],
+        "1111", &["111", "100", "010", "001"]),
     // C can't be empty here, so that D comes too late, and A isn't nullable.
-    (
-        ("ABCD", "bcd"),
-        &["A=BCD", "B=b", "B=", "C=c", "D=d", "D="],
-        "0101",
-        &["110", "100", "010", "001"],
-    ),
-    // Behind a terminal nothing counts.
-    (
-        ("AB", "xyb"),
-        &["A=BxBy", "B=", "B=b"],
-        "01",
-        &["101", "001"],
-    ),
+    (("ABCD", "bcd"), &["A=BCD", "B=b", "B=", "C=c", "D=d", "D="],
+        "0101", &["110", "100", "010", "001"]),
+    // After a terminal nothing counts.
+    (("AB", "xyb"), &["A=BxBy", "B=", "B=b"], "01", &["101", "001"]),
     // A b, A b b, .. : A can be empty, so that b begins it.
     (("A", "ab"), &["A=Ab", "A="], "1", &["01"]),
     // Here A begins with a alone.
@@ -133,7 +117,7 @@ const GRAMMARS: [Row; 10] = [
     // Without rules all sets are empty.
     (("", ""), &[], "", &[]),
     (("AB", "abc"), &[], "00", &["000", "000"]),
-    // B has no rule, and so nothing behind it counts.
+    // B has no rule, and so nothing after it counts.
     (("AB", "a"), &["A=Ba"], "00", &["0", "0"]),
 ];
 
@@ -146,7 +130,7 @@ fn what_can_be_empty_or_begin_is_found(rt: HostRuntime) {
 
 #[test]
 fn a_chain_longer_than_a_block_is_gone_up(rt: HostRuntime) {
-    // Nonterminal n may become n + 1, or terminal n: it begins with terminal n and all behind it.
+    // Nonterminal n may become n + 1, or terminal n: it begins with terminal n and all after it.
     // The last may become empty, and so all can.
     let mut grammar = empty(&rt, 70, 70);
     for n in 0..70 {
@@ -177,19 +161,11 @@ fn check_bad(rt: &(impl Abort + AllocGlobal), grammar: &Grammar, rule: usize) {
 #[test]
 fn the_first_rule_with_a_bad_symbol_is_named(rt: HostRuntime) {
     let mut grammar = empty(&rt, 2, 3);
-    add(
-        &rt,
-        &mut grammar,
-        1,
-        &[Symbol::Terminal(2), Symbol::Nonterminal(1)],
-    );
+    let right = [Symbol::Terminal(2), Symbol::Nonterminal(1)];
+    add(&rt, &mut grammar, 1, &right);
     check_sets(&rt, &grammar, "00", &["000", "001"]);
-    add(
-        &rt,
-        &mut grammar,
-        0,
-        &[Symbol::Terminal(0), Symbol::Terminal(3)],
-    );
+    let right = [Symbol::Terminal(0), Symbol::Terminal(3)];
+    add(&rt, &mut grammar, 0, &right);
     check_bad(&rt, &grammar, 1);
     add(&rt, &mut grammar, 2, &[]);
     check_bad(&rt, &grammar, 1);

@@ -25,7 +25,7 @@ fn makers<T: Block>(alloc: Global, len: usize) -> Result<Vec<Command<T>>, AllocE
     Ok(commands)
 }
 
-/// Commands that add to Vob 1, and answer what is in Vob 2.
+/// Commands that add to Vob 1, and return what is in Vob 2.
 fn growers<T: Block>(alloc: Global, len: usize) -> Result<Vec<Command<T>>, AllocError> {
     let (which, other, value) = (1, 2, true);
     let slice = Vec::from_elem(alloc, value, len)?;
@@ -79,7 +79,7 @@ fn check_replies<T: Block>(rt: &impl Abort, len: usize, replies: &[Reply<T>], co
     }
 }
 
-/// Compares that a Vob has room for so many bits at least.
+/// Compares that a Vob has room for at least `room` bits.
 fn check_room<T: Block>(rt: &impl Abort, vobs: &[Vob<T>], which: usize, room: usize) {
     let found = vobs.get(which).expect(rt, "a Vob");
     same(rt, "room for", room, found.capacity() >= room, true);

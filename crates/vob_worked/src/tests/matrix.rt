@@ -1,5 +1,5 @@
-//! Bit matrices: closures worked by hand, chains and rings longer than a block, and every graph of
-//! three nodes against lists of bits; transposes; entries and rows.
+//! Bit matrices: closures worked by hand, chains, rings, and every graph of three nodes;
+//! transposes; entries and rows.
 use super::support::{check_bits, same};
 use std::process::Abort;
 use vob_users::matrix::BitMatrix;
@@ -46,8 +46,8 @@ fn check_closure(rt: &(impl Abort + AllocGlobal), columns: usize, rows: &[&str],
 
 #[test]
 fn small_graphs_are_closed(rt: HostRuntime) {
-    // Nodes 1, 2 and 3 lie on a ring (1 to 3 to 2 to 1), so that each leads to all three; 3 leads
-    // to node 0 too, and so all of them do; node 0 leads nowhere.
+    // Nodes 1, 2 and 3 lie on a ring (1 to 3 to 2 to 1), so each leads to all three. Node 3 leads
+    // to node 0 too, and so all of them do. Node 0 leads nowhere.
     let (rows, wanted) = (
         ["0000", "0011", "0100", "1010"],
         ["0000", "1111", "1111", "1111"],
@@ -84,8 +84,8 @@ fn check_entry(rt: &impl Abort, matrix: &BitMatrix, row: usize, column: usize, w
 
 #[test]
 fn chains_and_a_ring_longer_than_a_block_are_closed(rt: HostRuntime) {
-    // Each node leads to the next one, so that it leads to all behind it; or to the one before it;
-    // or round a ring, which meets every node, as 29 and 70 have no common divisor.
+    // Each node leads to the next one, and so to all after it; or to the one before it; or round a
+    // ring. The ring has every node, as 29 and 70 have no common divisor.
     let mut up = none(&rt, 70, 70);
     let mut down = none(&rt, 70, 70);
     let mut ring = none(&rt, 70, 70);

@@ -1,6 +1,5 @@
-//! What the tests share: Vobs of digits, and what is compared. An assertion, and a call with a long
-//! contract, cost the proof of a function far more than a call of a function without one: so most
-//! tests assert by these.
+//! What the tests share: Vobs of digits, and what is compared. Proofs of assertions and of calls
+//! with long contracts take long. So most tests assert by these.
 use std::fmt::{Debug, Display};
 use std::process::Abort;
 use vob::Vob;

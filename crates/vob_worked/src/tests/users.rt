@@ -1,5 +1,5 @@
-//! The worked users: which nodes of small graphs lead to which, against lists of bits; slots that
-//! are taken one after another; the rows of a filter; and the free stretches of two calendars.
+//! The worked users: which nodes of graphs lead to which, slots taken in turn, the rows of a
+//! filter, and the free stretches of two calendars.
 use super::support::{check_bits, check_error, same, vob_of};
 use std::process::Abort;
 use vob::Vob;

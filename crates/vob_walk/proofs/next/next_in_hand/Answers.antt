@@ -8,10 +8,10 @@ use Rattle.vob_walk.proofs.next.next_in_hand.Goals as goal
 pub returns-then-place-BITS : goal.returns-then-place-BITS
 returns-then-place-BITS g c =
     let w = g.T.BitBlock.BITS in
-    let at : c.args.from.0 / c.BITS.result * c.BITS-then-place-BITS.result ≡ c.args.from.0 / w * w =
+    let at : c.args.from.index / c.BITS.result * c.BITS-then-place-BITS.result ≡ c.args.from.index / w * w =
     cc in
     FindsUp-here _ g.met.T.BitBlock.wide_law _ _ _ _ _ _ c.requires.inside _
-    (ap (λ u. c.args.from.0 % u) c.BITS-2.ensures) c.requires.hand c.first_place-place.ensures _
+    (ap (λ u. c.args.from.index % u) c.BITS-2.ensures) c.requires.hand c.first_place-place.ensures _
     (omega arith) refl refl (omega arith)
 
 pub next_other-requires-clause-count : goal.next_other-requires-clause-count
@@ -22,10 +22,10 @@ next_other-requires-clause-count g c =
 pub returns-in_default : goal.returns-in_default
 returns-in_default g c =
     let wide = g.met.T.BitBlock.wide_law in
-    FindsUp-none _ wide _ _ _ _ _ _ c.requires.inside c.args.from.1
-    (ap (λ u. c.args.from.0 % u) c.BITS-2.ensures) c.requires.hand c.first_place-place.ensures
+    FindsUp-none _ wide _ _ _ _ _ _ c.requires.inside c.args.from.block
+    (ap (λ u. c.args.from.index % u) c.BITS-2.ensures) c.requires.hand c.first_place-place.ensures
     c.block_without.result c.block_without.ensures (omega arith)
-    (ap (λ u. c.args.from.0 / u + 1) c.BITS.ensures)
+    (ap (λ u. c.args.from.index / u + 1) c.BITS.ensures)
     (c.div_ceil.ensures ∙ need-is-div_ceil _ wide c.args.len _ c.BITS-4.ensures) _
     (rw (none_found _ c.in_default.not-Some) at c.next_other.ensures)
 
@@ -37,8 +37,8 @@ returns g c =
     let scan = rw c.in-Some.is at c.next_other.ensures in
     let begins = mul-lt_from_need _ wide c.args.len found.0 (omega (arith, scan.found.0.below)) in
     let at = ap (λ u. found.0 * u) c.BITS-5.ensures in
-    FindsUp-behind _ wide _ _ _ _ _ _ c.requires.inside c.args.from.1
-    (ap (λ u. c.args.from.0 % u) c.BITS-2.ensures) c.requires.hand c.first_place-place.ensures
+    FindsUp-behind _ wide _ _ _ _ _ _ c.requires.inside c.args.from.block
+    (ap (λ u. c.args.from.index % u) c.BITS-2.ensures) c.requires.hand c.first_place-place.ensures
     c.block_without.result c.block_without.ensures (omega arith)
-    (ap (λ u. c.args.from.0 / u + 1) c.BITS.ensures) end found _ _ scan c.in_range.ensures
+    (ap (λ u. c.args.from.index / u + 1) c.BITS.ensures) end found _ _ scan c.in_range.ensures
     c.first_place.ensures (omega arith)

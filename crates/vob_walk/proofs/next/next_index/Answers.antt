@@ -15,8 +15,8 @@ block-block-requires g c = omega (
   div-lt-need g.T.BitBlock.BITS g.met.T.BitBlock.wide_law c.args.len c.args.from (omega arith),
 )
 
-pub next_in_hand-index-requires-clause-hand : goal.next_in_hand-index-requires-clause-hand
-next_in_hand-index-requires-clause-hand g c =
+pub next_in_hand-next-requires-clause-hand : goal.next_in_hand-next-requires-clause-hand
+next_in_hand-next-requires-clause-hand g c =
     let read = rw c.BITS.ensures at c.block-block.ensures.block in
     rw c.block-block.ensures.items (number_read g.T.BitBlock.number c.args.blocks.now.items
     (c.args.from / g.T.BitBlock.BITS) c.block-block.result read)

@@ -11,8 +11,8 @@ returns-then-self-clause-steps g c =
     rw (← c.self.view_is) (GivesRun-end g.T.BitBlock.BITS g.met.T.BitBlock.wide_law g.T.BitBlock.number s.len
     s.blocks c.self.invariant c.if-self.true)
 
-pub block_in_hand-hand-requires-clause-count : goal.block_in_hand-hand-requires-clause-count
-block_in_hand-hand-requires-clause-count g c =
+pub block_in_hand-block-requires-clause-count : goal.block_in_hand-block-requires-clause-count
+block_in_hand-block-requires-clause-count g c =
     let s = c.self.inside in
     omega (
       arith,
@@ -25,7 +25,7 @@ block_in_hand-hand-requires-clause-count g c =
 pub returns-then-start-self-clause-steps : goal.returns-then-start-self-clause-steps
 returns-then-start-self-clause-steps g c =
     let s = c.self.inside in
-    let hand = c.block_in_hand-hand.ensures in
+    let hand = c.block_in_hand-block.ensures in
     rw (← c.self.view_is) (GivesRun-none g.T.BitBlock.BITS g.met.T.BitBlock.wide_law g.T.BitBlock.number
     s.len s.blocks c.self.invariant c.if-self.false hand.items hand.reads
     c.next_in_hand-start.ensures c.if-start-self.true)
@@ -33,7 +33,7 @@ returns-then-start-self-clause-steps g c =
 pub returns-clause-steps : goal.returns-clause-steps
 returns-clause-steps g c =
     let s = c.self.inside in
-    let hand = c.block_in_hand-hand.ensures in
+    let hand = c.block_in_hand-block.ensures in
     rw (← c.self.view_is) (GivesRun-next g.T.BitBlock.BITS g.met.T.BitBlock.wide_law g.T.BitBlock.number
     s.len s.blocks c.self.invariant c.if-self.false hand.items hand.reads
     c.next_in_hand-start.ensures c.if-start-self.false c.next_in_hand-stop.ensures)

@@ -1,7 +1,7 @@
 -- Ten bits have two blocks, and no call reads more than it takes off those that are unread.
 use Rattle.std.proofs.Common.{arith}
 use Rattle.vob_block.specs.Packing.{need}
-use Rattle.vob_vectors.proofs.tests.reads.third_of_ten.Goals as goal
+use Rattle.vob_indices.proofs.tests.reads.third_of_ten.Goals as goal
 
 pub returns : goal.returns
 unfolding need

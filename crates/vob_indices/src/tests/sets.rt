@@ -1,5 +1,5 @@
 //! A Vob as a set of indices, by patterns and by single bits, against one bit after another.
-use super::support::{copy_of, filled, pattern, same, write};
+use super::support::{filled, pattern, same, write};
 use std::process::Abort;
 use vob::{End, Vob};
 use vob_block::Block;
@@ -50,8 +50,8 @@ fn check_neighbours<T: Block>(rt: &impl Abort, vob: &Vob<T>, value: bool) {
     same(rt, "ends", vob.len(), ends_of(vob, value), (first, last));
 }
 
-/// How many set bits stand below each index up to one past the end, and whether there are some; and
-/// where those of one value are.
+/// The rank of each index up to one past the end, whether bits are set, and where those of one
+/// value are.
 fn check_found<T: Block>(rt: &impl Abort, vob: &Vob<T>, value: bool) {
     check_neighbours(rt, vob, value);
     let len = vob.len();
@@ -141,7 +141,7 @@ fn check_difference<T: Block>(
     other: &Vob<T>,
     changed: bool,
 ) {
-    let mut left = copy_of(rt, vob);
+    let mut left = vob.clone().expect(rt, "memory");
     if left.len() != other.len() {
         return;
     }

@@ -2,7 +2,7 @@
 use Rattle.std.proofs.Common.{arith}
 use Rattle.vob_walk.specs.Matches.{blocks_met}
 use Rattle.vob_walk.specs.Walk.{given_count}
-use Rattle.vob_vectors.proofs.tests.reads.ends_of_none.Goals as goal
+use Rattle.vob_indices.proofs.tests.reads.ends_of_none.Goals as goal
 
 pub returns : goal.returns
 unfolding blocks_met given_count

@@ -43,8 +43,8 @@ fn plain_pull(rest: &mut &[usize], side: End) -> Option<usize> {
     Some(*index)
 }
 
-/// Pulls dealt out at once, and at a like walk pull by pull, give what the ends of the list give,
-/// up to None at both ends.
+/// Pulls at once, and at a like walk one by one, give what the ends of the list give, up to None at
+/// both ends.
 fn check_order<W: IndexWalk>(
     rt: &(impl Abort + AllocGlobal),
     walk: &mut W,
@@ -81,16 +81,10 @@ fn check_range<T: Block>(rt: &(impl Abort + AllocGlobal), vob: &Vob<T>, from: us
     let set = plain_indices(rt, vob, true, from, to);
     let unset = plain_indices(rt, vob, false, from, to);
     for order in ORDERS {
-        let mut like = vob.iter_set_bits(range);
-        check_order(rt, &mut vob.iter_set_bits(range), &mut like, order, &set);
-        let mut like = vob.iter_unset_bits(range);
-        check_order(
-            rt,
-            &mut vob.iter_unset_bits(range),
-            &mut like,
-            order,
-            &unset,
-        );
+        let (mut walk, mut like) = (vob.iter_set_bits(range), vob.iter_set_bits(range));
+        check_order(rt, &mut walk, &mut like, order, &set);
+        let (mut walk, mut like) = (vob.iter_unset_bits(range), vob.iter_unset_bits(range));
+        check_order(rt, &mut walk, &mut like, order, &unset);
     }
 }
 

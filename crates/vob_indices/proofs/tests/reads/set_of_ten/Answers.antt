@@ -1,7 +1,7 @@
 -- By computing how many blocks the range meets.
 use Rattle.std.proofs.Common.{arith}
 use Rattle.vob_walk.specs.Matches.{blocks_met}
-use Rattle.vob_vectors.proofs.tests.reads.set_of_ten.Goals as goal
+use Rattle.vob_indices.proofs.tests.reads.set_of_ten.Goals as goal
 
 pub returns-clause-given : goal.returns-clause-given
 unfolding blocks_met

@@ -1,11 +1,10 @@
-//! The set bit of a rank and the runs of set bits, by patterns and by ends at the borders of
-//! blocks, against one bit after another.
+//! The set bit of a rank and the runs of set bits, against one bit after another.
 use super::support::{filled, pattern, same, write};
 use std::process::Abort;
 use vob::Vob;
 use vob_block::Block;
 
-/// Each set bit is selected by how many stand below it, and no number past them selects one.
+/// Each set bit is selected by its rank, and no greater number selects one.
 fn check_select<T: Block>(rt: &impl Abort, vob: &Vob<T>) {
     let mut below: usize = 0;
     for index in 0..vob.len() {

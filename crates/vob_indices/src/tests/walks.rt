@@ -1,7 +1,7 @@
 //! Walks over the indices of set bits and of unset bits: worked rows.
 ghost use Rattle.std.specs.Iterator.{IsFinite};
 
-use super::support::{at_each_block_type, filled, join, listed, push, resize, same, vob_of, write};
+use super::support::{at_each_block_type, filled, listed, push, same, vob_of, write};
 use std::ops::Bound::{Excluded, Included, Unbounded};
 use std::ops::{Bound, RangeBounds};
 use std::process::Abort;
@@ -67,8 +67,8 @@ fn check_indices<T: Block>(
     same(rt, "the last one first", 0, back.as_slice(), indices);
 }
 
-/// Compares what pulls at a walk answer, as text: F is a pull at the front, and any other letter
-/// one at the back.
+/// Compares what pulls at a walk give, as text: F is a pull at the front, and any other letter one
+/// at the back.
 pub fn check_pulls<W: IndexWalk>(
     rt: &(impl Abort + AllocGlobal),
     walk: &mut W,
@@ -89,7 +89,7 @@ pub fn check_pulls<W: IndexWalk>(
     same(rt, letters, 0, text_of(rt, &answers).as_str(), wanted);
 }
 
-/// Answers of a walk as text, as in `0 9 none`.
+/// What a walk gave as text, as in `0 9 none`.
 fn text_of(rt: &(impl Abort + AllocGlobal), answers: &[Option<usize>]) -> String {
     let mut text = String::new(rt.alloc());
     for answer in answers {
@@ -103,7 +103,7 @@ fn text_of(rt: &(impl Abort + AllocGlobal), answers: &[Option<usize>]) -> String
     text
 }
 
-/// Compares what pulls at a walk over the bits of one value within a range answer.
+/// Compares what pulls give at a walk over the bits of one value within a range.
 fn check_walk<T: Block, R: RangeBounds<usize>>(
     rt: &(impl Abort + AllocGlobal),
     vob: &Vob<T>,
@@ -121,7 +121,8 @@ fn check_walk<T: Block, R: RangeBounds<usize>>(
 /// Ten bits, joined of two parts, whose walks are pulled at from both ends in turn.
 fn check_turns<T: Block>(rt: &(impl Abort + AllocGlobal)) {
     let mut ten = vob_of::<T>(rt, "10110");
-    join(rt, &mut ten, &vob_of(rt, "11101"));
+    ten.extend_from_vob(&vob_of(rt, "11101"))
+        .expect(rt, "memory");
     check_walk(rt, &ten, (true, ..), "FBFBFBFB", "0 9 2 7 3 6 5 none");
     check_walk(rt, &ten, (false, ..), "BFBF", "8 1 4 none");
 }
@@ -149,7 +150,7 @@ fn three_items<T: Block>(walk: &mut IterSetBits<'_, T>) -> [Option<usize>; 3] {
     [walk.next(), walk.next(), walk.next_back()]
 }
 
-/// A walk of a Vob without a match answers None, again and from both ends.
+/// A walk of a Vob without a match gives None, again and from both ends.
 fn check_nothing<T: Block>(rt: &(impl Abort + AllocGlobal), len: usize) {
     let vob = filled::<T>(rt, false, len);
     let mut walk = vob.iter_set_bits(..);
@@ -227,50 +228,27 @@ const EXTREMES: [Row; 10] = [
 /// 257 bits of which few have the value `wanted`, in blocks far from one another.
 fn far_apart<T: Block>(rt: &(impl Abort + AllocGlobal), wanted: bool) -> Vob<T> {
     let mut vob = vob_of::<T>(rt, if wanted { "0101" } else { "0100" });
-    resize(rt, &mut vob, 127, !wanted);
+    vob.resize(127, !wanted).expect(rt, "memory");
     push(rt, &mut vob, wanted);
     push(rt, &mut vob, !wanted);
     push(rt, &mut vob, wanted);
     push(rt, &mut vob, wanted);
-    resize(rt, &mut vob, 256, !wanted);
+    vob.resize(256, !wanted).expect(rt, "memory");
     push(rt, &mut vob, wanted);
     same(rt, "the length", 257, vob.len(), 257);
     vob
 }
 
 /// Ranges over bits that are far apart.
+#[rattlefmt::skip]
 const FAR: [Row; 7] = [
-    (
-        ALL,
-        &[1, 3, 127, 129, 130, 256],
-        &[0, 2, 3, 127, 129, 130, 256],
-    ),
-    (
-        (Included(2), Excluded(257)),
-        &[3, 127, 129, 130, 256],
-        &[2, 3, 127, 129, 130, 256],
-    ),
-    (
-        (Included(2), Unbounded),
-        &[3, 127, 129, 130, 256],
-        &[2, 3, 127, 129, 130, 256],
-    ),
-    (
-        (Included(2), Excluded(256)),
-        &[3, 127, 129, 130],
-        &[2, 3, 127, 129, 130],
-    ),
-    (
-        (Included(1), Excluded(255)),
-        &[1, 3, 127, 129, 130],
-        &[2, 3, 127, 129, 130],
-    ),
+    (ALL, &[1, 3, 127, 129, 130, 256], &[0, 2, 3, 127, 129, 130, 256]),
+    ((Included(2), Excluded(257)), &[3, 127, 129, 130, 256], &[2, 3, 127, 129, 130, 256]),
+    ((Included(2), Unbounded), &[3, 127, 129, 130, 256], &[2, 3, 127, 129, 130, 256]),
+    ((Included(2), Excluded(256)), &[3, 127, 129, 130], &[2, 3, 127, 129, 130]),
+    ((Included(1), Excluded(255)), &[1, 3, 127, 129, 130], &[2, 3, 127, 129, 130]),
     ((Unbounded, Excluded(3)), &[1], &[0, 2]),
-    (
-        (Included(128), Unbounded),
-        &[129, 130, 256],
-        &[129, 130, 256],
-    ),
+    ((Included(128), Unbounded), &[129, 130, 256], &[129, 130, 256]),
 ];
 
 /// Extreme bounds, and ranges over bits that are far apart: blocks without a match are passed.

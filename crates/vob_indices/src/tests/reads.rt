@@ -1,6 +1,5 @@
 //! How many blocks a walk reads, said by contracts: at most one for each index that it gave and each
-//! block that its range meets; and at most as many as these blocks, as none is read twice.
-//! A walk over runs reads each block once.
+//! block of its range. No block is read twice. A walk over runs reads each block once.
 ghost use Rattle.std.specs.Prelude.{◌≡◌, ◌+◌, ◌≤◌, [], length, None, IfOk};
 ghost use Rattle.vob_walk.specs.Walk.{given_count};
 
@@ -69,7 +68,7 @@ fn ends_of_none<'a>(vob: &'a Vob<u8>) -> (Option<usize>, Option<usize>, IterSetB
     (first, last, walk)
 }
 
-/// The third run of ten bits, which two bytes hold, and the walk behind it.
+/// The third run of ten bits, which two bytes hold, and the walk after it.
 fn third_of_ten<'a>(vob: &'a Vob<u8>) -> (Option<Range<usize>>, Runs<'a, u8>)
     requires ten { length vob.now.bits ≡ 10 }
     ensures { result.1.reads ≤ 2 }

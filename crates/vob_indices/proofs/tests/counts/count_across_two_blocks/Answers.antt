@@ -3,7 +3,7 @@ use Rattle.std.proofs.Common.{length, ap, arith}
 use Rattle.vob_block.specs.Packing.{need, bit_at}
 use Rattle.vob_walk.specs.Matches.{blocks_met}
 use Rattle.vob_walk.specs.Count.{ones_between}
-use Rattle.vob_vectors.proofs.tests.counts.count_in_one_block.Goals as goal
+use Rattle.vob_indices.proofs.tests.counts.count_across_two_blocks.Goals as goal
 
 pub count_ones_in-requires-clause-enough : goal.count_ones_in-requires-clause-enough
 unfolding need

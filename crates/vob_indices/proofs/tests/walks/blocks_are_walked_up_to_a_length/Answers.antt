@@ -1,7 +1,7 @@
 -- Three bits need one block of eight.
 use Rattle.std.proofs.Common.{length, ap}
 use Rattle.vob_block.specs.Packing.{need}
-use Rattle.vob_vectors.proofs.tests.walks.blocks_are_walked_up_to_a_length.Goals as goal
+use Rattle.vob_indices.proofs.tests.walks.blocks_are_walked_up_to_a_length.Goals as goal
 
 pub over-set-requires : goal.over-set-requires
 unfolding need
