@@ -6,6 +6,8 @@ mod examples;
 mod growing;
 mod hints;
 mod lanes;
+mod moves;
+mod order;
 mod paths;
 mod pointwise;
 mod ranges;

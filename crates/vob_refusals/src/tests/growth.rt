@@ -62,6 +62,50 @@ fn a_push_asks_for_memory_only_at_the_capacity(rt: HostRuntime) {
     tell(&rt, is_pushed(&rt, &mut vob));
 }
 
+/// An insertion among as many true bits as the capacity.
+fn is_inserted(rt: &impl Abort, vob: &mut Vob<u8>) -> bool {
+    let full = fill(rt, vob);
+    if vob.is_empty() {
+        return false;
+    }
+    let answer = vob.insert_bit(1, false);
+    if answer.is_ok() {
+        same(rt, "the bit", vob.get(1), Some(false));
+        same(rt, "the set bits", vob.count_ones(), full);
+        return true;
+    }
+    same(rt, "the answer", answer, Err(VobError::Memory));
+    same(rt, "the length", vob.len(), full);
+    check_full(rt, vob, full);
+    false
+}
+
+#[test]
+fn an_insertion_asks_for_memory_only_at_the_capacity(rt: HostRuntime) {
+    request(&rt, FIRST);
+    let Ok(mut vob) = vob_of(rt.alloc(), "11111111") else {
+        return;
+    };
+    tell(&rt, is_inserted(&rt, &mut vob));
+}
+
+#[test]
+fn an_index_past_the_end_that_is_refused_leaves_all_bits(rt: HostRuntime) {
+    request(&rt, FIRST);
+    let Ok(mut vob) = vob_of(rt.alloc(), "101") else {
+        return;
+    };
+    let answer = vob.grow_and_set(999);
+    if answer.is_ok() {
+        same(&rt, "the last bit", vob.last_set(), Some(999));
+        same(&rt, "the set bits", vob.count_ones(), 3);
+        tell(&rt, true);
+        return;
+    }
+    same(&rt, "the answer", answer, Err(VobError::Memory));
+    check_blocks(&rt, &vob, 3, &[5]);
+}
+
 /// Joins `11111` to `111`.
 fn join_five(rt: &impl Abort, vob: &mut Vob<u8>, five: &Vob<u8>) {
     for _ in 0..3 {

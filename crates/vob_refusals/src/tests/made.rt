@@ -76,6 +76,23 @@ fn items_without_a_hint_are_made_or_refused(rt: HostRuntime) {
 }
 
 #[test]
+fn a_slice_and_a_difference_are_made_or_refused(rt: HostRuntime) {
+    request(&rt, FIRST);
+    let Ok(vob) = vob_of(rt.alloc(), "1011011101") else {
+        return;
+    };
+    let Ok(other) = vob_of(rt.alloc(), "1010000001") else {
+        return;
+    };
+    let slice = is_made(&rt, vob.slice(2..), 8, &[187]);
+    if vob.len() == other.len() {
+        let difference = is_made(&rt, &vob - &other, 10, &[232, 0]);
+        tell(&rt, slice && difference);
+    }
+    check_blocks(&rt, &vob, 10, &[237, 2]);
+}
+
+#[test]
 fn a_copy_is_made_or_refused(rt: HostRuntime) {
     request(&rt, FIRST);
     let Ok(vob) = vob_of(rt.alloc(), "110000001") else {
