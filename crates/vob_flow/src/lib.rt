@@ -1,0 +1,15 @@
+//! The least sets over a graph that meet an equation at each node, and the analyses that are such
+//! sets.
+#![tactic(auto)]
+
+mod draw;
+mod faults;
+mod gather;
+pub mod laws;
+mod order;
+mod passes;
+mod solver;
+
+pub use draw::{Draw, Mask};
+pub use faults::SolveError;
+pub use solver::least;
