@@ -1,10 +1,11 @@
 -- Lists that are changed one after another.
-use Rattle.std.proofs.Common.{◌≢◌, ℕ, ◌+◌, ◌<◌, Bool, inl, inr, List, [], length, get_or, set, refl, sym, ◌∙◌, subst, arith}
-use Rattle.std.proofs.lemmas.Bool.{cases_eq}
-use Rattle.std.proofs.lemmas.List.{length-map, length-set, get_or-map, map-set, get_or-set_same, get_or-set_other}
+use Rattle.std.proofs.Common.{◌≡◌, ◌≢◌, ℕ, ◌+◌, ◌<◌, Bool, inl, inr, List, [], length, get_or, set, refl, sym, ap, ◌∙◌, subst, arith}
+use Rattle.std.proofs.lemmas.Bool.{cases_eq, cases_lt}
+use Rattle.std.proofs.lemmas.List.{length-map, length-set, get_or-map, map-set, get_or-set_same, get_or-set_other, get_or_past}
 use Rattle.vob.specs.Vob.{BitVector}
 use Rattle.vob.specs.Vobs.{bits_of}
 use Rattle.vob_flow.specs.Changes.{AreChangedBelow}
+use Rattle.vob_flow.specs.Draws.{HaveShape}
 
 pub AreChangedBelow-none : (R : ℕ → List Bool → List Bool → Type 0) (lists : List (List Bool)) →
     AreChangedBelow R lists lists 0
@@ -47,3 +48,20 @@ AreChangedBelow-more R lists mid k d row h inside changed =
     (omega (arith, inside, h.count, length-map mid (λ v. v.bits)))
     (subst (λ (bs : List Bool). R k bs row.bits)
     (sym (get_or-map (λ v. v.bits) mid k d [] inside)) changed))
+
+-- all changed, each to one as long
+pub AreChangedBelow-shape : {R : ℕ → List Bool → List Bool → Type 0}
+    {lists after : List (List Bool)} {k : ℕ} →
+    ((n : ℕ) (bits others : List Bool) → R n bits others → length others ≡ length bits) →
+    AreChangedBelow R lists after k → HaveShape lists after
+AreChangedBelow-shape {R} {lists} {after} {k} same h = record {
+  count = h.count;
+  long = λ n. elim (cases_lt n k) [
+    | inl less ↦ elim (cases_lt n (length lists)) [
+      | inl inside ↦ same n (get_or lists n []) (get_or after n []) (h.below n less inside)
+      | inr past ↦ ap length (get_or_past after n [] (omega (arith, past, h.count))
+          ∙ sym (get_or_past lists n [] past))
+    ]
+    | inr past ↦ ap length (h.above n past)
+  ];
+}

@@ -1,8 +1,13 @@
-pub mod AnyLemmas
-pub mod ChangesLemmas
-pub mod DrawLemmas
-pub mod FaultLemmas
-pub mod LawLemmas
-pub mod OrderLemmas
-pub mod PassLemmas
-pub mod UnderwayLemmas
+mod AnyLemmas
+mod ChangesLemmas
+mod DrawLemmas
+mod FaultLemmas
+pub mod FirstLemmas
+mod FlowLemmas
+mod GatherLemmas
+mod LawLemmas
+mod LiveLemmas
+mod OrderLemmas
+mod PassLemmas
+mod ReachingLemmas
+mod UnderwayLemmas

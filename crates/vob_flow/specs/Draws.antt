@@ -10,6 +10,10 @@ use Rattle.vob_flow.specs.declared.draw.Mask.TheVariants.{All as Everything, Kee
 abbrev pub IsIn : List (List Bool) → ℕ → ℕ → Type 0
 IsIn sets n v = item (slice_index_or sets n []) v ≡ true
 
+-- every bit that is true in the first list is true in the second
+abbrev pub IsWithin : List Bool → List Bool → Type 0
+IsWithin bits others = (i : ℕ) → item bits i ≡ true → item others i ≡ true
+
 -- what is in the first sets is in the second
 abbrev pub AreWithin : List (List Bool) → List (List Bool) → Type 0
 AreWithin sets others = (n v : ℕ) → IsIn sets n v → IsIn others n v

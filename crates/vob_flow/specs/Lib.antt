@@ -1,7 +1,11 @@
 pub mod Changes
 pub mod Draws
+pub mod FlowFaults
 pub mod Gathered
 pub mod Laws
+pub mod Live
+pub mod LiveDraws
 pub mod Order
 pub mod Passes
+pub mod Reaching
 pub mod SolveFaults

@@ -1,8 +1,8 @@
 //! What is in some of many sets.
-ghost use Rattle.std.specs.Prelude.{◌≡◌, ◌↔◌, ℕ, ◌<◌, false, true, length, replicate, All, IfOk};
+ghost use Rattle.std.specs.Prelude.{◌≡◌, ◌↔◌, ℕ, ◌<◌, false, true, length, replicate, All, IfOk, IsOk};
 ghost use Rattle.vob_block.specs.Packing.{item};
 ghost use Rattle.vob.specs.Vobs.{AreOfLength, bits_of};
-ghost use Rattle.vob_flow.specs.Draws.{DrawsInside, IsInSome};
+ghost use Rattle.vob_flow.specs.Draws.{DrawsInside, HaveShape, IsInSome};
 ghost use Rattle.vob_flow.specs.Gathered.{AreGathered};
 
 use crate::draw::Draw;
@@ -11,7 +11,9 @@ use vob::Vob;
 
 /// Returns so many empty sets. Fails if memory runs out.
 pub(crate) fn empty_sets(alloc: Global, places: usize, count: usize) -> Result<Vec<Vob>, AllocError>
-    ensures { IfOk result (λ sets. bits_of sets.items ≡ replicate count (replicate places false)) }
+    ensures sets { IfOk result
+        (λ sets. bits_of sets.items ≡ replicate count (replicate places false)) }
+    ensures nothing { count ≡ 0 → IsOk result }
 {
     let mut sets = Vec::with_capacity(alloc, count)?;
     for _ in 0..count {
@@ -36,13 +38,11 @@ pub(crate) fn gather(sum: &mut Vob, from: &[usize], sets: &[Vob])
 
 /// Makes each of some sets what is in some of the sets that it draws from, whatever its mask.
 pub(crate) fn gather_each(sums: &mut [Vob], draws: &[Draw<'_>], sets: &[Vob])
-    ghost places: { ℕ }
     requires count { length draws.now ≡ length sums.old }
     requires from { All (DrawsInside (length sets.now)) draws.now }
-    requires long_sums { AreOfLength places (bits_of sums.old) }
-    requires long { AreOfLength places (bits_of sets.now) }
+    requires long { All (λ sum. AreOfLength (length sum.bits) (bits_of sets.now)) sums.old }
     ensures gathered { AreGathered draws.now (bits_of sets.now) (bits_of sums.new) }
-    ensures long { AreOfLength places (bits_of sums.new) }
+    ensures shape { HaveShape (bits_of sums.old) (bits_of sums.new) }
 {
     for sum in 0..draws.len() {
         gather(&mut sums[sum], draws[sum].from, sets);

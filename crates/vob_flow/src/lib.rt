@@ -6,10 +6,13 @@ mod draw;
 mod faults;
 mod gather;
 pub mod laws;
+pub mod live;
 mod order;
 mod passes;
+mod reaching;
 mod solver;
 
 pub use draw::{Draw, Mask};
 pub use faults::SolveError;
+pub use reaching::reaching_definitions;
 pub use solver::least;

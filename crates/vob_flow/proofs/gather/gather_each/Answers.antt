@@ -1,19 +1,29 @@
 -- One sum more has what is in its sets.
 use Rattle.std.proofs.Common.{◌∙◌, ◌≡◌, ◌↔◌, ◌<◌, true, [], length, ap, refl, sym, subst, arith}
-use Rattle.std.proofs.lemmas.List.{get_or_default, length-map}
+use Rattle.std.proofs.lemmas.List.{get_or-map, length-map}
 use Rattle.std.proofs.lemmas.Option.{slice_get_read, slice_get_within}
 use Rattle.vob_block.specs.Packing.{item}
 use Rattle.vob.specs.Vobs.{bits_of}
-use Rattle.vob.proofs.VobsLemmas.{of_length_at}
 use Rattle.vob_flow.specs.declared.draw.Draw.{Draw}
 use Rattle.vob_flow.specs.Draws.{IsInSome}
 use Rattle.vob_flow.specs.Gathered.{BecomesGathered}
-use Rattle.vob_flow.proofs.ChangesLemmas.{AreChangedBelow-more}
+use Rattle.vob_flow.proofs.ChangesLemmas.{AreChangedBelow-more, AreChangedBelow-shape}
 use Rattle.vob_flow.proofs.UnderwayLemmas.{same_at}
 use Rattle.vob_flow.proofs.gather.gather_each.Goals as goal
 
+pub gather-requires-clause-long : goal.gather-requires-clause-long
+gather-requires-clause-long c = λ k d less.
+    let sums = c.args.sums.now in
+    let i = c.loop-sum.sum in
+    let read = c.index-sums-sum.result in
+    let inside : i < length sums = omega arith in
+    c.requires.long i read inside k d less
+    ∙ ap length (sym (get_or-map (λ v. v.bits) sums i read [] inside)
+    ∙ sym (c.loop-sum.invariant.above i (omega arith))
+    ∙ get_or-map (λ v. v.bits) c.loop-sum.sums i read [] (omega arith))
+
 pub loop-sum-preserved : goal.loop-sum-preserved
-loop-sum-preserved g c =
+loop-sum-preserved c =
     let draws = c.args.draws.now in
     let sets = bits_of c.args.sets.now in
     let k = c.loop-sum.sum in
@@ -29,25 +39,15 @@ loop-sum-preserved g c =
     }
 
 pub returns-clause-gathered : goal.returns-clause-gathered
-returns-clause-gathered g c =
+returns-clause-gathered c =
     let sums = c.args.sums.now in
     record {
-      count = c.loop-sum.invariant.count ∙ length-map sums (λ v. v.bits) ∙ sym c.requires.0;
+      count = c.loop-sum.invariant.count ∙ length-map sums (λ v. v.bits) ∙ sym c.requires.count;
       each = λ n draw is v.
           let less = slice_get_within c.args.draws.now n draw is in
           (c.loop-sum.invariant.below n (omega (arith, less))
-          (omega (arith, less, length-map sums (λ v. v.bits), c.requires.0))).each draw is v;
+          (omega (arith, less, length-map sums (λ v. v.bits), c.requires.count))).each draw is v;
     }
 
-pub returns-clause-long : goal.returns-clause-long
-returns-clause-long g c = λ k d less.
-    let sums = bits_of c.args.sums.now in
-    let inside : k < length sums = omega (arith, less, c.loop-sum.invariant.count) in
-    ap length (get_or_default (bits_of c.loop-sum.sums) k d [] less)
-    ∙ (c.loop-sum.invariant.below k (omega (
-      arith,
-      inside,
-      length-map c.args.sums.now (λ v. v.bits),
-      c.requires.0,
-    )) inside).len
-    ∙ of_length_at g.places sums k [] c.requires.1.1.0 inside
+pub returns-clause-shape : goal.returns-clause-shape
+returns-clause-shape c = AreChangedBelow-shape (λ n old new is. is.len) c.loop-sum.invariant
