@@ -5,6 +5,7 @@ mod FaultLemmas
 pub mod FirstLemmas
 mod FlowLemmas
 mod GatherLemmas
+mod GreatestLemmas
 mod LawLemmas
 mod LiveLemmas
 mod OrderLemmas

@@ -2,6 +2,7 @@
 //! sets.
 #![tactic(auto)]
 
+mod complement;
 mod draw;
 mod faults;
 mod gather;
@@ -12,6 +13,7 @@ mod passes;
 mod reaching;
 mod solver;
 
+pub use complement::greatest;
 pub use draw::{Draw, Mask};
 pub use faults::SolveError;
 pub use reaching::reaching_definitions;
