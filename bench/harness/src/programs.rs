@@ -81,14 +81,14 @@ pub fn matrix<B: Bits>(input: &Input, rounds: usize) -> u64 {
     checksum_all(&last, times)
 }
 
-/// A node of a flow graph, in lists of its own as `vob_live::live` takes it.
+/// A node of a flow graph, in lists of its own as `vob_flow::live` takes it.
 struct Flow {
     reads: Vec<usize>,
     writes: Vec<usize>,
     next: Vec<usize>,
 }
 
-/// One pass over the nodes of a flow graph, the last one first, as `vob_live::live` makes it.
+/// One pass over the nodes of a flow graph, the last one first, as `vob_flow::live` makes it.
 fn pass<B: Bits>(nodes: &[Flow], possible: &[B], before: &mut [B], after: &mut [B]) -> bool {
     let mut changed = false;
     for node in (0..nodes.len()).rev() {

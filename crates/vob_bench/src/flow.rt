@@ -3,7 +3,7 @@
 use crate::checksum::checksum_all;
 use crate::rounds::Missing;
 use std::alloc::{AllocError, Global};
-use vob_live::live::{Flow, Live, liveness};
+use vob_flow::live::{Flow, Live, liveness};
 
 /// A graph of four numbers a node: what it reads, what it writes, and two nodes that may come next.
 fn nodes_of(alloc: Global, numbers: &[usize]) -> Result<Vec<Flow>, AllocError> {

@@ -6,8 +6,8 @@
 mod tests;
 
 use std::process::ExitCode;
+pub use vob_flow::live;
 pub use vob_lines::converse;
-pub use vob_live::live;
 
 fn main(rt: HostRuntime) -> ExitCode {
     ExitCode::from(converse(rt.alloc(), &mut rt.stdin(), &mut rt.stdout()))

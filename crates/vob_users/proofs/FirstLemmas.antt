@@ -14,15 +14,15 @@ use Rattle.vob.specs.Bits.{count_of, IsWritten, GainsBits}
 use Rattle.vob_block.proofs.BoolLemmas.{differ-true}
 use Rattle.vob_users.specs.Grammar.{IsNull, IsHead, HasFirst}
 use Rattle.vob_users.specs.GrammarPass.{AddsFirst, HasHeads}
-use Rattle.vob_live.specs.Live.{AreWithin}
-use Rattle.vob_live.specs.LivePass.{total_count}
+use Rattle.vob_flow.specs.Draws.{AreWithin}
+use Rattle.vob.specs.Vobs.{total_count}
 use Rattle.vob_users.specs.Matrix.{row_of, entry, GetsRow, HaveShapeOf, IsEntryWritten}
+use Rattle.vob.proofs.VobsLemmas.{total_count_at_most}
 use Rattle.vob_users.specs.declared.grammar.Rule.{Rule}
 use Rattle.vob_users.specs.declared.grammar.Symbol.{Symbol}
 use Rattle.vob_users.specs.declared.grammar.Symbol.TheVariants.{Terminal, Nonterminal}
 use Rattle.vob_users.proofs.GrowthLemmas.{Adds-as, Adds-at}
 use Rattle.vob_users.proofs.ShapeLemmas.{AreOfLength-empty, AreOfLength-kept}
-use Rattle.vob_live.proofs.StartLemmas.{total_count_le}
 
 -- ---- one row gains bits
 
@@ -77,10 +77,8 @@ pub places_fit : (n t : ℕ) (rows : List (List Bool)) →
     HaveShapeOf (replicate n (replicate t false)) rows → total_count rows ≤ n * t
 places_fit n t rows shape =
     let count = shape.count ∙ length-replicate n (replicate t false) in
-    total_count_le t n rows (record {
-      count = count;
-      long = AreOfLength-kept t _ rows (AreOfLength-empty n t) shape;
-    })
+    let long = AreOfLength-kept t _ rows (AreOfLength-empty n t) shape in
+    subst (λ m. total_count rows ≤ m * t) count (total_count_at_most t rows long)
 
 -- ---- what begins one symbol
 

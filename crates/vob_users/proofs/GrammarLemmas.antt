@@ -4,7 +4,7 @@ use Rattle.vob_users.specs.declared.grammar.Grammar.{Grammar}
 use Rattle.vob_users.specs.declared.grammar.GrammarError.{GrammarError}
 use Rattle.vob_users.specs.declared.grammar.GrammarError.TheVariants.{Memory, BadSymbol}
 use Rattle.vob_users.specs.GrammarFaults.{IsRuleOf, IsBadRule, IsFault}
-use Rattle.vob_live.proofs.FaultLemmas.{all_at, one_first}
+use Rattle.vob_flow.proofs.FirstLemmas.{all_at, one_first}
 
 module _ (grammar : Grammar) where
   -- where all rules are sound none is the first that isn't

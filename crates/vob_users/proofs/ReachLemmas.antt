@@ -1,15 +1,25 @@
 -- Rows that are added to the nodes reached, one after another.
 use Rattle.std.proofs.Common.{◌≡◌, ℕ, ◌+◌, ◌-◌, ◌<◌, ◌≤◌, Bool, true, false, ◌||◌, List, [], length, map, get_or, sym, ap, ◌∙◌, subst, arith, inl, inr}
-use Rattle.std.proofs.lemmas.Bool.{cases_eq, cases_lt, false≢true, or_cases, or_left, or_right}
+use Rattle.std.proofs.lemmas.Bool.{cases_Bool, cases_eq, cases_lt, false≢true, or_cases, or_left, or_right}
 use Rattle.std.proofs.lemmas.List.{get_or_past, get_or-map, length-map}
 use Rattle.std.proofs.lemmas.List.Elements.{All-map}
 use Rattle.std.proofs.lemmas.List.Sums.{count_by-le-length}
 use Rattle.vob_block.specs.Packing.{item}
 use Rattle.vob_walk.specs.Matches.{has_value}
 use Rattle.vob.specs.Bits.{count_of, AreCombined, GainsBits}
-use Rattle.vob_live.specs.Live.{IsWithin}
+use Rattle.vob_flow.specs.Draws.{IsWithin}
 use Rattle.vob_users.specs.Reachable.{IsMatrix, IsClosed, IsRound}
-use Rattle.vob_live.proofs.SetLemmas.{GainsBits-more}
+
+-- bits that were gained, and more
+GainsBits-more : {grew flag : Bool} {bits mid after : List Bool} → GainsBits grew bits mid →
+    GainsBits flag mid after → flag ≡ true → GainsBits true bits after
+GainsBits-more {grew} {flag} {bits} {mid} {after} gains more up = record {
+  same = λ e. absurd (false≢true (sym e));
+  more = λ _. elim (cases_Bool grew) [
+    | inl on ↦ omega (arith, gains.more on, more.more up)
+    | inr off ↦ omega (arith, ap (count_of true) (gains.same off), more.more up)
+  ];
+}
 
 -- ---- the rows of a matrix, as the code reads them
 

@@ -3,7 +3,7 @@
 use Rattle.std.specs.Prelude.{◌≡◌, ℕ, Bool, true, List, length, take, slice_get, Some, All}
 use Rattle.vob_block.specs.Packing.{item}
 use Rattle.vob.specs.Vobs.{AreOfLength}
-use Rattle.vob_live.specs.Live.{AreWithin, IsWithin}
+use Rattle.vob_flow.specs.Draws.{AreWithin, IsWithin}
 use Rattle.vob_users.specs.Matrix.{Matrix, entry}
 use Rattle.vob_users.specs.declared.grammar.Grammar.{Grammar}
 use Rattle.vob_users.specs.declared.grammar.Rule.{Rule}

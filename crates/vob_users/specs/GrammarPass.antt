@@ -2,8 +2,8 @@
 use Rattle.std.specs.Prelude.{◌≡◌, ℕ, ◌<◌, Bool, true, false, List}
 use Rattle.vob.specs.Bits.{count_of}
 use Rattle.vob_users.specs.Grammar.{IsHead}
-use Rattle.vob_live.specs.Live.{AreWithin, IsWithin}
-use Rattle.vob_live.specs.LivePass.{total_count}
+use Rattle.vob_flow.specs.Draws.{AreWithin, IsWithin}
+use Rattle.vob.specs.Vobs.{total_count}
 use Rattle.vob_users.specs.Matrix.{entry}
 use Rattle.vob_users.specs.declared.grammar.Symbol.{Symbol}
 

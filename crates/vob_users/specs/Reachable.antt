@@ -3,7 +3,7 @@ use Rattle.std.specs.Prelude.{◌≡◌, ℕ, ◌<◌, Bool, true, false, List, 
 use Rattle.vob_block.specs.Packing.{item}
 use Rattle.vob.specs.Bits.{count_of}
 use Rattle.vob.specs.Vobs.{AreOfLength}
-use Rattle.vob_live.specs.Live.{IsWithin}
+use Rattle.vob_flow.specs.Draws.{IsWithin}
 
 -- a row for each of some nodes, and in each row a bit for each of them
 pub record IsMatrix (nodes : ℕ) (rows : List (List Bool)) : Type 0 where

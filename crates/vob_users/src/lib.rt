@@ -11,4 +11,4 @@ pub mod rows;
 pub mod slots;
 pub mod take_slot;
 
-pub use vob_live::live;
+pub use vob_flow::live;

@@ -6,7 +6,7 @@ use Rattle.std.proofs.Common.{◌≡◌, ℕ, zero, suc, ◌<◌, Bool, true, Li
 use Rattle.std.proofs.Common.{sym, subst, arith, lit<}
 use Rattle.std.proofs.lemmas.List.Elements.{All-from_get_or}
 use Rattle.vob_block.specs.Packing.{item}
-use Rattle.vob_live.specs.Live.{IsWithin, AreWithin}
+use Rattle.vob_flow.specs.Draws.{IsWithin, AreWithin}
 use Rattle.vob.specs.Vobs.{AreOfLength}
 use Rattle.vob_users.specs.Matrix.{Matrix, entry}
 use Rattle.vob_users.specs.declared.grammar.Grammar.{Grammar}

@@ -4,8 +4,8 @@ use Rattle.std.proofs.lemmas.Bool.{false≢true}
 use Rattle.std.proofs.lemmas.List.Elements.{All-more}
 use Rattle.vob_users.specs.Grammar.{IsNull}
 use Rattle.vob_users.specs.GrammarPass.{HasHeads}
-use Rattle.vob_live.specs.Live.{AreWithin}
-use Rattle.vob_live.specs.LivePass.{total_count}
+use Rattle.vob_flow.specs.Draws.{AreWithin}
+use Rattle.vob.specs.Vobs.{total_count}
 use Rattle.vob_users.proofs.FirstLemmas.{AddsFirst-stop, AddsFirst-end}
 use Rattle.vob_users.proofs.GrowthLemmas.{Adds-at}
 use Rattle.vob_users.proofs.ShapeLemmas.{HaveShapeOf-trans}

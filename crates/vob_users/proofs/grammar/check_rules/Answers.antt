@@ -3,7 +3,7 @@ use Rattle.std.proofs.Common.{◌∙◌, refl, sym, length, arith}
 use Rattle.std.proofs.lemmas.Bool.{false≢true}
 use Rattle.std.proofs.lemmas.Option.{slice_get_read}
 use Rattle.vob_users.specs.GrammarFaults.{IsRuleOf}
-use Rattle.vob_live.proofs.FaultLemmas.{below_more_at, all_below_at}
+use Rattle.vob_flow.proofs.FirstLemmas.{below_more_at, all_below_at}
 use Rattle.vob_users.proofs.grammar.check_rules.Goals as goal
 
 pub returns-then-not-is_rule_of-clause-err : goal.returns-then-not-is_rule_of-clause-err

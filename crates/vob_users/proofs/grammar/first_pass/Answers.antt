@@ -1,8 +1,8 @@
 -- What begins the right side of one rule more was added, or was there.
 use Rattle.std.proofs.Common.{◌∙◌}
 use Rattle.vob_users.specs.Grammar.{HasFirst}
-use Rattle.vob_live.specs.Live.{AreWithin}
-use Rattle.vob_live.specs.LivePass.{total_count}
+use Rattle.vob_flow.specs.Draws.{AreWithin}
+use Rattle.vob.specs.Vobs.{total_count}
 use Rattle.vob_users.proofs.GrowthLemmas.{Adds-more}
 use Rattle.vob_users.proofs.ShapeLemmas.{HaveShapeOf-trans}
 use Rattle.vob_users.proofs.grammar.first_pass.Goals as goal

@@ -2,7 +2,7 @@
 use Rattle.std.proofs.Common.{◌∙◌, true}
 use Rattle.vob.specs.Bits.{count_of}
 use Rattle.vob_users.specs.Grammar.{HasNull}
-use Rattle.vob_live.specs.Live.{IsWithin}
+use Rattle.vob_flow.specs.Draws.{IsWithin}
 use Rattle.vob_users.proofs.GrowthLemmas.{Adds-more}
 use Rattle.vob_users.proofs.grammar.null_pass.Goals as goal
 

@@ -1,8 +1,8 @@
 -- What is in the rows is in all that are closed under the rules, and each pass added a terminal.
 use Rattle.std.proofs.Common.{◌≡◌, ◌-◌, ◌*◌, Bool, false, List, replicate}
 use Rattle.vob_users.specs.Grammar.{IsFirstClosed}
-use Rattle.vob_live.specs.Live.{AreWithin}
-use Rattle.vob_live.specs.LivePass.{total_count}
+use Rattle.vob_flow.specs.Draws.{AreWithin}
+use Rattle.vob.specs.Vobs.{total_count}
 use Rattle.vob_users.specs.Matrix.{HaveShapeOf}
 use Rattle.vob_users.proofs.grammar.solve_first.Given as goal
 

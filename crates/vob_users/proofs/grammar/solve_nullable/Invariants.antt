@@ -2,7 +2,7 @@
 use Rattle.std.proofs.Common.{◌≡◌, ◌-◌, Bool, true, List, length}
 use Rattle.vob.specs.Bits.{count_of}
 use Rattle.vob_users.specs.Grammar.{IsNullClosed}
-use Rattle.vob_live.specs.Live.{IsWithin}
+use Rattle.vob_flow.specs.Draws.{IsWithin}
 use Rattle.vob_users.proofs.grammar.solve_nullable.Given as goal
 
 abbrev pub invariant-passes : goal.invariant-passes

@@ -1,5 +1,5 @@
 -- A step leads wherever a path through the nodes so far led.
-use Rattle.vob_live.specs.Live.{bits_of}
+use Rattle.vob.specs.Vobs.{bits_of}
 use Rattle.vob_users.proofs.PathLemmas.{AreEdgesBelow}
 use Rattle.vob_users.proofs.matrix.close_rows.Given as goal
 

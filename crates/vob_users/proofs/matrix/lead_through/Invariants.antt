@@ -1,5 +1,5 @@
 -- The rows so far were led through the node.
-use Rattle.vob_live.specs.Live.{bits_of}
+use Rattle.vob.specs.Vobs.{bits_of}
 use Rattle.vob_users.proofs.MatrixLemmas.{AreLedBefore}
 use Rattle.vob_users.proofs.matrix.lead_through.Given as goal
 

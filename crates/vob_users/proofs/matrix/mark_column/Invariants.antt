@@ -1,5 +1,5 @@
 -- The column was marked but for the indices that are left.
-use Rattle.vob_live.specs.Live.{bits_of}
+use Rattle.vob.specs.Vobs.{bits_of}
 use Rattle.vob_users.proofs.MatrixLemmas.{AreMarkedBut}
 use Rattle.vob_users.proofs.matrix.mark_column.Given as goal
 

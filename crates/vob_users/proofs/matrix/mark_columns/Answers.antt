@@ -1,7 +1,7 @@
 -- A row of the others is as long as there are rows, and marks its column.
 use Rattle.std.proofs.Common.{[], ◌∙◌, ◌<◌, Bool, List, length, sym, ap, subst, arith}
 use Rattle.std.proofs.lemmas.List.{length-map}
-use Rattle.vob_live.specs.Live.{bits_of}
+use Rattle.vob.specs.Vobs.{bits_of}
 use Rattle.vob_users.specs.MatrixRows.{IsColumnMarked}
 use Rattle.vob_users.proofs.ShapeLemmas.{row_of-items}
 use Rattle.vob_users.proofs.MatrixLemmas.{AreMarkedBefore-more}

@@ -1,5 +1,5 @@
 -- The columns so far were marked.
-use Rattle.vob_live.specs.Live.{bits_of}
+use Rattle.vob.specs.Vobs.{bits_of}
 use Rattle.vob_users.proofs.MatrixLemmas.{AreMarkedBefore}
 use Rattle.vob_users.proofs.matrix.mark_columns.Given as goal
 

@@ -1,6 +1,6 @@
 -- The rows so far have no true entry.
 use Rattle.std.proofs.Common.{◌≡◌, false, replicate}
-use Rattle.vob_live.specs.Live.{bits_of}
+use Rattle.vob.specs.Vobs.{bits_of}
 use Rattle.vob_users.proofs.matrix.BitMatrix.new.Given as goal
 
 abbrev pub invariant-loop : goal.invariant-loop

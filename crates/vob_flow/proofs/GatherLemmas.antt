@@ -1,0 +1,24 @@
+-- Sets that begin empty, beside others of one length.
+use Rattle.std.proofs.Common.{◌≡◌, ℕ, Bool, false, List, length, replicate, sym, ap, ◌∙◌, subst}
+use Rattle.std.specs.List.{All}
+use Rattle.std.proofs.lemmas.List.{length-map, length-replicate}
+use Rattle.vob.specs.Vob.{BitVector}
+use Rattle.vob.specs.Vobs.{AreOfLength, bits_of}
+use Rattle.vob.proofs.VobsLemmas.{of_length_replicate}
+use Rattle.vob_flow.proofs.DrawLemmas.{vob_long}
+
+module _ (places n : ℕ) (sums : List BitVector)
+    (empty : bits_of sums ≡ replicate n (replicate places false)) where
+  pub empty_count : length sums ≡ n
+  empty_count = sym (length-map sums (λ v. v.bits)) ∙ ap length empty
+      ∙ length-replicate n (replicate places false)
+
+  pub empty_long : AreOfLength places (bits_of sums)
+  empty_long = subst (λ (lists : List (List Bool)). AreOfLength places lists) (sym empty)
+      (of_length_replicate places n (replicate places false) (length-replicate places false))
+
+  -- each is as long as others
+  pub empty_beside : (sets : List (List Bool)) → AreOfLength places sets →
+      All (λ sum. AreOfLength (length sum.bits) sets) sums
+  empty_beside sets long k d less i e low =
+      long i e low ∙ sym (vob_long places sums k d empty_long less)

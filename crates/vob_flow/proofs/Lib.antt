@@ -1,0 +1,14 @@
+mod AnyLemmas
+mod ChangesLemmas
+mod DrawLemmas
+mod FaultLemmas
+pub mod FirstLemmas
+mod FlowLemmas
+mod GatherLemmas
+mod GreatestLemmas
+mod LawLemmas
+mod LiveLemmas
+mod OrderLemmas
+mod PassLemmas
+mod ReachingLemmas
+mod UnderwayLemmas

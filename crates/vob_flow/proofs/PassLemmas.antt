@@ -1,0 +1,200 @@
+-- The turns of a pass, one after another.
+use Rattle.std.proofs.Common.{◌≡◌, ◌≢◌, ◌↔◌, ℕ, ◌+◌, ◌*◌, ◌^◌, ◌-◌, ◌<◌, ◌≤◌, ◌⊎◌, Bool, true, false, inl, inr}
+use Rattle.std.proofs.Common.{List, [], length, get_or, Some, slice_get, refl, sym, ap, ◌∙◌, subst, arith}
+use Rattle.std.proofs.Common.{mul-le-mul_left}
+use Rattle.std.proofs.lemmas.Bool.{cases_eq, false≢true, false_from_ne_true}
+use Rattle.std.proofs.lemmas.List.{length-map, get_or_default}
+use Rattle.vob_block.specs.Packing.{item}
+use Rattle.vob.specs.Bits.{IsWritten}
+use Rattle.vob.specs.Sets.{HasBit}
+use Rattle.vob.specs.Vob.{BitVector}
+use Rattle.vob.specs.Vobs.{AreOfLength, bits_of, total_count}
+use Rattle.vob.proofs.BitsLemmas.{true_inside}
+use Rattle.vob.proofs.VobsLemmas.{of_length_at}
+use Rattle.vob_flow.specs.declared.draw.Draw.{Draw}
+use Rattle.vob_flow.specs.Draws.{HaveShape}
+use Rattle.vob_flow.specs.Order.{IsOrder}
+use Rattle.vob_flow.specs.Passes.{HasDrawn, IsDone, IsSince, IsWaiting, AreUnderway, HadTurn, AreMore, HadTurns, HadPass, HasGrown}
+use Rattle.vob_flow.proofs.AnyLemmas.{Any-map}
+use Rattle.vob_flow.proofs.UnderwayLemmas.{HaveShape-refl, HaveShape-trans, AreUnderway-turn, AreUnderway-again, place_inside, place_other}
+
+-- ---- as many sets, as long as before
+
+pub AreMore-refl : (sets : List (List Bool)) → AreMore sets sets
+AreMore-refl sets = record { shape = HaveShape-refl sets; total = omega arith }
+
+pub AreMore-trans : {sets mid after : List (List Bool)} → AreMore sets mid → AreMore mid after →
+    AreMore sets after
+AreMore-trans a b = record {
+  shape = HaveShape-trans a.shape b.shape;
+  total = omega (arith, a.total, b.total);
+}
+
+total_le : (grew : Bool) (sets after : List (List Bool)) → (grew ≡ false → after ≡ sets) →
+    (grew ≡ true → total_count sets < total_count after) → total_count sets ≤ total_count after
+total_le true sets after same more = omega (arith, more refl)
+total_le false sets after same more = omega (arith, ap total_count (same refl))
+
+AreMore-drawn : {sets after : List (List Bool)} {n : ℕ} {draw : Draw} {grew : Bool} →
+    HasDrawn sets n draw after grew → AreMore sets after
+AreMore-drawn {sets} {after} {n} {draw} {grew} d = record {
+  shape = d.shape;
+  total = total_le grew sets after d.same d.more;
+}
+
+-- of one length still, and as many Vobs
+pub shape_long : (places : ℕ) (starts sets : List (List Bool)) → HaveShape starts sets →
+    AreOfLength places starts → AreOfLength places sets
+shape_long places starts sets h long k d less =
+    ap length (get_or_default sets k d [] less) ∙ h.long k
+    ∙ of_length_at places starts k [] long (omega (arith, less, h.count))
+
+pub shape_count : (starts sets : List BitVector) → HaveShape (bits_of starts) (bits_of sets) →
+    length sets ≡ length starts
+shape_count starts sets h =
+    sym (length-map sets (λ v. v.bits)) ∙ h.count ∙ length-map starts (λ v. v.bits)
+
+-- ---- how many passes there are
+
+pub product_fits : (n places : ℕ) → n < 2 ^ 64 → places < 2 ^ 64 → n * places + 1 < 2 ^ 128
+product_fits n places few small =
+    let at_most : n ≤ 2 ^ 64 - 1 = omega arith in
+    omega (arith, mul-le-mul_left places at_most)
+
+-- ---- a turn
+
+-- a set that has all that it draws is as if it had been looked at
+HasDrawn-done : (sets : List (List Bool)) (n : ℕ) (draw : Draw) → IsDone sets n draw →
+    HasDrawn sets n draw sets false
+HasDrawn-done sets n draw done = record {
+  shape = HaveShape-refl sets;
+  here = λ v. (
+    (λ e. inl e),
+    (λ either. elim either [ inl old ↦ old | inr new ↦ done v new ]),
+  );
+  others = λ k other. refl;
+  same = λ e. refl;
+  more = λ e. absurd (false≢true e);
+}
+
+-- a set that waits for nothing is done
+waits_for_nothing : {place : ℕ → ℕ} (sets : List (List Bool)) (first : Bool) (grown : List Bool)
+    (i k : ℕ) (draw : Draw) → first ≡ false → ¬ HasGrown grown draw.from.now →
+    IsDone sets k draw ⊎ IsWaiting place first grown i (place k) draw → IsDone sets k draw
+waits_for_nothing {place} sets first grown i k draw quiet none which = elim which [
+  | inl done ↦ done
+  | inr waiting ↦ elim waiting [
+    | inl f ↦ absurd (false≢true (sym quiet ∙ f.0))
+    | inr any ↦ absurd (none (Any-map
+        (λ m. IsSince i (place k) (place m) × (item grown m ≡ true))
+        (λ m. item grown m ≡ true) draw.from.now (λ m p. p.1) any))
+  ]
+]
+
+module _ {count : ℕ} {order : List ℕ} (one : IsOrder count order) {draws : List Draw} {first : Bool}
+    {sets : List (List Bool)} {grown : List Bool} {mid : List (List Bool)} {grown_mid : List Bool}
+    {i n : ℕ} {draw : Draw} {after : List (List Bool)} {grown' : List Bool}
+    (h : HadTurns one.place draws first sets grown mid grown_mid i)
+    (few : length draws ≡ count) (bits : length grown ≡ count) (less : i < length order)
+    (named : get_or order i 0 ≡ n) (at : slice_get draws n ≡ Some draw)
+    (t : HadTurn mid grown_mid n draw first after grown') where
+  here : one.place n ≡ i
+  here = ap one.place (sym named) ∙ one.places i less
+
+  apart : (k : ℕ) → k < count → k ≢ n → one.place k ≢ i
+  apart k inside other = place_other one k inside i n named other
+
+  turns_more : AreMore mid after → (t.grew ≡ true → total_count mid < total_count after) →
+      (m : ℕ) → one.place m < i + 1 → item grown' m ≡ true →
+      total_count sets < total_count after
+  turns_more le more m low on = elim (cases_eq m n) [
+    | inl same ↦
+        let up : t.grew ≡ true = sym t.written.there ∙ sym (ap (item grown') same) ∙ on in
+        omega (arith, h.sets_more.total, more up)
+    | inr other ↦
+        let inside : m < count =
+        omega (arith, true_inside grown' m on, t.written.len, h.len, bits) in
+        let away = apart m inside other in
+        let below : one.place m < i = omega arith in
+        omega (arith, le.total, h.more m below (sym (t.written.others m other) ∙ on))
+  ]
+
+  -- if none grew, no set changed
+  turns_same : (t.grew ≡ false → after ≡ mid) →
+      ((m : ℕ) → one.place m < i + 1 → item grown' m ≡ false) → after ≡ sets
+  turns_same same none =
+      same (sym t.written.there ∙ none n (omega (arith, here)))
+      ∙ h.same (λ m low. sym (t.written.others m (λ e. omega (arith, ap one.place e, here, low)))
+      ∙ none m (omega (arith, low)))
+
+  turns_drawn : HasDrawn mid n draw after t.grew →
+      HadTurns one.place draws first sets grown after grown' (i + 1)
+  turns_drawn d = record {
+    sets_more = AreMore-trans h.sets_more (AreMore-drawn d);
+    len = t.written.len ∙ h.len;
+    underway = λ starts u. AreUnderway-turn draw (h.underway starts u) at here
+        (λ k inside. apart k (omega (arith, inside, few))) d t.written;
+    more = turns_more (AreMore-drawn d) d.more;
+    same = turns_same d.same;
+  }
+
+  turns_left : after ≡ mid → t.grew ≡ false → first ≡ false → ¬ HasGrown grown_mid draw.from.now →
+      HadTurns one.place draws first sets grown after grown' (i + 1)
+  turns_left same quiet second none = record {
+    sets_more = subst (λ (xs : List (List Bool)). AreMore sets xs) (sym same) h.sets_more;
+    len = t.written.len ∙ h.len;
+    underway = λ starts u.
+        let now = h.underway starts u in
+        let done = waits_for_nothing mid first grown_mid i n draw second none (now.waits n draw at) in
+        subst (λ (xs : List (List Bool)).
+        AreUnderway one.place draws starts xs first grown' (i + 1)) (sym same)
+        (AreUnderway-turn draw now at here (λ k inside. apart k (omega (arith, inside, few)))
+        (HasDrawn-done mid n draw done)
+        (subst (λ (b : Bool). IsWritten grown_mid n b grown') quiet t.written));
+    more = turns_more (subst (λ (xs : List (List Bool)). AreMore mid xs) (sym same)
+        (AreMore-refl mid)) (λ up. absurd (false≢true (sym quiet ∙ up)));
+    same = turns_same (λ _. same);
+  }
+
+  pub HadTurns-more : HadTurns one.place draws first sets grown after grown' (i + 1)
+  HadTurns-more = elim t.drawn [
+    | inl d ↦ turns_drawn d
+    | inr left ↦ turns_left left.0 left.1 left.2 left.3
+  ]
+
+pub HadTurns-start : (place : ℕ → ℕ) (draws : List Draw) (first : Bool) (sets : List (List Bool))
+    (grown : List Bool) → HadTurns place draws first sets grown sets grown 0
+HadTurns-start place draws first sets grown = record {
+  sets_more = AreMore-refl sets;
+  len = refl;
+  underway = λ starts u. u;
+  more = λ m less. absurd (omega (arith, less));
+  same = λ none. refl;
+}
+
+-- ---- a pass
+
+pub HadPass-whole : {count : ℕ} {order : List ℕ} (one : IsOrder count order) {draws : List Draw}
+    {first : Bool} {sets : List (List Bool)} {grown : List Bool} {after : List (List Bool)}
+    {grown' : List Bool} {i : ℕ} (any : Bool) →
+    HadTurns one.place draws first sets grown after grown' i → length order ≤ i →
+    length draws ≡ count → length grown ≡ count → ((any ≡ true) ↔ HasBit true grown') →
+    HadPass one.place draws first sets grown after grown' any
+HadPass-whole {count} {order} one {draws} {first} {sets} {grown} {after} {grown'} {i} any h past few
+    bits answer =
+    let inside : (k : ℕ) → k < count → one.place k < i =
+    λ k less. omega (arith, place_inside one k less, past) in
+    let none : any ≡ false → (m : ℕ) → item grown' m ≡ false =
+    λ quiet m. false_from_ne_true (item grown' m) (λ on.
+    false≢true (sym quiet ∙ answer.1 (m, true_inside grown' m on, on))) in
+    record {
+      sets_more = h.sets_more;
+      len = h.len;
+      underway = λ starts u. AreUnderway-again (h.underway starts u)
+          (λ k less. inside k (omega (arith, less, few)));
+      more = λ up.
+          let there = answer.0 up in
+          h.more there.0 (inside there.0 (omega (arith, there.1, h.len, bits))) there.2;
+      none = none;
+      same = λ quiet. h.same (λ m low. none quiet m);
+    }

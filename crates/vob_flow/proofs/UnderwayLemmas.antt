@@ -1,0 +1,285 @@
+-- Sets on the way to the least ones, turn after turn.
+use Rattle.std.proofs.Common.{◌≡◌, ◌≢◌, ℕ, ◌+◌, ◌<◌, ◌⊎◌, Bool, true, false, inl, inr}
+use Rattle.std.proofs.Common.{List, [], length, get_or, Some, slice_get, refl, sym, ap, ◌∙◌, subst, arith}
+use Rattle.std.specs.List.{Contains}
+use Rattle.std.proofs.lemmas.Bool.{cases_eq, cases_lt, cases_Bool, false≢true}
+use Rattle.std.proofs.lemmas.List.{get_or_default}
+use Rattle.std.proofs.lemmas.Option.{slice_get_within, same_Some}
+use Rattle.vob_block.specs.Packing.{item}
+use Rattle.vob.specs.Bits.{IsWritten}
+use Rattle.vob_flow.specs.declared.draw.Draw.{Draw}
+use Rattle.vob_flow.specs.Draws.{IsIn, IsDrawn, Comes, HaveShape, AreLeast}
+use Rattle.vob_flow.specs.Draws.Comes.{starts_in, drawn}
+use Rattle.vob_flow.specs.Order.{IsOrder}
+use Rattle.vob_flow.specs.Passes.{HasDrawn, IsDone, IsSince, IsWaiting, AreUnderway}
+use Rattle.vob_flow.proofs.AnyLemmas.{Any-map, Any-here_or, Any-contained, contained_or}
+
+-- an element is one element
+pub same_at : {X : Type 0} (xs : List X) (n k : ℕ) (a b : X) → n ≡ k → slice_get xs n ≡ Some a →
+    slice_get xs k ≡ Some b → a ≡ b
+same_at xs n k a b e p q = same_Some a b (sym p ∙ ap (slice_get xs) e ∙ q)
+
+-- ---- shapes
+
+pub HaveShape-refl : (sets : List (List Bool)) → HaveShape sets sets
+HaveShape-refl sets = record { count = refl; long = λ n. refl }
+
+pub HaveShape-trans : {sets mid after : List (List Bool)} → HaveShape sets mid →
+    HaveShape mid after → HaveShape sets after
+HaveShape-trans a b = record { count = b.count ∙ a.count; long = λ n. b.long n ∙ a.long n }
+
+-- ---- an order
+
+module _ {count : ℕ} {order : List ℕ} (one : IsOrder count order) (k : ℕ) (inside : k < count) where
+  -- a set's place is in the order
+  pub place_inside : one.place k < length order
+  place_inside =
+      let found = one.whole k inside in
+      let is : get_or order found.0 0 ≡ k = get_or_default order found.0 0 k found.1 ∙ found.2 in
+      omega (arith, found.1, one.places found.0 found.1, ap one.place is)
+
+  -- and the set is there
+  pub at_place : get_or order (one.place k) 0 ≡ k
+  at_place =
+      let found = one.whole k inside in
+      let is : get_or order found.0 0 ≡ k = get_or_default order found.0 0 k found.1 ∙ found.2 in
+      let there : one.place k ≡ found.0 = ap one.place (sym is) ∙ one.places found.0 found.1 in
+      ap (λ j. get_or order j 0) there ∙ is
+
+  -- another set has another place
+  pub place_other : (i n : ℕ) → get_or order i 0 ≡ n → k ≢ n → one.place k ≢ i
+  place_other i n is other there = other (sym at_place ∙ ap (λ j. get_or order j 0) there ∙ is)
+
+-- ---- a turn
+
+module _ {place : ℕ → ℕ} {draws : List Draw} {starts sets after : List (List Bool)} {first : Bool}
+    {grown grown' : List Bool} {i n : ℕ} (draw : Draw) {grew : Bool}
+    (h : AreUnderway place draws starts sets first grown i) (at : slice_get draws n ≡ Some draw)
+    (here : place n ≡ i) (apart : (k : ℕ) → k < length draws → k ≢ n → place k ≢ i)
+    (d : HasDrawn sets n draw after grew) (w : IsWritten grown n grew grown') where
+  -- v in set k, which isn't set n
+  other_in : (k v : ℕ) → k ≢ n → IsIn after k v → IsIn sets k v
+  other_in k v other e = sym (ap (λ row. item row v) (d.others k other)) ∙ e
+
+  kept_in : (k v : ℕ) → IsIn sets k v → IsIn after k v
+  kept_in k v e = elim (cases_eq k n) [
+    | inl same ↦ subst (λ j. IsIn after j v) (sym same)
+        ((d.here v).1 (inl (subst (λ j. IsIn sets j v) same e)))
+    | inr other ↦ ap (λ row. item row v) (d.others k other) ∙ e
+  ]
+
+  comes_drawn : (v : ℕ) → IsDrawn sets draw v → Comes draws starts n v
+  comes_drawn v (keeps, (k, m, less, is, e)) =
+      drawn draw at keeps (k, less, is) (h.comes m v e)
+
+  comes_here : (v : ℕ) → IsIn after n v → Comes draws starts n v
+  comes_here v e = elim ((d.here v).0 e) [
+    | inl old ↦ h.comes n v old
+    | inr new ↦ comes_drawn v new
+  ]
+
+  comes_after : (k v : ℕ) → IsIn after k v → Comes draws starts k v
+  comes_after k v e = elim (cases_eq k n) [
+    | inl same ↦ subst (λ j. Comes draws starts j v) (sym same)
+        (comes_here v (subst (λ j. IsIn after j v) same e))
+    | inr other ↦ h.comes k v (other_in k v other e)
+  ]
+
+  -- the set whose turn it was is done
+  done_here : IsDone after n draw
+  done_here v (keeps, any) =
+      elim (Any-here_or (λ m. IsIn after m v) (λ m. IsIn sets m v) n draw.from.now
+      (λ m other e. other_in m v other e) any) [
+        | inl old ↦ (d.here v).1 (inr (keeps, old))
+        | inr this ↦ this.1
+      ]
+
+  -- another one that was done is so still, or draws from it
+  module _ (k : ℕ) (there : Draw) (is : slice_get draws k ≡ Some there) (other : k ≢ n) where
+    away : place k ≢ i
+    away = apart k (slice_get_within draws k there is) other
+
+    since_other : (m : ℕ) → IsSince i (place k) (place m) → m ≢ n
+    since_other m s e =
+        let same : place m ≡ i = ap place e ∙ here in
+        elim (cases_lt (place k) i) [
+          | inl less ↦ absurd (omega (arith, (s.early less).1, same))
+          | inr past ↦ elim (s.late past) [
+            | inl less ↦ absurd (omega (arith, less, same))
+            | inr below ↦ absurd (away (omega (arith, past, below, same)))
+          ]
+        ]
+
+    since_next : (m : ℕ) → IsSince i (place k) (place m) → IsSince (i + 1) (place k) (place m)
+    since_next m s = record {
+      early = λ less.
+          let below : place k < i = elim (cases_lt (place k) i) [
+            | inl low ↦ low
+            | inr past ↦ absurd (away (omega (arith, less, past)))
+          ] in
+          let p = s.early below in (p.0, omega (arith, p.1));
+      late = λ past. elim (s.late (omega (arith, past))) [
+        | inl less ↦ inl (omega (arith, less))
+        | inr below ↦ inr below
+      ];
+    }
+
+    still_waiting : IsWaiting place first grown i (place k) there →
+        IsWaiting place first grown' (i + 1) (place k) there
+    still_waiting which = elim which [
+      | inl f ↦ inl (
+        f.0,
+        elim (cases_lt i (place k)) [
+          | inl less ↦ omega (arith, less)
+          | inr past ↦ absurd (away (omega (arith, past, f.1)))
+        ],
+      )
+      | inr any ↦ inr (Any-map (λ m. IsSince i (place k) (place m) × (item grown m ≡ true))
+          (λ m. IsSince (i + 1) (place k) (place m) × (item grown' m ≡ true)) there.from.now
+          (λ m p. (since_next m p.0, w.others m (since_other m p.0) ∙ p.1)) any)
+    ]
+
+    since_here : IsSince (i + 1) (place k) (place n)
+    since_here = record {
+      early = λ less. (omega (arith, less, here), omega (arith, here));
+      late = λ past. inl (omega (arith, here));
+    }
+
+    -- set n grew: set k has none of it, or is to be looked at
+    done_or : grew ≡ true → IsDone sets k there →
+        Contains there.from.now n ⊎ (¬ Contains there.from.now n) →
+        IsDone after k there ⊎ IsWaiting place first grown' (i + 1) (place k) there
+    done_or up done cases = elim cases [
+      | inl within ↦ inr (inr (Any-contained
+          (λ m. IsSince (i + 1) (place k) (place m) × (item grown' m ≡ true))
+          there.from.now n within (since_here, w.there ∙ up)))
+      | inr without ↦ inl (λ v draws_it.
+          elim (Any-here_or (λ m. IsIn after m v) (λ m. IsIn sets m v) n there.from.now
+          (λ m o e. other_in m v o e) draws_it.1) [
+            | inl old ↦ kept_in k v (done v (draws_it.0, old))
+            | inr this ↦ absurd (without this.0)
+          ])
+    ]
+
+    pub waits_other : IsDone sets k there ⊎ IsWaiting place first grown i (place k) there →
+        IsDone after k there ⊎ IsWaiting place first grown' (i + 1) (place k) there
+    waits_other which = elim which [
+      | inl done ↦ elim (cases_Bool grew) [
+        | inl up ↦ done_or up done (contained_or n there.from.now)
+        | inr quiet ↦ inl (subst (λ (xs : List (List Bool)). IsDone xs k there)
+            (sym (d.same quiet)) done)
+      ]
+      | inr waiting ↦ inr (still_waiting waiting)
+    ]
+
+  waits_after : (k : ℕ) (there : Draw) → slice_get draws k ≡ Some there →
+      IsDone after k there ⊎ IsWaiting place first grown' (i + 1) (place k) there
+  waits_after k there is = elim (cases_eq k n) [
+    | inl same ↦
+        let this = same_at draws n k draw there (sym same) at is in
+        inl (subst (λ (x : Draw). IsDone after k x) this
+        (subst (λ j. IsDone after j draw) (sym same) done_here))
+    | inr other ↦ waits_other k there is other (h.waits k there is)
+  ]
+
+  pub AreUnderway-turn : AreUnderway place draws starts after first grown' (i + 1)
+  AreUnderway-turn = record {
+    shape = HaveShape-trans h.shape d.shape;
+    kept = λ m v e. kept_in m v (h.kept m v e);
+    comes = comes_after;
+    waits = waits_after;
+  }
+
+-- ---- a pass
+
+pub AreUnderway-start : (place : ℕ → ℕ) (draws : List Draw) (starts : List (List Bool))
+    (grown : List Bool) → AreUnderway place draws starts starts true grown 0
+AreUnderway-start place draws starts grown = record {
+  shape = HaveShape-refl starts;
+  kept = λ n v e. e;
+  comes = λ n v e. starts_in e;
+  waits = λ k draw is. inr (inl (refl, omega arith));
+}
+
+-- after the last turn of a pass, another one begins
+pub AreUnderway-again : {place : ℕ → ℕ} {draws : List Draw} {starts sets : List (List Bool)}
+    {first : Bool} {grown : List Bool} {i : ℕ} →
+    AreUnderway place draws starts sets first grown i →
+    ((k : ℕ) → k < length draws → place k < i) →
+    AreUnderway place draws starts sets false grown 0
+AreUnderway-again {place} {draws} {starts} {sets} {first} {grown} {i} h past = record {
+  shape = h.shape;
+  kept = h.kept;
+  comes = h.comes;
+  waits = λ k draw is.
+      let inside = past k (slice_get_within draws k draw is) in
+      elim (h.waits k draw is) [
+        | inl done ↦ inl done
+        | inr waiting ↦ elim waiting [
+          | inl f ↦ absurd (omega (arith, f.1, inside))
+          | inr any ↦ inr (inr (Any-map
+              (λ m. IsSince i (place k) (place m) × (item grown m ≡ true))
+              (λ m. IsSince 0 (place k) (place m) × (item grown m ≡ true)) draw.from.now
+              (λ m p. (
+                record {
+                  early = λ less. absurd (omega (arith, less));
+                  late = λ _. inr (p.0.early inside).0;
+                },
+                p.1,
+              )) any))
+        ]
+      ];
+}
+
+-- no set grew in a pass: all are done
+pub AreUnderway-done : {place : ℕ → ℕ} {draws : List Draw} {starts sets : List (List Bool)}
+    {grown : List Bool} → AreUnderway place draws starts sets false grown 0 →
+    ((m : ℕ) → item grown m ≡ false) →
+    (k : ℕ) (draw : Draw) → slice_get draws k ≡ Some draw → IsDone sets k draw
+AreUnderway-done {grown = grown} h none k draw is = elim (h.waits k draw is) [
+  | inl done ↦ done
+  | inr waiting ↦ elim waiting [
+    | inl f ↦ absurd (false≢true f.0)
+    | inr any ↦ absurd (false≢true (sym (none any.1) ∙ any.4.1))
+  ]
+]
+
+module _ {place : ℕ → ℕ} {draws : List Draw} {starts sets : List (List Bool)} {first : Bool}
+    {grown : List Bool} {i : ℕ} (h : AreUnderway place draws starts sets first grown i)
+    (done : (k : ℕ) (draw : Draw) → slice_get draws k ≡ Some draw → IsDone sets k draw) where
+  all_in : {n v : ℕ} → Comes draws starts n v → IsIn sets n v
+  all_in (starts_in e) = h.kept _ _ e
+  all_in (drawn draw is keeps (k, less, e) c) =
+      done _ draw is _ (keeps, (k, _, less, e, all_in c))
+
+  drawn_in : (n v : ℕ) (draw : Draw) → slice_get draws n ≡ Some draw → Comes draws starts n v →
+      IsIn starts n v ⊎ IsDrawn sets draw v
+  drawn_in n v draw is (starts_in e) = inl e
+  drawn_in n v draw is (drawn draw' is' keeps (k, less, e) c) =
+      let same = same_at draws n n draw' draw refl is' is in
+      inr (subst (λ (x : Draw). IsDrawn sets x v) same (keeps, (k, _, less, e, all_in c)))
+
+  pub AreLeast-done : AreLeast draws starts sets
+  AreLeast-done = record {
+    solution = record {
+      shape = h.shape;
+      meets = λ n v draw is. (
+        (λ e. drawn_in n v draw is (h.comes n v e)),
+        (λ either. elim either [
+          | inl first ↦ h.kept n v first
+          | inr new ↦ done n draw is v new
+        ]),
+      );
+    };
+    least = h.comes;
+  }
+
+-- no sets draw nothing
+pub AreLeast-none : (draws : List Draw) → length draws ≡ 0 → AreLeast draws [] []
+AreLeast-none draws none = record {
+  solution = record {
+    shape = HaveShape-refl [];
+    meets = λ n v draw is. absurd (omega (arith, none, slice_get_within draws n draw is));
+  };
+  least = λ n v e. starts_in e;
+}

@@ -1,0 +1,47 @@
+-- A set that is seen waits, and one that waited last comes into the order.
+use Rattle.std.proofs.Common.{◌∙◌, ◌++◌, ◌∷◌, ◌≡◌, [], length, subst, sym, ap, arith, List, ℕ}
+use Rattle.std.proofs.lemmas.List.{length_push}
+use Rattle.vob_flow.specs.Order.{IsVisited, sets_of}
+use Rattle.vob_flow.proofs.OrderLemmas.{IsVisited-enter, IsVisited-leave, sets_of_push, steps_seen, waiting_inside}
+use Rattle.vob_flow.proofs.order.advance.Goals as goal
+
+pub bounds-draws-top : goal.bounds-draws-top
+bounds-draws-top c = waiting_inside (sets_of c.args.stack.now.items) c.args.top.set c.requires.visited
+
+pub next_unseen-requires : goal.next_unseen-requires
+next_unseen-requires c =
+    let top = c.args.top.set in
+    let inside = waiting_inside (sets_of c.args.stack.now.items) top c.requires.visited in
+    let all = c.requires.draws top c.index-draws-top.result inside in
+    λ k d less. omega (arith, all k d less, c.requires.visited.len)
+
+-- the sets that wait then
+waiting : (c : goal.In_ok-enter) → sets_of c.enter.new.stack.items
+    ≡ (sets_of c.args.stack.now.items ++ c.args.top.set ∷ []) ++ c.in-Some.next.set ∷ []
+waiting c =
+    c.in_ok-enter.ensures.stack ∙ ap (λ waits. waits ++ c.in-Some.next.set ∷ [])
+    (ap sets_of c.in_ok-push.ensures.items ∙ sets_of_push c.args.stack.now.items _)
+
+pub returns-in_ok-enter-clause-visited : goal.returns-in_ok-enter-clause-visited
+returns-in_ok-enter-clause-visited c =
+    subst (λ (waits : List ℕ). IsVisited (length c.args.draws.now) c.enter.new.seen.bits waits
+    c.args.order.now.items) (sym (waiting c))
+    (IsVisited-enter c.in-Some.next.set c.requires.visited c.in-Some.ensures.unseen
+    c.enter.ensures.seen)
+
+pub returns-in_ok-enter-clause-fewer : goal.returns-in_ok-enter-clause-fewer
+returns-in_ok-enter-clause-fewer c =
+    let more = ap length (waiting c)
+    ∙ length_push (sets_of c.args.stack.now.items ++ c.args.top.set ∷ []) c.in-Some.next.set in
+    omega (
+      arith,
+      more,
+      length_push (sets_of c.args.stack.now.items) c.args.top.set,
+      steps_seen c.in-Some.next.set c.in-Some.ensures.unseen c.enter.ensures.seen,
+    )
+
+pub returns-in_ok-push-2-clause-visited : goal.returns-in_ok-push-2-clause-visited
+returns-in_ok-push-2-clause-visited c =
+    subst (λ (order : List ℕ). IsVisited (length c.args.draws.now) c.args.seen.now.bits
+    (sets_of c.args.stack.now.items) order) (sym c.in_ok-push-2.ensures.items)
+    (IsVisited-leave c.args.top.set c.requires.visited (omega arith))

@@ -1,0 +1,13 @@
+pub mod Changes
+pub mod Draws
+pub mod FlowFaults
+pub mod Gathered
+pub mod Greatest
+pub mod Laws
+pub mod Live
+pub mod LiveDraws
+pub mod Order
+pub mod Passes
+pub mod Reaching
+pub mod SolveFaults
+pub mod Turned

@@ -1,0 +1,55 @@
+-- What can be wrong with sets that draw from one another, and which is the first with a fault.
+use Rattle.std.specs.Prelude.{◌≡◌, ℕ, ◌<◌, Bool, List, [], ◌++◌, length, slice_index_or, slice_get, Some, codes}
+use Rattle.std.specs.Fmt.{decimal}
+use Rattle.vob_flow.specs.Draws.{FitsMask, DrawsInside}
+use Rattle.vob_flow.specs.declared.draw.Draw.{Draw}
+use Rattle.vob_flow.specs.declared.faults.SolveError.{SolveError}
+use Rattle.vob_flow.specs.declared.faults.SolveError.TheVariants.{Memory, BadLength, BadSet}
+
+-- set n and its mask have a bit for each of the places
+pub record IsLongAt (places : ℕ) (sets : List (List Bool)) (draws : List Draw) (n : ℕ)
+    : Type 0 where
+  pub set : length (slice_index_or sets n []) ≡ places
+  pub mask : (draw : Draw) → slice_get draws n ≡ Some draw → FitsMask places draw.mask
+
+-- set n draws from sets that are there
+abbrev pub DrawsInsideAt : List (List Bool) → List Draw → ℕ → Type 0
+DrawsInsideAt sets draws n =
+    (draw : Draw) → slice_get draws n ≡ Some draw → DrawsInside (length sets) draw
+
+-- nothing is wrong with set n
+pub record IsSoundAt (places : ℕ) (sets : List (List Bool)) (draws : List Draw) (n : ℕ)
+    : Type 0 where
+  pub long : IsLongAt places sets draws n
+  pub inside : DrawsInsideAt sets draws n
+
+-- nothing is wrong with any set
+abbrev pub AreSound : ℕ → List (List Bool) → List Draw → Type 0
+AreSound places sets draws = (n : ℕ) → n < length sets → IsSoundAt places sets draws n
+
+-- set n is the first with a fault: it or its mask has another length
+pub record IsBadLength (places : ℕ) (sets : List (List Bool)) (draws : List Draw) (n : ℕ)
+    : Type 0 where
+  pub there : n < length sets
+  pub lower : (k : ℕ) → k < n → IsSoundAt places sets draws k
+  pub bad : ¬ IsLongAt places sets draws n
+
+-- set n is the first with a fault: its lengths are right, and it draws from a set that isn't there
+pub record IsBadSet (places : ℕ) (sets : List (List Bool)) (draws : List Draw) (n : ℕ)
+    : Type 0 where
+  pub there : n < length sets
+  pub lower : (k : ℕ) → k < n → IsSoundAt places sets draws k
+  pub good : IsLongAt places sets draws n
+  pub bad : ¬ DrawsInsideAt sets draws n
+
+-- what is wrong with the sets
+abbrev pub IsFault : ℕ → List (List Bool) → List Draw → SolveError → Type 0
+IsFault places sets draws Memory = ⊥
+IsFault places sets draws (BadLength n) = IsBadLength places sets draws n
+IsFault places sets draws (BadSet n) = IsBadSet places sets draws n
+
+-- the text of a refusal
+abbrev pub solve_error_text : SolveError → List ℕ
+solve_error_text Memory = codes "out of memory"
+solve_error_text (BadLength n) = codes "set " ++ decimal n ++ codes " has another length"
+solve_error_text (BadSet n) = codes "set " ++ decimal n ++ codes " draws from no set"

@@ -1,0 +1,119 @@
+//! The order in which sets have their turns: those that a set draws from before it, where no cycle
+//! leads back.
+ghost use Rattle.std.specs.Prelude.{◌≡◌, ◌+◌, ◌<◌, [], ◌∷◌, ◌++◌, true, false, length, All, IfOk, IfSome, OnOk};
+ghost use Rattle.vob.specs.Bits.{IsWritten};
+ghost use Rattle.vob_block.specs.Packing.{item};
+ghost use Rattle.vob_flow.specs.Draws.{DrawsInside};
+ghost use Rattle.vob_flow.specs.Order.{IsOrder, IsVisited, SeesMore, sets_of, steps_left};
+
+use crate::draw::Draw;
+use std::alloc::{AllocError, Global};
+use vob::Vob;
+
+/// A set that waits until those that it draws from are in the order, and how many of them were
+/// looked at.
+#[derive(Clone, Copy)]
+struct Visit {
+    set: usize,
+    looked: usize,
+}
+
+/// Returns the first of some sets, after those that were looked at, that wasn't seen, and how many
+/// are looked at then.
+fn next_unseen(from: &[usize], looked: usize, seen: &Vob) -> Option<Visit>
+    requires { All (λ set. set < length seen.now.bits) from.now }
+    ensures inside { IfSome result (λ next. next.set < length seen.now.bits) }
+    ensures unseen { IfSome result (λ next. item seen.now.bits next.set ≡ false) }
+{
+    for k in looked..from.len() {
+        let set = from[k];
+        if !seen.get_unchecked(set) {
+            return Some(Visit { set, looked: k + 1 });
+        }
+    }
+    None
+}
+
+/// Marks a set as seen, and lets it wait for those that it draws from.
+fn enter(set: usize, seen: &mut Vob, stack: &mut Vec<Visit>) -> Result<(), AllocError>
+    requires { set < length seen.old.bits }
+    ensures seen { IsWritten seen.old.bits set true seen.new.bits }
+    ensures stack { OnOk result (sets_of stack.new.items ≡ sets_of stack.old.items ++ set ∷ []) }
+{
+    seen.set(set, true);
+    stack.push(Visit { set, looked: 0 })?;
+    Ok(())
+}
+
+/// Goes on with the set that waited last: to a set that it draws from, or into the order.
+fn advance(
+    top: Visit,
+    draws: &[Draw<'_>],
+    seen: &mut Vob,
+    stack: &mut Vec<Visit>,
+    order: &mut Vec<usize>,
+) -> Result<(), AllocError>
+    requires draws { All (DrawsInside (length draws.now)) draws.now }
+    requires visited { IsVisited (length draws.now) seen.old.bits
+        (sets_of stack.old.items ++ top.set ∷ []) order.old.items }
+    ensures visited { OnOk result (IsVisited (length draws.now) seen.new.bits
+        (sets_of stack.new.items) order.new.items) }
+    ensures seen { OnOk result (SeesMore seen.old.bits seen.new.bits) }
+    ensures fewer { OnOk result (steps_left seen.new.bits (sets_of stack.new.items)
+        < steps_left seen.old.bits (sets_of stack.old.items) + 1) }
+{
+    let from = draws[top.set].from;
+    if let Some(next) = next_unseen(from, top.looked, seen) {
+        stack.push(Visit {
+            set: top.set,
+            looked: next.looked,
+        })?;
+        enter(next.set, seen, stack)?;
+        Ok(())
+    } else {
+        order.push(top.set)?;
+        Ok(())
+    }
+}
+
+/// Puts a set and those that it draws from into the order, as far as they weren't seen.
+fn order_from(
+    root: usize,
+    draws: &[Draw<'_>],
+    seen: &mut Vob,
+    stack: &mut Vec<Visit>,
+    order: &mut Vec<usize>,
+) -> Result<(), AllocError>
+    requires root { root < length draws.now }
+    requires draws { All (DrawsInside (length draws.now)) draws.now }
+    requires visited { IsVisited (length draws.now) seen.old.bits [] order.old.items }
+    requires empty { stack.old.items ≡ [] }
+    ensures visited { OnOk result (IsVisited (length draws.now) seen.new.bits [] order.new.items) }
+    ensures empty { OnOk result (stack.new.items ≡ []) }
+    ensures seen { OnOk result (SeesMore seen.old.bits seen.new.bits) }
+    ensures root { OnOk result (item seen.new.bits root ≡ true) }
+{
+    if seen.get_unchecked(root) {
+        return Ok(());
+    }
+    enter(root, seen, stack)?;
+    'visits: while let Some(top) = stack.pop() {
+        advance(top, draws, seen, stack, order)?;
+    }
+    Ok(())
+}
+
+/// Returns an order that names each set once: those that a set draws from before it, where no cycle
+/// leads back to it. Fails if memory runs out.
+pub(crate) fn postorder(alloc: Global, draws: &[Draw<'_>]) -> Result<Vec<usize>, AllocError>
+    requires { All (DrawsInside (length draws.now)) draws.now }
+    ensures { IfOk result (λ order. IsOrder (length draws.now) order.items) }
+{
+    let mut seen = Vob::from_elem(alloc, false, draws.len())?;
+    let mut stack = Vec::with_capacity(alloc, draws.len())?;
+    let mut order = Vec::with_capacity(alloc, draws.len())?;
+    for root in 0..draws.len() {
+        order_from(root, draws, &mut seen, &mut stack, &mut order)?;
+    }
+    Ok(order)
+}

@@ -1,0 +1,67 @@
+//! The least sets that meet an equation at each node of a graph.
+ghost use Rattle.std.specs.Prelude.{◌≡◌, ◌≢◌, ◌↔◌, ℕ, ◌<◌, [], length, All, Err, IfOk, IsOk, OnErr, OnOk};
+ghost use Rattle.vob.specs.Vobs.{AreOfLength, bits_of};
+ghost use Rattle.vob_flow.specs.Draws.{AreLeast, DrawsInside, FitsMask, TakePasses};
+ghost use Rattle.vob_flow.specs.SolveFaults.{IsBadLength, IsBadSet};
+
+use crate::draw::Draw;
+use crate::faults::{SolveError, check_sets};
+use crate::order::postorder;
+use crate::passes::settle;
+use std::alloc::{AllocError, Global};
+use vob::Vob;
+
+/// Adds to some sets what they draw from one another. No sets take no memory.
+pub(crate) fn solve(
+    alloc: Global,
+    places: usize,
+    sets: &mut [Vob],
+    draws: &[Draw<'_>],
+) -> Result<u128, AllocError>
+    requires count { length draws.now ≡ length sets.old }
+    requires masks { All (λ draw. FitsMask places draw.mask) draws.now }
+    requires from { All (DrawsInside (length sets.old)) draws.now }
+    requires long { AreOfLength places (bits_of sets.old) }
+    ensures least { OnOk result (AreLeast draws.now (bits_of sets.old) (bits_of sets.new)) }
+    ensures passes { IfOk result (TakePasses (bits_of sets.old) (bits_of sets.new)) }
+    ensures err { OnErr result (sets.new ≡ sets.old) }
+    ensures nothing { sets.old ≡ [] → IsOk result }
+{
+    if sets.is_empty() {
+        return Ok(0);
+    }
+    let order = postorder(alloc, draws)?;
+    let mut sum = Vob::from_elem(alloc, false, places)?;
+    let mut grown = Vob::from_elem(alloc, false, sets.len())?;
+    Ok(settle(sets, draws, &order, &mut sum, &mut grown))
+}
+
+/// Adds to each set the places that its mask lets through of the sets that it draws from, until
+/// there is no more to add, and returns how many passes over all sets that took. A pass looks again
+/// only at sets that draw from one that grew since. Each set and mask has a bit for each of the
+/// places.
+///
+/// Fails with the first set of another length or with another mask, or that draws from a set that
+/// isn't there, or if memory runs out. A failed call changes nothing.
+pub fn least(
+    alloc: Global,
+    places: usize,
+    sets: &mut [Vob],
+    draws: &[Draw<'_>],
+) -> Result<u128, SolveError>
+    requires { length draws.now ≡ length sets.old }
+    ensures least { OnOk result (AreLeast draws.now (bits_of sets.old) (bits_of sets.new)) }
+    ensures passes { IfOk result (TakePasses (bits_of sets.old) (bits_of sets.new)) }
+    ensures err { OnErr result (sets.new ≡ sets.old) }
+
+    // The sets are checked first, and memory is asked for only if there are sets.
+    ensures bad_length { (n : ℕ) → (result ≡ Err (SolveError.BadLength n))
+        ↔ IsBadLength places (bits_of sets.old) draws.now n }
+    ensures bad_set { (n : ℕ) → (result ≡ Err (SolveError.BadSet n))
+        ↔ IsBadSet places (bits_of sets.old) draws.now n }
+    ensures memory { result ≡ Err SolveError.Memory → sets.old ≢ [] }
+{
+    check_sets(places, sets, draws)?;
+    let passes = solve(alloc, places, sets, draws)?;
+    Ok(passes)
+}

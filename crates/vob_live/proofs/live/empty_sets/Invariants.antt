@@ -1,7 +1,0 @@
--- The sets so far have nothing.
-use Rattle.std.proofs.Common.{◌≡◌, false, replicate}
-use Rattle.vob_live.specs.Live.{bits_of}
-use Rattle.vob_live.proofs.live.empty_sets.Given as goal
-
-abbrev pub invariant-loop : goal.invariant-loop
-invariant-loop l = bits_of l.sets.items ≡ replicate l.counter (replicate l.vars false)

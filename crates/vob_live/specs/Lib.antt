@@ -1,4 +1,0 @@
-pub mod FlowFaults
-pub mod Live
-pub mod LivePass
-pub mod LiveSets
