@@ -1,5 +1,5 @@
-//! What the tests share: Vobs of digits and of patterns, and what is compared. Proofs of assertions and of calls with long contracts take long. So most tests
-//! assert, and take memory, by these.
+//! What the tests share: Vobs of digits and of patterns, and what is compared. Proofs of assertions
+//! and of calls with long contracts take long. So most tests assert, and take memory, by these.
 ghost use Rattle.std.specs.Iterator.{IsFinite};
 
 use std::fmt::Debug;
