@@ -15,7 +15,8 @@ impl<T: Block> Vob<T> {
     ///
     /// ```
     /// let mut vob = vob::vob!(alloc; true, false, false)?;
-    /// assert!(rt; vob.or_and(&vob::vob!(alloc; true, true, true)?, &vob::vob!(alloc; true, true, false)?));
+    /// let other = vob::vob!(alloc; true, true, false)?;
+    /// assert!(rt; vob.or_and(&other, &vob::vob!(alloc; true, true, true)?));
     /// assert!(rt; vob == vob::vob!(alloc; true, true, false)?);
     /// ```
     pub fn or_and(&mut self, first: &Vob<T>, second: &Vob<T>) -> bool

@@ -20,8 +20,9 @@ impl<T: Block> Vob<T> {
     ///
     /// ```
     /// let vob = vob::vob!(alloc; true, false)?;
-    /// assert_eq!(rt; vob.first_difference(&vob::vob!(alloc; true, true, true)?), Some(1));
-    /// assert_eq!(rt; vob.first_difference(&vob::vob!(alloc; true)?), None);
+    /// let other = vob::vob!(alloc; true, true, true)?;
+    /// assert_eq!(rt; vob.first_difference(&other), Some(1));
+    /// assert_eq!(rt; vob.first_difference(&vob), None);
     /// ```
     pub fn first_difference(&self, other: &Vob<T>) -> Option<usize>
         ensures first { IsDifference self.now.bits other.now.bits result }

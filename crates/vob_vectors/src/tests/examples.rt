@@ -179,3 +179,92 @@ fn runs_are_walked(rt: HostRuntime) -> Result<(), Fail> {
     assert_eq!(rt; runs.next(), None);
     Ok(())
 }
+
+#[test]
+fn single_bits_are_negated_and_exchanged(rt: HostRuntime) -> Result<(), Fail> {
+    let alloc = rt.alloc();
+    let mut vob = vob::vob!(alloc; true, false)?;
+    assert!(rt; vob.flip(1));
+    assert!(rt; vob == vob::vob!(alloc; true, true)?);
+
+    let mut vob = vob::vob!(alloc; true, false)?;
+    vob.swap(0, 1);
+    assert!(rt; vob == vob::vob!(alloc; false, true)?);
+    Ok(())
+}
+
+#[test]
+fn a_bit_is_put_in_and_taken_out(rt: HostRuntime) -> Result<(), Fail> {
+    let alloc = rt.alloc();
+    let mut vob = vob::vob!(alloc; true, true)?;
+    vob.insert_bit(1, false)?;
+    assert!(rt; vob == vob::vob!(alloc; true, false, true)?);
+
+    let mut vob = vob::vob!(alloc; true, false, true)?;
+    assert!(rt; !vob.remove(1));
+    assert!(rt; vob == vob::vob!(alloc; true, true)?);
+    Ok(())
+}
+
+#[test]
+fn bits_move_within_a_vob(rt: HostRuntime) -> Result<(), Fail> {
+    let alloc = rt.alloc();
+    let mut vob = vob::vob!(alloc; true, true, true)?;
+    vob.shl(1);
+    assert!(rt; vob == vob::vob!(alloc; false, true, true)?);
+
+    let mut vob = vob::vob!(alloc; true, true, true)?;
+    vob.shr(1);
+    assert!(rt; vob == vob::vob!(alloc; true, true, false)?);
+
+    let mut vob = vob::vob!(alloc; true, false, false)?;
+    vob.copy_within(..2, 1);
+    assert!(rt; vob == vob::vob!(alloc; true, true, false)?);
+    Ok(())
+}
+
+#[test]
+fn words_and_slices_are_read_and_written(rt: HostRuntime) -> Result<(), Fail> {
+    let alloc = rt.alloc();
+    let vob = vob::vob!(alloc; true, false, true, true)?;
+    assert_eq!(rt; vob.load(1..4), 0b110);
+
+    let mut vob = vob::vob!(alloc; false, false, false, false)?;
+    vob.store(1..4, 0b110);
+    assert!(rt; vob == vob::vob!(alloc; false, false, true, true)?);
+
+    let vob = vob::vob!(alloc; true, false, true)?;
+    assert!(rt; vob.slice(1..)? == vob::vob!(alloc; false, true)?);
+    Ok(())
+}
+
+#[test]
+fn indices_are_set_and_counted(rt: HostRuntime) -> Result<(), Fail> {
+    let alloc = rt.alloc();
+    let mut vob = vob::vob!(alloc; true, false, false)?;
+    vob.set_indices(&[2])?;
+    assert!(rt; vob == vob::vob!(alloc; true, false, true)?);
+
+    let mut vob = vob::vob!(alloc; true)?;
+    vob.grow_and_set(2)?;
+    assert!(rt; vob == vob::vob!(alloc; true, false, true)?);
+
+    let vob = vob::vob!(alloc; true, false, true)?;
+    assert_eq!(rt; vob.count_ones(), 2);
+    Ok(())
+}
+
+#[test]
+fn two_vobs_are_compared_and_shared(rt: HostRuntime) -> Result<(), Fail> {
+    let alloc = rt.alloc();
+    let vob = vob::vob!(alloc; true, false)?;
+    let other = vob::vob!(alloc; true, true, true)?;
+    assert_eq!(rt; vob.first_difference(&other), Some(1));
+    assert_eq!(rt; vob.first_difference(&vob), None);
+
+    let mut vob = vob::vob!(alloc; true, false, false)?;
+    let other = vob::vob!(alloc; true, true, false)?;
+    assert!(rt; vob.or_and(&other, &vob::vob!(alloc; true, true, true)?));
+    assert!(rt; vob == vob::vob!(alloc; true, true, false)?);
+    Ok(())
+}
