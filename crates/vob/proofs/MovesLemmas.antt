@@ -2,7 +2,7 @@
 use Rattle.std.specs.declared.ops.Bound.TheVariants.{Included, Excluded}
 use Rattle.std.proofs.Common.{◌≡◌, ℕ, ◌+◌, ◌-◌, ◌<◌, ◌≤◌, min, nat_le, nat_lt, Bool, false, List, [], ◌∷◌, ◌++◌}
 use Rattle.std.proofs.Common.{length, map, take, drop, replicate, refl, sym, ap, ◌∙◌, arith, inl, inr}
-use Rattle.std.proofs.lemmas.Bool.{cases_lt, and_from, and_left, and_right, le-leb, lt-leb, lt-ltb, le-ltb}
+use Rattle.std.proofs.lemmas.Bool.{cases_lt, cases_eq, and_from, and_left, and_right, le-leb, lt-leb, lt-ltb, le-ltb}
 use Rattle.std.proofs.lemmas.List.{ext_get_or, get_or_append_left, get_or-append_right, get_or-drop}
 use Rattle.std.proofs.lemmas.List.{get_or_past, get_or-take, length-append, length-drop, length-replicate}
 use Rattle.std.proofs.lemmas.List.{length-take-le}
@@ -10,7 +10,7 @@ use Rattle.vob_block.specs.Packing.{item, packing, unpacking, IsCanonical}
 use Rattle.vob_block.proofs.PackingLemmas.{packing-unpacking}
 use Rattle.vob.specs.Bits.{IsWritten}
 use Rattle.vob.specs.Copy.{IsCopied}
-use Rattle.vob.specs.Moves.{IsInserted, IsMovedDown, IsMovedUp}
+use Rattle.vob.specs.Moves.{AreSwapped, IsInserted, IsMovedDown, IsMovedUp}
 use Rattle.vob.specs.Ranges.{IsChangedWithin}
 use Rattle.vob.proofs.BitsLemmas.{item_false}
 
@@ -178,6 +178,21 @@ inserted index value {bits} {after} inside h =
           let none : i - index ≡ 0 = omega (arith, near) in
           ap (item after) here ∙ h.there ∙ ap (item (value ∷ drop index bits)) (sym none)
     ]
+
+-- ---- two bits exchanged
+
+pub AreSwapped-by : (first second : ℕ) {bit other : Bool} {bits mid after : List Bool}
+    → bit ≡ item bits first → other ≡ item bits second → IsWritten bits first other mid
+    → IsWritten mid second bit after → AreSwapped first second bits after
+AreSwapped-by first second {bit} {other} {bits} {mid} {after} is its one two = record {
+  len = two.len ∙ one.len;
+  first_bit = elim (cases_eq first second) [
+    | inl same ↦ ap (item after) same ∙ two.there ∙ is ∙ ap (item bits) same
+    | inr apart ↦ two.others first apart ∙ one.there ∙ its
+  ];
+  second_bit = two.there ∙ is;
+  others = λ i front back. two.others i back ∙ one.others i front;
+}
 
 -- ---- a bit taken out
 

@@ -1,6 +1,6 @@
 -- The bits of a list as the places of one block.
 use Rattle.std.specs.Prelude.{All}
-use Rattle.std.proofs.Common.{◌≡◌, ℕ, zero, suc, ◌+◌, ◌^◌, ◌<◌, Bool, true, false, ◌&&◌, List, [], ◌∷◌}
+use Rattle.std.proofs.Common.{◌≡◌, ℕ, zero, suc, ◌≤◌, ◌+◌, ◌^◌, ◌<◌, Bool, true, false, ◌&&◌, List, [], ◌∷◌}
 use Rattle.std.proofs.Common.{take, drop, ltb, refl, sym, ap, ◌∙◌, arith, inl, inr, one-mul}
 use Rattle.std.proofs.lemmas.Bool.{cases_lt, lt-ltb, le-ltb}
 use Rattle.std.proofs.lemmas.List.{get_or-drop, get_or-take, get_or_past, length-take}
@@ -35,6 +35,13 @@ loaded w wide bits xs blocks start n x y z all mask both = record {
         (omega (arith, past, length-take n (drop start bits))))
   ];
 }
+
+-- so each of these places is the bit there
+pub loaded_each : (w : ℕ) (bits : List Bool) (start n z : ℕ) → n ≤ w
+    → HasPlaces w z (item (take n (drop start bits))) → (j : ℕ) → j < n
+    → place j z ≡ item bits (start + j)
+loaded_each w bits start n z few all j less = all.each j (omega (arith, less, few))
+    ∙ get_or-take n (drop start bits) j false less ∙ get_or-drop start bits j false
 
 -- a block stores as many bits as it has places
 pub one_canonical : (w : ℕ) → 0 < w → (x : ℕ) → x < 2 ^ w → IsCanonical w (x ∷ []) w

@@ -1,5 +1,5 @@
 -- Lists of bits whose bits move to other indices.
-use Rattle.std.specs.Prelude.{◌≡◌, ℕ, ◌+◌, ◌-◌, ◌<◌, ◌≤◌, Bool, false, List, length}
+use Rattle.std.specs.Prelude.{◌≡◌, ◌≢◌, ℕ, ◌+◌, ◌-◌, ◌<◌, ◌≤◌, Bool, false, List, length}
 use Rattle.vob_block.specs.Packing.{item}
 
 -- each bit moved up by n indices: false below index n, and nothing past the length
@@ -12,6 +12,13 @@ pub record IsMovedUp (n : ℕ) (bits after : List Bool) : Type 0 where
 pub record IsMovedDown (n : ℕ) (bits after : List Bool) : Type 0 where
   pub len : length after ≡ length bits
   pub each : (i : ℕ) → item after i ≡ item bits (i + n)
+
+-- two bits exchanged, and the others as they were
+pub record AreSwapped (first second : ℕ) (bits after : List Bool) : Type 0 where
+  pub len : length after ≡ length bits
+  pub first_bit : item after first ≡ item bits second
+  pub second_bit : item after second ≡ item bits first
+  pub others : (i : ℕ) → i ≢ first → i ≢ second → item after i ≡ item bits i
 
 -- a bit put in at an index, from which on the others moved up by one
 pub record IsInserted (index : ℕ) (value : Bool) (bits after : List Bool) : Type 0 where

@@ -13,8 +13,9 @@ use vob_store::split::split_blocks;
 use vob_walk::range::cut_range;
 
 impl<T: Block> Vob<T> {
-    /// Returns the bits of a range in a new Vob. Every pair of bounds is accepted, and the range is
-    /// cut at the length. Fails if memory runs out; if the range holds no bit, none is asked for.
+    /// Copies the bits of a range into a new Vob. Every pair of bounds is accepted: the range is cut at
+    /// the length, and is empty if it ends before it starts. Fails if memory runs out; if the range
+    /// holds no bit, none is asked for.
     ///
     /// ```
     /// let vob = vob::vob!(alloc; true, false, true)?;

@@ -3,7 +3,7 @@ ghost use Rattle.std.specs.Prelude.{◌≡◌, ◌+◌, ◌<◌, ◌≤◌, ◌�
 ghost use Rattle.vob_block.specs.Packing.{item};
 ghost use Rattle.vob.specs.Bits.{IsWritten};
 ghost use Rattle.vob.specs.Extending.{RefusesMore};
-ghost use Rattle.vob.specs.Moves.{IsInserted};
+ghost use Rattle.vob.specs.Moves.{AreSwapped, IsInserted};
 
 use crate::error::VobError;
 use crate::vob::Vob;
@@ -41,6 +41,7 @@ impl<T: Block> Vob<T> {
         requires second { second < length self.old.bits }
         ensures bits { self.new.bits ≡ slice_set (slice_set self.old.bits first
             (item self.old.bits second)) second (item self.old.bits first) }
+        ensures each { AreSwapped first second self.old.bits self.new.bits }
         ensures capacity { self.new.capacity ≡ self.old.capacity }
     {
         let bit = self.get_unchecked(first);

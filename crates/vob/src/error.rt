@@ -61,7 +61,7 @@ impl From<AllocError> for VobError {
     }
 }
 
-/// Why no Vob was made of indices.
+/// Why a call with indices failed.
 #[derive(Clone, Copy, Debug, PartialEq, Eq)]
 pub enum IndicesError {
     /// Memory ran out.

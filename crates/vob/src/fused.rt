@@ -1,5 +1,5 @@
-//! Two steps in one pass over the blocks, as the transfer functions of a dataflow analysis take them.
-//! vob 4.0.1 has none of these calls.
+//! Two steps in one pass over the blocks, as a dataflow analysis needs them. vob 4.0.1 has none of
+//! these calls.
 ghost use Rattle.std.specs.Prelude.{◌≡◌, ◌≢◌, ◌↔◌, ◌&&◌, ◌||◌, false, IsTrue};
 ghost use Rattle.vob_block.specs.Pointwise.{pointwise, without};
 ghost use Rattle.vob.specs.Bits.{AreCombined, GainsBits};

@@ -31,8 +31,8 @@ impl<T: Block> Vob<T> {
         self.set_range(0..by, false);
     }
 
-    /// Moves each bit down by `n` indices. The first `n` bits are dropped, and the bits at the end
-    /// become unset. Takes no memory.
+    /// Moves each bit down by `n` indices. The first `n` bits are dropped, and the last `n` become
+    /// unset. Takes no memory.
     ///
     /// ```
     /// let mut vob = vob::vob!(alloc; true, true, true)?;

@@ -15,8 +15,8 @@ use vob_store::first::first_combined;
 use vob_store::room::block_count;
 
 impl<T: Block> Vob<T> {
-    /// Returns the first index at which both have bits and these differ, or `None` if there is none:
-    /// then one list of bits begins the other. Reads each block at most once.
+    /// Returns the first index below both lengths at which the bits differ. `None` means that one list
+    /// of bits begins the other. Reads each block at most once.
     ///
     /// ```
     /// let vob = vob::vob!(alloc; true, false)?;
@@ -60,7 +60,7 @@ impl<T: Block> Ord for Vob<T> {
         vob.bits other.bits };
 
     /// Returns the order of the lists of bits, as that of two `Vec<bool>`: the first bits that differ
-    /// decide, and an unset bit comes first. If there are none, the shorter list comes first.
+    /// decide, and an unset bit comes first. If none differ, the shorter list comes first.
     fn cmp(&self, other: &Vob<T>) -> Ordering {
         match self.first_difference(other) {
             Some(index) if self.get_unchecked(index) => Ordering::Greater,

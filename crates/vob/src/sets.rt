@@ -2,7 +2,7 @@
 //! another set. vob 4.0.1 has none of these calls.
 ghost use Rattle.std.specs.Prelude.{◌≡◌, ◌≢◌, ◌↔◌, ℕ, ◌<◌, ◌≤◌, ◌/◌, ◌*◌, ◌&&◌, ◌||◌, true, false, take};
 ghost use Rattle.std.specs.Prelude.{length, replicate, slice_index_or, All, Err, IfOk, IfSome, IsTrue};
-ghost use Rattle.std.specs.Prelude.{MatchOption, None, OnErr, OnOk, slice_set, ◌+◌, ◌++◌, ◌-◌};
+ghost use Rattle.std.specs.Prelude.{MatchOption, None, IsOk, OnErr, OnOk, slice_set, ◌+◌, ◌++◌, ◌-◌};
 ghost use Rattle.vob_block.specs.Pointwise.{differ, pointwise, without};
 ghost use Rattle.vob.specs.Bits.{AreCombined, IsWritten, LosesBits, count_of};
 ghost use Rattle.vob.specs.Extending.{RefusesMore};
@@ -73,8 +73,8 @@ impl<T: Block> Vob<T> {
         Ok(())
     }
 
-    /// Sets bit `index`. If it is past the end, unset bits are appended up to it first. Fails if the
-    /// length would exceed `usize::MAX`, or if memory runs out, and then changes no bit.
+    /// Sets bit `index`. If it is at or past the length, unset bits are appended up to it first. Fails
+    /// if the length would exceed `usize::MAX`, or if memory runs out, and then changes no bit.
     ///
     /// ```
     /// let mut vob = vob::vob!(alloc; true)?;
@@ -86,14 +86,20 @@ impl<T: Block> Vob<T> {
             ++ replicate (index + 1 - length self.old.bits) false) index true) }
         ensures err { OnErr result (self.new.bits ≡ self.old.bits) }
         ensures refused { RefusesMore T.BITS self.old (index + 1 - length self.old.bits) result }
+
+        // Within the length nothing is asked for.
+        ensures inside { index < length self.old.bits
+            → IsOk result × (self.new.capacity ≡ self.old.capacity) }
         ensures capacity { self.old.capacity ≤ self.new.capacity }
     {
+        if index < self.len() {
+            self.set(index, true);
+            return Ok(());
+        }
         if index == usize::MAX {
             return Err(VobError::TooLong);
         }
-        if index >= self.len() {
-            self.resize(index + 1, false)?;
-        }
+        self.resize(index + 1, false)?;
         self.set(index, true);
         Ok(())
     }

@@ -1,7 +1,7 @@
 //! Up to `T::BITS` bits at any index, read and written as one block. vob 4.0.1 has none of these calls.
-ghost use Rattle.std.specs.Prelude.{◌≡◌, ◌+◌, ◌-◌, ◌^◌, ◌<◌, ◌≤◌, [], ◌∷◌, drop, length, take};
+ghost use Rattle.std.specs.Prelude.{◌≡◌, ℕ, ◌+◌, ◌-◌, ◌^◌, ◌<◌, ◌≤◌, [], ◌∷◌, drop, length, take};
 ghost use Rattle.vob_block.specs.Packing.{item, unpacking};
-ghost use Rattle.vob_block.specs.Places.{HasPlaces};
+ghost use Rattle.vob_block.specs.Places.{place, HasPlaces};
 ghost use Rattle.vob.specs.Copy.{written_over, IsCopied};
 
 use crate::vob::Vob;
@@ -23,14 +23,16 @@ impl<T: Block> Vob<T> {
         requires few { range.end ≤ range.start + T.BITS }
         ensures places { HasPlaces T.BITS (T.number result)
             (item (take (range.end - range.start) (drop range.start self.now.bits))) }
+        ensures each { (j : ℕ) → j < range.end - range.start
+            → place j (T.number result) ≡ item self.now.bits (range.start + j) }
         ensures within { T.number result < 2 ^ T.BITS }
     {
         let mask = T::low_mask(range.end - range.start);
         bits_at(&mut self.blocks(), range.start).band(mask)
     }
 
-    /// Writes the first places of a block over the bits of the range, place 0 first. The range must lie
-    /// within the length, and hold at most `T::BITS` bits.
+    /// Writes the first places of a block over the bits of the range, place 0 first. The others are
+    /// ignored. The range must lie within the length, and hold at most `T::BITS` bits.
     ///
     /// ```
     /// let mut vob = vob::vob!(alloc; false, false, false, false)?;
