@@ -1,4 +1,5 @@
 mod AnyLemmas
+mod AvailableLemmas
 mod ChangesLemmas
 mod DrawLemmas
 mod FaultLemmas

@@ -1,3 +1,4 @@
+pub mod Available
 pub mod Changes
 pub mod Draws
 pub mod FlowFaults

@@ -3,7 +3,9 @@ ghost use Rattle.std.specs.Prelude.{◌≡◌, ◌↔◌, ℕ, ◌<◌, false, t
 ghost use Rattle.vob_block.specs.Packing.{item};
 ghost use Rattle.vob.specs.Vobs.{AreOfLength, bits_of};
 ghost use Rattle.vob_flow.specs.Draws.{DrawsInside, HaveShape, IsInSome};
-ghost use Rattle.vob_flow.specs.Gathered.{AreGathered};
+ghost use Rattle.vob_flow.specs.Changes.{AreChangedBelow};
+ghost use Rattle.vob_flow.specs.Gathered.{AreGathered, BecomesCommon};
+ghost use Rattle.vob_flow.specs.Greatest.{IsInAll};
 
 use crate::draw::Draw;
 use std::alloc::{AllocError, Global};
@@ -46,5 +48,32 @@ pub(crate) fn gather_each(sums: &mut [Vob], draws: &[Draw<'_>], sets: &[Vob])
 {
     for sum in 0..draws.len() {
         gather(&mut sums[sum], draws[sum].from, sets);
+    }
+}
+
+/// Makes `common` what is in each of the sets with these numbers; in each of none is everything.
+fn intersect(common: &mut Vob, from: &[usize], sets: &[Vob])
+    requires from { All (λ m. m < length sets.now) from.now }
+    requires long { AreOfLength (length common.old.bits) (bits_of sets.now) }
+    ensures len { length common.new.bits ≡ length common.old.bits }
+    ensures each { (v : ℕ) → v < length common.old.bits
+        → (item common.new.bits v ≡ true) ↔ IsInAll (bits_of sets.now) from.now v }
+{
+    common.set_all(true);
+    for set in from {
+        common.and(&sets[*set]);
+    }
+}
+
+/// Makes each of some sets what is in each of the sets that it draws from, whatever its mask.
+pub(crate) fn intersect_each(commons: &mut [Vob], draws: &[Draw<'_>], sets: &[Vob])
+    requires count { length draws.now ≡ length commons.old }
+    requires from { All (DrawsInside (length sets.now)) draws.now }
+    requires long { All (λ common. AreOfLength (length common.bits) (bits_of sets.now)) commons.old }
+    ensures { AreChangedBelow (BecomesCommon draws.now (bits_of sets.now))
+        (bits_of commons.old) (bits_of commons.new) (length draws.now) }
+{
+    for common in 0..draws.len() {
+        intersect(&mut commons[common], draws[common].from, sets);
     }
 }

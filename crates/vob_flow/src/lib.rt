@@ -2,6 +2,7 @@
 //! sets.
 #![tactic(auto)]
 
+mod available;
 mod complement;
 mod draw;
 mod faults;
@@ -13,6 +14,7 @@ mod passes;
 mod reaching;
 mod solver;
 
+pub use available::{available_expressions, very_busy_expressions};
 pub use complement::greatest;
 pub use draw::{Draw, Mask};
 pub use faults::SolveError;
