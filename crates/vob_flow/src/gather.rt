@@ -1,6 +1,7 @@
 //! What is in some of many sets.
 ghost use Rattle.std.specs.Prelude.{◌≡◌, ◌↔◌, ℕ, ◌<◌, false, true, length, replicate, All, IfOk, IsOk};
 ghost use Rattle.vob_block.specs.Packing.{item};
+ghost use Rattle.vob.specs.Indices.{IsMadeOf};
 ghost use Rattle.vob.specs.Vobs.{AreOfLength, bits_of};
 ghost use Rattle.vob_flow.specs.Draws.{DrawsInside, HaveShape, IsInSome};
 ghost use Rattle.vob_flow.specs.Changes.{AreChangedBelow};
@@ -22,6 +23,16 @@ pub(crate) fn empty_sets(alloc: Global, places: usize, count: usize) -> Result<V
         sets.push(Vob::from_elem(alloc, false, places)?)?;
     }
     Ok(sets)
+}
+
+/// Returns the set of some places. Fails if memory runs out.
+pub(crate) fn set_of(alloc: Global, places: usize, members: &[usize]) -> Result<Vob, AllocError>
+    ensures { IfOk result (λ set. IsMadeOf places members.now set.bits) }
+{
+    match Vob::<usize>::from_indices(alloc, places, members) {
+        Ok(set) => Ok(set),
+        Err(_) => Err(AllocError),
+    }
 }
 
 /// Makes `sum` what is in some of the sets with these numbers.

@@ -4,6 +4,7 @@
 
 mod available;
 mod complement;
+mod dominance;
 mod draw;
 mod faults;
 mod gather;
@@ -16,6 +17,7 @@ mod solver;
 
 pub use available::{available_expressions, very_busy_expressions};
 pub use complement::greatest;
+pub use dominance::dominators;
 pub use draw::{Draw, Mask};
 pub use faults::SolveError;
 pub use reaching::reaching_definitions;
