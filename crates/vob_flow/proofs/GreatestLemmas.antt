@@ -33,7 +33,7 @@ kept_or (Without set) v = elim (cases_Bool (item set.now.bits v)) [
   | inr off ↦ inl off
 ]
 
-in_or : (sets : List (List Bool)) (n v : ℕ) → IsIn sets n v ⊎ (¬ IsIn sets n v)
+pub in_or : (sets : List (List Bool)) (n v : ℕ) → IsIn sets n v ⊎ (¬ IsIn sets n v)
 in_or sets n v = elim (cases_Bool (item (get_or sets n []) v)) [
   | inl on ↦ inl on
   | inr off ↦ inr (λ on. false≢true (sym off ∙ on))

@@ -1,5 +1,7 @@
 mod AnyLemmas
+mod AvailableLemmas
 mod ChangesLemmas
+mod DominatorLemmas
 mod DrawLemmas
 mod FaultLemmas
 pub mod FirstLemmas

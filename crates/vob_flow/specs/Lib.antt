@@ -1,5 +1,8 @@
+pub mod Available
 pub mod Changes
+pub mod Dominators
 pub mod Draws
+pub mod EntryDraws
 pub mod FlowFaults
 pub mod Gathered
 pub mod Greatest

@@ -2,7 +2,9 @@
 //! sets.
 #![tactic(auto)]
 
+mod available;
 mod complement;
+mod dominance;
 mod draw;
 mod faults;
 mod gather;
@@ -13,7 +15,9 @@ mod passes;
 mod reaching;
 mod solver;
 
+pub use available::{available_expressions, very_busy_expressions};
 pub use complement::greatest;
+pub use dominance::dominators;
 pub use draw::{Draw, Mask};
 pub use faults::SolveError;
 pub use reaching::reaching_definitions;

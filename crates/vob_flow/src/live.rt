@@ -1,14 +1,13 @@
 //! Which variables a program still needs at each of its steps: a dataflow analysis, backward along
 //! the edges.
 ghost use Rattle.std.specs.Prelude.{◌≡◌, ◌≢◌, ◌↔◌, ℕ, [], All, IsTrue, IfOk, IfErr, OnOk, IsOk, Err};
-ghost use Rattle.vob.specs.Indices.{IsMadeOf};
 ghost use Rattle.vob_flow.specs.FlowFaults.{IsBadNext, IsBadVariable, IsFlowFault, IsSound, NamesVariables};
 ghost use Rattle.vob_flow.specs.Live.{AreLive};
 ghost use Rattle.vob_flow.specs.LiveDraws.{AreDraws, AreReads, AreWrites};
 
 use crate::draw::{Draw, Mask};
 use crate::faults::all_below;
-use crate::gather::{empty_sets, gather_each};
+use crate::gather::{empty_sets, gather_each, set_of};
 use crate::solver::solve;
 use std::alloc::{AllocError, Global};
 use std::{error, fmt};
@@ -110,16 +109,6 @@ fn check_nodes(vars: usize, nodes: &[Flow]) -> Result<(), LiveError>
         }
     }
     Ok(())
-}
-
-/// Returns the set of some variables.
-fn set_of(alloc: Global, vars: usize, members: &[usize]) -> Result<Vob, AllocError>
-    ensures { IfOk result (λ set. IsMadeOf vars members.now set.bits) }
-{
-    match Vob::<usize>::from_indices(alloc, vars, members) {
-        Ok(set) => Ok(set),
-        Err(_) => Err(AllocError),
-    }
 }
 
 /// Returns the variables that each node reads.
