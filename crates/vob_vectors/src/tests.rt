@@ -5,6 +5,7 @@ mod copies;
 mod counts;
 mod draining;
 mod examples;
+mod flow;
 mod grammar;
 mod growing;
 mod hints;
