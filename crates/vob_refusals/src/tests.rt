@@ -2,6 +2,7 @@
 //! and the test ends at once; or one of the calls answers it, and all is as it was. A test whose calls
 //! all answered Ok prints `answered`.
 mod blocks;
+mod flow;
 mod growth;
 mod lines;
 mod live;
