@@ -1,6 +1,7 @@
 mod AnyLemmas
 mod AvailableLemmas
 mod ChangesLemmas
+mod ClosureLemmas
 mod DominatorLemmas
 mod DrawLemmas
 mod FaultLemmas

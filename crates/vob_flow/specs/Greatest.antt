@@ -31,7 +31,8 @@ pub record AreGreatest (places : ℕ) (draws : List Draw) (starts sets : List (L
   pub greatest : (n v : ℕ) → n < length sets → v < places → ¬ IsIn sets n v →
       Misses draws starts n v
 
--- passes over some sets: none only where there are no sets, and each but the last took a place off
+-- how many passes over all sets: none only if there are no sets, and at most one more than there are
+-- places to take off
 pub record IsPassCount (places : ℕ) (starts : List (List Bool)) (passes : ℕ) : Type 0 where
   pub most : passes ≤ 1 + length starts * places
   pub no_pass : passes ≡ 0 → starts ≡ []

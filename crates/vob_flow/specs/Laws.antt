@@ -1,4 +1,4 @@
--- The sets of the solver as the least and the greatest that meet an equation at each node.
+-- The sets of the solver as the least that meet an equation at each node.
 use Rattle.std.specs.Prelude.{◌≡◌, Bool, List, length}
 use Rattle.vob_flow.specs.declared.draw.Draw.{Draw}
 use Rattle.vob_flow.specs.Draws.{AreLeast, AreWithin, IsSolution}

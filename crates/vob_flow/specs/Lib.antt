@@ -1,5 +1,6 @@
 pub mod Available
 pub mod Changes
+pub mod Closure
 pub mod Dominators
 pub mod Draws
 pub mod EntryDraws
@@ -7,6 +8,7 @@ pub mod FlowFaults
 pub mod Gathered
 pub mod Greatest
 pub mod Laws
+pub mod Lists
 pub mod Live
 pub mod LiveDraws
 pub mod Order

@@ -14,7 +14,7 @@ use crate::passes::settle;
 use std::alloc::{AllocError, Global};
 use vob::Vob;
 
-/// Makes a set what it lacks at first: what it doesn't start with, and its mask doesn't let through.
+/// Turns a set into the places that it neither starts with nor has let through by its mask.
 fn turn_start(mask: &Mask<'_>, set: &mut Vob)
     requires { FitsMask (length set.old.bits) mask.now }
     ensures { IsLacking mask.now set.old.bits set.new.bits }
@@ -123,10 +123,9 @@ pub(crate) fn solve_greatest(
     solve_turned(alloc, places, sets, draws, &turned)
 }
 
-/// Leaves in each set, beside what it starts with, the places that its mask lets through and that
-/// all sets have that it draws from; and returns how many passes over all sets that took. The sets
-/// are the greatest that meet this. All of no sets have everything, so an entry's mask lets nothing
-/// through.
+/// Makes each set the greatest that has what it starts with, and of its mask the places that all sets
+/// have that it draws from. Returns the number of passes over all sets. There is one draw for each
+/// set. A set that draws from none has all of its mask, so the mask of an entry keeps nothing.
 ///
 /// Fails as `least` does. A failed call changes nothing.
 pub fn greatest(

@@ -2,12 +2,14 @@
 
 use vob::Vob;
 
-/// Which places a set takes of those that it draws: all, those of a set, or those that a set
-/// hasn't.
+/// Which places are let through of the sets that are drawn from.
 #[derive(Clone, Copy)]
 pub enum Mask<'a> {
+    /// All places.
     All,
+    /// The places of this set.
     Keep(&'a Vob<usize>),
+    /// The places that this set doesn't have.
     Without(&'a Vob<usize>),
 }
 

@@ -9,12 +9,12 @@ use std::alloc::AllocError;
 use std::{error, fmt};
 use vob::Vob;
 
-/// Why an analysis failed.
+/// Why a call on sets that draw from one another failed.
 #[derive(Clone, Copy, Debug, PartialEq, Eq)]
 pub enum SolveError {
     /// There was no memory for the sets.
     Memory,
-    /// A set or its mask has another length than the others.
+    /// A set or its mask doesn't have a bit for each of the places.
     BadLength { set: usize },
     /// A set draws from a set that isn't there.
     BadSet { set: usize },
@@ -66,8 +66,8 @@ pub(crate) fn all_below(numbers: &[usize], end: usize) -> bool
     numbers.iter().all(|number| *number < end)
 }
 
-/// Whether each set and its mask has a bit for each of the places, and each draws from sets that
-/// are there; or else what is wrong with the first of which that isn't so.
+/// Returns what is wrong with the first set at fault. Each set and its mask must have a bit for each
+/// of the places, and draw from sets that are there.
 pub(crate) fn check_sets(places: usize, sets: &[Vob], draws: &[Draw<'_>]) -> Result<(), SolveError>
     requires count { length draws.now ≡ length sets.now }
     ensures ok { OnOk result (AreSound places (bits_of sets.now) draws.now) }

@@ -9,9 +9,11 @@ mod draw;
 mod faults;
 mod gather;
 pub mod laws;
+mod lists;
 pub mod live;
 mod order;
 mod passes;
+mod paths;
 mod reaching;
 mod solver;
 
@@ -20,5 +22,6 @@ pub use complement::greatest;
 pub use dominance::dominators;
 pub use draw::{Draw, Mask};
 pub use faults::SolveError;
+pub use paths::closure;
 pub use reaching::reaching_definitions;
 pub use solver::least;

@@ -36,13 +36,13 @@ pub(crate) fn solve(
     Ok(settle(sets, draws, &order, &mut sum, &mut grown))
 }
 
-/// Adds to each set the places that its mask lets through of the sets that it draws from, until
-/// there is no more to add, and returns how many passes over all sets that took. A pass looks again
-/// only at sets that draw from one that grew since. Each set and mask has a bit for each of the
-/// places.
+/// Adds to each set what its mask lets through of the sets that it draws from, until none grows.
+/// Returns the number of passes over all sets. A pass looks again only at sets that draw from one
+/// that grew since their last turn. There is one draw for each set, and each set and mask must have a
+/// bit for each of the places.
 ///
-/// Fails with the first set of another length or with another mask, or that draws from a set that
-/// isn't there, or if memory runs out. A failed call changes nothing.
+/// Fails with the first set that doesn't, or whose mask doesn't, or that draws from a set that isn't
+/// there. Fails if memory runs out. A failed call changes nothing.
 pub fn least(
     alloc: Global,
     places: usize,

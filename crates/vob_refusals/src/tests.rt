@@ -2,6 +2,7 @@
 //! If memory is refused to a call, that call fails and all is as it was. If each call returns Ok, the
 //! test prints `answered`.
 mod blocks;
+mod flow;
 mod growth;
 mod lines;
 mod live;
