@@ -10,7 +10,7 @@ use Rattle.vob_flow.specs.Available.{AreFlowingOnAll, AreWithinPlaces, HoldOnAll
 use Rattle.vob_flow.specs.Changes.{AreChangedBelow}
 use Rattle.vob_flow.specs.Draws.{IsIn, IsKept}
 use Rattle.vob_flow.specs.Gathered.{BecomesCommon}
-use Rattle.vob_flow.specs.Greatest.{AreGreatest, IsInAll, Misses}
+use Rattle.vob_flow.specs.Greatest.{AreGreatest, IsCommonSolution, IsInAll, Misses}
 use Rattle.vob_flow.specs.Greatest.Misses.{dropped, missed}
 use Rattle.vob_flow.proofs.GreatestLemmas.{in_or}
 use Rattle.vob_flow.proofs.LawLemmas.{element_at}
@@ -31,6 +31,20 @@ module _ (places : ℕ) (draws : List Draw) (starts others : List (List Bool))
           | inr both ↦ missing small c
               (subst (λ j. IsIn others j v) at (both.1 k m less))
         ]
+
+-- so a solution is within the greatest sets
+pub within_greatest : (places : ℕ) (draws : List Draw) (starts sets others : List (List Bool)) →
+    AreGreatest places draws starts sets → IsCommonSolution places draws starts others →
+    (n v : ℕ) → v < places → IsIn others n v → IsIn sets n v
+within_greatest places draws starts sets others h s n v small e = elim (in_or sets n v) [
+  | inl there ↦ there
+  | inr none ↦
+      let less : n < length sets =
+      omega (arith, row_inside others n v e, s.shape.count, h.solution.shape.count) in
+      absurd (missing places draws starts others
+      (λ k u draw low is there. (s.meets k u draw low is).0 there) small
+      (h.greatest n v less small none) e)
+]
 
 module _ (places : ℕ) (flows : List Draw) (gens empties near far : List (List Bool))
     (fit : length flows ≡ length gens) (h : AreGreatest places flows gens far)
