@@ -2,11 +2,10 @@
 ghost use Rattle.std.specs.Prelude.{Some};
 ghost use Rattle.std.specs.Ordering.{bool_cmp};
 ghost use Rattle.std.specs.Cmp.{bool_cmp_total, on_po, on_total};
-ghost use Rattle.std.specs.Cmp.Rules.{comparing};
-ghost use Rattle.std.proofs.Common.{refl, rules};
+ghost use Rattle.std.proofs.Common.{refl, sym};
 ghost use Rattle.std.specs.Cmp.Lexicographic.{lists_agrees, lists_po, lists_ties, lists_total};
 ghost use Rattle.std.specs.Cmp.Lexicographic.{slice_cmp, slice_partial_cmp};
-ghost use Rattle.vob.specs.Order.{IsDifference};
+ghost use Rattle.vob.specs.Order.{IsDifference, bits_ordered, bits_tied};
 
 use crate::vob::Vob;
 use std::cmp::Ordering;
@@ -40,7 +39,7 @@ impl<T: Block> PartialOrd for Vob<T> {
     ghost partial_cmp = { λ vob other. slice_partial_cmp (λ bit bit'. Some (bool_cmp bit bit'))
         vob.bits other.bits };
 
-    ghost laws = { on_po (λ vob. vob.bits) (lists_po ⟦<bool as PartialOrd>⟧.laws) };
+    ghost laws = { on_po (λ vob. vob.bits) (lists_po bits_ordered) };
 
     /// Returns the order that `cmp` returns.
     fn partial_cmp(&self, other: &Vob<T>) -> Option<Ordering> {
@@ -53,10 +52,9 @@ impl<T: Block> Ord for Vob<T> {
 
     ghost total = { on_total (λ vob. vob.bits) (lists_total bool_cmp_total) };
 
-    ghost matches_partial_cmp = { λ vob other. lists_agrees ⟦<bool as Ord>⟧.matches_partial_cmp
-        vob.bits other.bits };
+    ghost matches_partial_cmp = { λ vob other. lists_agrees (λ _ _. refl) vob.bits other.bits };
 
-    ghost matches_eq = { λ vob other. lists_ties bool_cmp ⟦<bool as Ord>⟧.matches_eq
+    ghost matches_eq = { λ vob other. lists_ties bool_cmp (λ a b. sym (bits_tied a b))
         vob.bits other.bits };
 
     /// Returns the order of the lists of bits, as that of two `Vec<bool>`: the first bits that differ
