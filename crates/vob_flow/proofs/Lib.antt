@@ -13,5 +13,6 @@ mod LawLemmas
 mod LiveLemmas
 mod OrderLemmas
 mod PassLemmas
+mod ReachLemmas
 mod ReachingLemmas
 mod UnderwayLemmas

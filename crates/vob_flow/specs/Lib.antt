@@ -13,6 +13,7 @@ pub mod Live
 pub mod LiveDraws
 pub mod Order
 pub mod Passes
+pub mod Reach
 pub mod Reaching
 pub mod SolveFaults
 pub mod Turned

@@ -31,8 +31,7 @@ pub record HadTurn (sets : List (List Bool)) (grown : List Bool) (n : ℕ) (draw
 abbrev pub IsDone : List (List Bool) → ℕ → Draw → Type 0
 IsDone sets n draw = (v : ℕ) → IsDrawn sets draw v → IsIn sets n v
 
--- of two places in the order the second had a turn since the first had its, if those of the first i
--- places were had in this pass
+-- the second place had a turn since the first had its, after i turns of this pass
 pub record IsSince (i k m : ℕ) : Type 0 where
   pub early : k < i → (k ≤ m) × (m < i)
   pub late : i ≤ k → (m < i) ⊎ (k ≤ m)
@@ -52,7 +51,7 @@ pub record AreUnderway (place : ℕ → ℕ) (draws : List Draw) (starts sets : 
   pub waits : (k : ℕ) (draw : Draw) → slice_get draws k ≡ Some draw →
       IsDone sets k draw ⊎ IsWaiting place first grown i (place k) draw
 
--- sets as many and as long as others, with as many places or more
+-- sets of the same shape with as many places or more
 pub record AreMore (sets after : List (List Bool)) : Type 0 where
   pub shape : HaveShape sets after
   pub total : total_count sets ≤ total_count after

@@ -22,6 +22,6 @@ pub use complement::greatest;
 pub use dominance::dominators;
 pub use draw::{Draw, Mask};
 pub use faults::SolveError;
-pub use paths::closure;
+pub use paths::{closure, reach};
 pub use reaching::reaching_definitions;
 pub use solver::least;

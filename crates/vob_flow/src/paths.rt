@@ -1,8 +1,9 @@
 //! The nodes to which the paths of a graph lead.
-ghost use Rattle.std.specs.Prelude.{◌≡◌, ◌≢◌, ◌↔◌, ℕ, [], length, map, Err, IfOk, IsOk};
+ghost use Rattle.std.specs.Prelude.{◌≡◌, ◌≢◌, ◌↔◌, ℕ, ◌<◌, [], length, map, All, Err, IfOk, IsOk, OnOk};
 ghost use Rattle.vob.specs.Vobs.{bits_of};
 ghost use Rattle.vob_flow.specs.Closure.{IsClosure};
 ghost use Rattle.vob_flow.specs.EntryDraws.{AreListDraws, AreListSets};
+ghost use Rattle.vob_flow.specs.Reach.{AreReached, HaveEntered};
 ghost use Rattle.vob_flow.specs.Lists.{IsBadList, NameNodes};
 
 use crate::draw::{Draw, Mask};
@@ -74,4 +75,51 @@ pub fn closure(alloc: Global, next: &[Vec<usize>]) -> Result<Vec<Vob>, SolveErro
     check_lists(next)?;
     let sets = solve_closure(alloc, next)?;
     Ok(sets)
+}
+
+/// Marks nodes as reached, and lets those wait that weren't.
+fn enter_all(nodes: &[usize], reached: &mut Vob, waiting: &mut Vec<usize>) -> Result<(), AllocError>
+    requires { All (λ node. node < length reached.old.bits) nodes.now }
+    ensures { OnOk result (HaveEntered nodes.now reached.old.bits waiting.old.items
+        reached.new.bits waiting.new.items) }
+{
+    for node in nodes {
+        if reached.set(*node, true) {
+            waiting.push(*node)?;
+        }
+    }
+    Ok(())
+}
+
+/// Returns the nodes that lists which name nodes alone lead to. No nodes take no memory.
+fn reach_from(alloc: Global, next: &[Vec<usize>], from: &[usize]) -> Result<Vob, AllocError>
+    requires names { NameNodes (map (λ list. list.items) next.now) (length next.now) }
+    requires from { All (λ node. node < length next.now) from.now }
+    ensures { IfOk result (λ set.
+        AreReached (map (λ list. list.items) next.now) from.now set.bits) }
+{
+    let mut reached = Vob::from_elem(alloc, false, next.len())?;
+    let mut waiting = Vec::with_capacity(alloc, next.len())?;
+    enter_all(from, &mut reached, &mut waiting)?;
+    'turns: while let Some(node) = waiting.pop() {
+        enter_all(&next[node], &mut reached, &mut waiting)?;
+    }
+    Ok(reached)
+}
+
+/// Returns the set of the nodes that a path of any number of edges leads to from some nodes. Each
+/// list names the nodes to which edges lead from one. Each edge is looked at once at most.
+///
+/// Fails with the first list that names a node that isn't there, or if memory runs out.
+pub fn reach(alloc: Global, next: &[Vec<usize>], from: &[usize]) -> Result<Vob, SolveError>
+    requires { All (λ node. node < length next.now) from.now }
+    ensures reached { IfOk result (λ set.
+        AreReached (map (λ list. list.items) next.now) from.now set.bits) }
+    ensures bad_set { (n : ℕ) → (result ≡ Err (SolveError.BadSet n))
+        ↔ IsBadList (map (λ list. list.items) next.now) n }
+    ensures bad_length { (n : ℕ) → result ≢ Err (SolveError.BadLength n) }
+{
+    check_lists(next)?;
+    let set = reach_from(alloc, next, from)?;
+    Ok(set)
 }

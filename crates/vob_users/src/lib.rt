@@ -6,6 +6,7 @@ pub mod calendar;
 pub mod grammar;
 pub mod loops;
 pub mod matrix;
+pub mod raises;
 pub mod reachable;
 pub mod rows;
 pub mod slots;
