@@ -58,7 +58,7 @@ impl<T: Block> Vob<T> {
     ///
     /// ```
     /// let mut vob = vob::vob!(alloc; true, false, false)?;
-    /// vob.copy_within(..2, 1);
+    /// vob.copy_within(0..2, 1);
     /// assert!(rt; vob == vob::vob!(alloc; true, true, false)?);
     /// ```
     pub fn copy_within<R: RangeBounds<usize>>(&mut self, range: R, at: usize)

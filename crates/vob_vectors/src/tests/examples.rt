@@ -207,6 +207,7 @@ fn a_bit_is_put_in_and_taken_out(rt: HostRuntime) -> Result<(), Fail> {
 }
 
 #[test]
+#[tactic(auto, using(vob::proofs::BitsLemmas::length_within))]
 fn bits_move_within_a_vob(rt: HostRuntime) -> Result<(), Fail> {
     let alloc = rt.alloc();
     let mut vob = vob::vob!(alloc; true, true, true)?;
@@ -218,7 +219,7 @@ fn bits_move_within_a_vob(rt: HostRuntime) -> Result<(), Fail> {
     assert!(rt; vob == vob::vob!(alloc; true, true, false)?);
 
     let mut vob = vob::vob!(alloc; true, false, false)?;
-    vob.copy_within(..2, 1);
+    vob.copy_within(0..2, 1);
     assert!(rt; vob == vob::vob!(alloc; true, true, false)?);
     Ok(())
 }

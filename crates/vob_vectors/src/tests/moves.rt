@@ -80,12 +80,20 @@ fn a_bit_is_put_in_and_taken_out_at_every_index(rt: HostRuntime) {
     }
 }
 
+/// `copy_within` of the bits from `start` to below `end`, if they are there and fit.
+fn copy<T: Block>(vob: &mut Vob<T>, at: usize, start: usize, end: usize) -> bool {
+    let len = vob.len();
+    if start <= end && end <= len && at <= len && end - start <= len - at {
+        vob.copy_within(start..end, at);
+        return true;
+    }
+    false
+}
+
 /// Copies a part of a Vob of 130 bits over another part of it.
 fn check_within<T: Block>(rt: &(impl Abort + AllocGlobal), at: usize, start: usize, count: usize) {
     let mut vob = pattern::<T>(rt, 1, 130);
-    let end = start.saturating_add(count);
-    if end <= vob.len() && at <= vob.len() && count <= vob.len() - at {
-        vob.copy_within(start..end, at);
+    if copy(&mut vob, at, start, start.saturating_add(count)) {
         let from = |index: usize| match index.checked_sub(at) {
             Some(past) if past < count => start.checked_add(past),
             _ => Some(index),
