@@ -194,48 +194,59 @@ AreSwapped-by first second {bit} {other} {bits} {mid} {after} is its one two = r
   others = λ i front back. two.others i back ∙ one.others i front;
 }
 
--- ---- a bit taken out
+-- ---- bits taken out
 
-pub IsInserted-removed : (index n : ℕ) {bits mid after : List Bool} → index < n → n ≡ length bits
-    → IsCopied index (index + 1) (n - (index + 1)) bits bits mid → after ≡ take (n - 1) mid
+pub closed_up : (at count n : ℕ) {bits mid after : List Bool} → at + count ≤ length bits
+    → n ≡ length bits → IsCopied at (at + count) (n - (at + count)) bits bits mid
+    → after ≡ take (n - count) mid → after ≡ take at bits ++ drop (at + count) bits
+closed_up at count n {bits} {mid} {after} inside long copied cut =
+    let low = take at bits in
+    let high = drop (at + count) bits in
+    let few : length low ≡ at = length-take-le at bits (omega (arith, inside)) in
+    let left : length after ≡ n - count = ap length cut
+    ∙ length-take-le (n - count) mid (omega (arith, copied.len, long)) in
+    ext_get_or false after (low ++ high) (omega (
+      arith,
+      left,
+      length-append low high,
+      few,
+      length-drop (at + count) bits,
+      long,
+      inside,
+    )) (λ i less. ap (λ bs. item bs i) cut
+    ∙ get_or-take (n - count) mid i false (omega (arith, less, left))
+    ∙ elim (cases_lt i at) [
+      | inl front ↦ copied.before i front ∙ sym (get_or-take at bits i false front)
+          ∙ sym (get_or_append_left low high false i (omega (arith, few, front)))
+      | inr past ↦
+          let here : at + (i - at) ≡ i = omega (arith, past) in
+          ap (item mid) (sym here)
+          ∙ copied.copied (i - at) (omega (arith, past, less, left, inside, long))
+          ∙ sym (get_or-drop (at + count) bits (i - at) false)
+          ∙ sym (get_or-append_right low high at i false few past)
+    ])
+
+pub IsInserted-removed : (index : ℕ) {bits after : List Bool} → index < length bits
+    → after ≡ take index bits ++ drop (index + 1) bits
     → IsInserted index (item bits index) after bits
-IsInserted-removed index n {bits} {mid} {after} inside long copied cut =
-    let few : length after ≡ n - 1 = ap length cut
-    ∙ length-take-le (n - 1) mid (omega (arith, copied.len, long)) in
-    let kept = λ (i : ℕ) (less : i < n - 1). ap (λ bs. item bs i) cut
-    ∙ get_or-take (n - 1) mid i false less in
-    record {
-      len = omega (arith, few, inside, long);
-      before = λ i less. sym (kept i (omega (arith, less, inside)) ∙ copied.before i less);
-      there = refl;
-      behind = λ i past. elim (cases_lt i (n - 1)) [
-        | inl less ↦
-            let here : index + (i - index) ≡ i = omega (arith, past) in
-            let next : index + 1 + (i - index) ≡ i + 1 = omega (arith, past) in
-            sym (kept i less ∙ ap (item mid) (sym here)
-            ∙ copied.copied (i - index) (omega (arith, past, less)) ∙ ap (item bits) next)
-        | inr far ↦ get_or_past bits (i + 1) false (omega (arith, far, long))
-            ∙ sym (get_or_past after i false (omega (arith, far, few)))
-      ];
-    }
-
-pub removed : (index : ℕ) {value : Bool} {bits after : List Bool} → index < length bits
-    → IsInserted index value after bits → after ≡ take index bits ++ drop (index + 1) bits
-removed index {value} {bits} {after} inside h =
+IsInserted-removed index {bits} {after} inside left =
     let low = take index bits in
     let high = drop (index + 1) bits in
     let few : length low ≡ index = length-take-le index bits (omega (arith, inside)) in
-    ext_get_or false after (low ++ high) (omega (
-      arith,
-      h.len,
-      length-append low high,
-      few,
-      length-drop (index + 1) bits,
-      inside,
-    )) (λ i less. elim (cases_lt i index) [
-      | inl front ↦ sym (h.before i front) ∙ sym (get_or-take index bits i false front)
-          ∙ sym (get_or_append_left low high false i (omega (arith, few, front)))
-      | inr past ↦ sym (h.behind i past) ∙ ap (item bits) (omega (arith, past))
-          ∙ sym (get_or-drop (index + 1) bits (i - index) false)
-          ∙ sym (get_or-append_right low high index i false few past)
-    ])
+    record {
+      len = omega (
+        arith,
+        ap length left,
+        length-append low high,
+        few,
+        length-drop (index + 1) bits,
+        inside,
+      );
+      before = λ i less. sym (ap (λ bs. item bs i) left
+          ∙ get_or_append_left low high false i (omega (arith, few, less))
+          ∙ get_or-take index bits i false less);
+      there = refl;
+      behind = λ i past. sym (ap (λ bs. item bs i) left
+          ∙ get_or-append_right low high index i false few past
+          ∙ get_or-drop (index + 1) bits (i - index) false ∙ ap (item bits) (omega (arith, past)));
+    }

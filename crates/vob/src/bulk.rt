@@ -18,14 +18,12 @@ use std::alloc::AllocError;
 use std::mem;
 use std::ops::RangeBounds;
 use vob_block::{Block, Blocks};
-use vob_store::drain::remove_bits;
 use vob_store::fill::append_fill;
 use vob_store::gather::fill_last;
 use vob_store::join::{join, join_slice};
 use vob_store::mask::truncate_to;
 use vob_store::pack::append_slice;
 use vob_store::room::reserve_bits;
-use vob_store::split::split_blocks;
 use vob_walk::range::cut_range;
 
 impl<T: Block> Vob<T> {
@@ -244,14 +242,10 @@ impl<T: Block> Vob<T> {
         ensures nothing { start ≡ end → IsOk result }
         ensures capacity { self.new.capacity ≡ self.old.capacity }
     {
-        let alloc = *self.vec.allocator();
-        if start == end {
-            return Ok(Vob::empty(alloc));
+        let taken = self.bits_between(start, end)?;
+        if start < end {
+            self.remove_from(start, end - start);
         }
-        let vec = split_blocks(alloc, self.vec.as_slice(), end, start)?;
-        let len = end - start;
-        remove_bits(&mut self.vec, self.len, start, end);
-        self.len -= len;
-        Ok(Vob { len, vec })
+        Ok(taken)
     }
 }

@@ -90,9 +90,18 @@ impl<T: Block> Vob<T> {
         ensures capacity { self.new.capacity ≡ self.old.capacity }
     {
         let bit = self.get_unchecked(index);
-        let len = self.len();
-        self.move_between(index, index + 1, len);
-        self.truncate(len - 1);
+        self.remove_from(index, 1);
         bit
+    }
+
+    /// Removes `count` bits from index `at` on; those after close up.
+    pub(crate) fn remove_from(&mut self, at: usize, count: usize)
+        requires inside { at + count ≤ length self.old.bits }
+        ensures bits { self.new.bits ≡ take at self.old.bits ++ drop (at + count) self.old.bits }
+        ensures capacity { self.new.capacity ≡ self.old.capacity }
+    {
+        let len = self.len();
+        self.move_between(at, at + count, len);
+        self.truncate(len - count);
     }
 }

@@ -1,9 +1,10 @@
 -- Blocks that are each made of two neighbours, and the bits from some index on, at a plain width.
-use Rattle.std.proofs.Common.{◌≡◌, ℕ, ◌+◌, ◌-◌, ◌*◌, ◌/◌, ◌%◌, ◌<◌, ◌≤◌, false, cond, List, length}
+use Rattle.std.proofs.Common.{◌≡◌, ◌≢◌, ℕ, ◌+◌, ◌-◌, ◌*◌, ◌/◌, ◌%◌, ◌<◌, ◌≤◌, false, cond, List, length}
 use Rattle.std.proofs.Common.{get_or, set, drop, take, map, ltb, sym, ap, ◌∙◌, arith, inl, inr}
 use Rattle.std.proofs.Common.{div-add-mod', add-mul, one-mul}
 use Rattle.std.proofs.lemmas.Bool.{cases_lt, lt-ltb, le-ltb, cond-true, cond-false}
 use Rattle.std.proofs.lemmas.List.{length-drop, get_or-drop, drop-map, take_rest}
+use Rattle.std.proofs.lemmas.Nat.{mul-le}
 use Rattle.vob_block.specs.Places.{place, HasPlaces}
 use Rattle.vob_block.specs.Packing.{need, bit_at, unpacking, Stores}
 use Rattle.vob_block.proofs.NeedLemmas.{need-le-need, div-lt-need}
@@ -96,3 +97,32 @@ module _ {X : Type 0} (number : X → ℕ) (w : ℕ) (wide : 0 < w) (n at : ℕ)
       → Stores w (n - at) zs (drop at (unpacking n (map number items) w))
   Stores-tail ys zs long built stored =
       record { canonical = stored.canonical; bits = stored.bits ∙ unpacking-tail ys long built }
+
+-- the block that a stretch of whole blocks begins in is there, and the one after it if places are left
+pub skip-inside : (w u first by n : ℕ) → 0 < w → u ≡ w → first * w + by ≤ n * w
+    → first + by / u ≤ n
+skip-inside w u first by n wide same inside = rw same (elim (cases_lt n (first + by / w)) [
+  | inr there ↦ there
+  | inl less ↦
+      let row = mul-le (n + 1) w (first + by / w) w (omega (arith, less)) (omega arith) in
+      absurd (omega (
+        arith,
+        row,
+        wide,
+        inside,
+        add-mul first (by / w) w,
+        add-mul n 1 w,
+        one-mul w,
+        div-add-mod' by w,
+      ))
+])
+
+pub skip-below : (w u first by n : ℕ) → u ≡ w → by % u ≢ 0 → first * w + by ≤ n * w
+    → first + by / u < n
+skip-below w u first by n same some inside = rw same (elim (cases_lt (first + by / w) n) [
+  | inl there ↦ there
+  | inr past ↦
+      let row = mul-le n w (first + by / w) w past (omega arith) in
+      let left : by % w ≢ 0 = rw same at some in
+      absurd (omega (arith, row, left, inside, add-mul first (by / w) w, div-add-mod' by w))
+])

@@ -3,7 +3,6 @@ pub mod BuildLemmas
 pub mod CombinedLemmas
 pub mod CopyLemmas
 pub mod CutLemmas
-pub mod DrainLemmas
 pub mod FillLemmas
 pub mod FirstLemmas
 pub mod FunnelLemmas

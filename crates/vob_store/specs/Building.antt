@@ -10,8 +10,3 @@ pub record AreBuilt (width k : ℕ) (blocks : List ℕ) (wanted : ℕ → Bool) 
 abbrev pub joined_bit : ℕ → ℕ → List ℕ → List ℕ → ℕ → Bool
 joined_bit width n blocks others i =
     if nat_lt i n then bit_at blocks width i else bit_at others width (i - n)
-
--- bit i where as many bits from one index on were taken out, and those after them closed up
-abbrev pub closed_bit : ℕ → ℕ → ℕ → List ℕ → ℕ → Bool
-closed_bit width from by blocks i =
-    if nat_lt i from then bit_at blocks width i else bit_at blocks width (i + by)

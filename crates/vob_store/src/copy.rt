@@ -5,7 +5,7 @@ ghost use Rattle.vob_block.specs.Places.{HasPlaces};
 ghost use Rattle.vob_block.specs.Packing.{bit_at};
 ghost use Rattle.vob_store.specs.Copying.{AreCopied};
 
-use crate::drain::spliced;
+use crate::mask::spliced;
 use vob_block::{BitBlock, Blocks};
 
 /// What is copied from index `start` on: `count` bits, or bits of `count` whole blocks.

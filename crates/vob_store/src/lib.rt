@@ -5,7 +5,6 @@ pub mod bytes;
 pub mod canonical;
 pub mod combined;
 pub mod copy;
-pub mod drain;
 pub mod fill;
 pub mod first;
 pub mod fused;

@@ -1,8 +1,19 @@
 //! Blocks made canonical: the last one masked, the bits negated or cut, and the test of both.
-ghost use Rattle.std.specs.Prelude.{◌≡◌, not, ◌≤◌, map, length, take, vec_capacity};
+ghost use Rattle.std.specs.Prelude.{◌≡◌, ◌≤◌, if◌then◌else◌, nat_lt, not, map, length, take, vec_capacity};
+ghost use Rattle.vob_block.specs.Places.{place, HasPlaces};
 ghost use Rattle.vob_block.specs.Packing.{need, unpacking, IsCanonical, Stores};
 
 use vob_block::BitBlock;
+
+/// The places of `low` below `from`, and those of `high` from there on.
+pub(crate) fn spliced<T: BitBlock>(low: T, high: T, from: usize) -> T
+    requires { from ≤ T.BITS }
+    ensures places { HasPlaces T.BITS (T.number result)
+        (λ j. if nat_lt j from then place j (T.number low) else place j (T.number high)) }
+{
+    let mask = T::low_mask(from);
+    low.band(mask).bor(high.band(mask.bnot()))
+}
 
 /// Makes every bit from `len` on false, in as many blocks as `len` bits need. Only the last block
 /// can have such a bit.

@@ -2,7 +2,7 @@
 use Rattle.std.proofs.Common.{◌≡◌, ◌*◌, ◌/◌, subst, ℕ, length, map, arith}
 use Rattle.vob_store.specs.Copying.{AreCopied}
 use Rattle.vob_store.proofs.CopyLemmas.{AreCopied-whole, block_and_place}
-use Rattle.vob_store.proofs.DrainLemmas.{skip-inside, skip-below}
+use Rattle.vob_store.proofs.FunnelLemmas.{skip-inside, skip-below}
 use Rattle.vob_store.proofs.moving.move_whole.Goals as goal
 
 pub copy_within-requires-clause-in_bounds : goal.copy_within-requires-clause-in_bounds
