@@ -11,6 +11,14 @@ use Rattle.vob_block.proofs.PointwiseLemmas.{same_count, combined, item-pointwis
 use Rattle.vob.specs.Bits.{AreCombined}
 use Rattle.vob.proofs.BitsLemmas.{AreCombined-pointwise}
 
+-- blocks that hold a list combined with another
+pub record HasCombined (w n : ℕ) (f : Bool → Bool → Bool) (bits others : List Bool) (changed : Bool)
+    (ys : List ℕ) : Type 0 where
+  pub canonical : IsCanonical n ys w
+  pub stored : unpacking n ys w ≡ pointwise f bits others
+  pub each : AreCombined f bits others (unpacking n ys w)
+  pub flag : (changed ≡ true) ↔ (unpacking n ys w ≢ bits)
+
 module _ {X : Type 0} (number : X → ℕ) (w : ℕ) (wide : 0 < w) (n : ℕ) (mine theirs : List X)
     (bits others : List Bool) (h : IsCanonical n (map number mine) w)
     (mine_is : unpacking n (map number mine) w ≡ bits) (same : length bits ≡ length others)
@@ -24,13 +32,7 @@ module _ {X : Type 0} (number : X → ℕ) (w : ℕ) (wide : 0 < w) (n : ℕ) (m
   module _ (f : Bool → Bool → Bool) (none : f false false ≡ false) (changed : Bool)
       {lent own left : List X} (lent_is : lent ≡ mine) (left_is : left ≡ own)
       (done : IsCombined w f (map number lent) (map number theirs) (map number own) changed) where
-    pub record HasCombined : Type 0 where
-      pub canonical : IsCanonical n (map number left) w
-      pub stored : unpacking n (map number left) w ≡ pointwise f bits others
-      pub each : AreCombined f bits others (unpacking n (map number left) w)
-      pub flag : (changed ≡ true) ↔ (unpacking n (map number left) w ≢ bits)
-
-    pub combined_here : HasCombined
+    pub combined_here : HasCombined w n f bits others changed (map number left)
     combined_here =
         let after = combined number w wide n mine theirs others h same_length theirs_is f none own
         changed (rw lent_is at done) in
@@ -111,7 +113,6 @@ module _ {X : Type 0} (number : X → ℕ) (item_of : ℕ → X) (w : ℕ) (wide
   added = rw theirs_are (done (packing both_bits w)
       (pointwise_blocks w wide f none firsts seconds as_long xs ys is its))
 
-  pub added_here : HasCombined number w wide n mine theirs bits both_bits h mine_is same_long
-      theirs_are ◌||◌ refl changed lent_is left_is added
+  pub added_here : HasCombined w n ◌||◌ bits both_bits changed (map number left)
   added_here = combined_here number w wide n mine theirs bits both_bits h mine_is same_long
       theirs_are ◌||◌ refl changed lent_is left_is added

@@ -167,6 +167,11 @@ module _ (low high : Bound ℕ) (others : List Bool) {from to m : ℕ} (len : m 
 
 -- ---- the blocks of a Vob
 
+-- blocks that hold a list with bits of others copied over it
+pub record HasCopied (w n at from count : ℕ) (bits others : List Bool) (ys : List ℕ) : Type 0 where
+  pub canonical : IsCanonical n ys w
+  pub each : IsCopied at from count bits others (unpacking n ys w)
+
 -- items that store the bits that are written over, and others that store those which are copied
 module _ {X : Type 0} (number : X → ℕ) (w : ℕ) (wide : 0 < w) (n at from count : ℕ)
     (items theirs : List X) (bits others : List Bool) (own : IsCanonical n (map number items) w)
@@ -187,11 +192,7 @@ module _ {X : Type 0} (number : X → ℕ) (w : ℕ) (wide : 0 < w) (n at from c
       (long : length now ≡ length lent) (small : All (λ x. x < 2 ^ w) (map number now))
       (done : AreCopied w at from count (map number lent) (map number theirs) (map number now))
     where
-      pub record HasCopied : Type 0 where
-        pub canonical : IsCanonical n (map number left) w
-        pub each : IsCopied at from count bits others (unpacking n (map number left) w)
-
-      pub copied_here : HasCopied
+      pub copied_here : HasCopied w n at from count bits others (map number left)
       copied_here =
           let stored = packing_is w wide others (length others) (map number theirs) theirs_is refl in
           let moved : AreCopied w at from count (map number items) (map number theirs)

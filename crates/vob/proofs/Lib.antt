@@ -5,6 +5,7 @@ pub mod CombineLemmas
 pub mod CopyLemmas
 pub mod DrainLemmas
 pub mod ExtendingLemmas
+pub mod FreshLemmas
 pub mod HashLemmas
 pub mod IndicesLemmas
 pub mod MovesLemmas

@@ -1,6 +1,6 @@
 -- Lists whose bits move to other indices, from what the calls below them leave.
 use Rattle.std.specs.declared.ops.Bound.TheVariants.{Included, Excluded}
-use Rattle.std.proofs.Common.{◌≡◌, ℕ, ◌+◌, ◌-◌, ◌<◌, ◌≤◌, min, nat_le, nat_lt, Bool, false, List, [], ◌∷◌, ◌++◌}
+use Rattle.std.proofs.Common.{◌≡◌, ℕ, ◌+◌, ◌-◌, ◌*◌, ◌<◌, ◌≤◌, min, nat_le, nat_lt, Bool, false, List, [], ◌∷◌, ◌++◌}
 use Rattle.std.proofs.Common.{length, map, take, drop, replicate, refl, sym, ap, ◌∙◌, arith, inl, inr}
 use Rattle.std.proofs.lemmas.Bool.{cases_lt, cases_eq, and_from, and_left, and_right, le-leb, lt-leb, lt-ltb, le-ltb}
 use Rattle.std.proofs.lemmas.List.{ext_get_or, get_or_append_left, get_or-append_right, get_or-drop}
@@ -13,6 +13,7 @@ use Rattle.vob.specs.Copy.{IsCopied}
 use Rattle.vob.specs.Moves.{AreSwapped, IsInserted, IsMovedDown, IsMovedUp}
 use Rattle.vob.specs.Ranges.{IsChangedWithin}
 use Rattle.vob.proofs.BitsLemmas.{item_false}
+use Rattle.vob.proofs.CopyLemmas.{copied_inside}
 
 -- the blocks of a Vob are the packing of its bits
 pub own_blocks : {X : Type 0} (number : X → ℕ) (w : ℕ) → 0 < w → (n : ℕ) (items : List X)
@@ -20,6 +21,15 @@ pub own_blocks : {X : Type 0} (number : X → ℕ) (w : ℕ) → 0 < w → (n : 
     → unpacking n (map number items) w ≡ bits → map number items ≡ packing bits w
 own_blocks number w wide n items own is = sym (packing-unpacking w wide n (map number items) own)
     ∙ ap (λ bs. packing bs w) is
+
+-- a stretch of a Vob's own bits is within its blocks
+pub own_inside : {X : Type 0} (number : X → ℕ) (w : ℕ) → 0 < w → (n : ℕ) (items : List X)
+    {bits : List Bool} → IsCanonical n (map number items) w
+    → unpacking n (map number items) w ≡ bits → (at count : ℕ) → at + count ≤ length bits
+    → at + count ≤ length items * w
+own_inside number w wide n items {bits} own is at count fits =
+    copied_inside number w wide n at at count items items bits bits own is
+    (own_blocks number w wide n items own is) fits
 
 -- ---- bits that become unset from one index to below another
 

@@ -38,10 +38,20 @@ module _ (bits others : List Bool) where
 
 -- ---- the blocks of two lists, as many as the shorter one needs
 
+-- the first place where these differ is where the lists do, if it is within both
+pub record DecideFirst (w n m : ℕ) (xs ys : List ℕ) (bits others : List Bool) (k : ℕ) : Type 0 where
+  pub counts : (k ≤ length xs) × (k ≤ length ys)
+  pub below : (i : ℕ) → combined_bit differ w (take k xs) (take k ys) i ≡ true → i < max n m
+  pub none : HaveNone differ w 0 k (take k xs) (take k ys) → IsDifference bits others None
+  pub inside : (i : ℕ) → IsFirstCombined differ w (take k xs) (take k ys) i → i < min n m
+      → IsDifference bits others (Some i)
+  pub past : (i : ℕ) → IsFirstCombined differ w (take k xs) (take k ys) i → min n m ≤ i
+      → IsDifference bits others None
+
 module _ (w : ℕ) (wide : 0 < w) (n m : ℕ) (xs ys : List ℕ) (bits others : List Bool)
     (own : IsCanonical n xs w) (is : unpacking n xs w ≡ bits) (other : IsCanonical m ys w)
     (its : unpacking m ys w ≡ others) (k : ℕ) (count : k ≡ need (min n m) w) where
-  pub blocks-le : (k ≤ length xs) × (k ≤ length ys)
+  blocks-le : (k ≤ length xs) × (k ≤ length ys)
   blocks-le = (
     omega (arith, count, own.count, need-le-need w wide (min n m) n (omega arith)),
     omega (arith, count, other.count, need-le-need w wide (min n m) m (omega arith)),
@@ -61,7 +71,7 @@ module _ (w : ℕ) (wide : 0 < w) (n m : ℕ) (xs ys : List ℕ) (bits others : 
   long = (sym (ap length is) ∙ length-unpacking n xs w, sym (ap length its) ∙ length-unpacking m ys w)
 
   -- a bit that differs is below one of the lengths
-  pub differs-below : (i : ℕ) → both i ≡ true → (i / w < k) × (i < max n m)
+  differs-below : (i : ℕ) → both i ≡ true → (i / w < k) × (i < max n m)
   differs-below i true_bit = elim (cases_lt (i / w) k) [
     | inr past ↦ absurd (false≢true (sym (ap (λ b. differ b (bit_at (take k ys) w i))
         (bit_at-past (take k xs) w i (omega (arith, past, length-take-le k xs blocks-le.0)))
@@ -80,14 +90,14 @@ module _ (w : ℕ) (wide : 0 < w) (n m : ℕ) (xs ys : List ℕ) (bits others : 
   agree_below i less none = same_from_differ (item bits i) (item others i)
       (sym (bit-within i (omega (arith, count, div-lt-need w wide (min n m) i less))) ∙ none)
 
-  pub none_found : HaveNone differ w 0 k (take k xs) (take k ys) → IsDifference bits others None
+  none_found : HaveNone differ w 0 k (take k xs) (take k ys) → IsDifference bits others None
   none_found none = difference_is bits others None (λ i inside theirs.
       let less : i < min n m = omega (arith, inside, theirs, long.0, long.1) in
       agree_below i less (none i (omega arith)
       (omega (arith, count, div-lt-need w wide (min n m) i less))))
 
   module _ (i : ℕ) (first : IsFirstCombined differ w (take k xs) (take k ys) i) where
-    pub found_inside : i < min n m → IsDifference bits others (Some i)
+    found_inside : i < min n m → IsDifference bits others (Some i)
     found_inside less = difference_is bits others (Some i) record {
       inside = omega (arith, less, long.0);
       theirs = omega (arith, less, long.1);
@@ -96,10 +106,19 @@ module _ (w : ℕ) (wide : 0 < w) (n m : ℕ) (xs ys : List ℕ) (bits others : 
       same = λ j lower. agree_below j (omega (arith, lower, less)) (first.before j lower);
     }
 
-    pub found_past : min n m ≤ i → IsDifference bits others None
+    found_past : min n m ≤ i → IsDifference bits others None
     found_past past = difference_is bits others None (λ j inside theirs.
         let less : j < min n m = omega (arith, inside, theirs, long.0, long.1) in
         agree_below j less (first.before j (omega (arith, less, past))))
+
+  pub decide : DecideFirst w n m xs ys bits others k
+  decide = record {
+    counts = blocks-le;
+    below = λ i h. (differs-below i h).1;
+    none = none_found;
+    inside = found_inside;
+    past = found_past;
+  }
 
 -- ---- the order of lists
 

@@ -1,82 +1,64 @@
 -- The kernel's clauses on blocks are those on bits.
-use Rattle.std.proofs.Common.{◌*◌, ◌-◌, ap, ◌∙◌, length, map, drop, arith}
+use Rattle.std.proofs.Common.{◌≡◌, ◌≤◌, ℕ, ◌+◌, ◌*◌, ◌-◌, ◌++◌, ap, ◌∙◌, length, map, take, drop, arith}
 use Rattle.std.proofs.lemmas.List.{take_at}
-use Rattle.vob.proofs.CopyLemmas.{copied_fits, copied_inside, copied_here}
-use Rattle.vob.proofs.MovesLemmas.{own_blocks}
+use Rattle.vob_block.proofs.PackingLemmas.{length-unpacking}
+use Rattle.vob.proofs.CopyLemmas.{HasCopied, copied_here}
+use Rattle.vob.proofs.MovesLemmas.{own_blocks, own_inside}
+use Rattle.vob.proofs.vob.Vob.move_between.Given as given
 use Rattle.vob.proofs.vob.Vob.move_between.Goals as goal
+use Rattle.vob.proofs.vob.Vob.move_between.Goals.{After-as_mut_slice, After-move_bits}
+
+inside : (g : given.Over) (c : After-as_mut_slice g) (at count : ℕ)
+    → at + count ≤ length c.args.self.now.bits
+    → at + count ≤ length c.as_mut_slice.result.now * g.T.BitBlock.BITS
+inside g c at count fits = omega (
+  arith,
+  own_inside g.T.BitBlock.number g.T.BitBlock.BITS g.met.T.BitBlock.wide_law c.self.inside.len
+      c.self.inside.vec.items c.self.invariant (ap (λ v. v.bits) c.self.view_is) at count fits,
+  ap (λ xs. length xs * g.T.BitBlock.BITS) c.as_mut_slice.ensures.value,
+)
+
+moved : (g : given.Over) (c : After-move_bits g)
+    → HasCopied g.T.BitBlock.BITS c.self.inside.len c.args.at c.args.start
+    (c.args.end - c.args.start) c.args.self.now.bits c.args.self.now.bits
+    (map g.T.BitBlock.number (take c.self.inside.vec.len
+    (c.move_bits.new.own ++ drop (length c.move_bits.new.own) c.self.inside.vec.items)))
+moved g c =
+    let number = g.T.BitBlock.number in
+    let now = c.move_bits.new.own in
+    let own = ap (λ v. v.bits) c.self.view_is in
+    copied_here number g.T.BitBlock.BITS g.met.T.BitBlock.wide_law c.self.inside.len c.args.at
+    c.args.start (c.args.end - c.args.start) c.self.inside.vec.items c.as_mut_slice.result.now
+    c.args.self.now.bits c.args.self.now.bits c.self.invariant own
+    (ap (map number) c.as_mut_slice.ensures.value ∙ own_blocks number g.T.BitBlock.BITS
+    g.met.T.BitBlock.wide_law c.self.inside.len c.self.inside.vec.items c.self.invariant own)
+    c.requires.fits
+    c.as_mut_slice.ensures.value (take_at now (drop (length now) c.self.inside.vec.items)
+    c.self.inside.vec.len (c.move_bits.auto.own ∙ c.as_mut_slice.ensures.len)) c.move_bits.auto.own
+    c.move_bits.ensures.within c.move_bits.ensures.moved
 
 pub move_bits-requires-clause-inside : goal.move_bits-requires-clause-inside
-move_bits-requires-clause-inside g c =
-    let number = g.T.BitBlock.number in
-    let w = g.T.BitBlock.BITS in
-    let wide = g.met.T.BitBlock.wide_law in
-    let items = c.self.inside.vec.items in
-    let bits = c.args.self.now.bits in
-    let own = ap (λ v. v.bits) c.self.view_is in
-    let inside = copied_inside number w wide c.self.inside.len c.args.at c.args.start
-    (c.args.end - c.args.start) items items bits bits c.self.invariant own
-    (own_blocks number w wide c.self.inside.len items c.self.invariant own) c.requires.fits in
-    omega (arith, inside, ap (λ xs. length xs * w) c.as_mut_slice.ensures.value)
+move_bits-requires-clause-inside g c = inside g
+    (goal.at.move_bits-requires-clause-inside g c).After-as_mut_slice c.args.at
+    (c.args.end - c.args.start) c.requires.fits
 
 pub move_bits-requires-clause-source : goal.move_bits-requires-clause-source
-move_bits-requires-clause-source g c =
-    let number = g.T.BitBlock.number in
-    let w = g.T.BitBlock.BITS in
-    let wide = g.met.T.BitBlock.wide_law in
-    let items = c.self.inside.vec.items in
-    let bits = c.args.self.now.bits in
-    let own = ap (λ v. v.bits) c.self.view_is in
-    let inside = copied_inside number w wide c.self.inside.len c.args.start c.args.start
-    (c.args.end - c.args.start) items items bits bits c.self.invariant own
-    (own_blocks number w wide c.self.inside.len items c.self.invariant own)
-    (omega (arith, c.requires.order, c.requires.inside)) in
-    omega (arith, inside, ap (λ xs. length xs * w) c.as_mut_slice.ensures.value)
+move_bits-requires-clause-source g c = inside g
+    (goal.at.move_bits-requires-clause-source g c).After-as_mut_slice c.args.start
+    (c.args.end - c.args.start) (omega (arith, c.requires.order, c.requires.inside))
 
 pub move_bits-requires-clause-end : goal.move_bits-requires-clause-end
-move_bits-requires-clause-end g c =
-    let number = g.T.BitBlock.number in
-    let w = g.T.BitBlock.BITS in
-    let wide = g.met.T.BitBlock.wide_law in
-    let items = c.self.inside.vec.items in
-    let bits = c.args.self.now.bits in
-    let own = ap (λ v. v.bits) c.self.view_is in
-    let inside = copied_fits number w wide c.self.inside.len c.args.at c.args.start
-    (c.args.end - c.args.start) items items bits bits c.self.invariant own
-    (own_blocks number w wide c.self.inside.len items c.self.invariant own) c.requires.fits in
-    omega (arith, inside, c.self.ranges)
+move_bits-requires-clause-end g c = omega (
+  arith,
+  c.requires.fits,
+  ap (λ v. length v.bits) c.self.view_is,
+  length-unpacking c.self.inside.len (map g.T.BitBlock.number c.self.inside.vec.items)
+      g.T.BitBlock.BITS,
+  c.self.ranges,
+)
 
 pub invariant_of-self : goal.invariant_of-self
-invariant_of-self g c =
-    let number = g.T.BitBlock.number in
-    let w = g.T.BitBlock.BITS in
-    let wide = g.met.T.BitBlock.wide_law in
-    let items = c.self.inside.vec.items in
-    let bits = c.args.self.now.bits in
-    let own = ap (λ v. v.bits) c.self.view_is in
-    let lent = c.as_mut_slice.result.now in
-    let now = c.move_bits.new.own in
-    let left = take_at now (drop (length now) items) c.self.inside.vec.len
-    (c.move_bits.auto.own ∙ c.as_mut_slice.ensures.len) in
-    (copied_here number w wide c.self.inside.len c.args.at c.args.start (c.args.end - c.args.start)
-    items lent bits bits c.self.invariant own (ap (map number) c.as_mut_slice.ensures.value
-    ∙ own_blocks number w wide c.self.inside.len items c.self.invariant own) c.requires.fits
-    c.as_mut_slice.ensures.value left c.move_bits.auto.own c.move_bits.ensures.within
-    c.move_bits.ensures.moved).canonical
+invariant_of-self g c = (moved g (goal.at.invariant_of-self g c).After-move_bits).canonical
 
 pub returns-clause-each : goal.returns-clause-each
-returns-clause-each g c =
-    let number = g.T.BitBlock.number in
-    let w = g.T.BitBlock.BITS in
-    let wide = g.met.T.BitBlock.wide_law in
-    let items = c.self.inside.vec.items in
-    let bits = c.args.self.now.bits in
-    let own = ap (λ v. v.bits) c.self.view_is in
-    let lent = c.as_mut_slice.result.now in
-    let now = c.move_bits.new.own in
-    let left = take_at now (drop (length now) items) c.self.inside.vec.len
-    (c.move_bits.auto.own ∙ c.as_mut_slice.ensures.len) in
-    (copied_here number w wide c.self.inside.len c.args.at c.args.start (c.args.end - c.args.start)
-    items lent bits bits c.self.invariant own (ap (map number) c.as_mut_slice.ensures.value
-    ∙ own_blocks number w wide c.self.inside.len items c.self.invariant own) c.requires.fits
-    c.as_mut_slice.ensures.value left c.move_bits.auto.own c.move_bits.ensures.within
-    c.move_bits.ensures.moved).each
+returns-clause-each g c = (moved g (goal.at.returns-clause-each g c).After-move_bits).each
