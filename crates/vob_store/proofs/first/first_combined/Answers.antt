@@ -1,11 +1,23 @@
 -- A block that isn't 0 has a first true place, and one that is 0 has none.
-use Rattle.std.proofs.Common.{◌≡◌, ◌≢◌, ◌*◌, ◌+◌, ◌∙◌, not, map, sym, ap, arith}
+use Rattle.std.proofs.Common.{◌≡◌, ◌≢◌, ◌*◌, ◌+◌, ◌∙◌, true, false, not, map, sym, ap, arith}
 use Rattle.std.proofs.lemmas.Bool.{false≢true, not-true, not-false}
 use Rattle.std.proofs.lemmas.List.{get_or-map, length-map}
 use Rattle.std.proofs.lemmas.Nat.{div-mul-add}
 use Rattle.vob_block.proofs.NumberLemmas.{number_read}
 use Rattle.vob_store.proofs.FirstLemmas.{HaveNone-next, IsFirstCombined-place, zeros-less}
+use Rattle.vob_store.proofs.first.first_combined.Given as given
 use Rattle.vob_store.proofs.first.first_combined.Goals as goal
+use Rattle.vob_store.proofs.first.first_combined.Goals.{After-ne}
+
+unequal : (g : given.Over) (c : After-ne g)
+    → (c.ne.result ≡ true → g.T.BitBlock.number c.block-block.result ≢ 0)
+    × (c.ne.result ≡ false → g.T.BitBlock.number c.block-block.result ≡ 0)
+unequal g c =
+    let zero = ap g.T.BitBlock.number c.ZERO.ensures ∙ g.met.T.BitBlock.zero_number_law in
+    let test = g.met.T.BitBlock.equal_law c.block-block.result c.ZERO.result in (
+      λ is e. false≢true (sym (not-true _ (sym c.ne.ensures ∙ is)) ∙ test.1 (e ∙ sym zero)),
+      λ is. test.0 (not-false _ (sym c.ne.ensures ∙ is)) ∙ zero,
+    )
 
 pub returns-then-ne-clause-found : goal.returns-then-ne-clause-found
 returns-then-ne-clause-found g c =
@@ -13,11 +25,7 @@ returns-then-ne-clause-found g c =
     let w = g.T.BitBlock.BITS in
     let k = c.loop-k.k in
     let own = c.args.own.now in
-    let zero : number c.ZERO.result ≡ 0 = ap number c.ZERO.ensures
-    ∙ g.met.T.BitBlock.zero_number_law in
-    let test = g.met.T.BitBlock.equal_law c.block-block.result c.ZERO.result in
-    let some : number c.block-block.result ≢ 0 = λ e. false≢true
-    (sym (not-true _ (sym c.ne.ensures ∙ c.if-ne.true)) ∙ test.1 (e ∙ sym zero)) in
+    let some = (unequal g (goal.at.returns-then-ne-clause-found g c).After-ne).0 c.if-ne.true in
     let mine = ap number c.index-own-k.is
     ∙ sym (get_or-map number own k c.index-own-k.result 0 (omega arith)) in
     let its = number_read number c.args.other.now.items k c.block.result
@@ -39,11 +47,7 @@ pub returns-then-ne-clause-reads : goal.returns-then-ne-clause-reads
 returns-then-ne-clause-reads g c =
     let number = g.T.BitBlock.number in
     let w = g.T.BitBlock.BITS in
-    let zero : number c.ZERO.result ≡ 0 = ap number c.ZERO.ensures
-    ∙ g.met.T.BitBlock.zero_number_law in
-    let test = g.met.T.BitBlock.equal_law c.block-block.result c.ZERO.result in
-    let some : number c.block-block.result ≢ 0 = λ e. false≢true
-    (sym (not-true _ (sym c.ne.ensures ∙ c.if-ne.true)) ∙ test.1 (e ∙ sym zero)) in
+    let some = (unequal g (goal.at.returns-then-ne-clause-reads g c).After-ne).0 c.if-ne.true in
     let less = zeros-less w (number c.block-block.result) c.zeros_low-place.result
     c.block-block.ensures.within some c.zeros_low-place.ensures in
     let whole = div-mul-add c.loop-k.k w c.zeros_low-place.result less in
@@ -59,11 +63,7 @@ loop-k-preserved g c =
     let number = g.T.BitBlock.number in
     let k = c.loop-k.k in
     let own = c.args.own.now in
-    let zero : number c.ZERO.result ≡ 0 = ap number c.ZERO.ensures
-    ∙ g.met.T.BitBlock.zero_number_law in
-    let test = g.met.T.BitBlock.equal_law c.block-block.result c.ZERO.result in
-    let none : number c.block-block.result ≡ 0 =
-    test.0 (not-false _ (sym c.ne.ensures ∙ c.if-ne.false)) ∙ zero in
+    let none = (unequal g (goal.at.loop-k-preserved g c).After-ne).1 c.if-ne.false in
     let mine = ap number c.index-own-k.is
     ∙ sym (get_or-map number own k c.index-own-k.result 0 (omega arith)) in
     let its = number_read number c.args.other.now.items k c.block.result
