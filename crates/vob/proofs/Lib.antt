@@ -13,9 +13,11 @@ pub mod OrderLemmas
 pub mod PairLemmas
 pub mod RangeLemmas
 pub mod RestLemmas
+pub mod RoomLemmas
 pub mod RunListLemmas
 pub mod RunsLemmas
 pub mod SameLemmas
+pub mod SeenLemmas
 pub mod SelectLemmas
 pub mod SetsLemmas
 pub mod TextLemmas

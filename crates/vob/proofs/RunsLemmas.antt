@@ -3,7 +3,7 @@ use Rattle.std.specs.Prelude.{◌==◌, Some, None}
 use Rattle.std.specs.Iterator.Runs.{YieldsInOrder}
 use Rattle.std.specs.declared.ops.Range.{Range}
 use Rattle.std.proofs.Common.{◌≡◌, ◌≢◌, ℕ, ◌+◌, ◌-◌, ◌/◌, ◌<◌, ◌≤◌, min, true, false, cond, List}
-use Rattle.std.proofs.Common.{Bool, ◌∷◌, length, map, refl, sym, ap, ◌∙◌, arith, inl, inr, div-add-mod'}
+use Rattle.std.proofs.Common.{Bool, ◌∷◌, length, map, refl, sym, ap, ◌∙◌, arith, inl, inr, not, div-add-mod'}
 use Rattle.std.proofs.iter.runs.Sources.{from_front, as_is}
 use Rattle.std.proofs.lemmas.Bool.{cases_eq, cases_lt, eq-eqb, ne_eqb}
 use Rattle.std.proofs.lemmas.Nat.{div_below, le-div}
@@ -14,8 +14,12 @@ use Rattle.vob_block.proofs.PackingLemmas.{get_or-unpacking, length-unpacking}
 use Rattle.vob_walk.specs.Next.{FindsUp}
 use Rattle.vob_walk.proofs.NextLemmas.{need_most}
 use Rattle.vob.specs.Sets.{IsFirstFrom}
-use Rattle.vob.specs.Runs.{IsFirstRun, RunWalk, GivesRun, IsOnRuns, runs_from, unread_from}
+use Rattle.vob_walk.specs.Matches.{has_value}
+use Rattle.vob.specs.RunSteps.{IsOnRuns, seen, unread_from}
+use Rattle.vob.specs.Runs.{IsFirstRun, RunWalk, GivesRun, runs_from}
 use Rattle.vob.proofs.RunListLemmas.{IsFirstRun-between, runs_from-none, runs_from-first}
+use Rattle.vob.proofs.SeenLemmas.{has_value-there, has_value-only, has_value-other, has_value-unset}
+use Rattle.vob.proofs.SeenLemmas.{length-seen, seen-above}
 
 -- ---- among blocks
 
@@ -23,7 +27,7 @@ quotients_rise : (w : ℕ) → 0 < w → (i j : ℕ) → i ≤ j → i / w ≤ j
 quotients_rise w wide i j order = le-div (i / w) j w wide (omega (arith, div-add-mod' i w))
 
 module _ (w : ℕ) (wide : 0 < w) (n from : ℕ) where
-  unread-some : 0 < from → unread_from w n from ≡ need n w - (from / w + 1)
+  pub unread-some : 0 < from → unread_from w n from ≡ need n w - (from / w + 1)
   unread-some some = ap (λ b. need n w - cond b 0 (from / w + 1))
       (ne_eqb from 0 (λ e. absurd (omega (arith, e, some))))
 
@@ -55,12 +59,13 @@ module _ (w : ℕ) (wide : 0 < w) (n from : ℕ) where
             )
       ]
 
-module _ {X : Type 0} (w : ℕ) (wide : 0 < w) (number : X → ℕ) (n : ℕ) (x : Reading X) where
+module _ {X : Type 0} (w : ℕ) (wide : 0 < w) (number : X → ℕ) (value : Bool) (first n : ℕ)
+    (x : Reading X) where
   abbrev xs : List ℕ
   xs = map number x.items
 
   abbrev bits_in : Reading X → List Bool
-  bits_in r = unpacking n (map number r.items) w
+  bits_in r = seen value first (unpacking n (map number r.items) w)
 
   -- the walk whose blocks are these
   abbrev walk_of : Reading X → ℕ → ℕ → RunWalk
@@ -75,26 +80,29 @@ module _ {X : Type 0} (w : ℕ) (wide : 0 < w) (number : X → ℕ) (n : ℕ) (x
   abbrev bits : List Bool
   bits = bits_in x
 
-  long : length bits ≡ n
-  long = length-unpacking n xs w
-
-  bit-is : (r : Reading X) → r.items ≡ x.items → (i : ℕ) → i < n
-      → bit_at (map number r.items) w i ≡ item bits i
-  bit-is r same i below = ap (λ l. bit_at (map number l) w i) same
-      ∙ sym (get_or-unpacking n xs w i false below)
-
   same_bits : (r : Reading X) → r.items ≡ x.items → bits_in r ≡ bits
-  same_bits r same = ap (λ l. unpacking n (map number l) w) same
+  same_bits r same = ap (λ l. seen value first (unpacking n (map number l) w)) same
 
-  module _ {at from hand : ℕ} (on : IsOnRuns w xs n at from hand) where
+  bit-is : (r : Reading X) → r.items ≡ x.items → (i : ℕ) → first ≤ i → i < n
+      → item bits i ≡ has_value value (bit_at (map number r.items) w i)
+  bit-is r same i above below =
+      let xs_long = length-unpacking n xs w in
+      seen-above value first (unpacking n xs w) i above (omega (arith, xs_long))
+      ∙ ap (has_value value) (get_or-unpacking n xs w i false below
+      ∙ ap (λ l. bit_at (map number l) w i) (sym same))
+
+  module _ {at from hand : ℕ} (on : IsOnRuns w xs bits n first at from hand) where
+    long : length bits ≡ n
+    long =
+        let xs_long = length-unpacking n xs w in
+        length-seen value first (unpacking n xs w) (omega (arith, xs_long, on.begun, on.within))
+        ∙ xs_long
+
     ended_there : 0 < at → at < length bits → item bits at ≡ false
-    ended_there some below =
-        let inside : at < n = omega (arith, below, long) in
-        sym (bit-is x refl at inside) ∙ on.ended some inside
+    ended_there some below = on.ended some (omega (arith, below, long))
 
     passed_there : (i : ℕ) → at ≤ i → i < from → item bits i ≢ true
-    passed_there i above below same =
-        on.passed i above below (bit-is x refl i (omega (arith, below, on.within)) ∙ same)
+    passed_there = on.passed
 
     -- nothing is looked at where all is passed
     pub GivesRun-end : from ≡ n → GivesRun (walk_of x at from) None (walk_of x at from)
@@ -109,8 +117,8 @@ module _ {X : Type 0} (w : ℕ) (wide : 0 < w) (number : X → ℕ) (n : ℕ) (x
         }
 
     module _ (more : from ≢ n) {y z : Reading X} (held : y.items ≡ x.items)
-        (counted : y.reads ≡ x.reads + cond (from == 0) 1 0) {start : ℕ} {first : X}
-        (search : FindsUp w number true y z from n start first) where
+        (counted : y.reads ≡ x.reads + cond (from == 0) 1 0) {start : ℕ} {found : X}
+        (search : FindsUp w number value y z from n start found) where
       some : from < n
       some = omega (arith, on.within, more)
 
@@ -120,8 +128,9 @@ module _ {X : Type 0} (w : ℕ) (wide : 0 < w) (number : X → ℕ) (n : ℕ) (x
       unset_below : (i : ℕ) → at ≤ i → i < start → item bits i ≢ true
       unset_below i above below same = elim (cases_lt i from) [
         | inl less ↦ passed_there i above less same
-        | inr more ↦ search.between i more below
-            (bit-is y held i (omega (arith, below, search.within)) ∙ same)
+        | inr past ↦ search.between i past below (has_value-only value _
+            (sym (bit-is y held i (omega (arith, past, on.begun))
+            (omega (arith, below, search.within))) ∙ same))
       ]
 
       reads_so_far : z.reads + (need n w - min (start / w + 1) (need n w))
@@ -165,25 +174,58 @@ module _ {X : Type 0} (w : ℕ) (wide : 0 < w) (number : X → ℕ) (n : ℕ) (x
           rises = rises_so_far;
         }
 
+        pub IsOnRuns-none : {any : ℕ}
+            → IsOnRuns w (map number z.items) (bits_in z) n first at n any
+        IsOnRuns-none = record {
+          count = rw (after_start) on.count;
+          within = omega arith;
+          begun = omega (arith, on.begun, on.within);
+          order = omega (arith, on.order, on.within);
+          passed = λ i above below.
+              rw (same_bits z after_start) (none_left i above (omega (arith, below, long)));
+          ended = λ more below.
+              rw (same_bits z after_start) (ended_there more (omega (arith, below, long)));
+          held = λ more below. absurd (omega arith);
+        }
+
       module _ (inside : start ≢ n) {u : Reading X} {stop : ℕ} {last : X}
-          (behind : FindsUp w number false z u start n stop last) where
+          (behind : FindsUp w number (not value) z u start n stop last) where
         first_there : IsFirstFrom true bits at start
         first_there =
             let below : start < n = omega (arith, search.within, inside) in record {
               above = omega (arith, on.order, search.above);
               inside = omega (arith, below, long);
-              there = sym (bit-is y held start below) ∙ search.there below;
+              there = bit-is y held start (omega (arith, on.begun, search.above)) below
+                  ∙ has_value-there value _ (search.there below);
               between = unset_below;
             }
+
+        -- the bit behind the run ends it
+        unset_there : stop < n → item bits stop ≡ false
+        unset_there below =
+            bit-is z after_start stop
+            (omega (arith, on.begun, search.above, behind.above)) below
+            ∙ has_value-other value _ (behind.there below)
 
         run_there : IsFirstRun bits at start stop
         run_there = IsFirstRun-between bits at start stop first_there ended_there behind.above
             (omega (arith, behind.within, long))
-            (λ i above below same. behind.between i above below
-            (bit-is z after_start i (omega (arith, below, behind.within)) ∙ same))
-            (λ below.
-            let inside : stop < n = omega (arith, below, long) in
-            sym (bit-is z after_start stop inside) ∙ behind.there inside)
+            (λ i above below same. behind.between i above below (has_value-unset value _
+            (sym (bit-is z after_start i (omega (arith, on.begun, search.above, above))
+            (omega (arith, below, behind.within))) ∙ same)))
+            (λ below. unset_there (omega (arith, below, long)))
+
+        pub IsOnRuns-next : IsOnRuns w (map number u.items) (bits_in u) n first stop stop
+            (number last)
+        IsOnRuns-next = record {
+          count = rw (behind.items ∙ after_start) on.count;
+          within = behind.within;
+          begun = omega (arith, on.begun, search.above, behind.above);
+          order = omega arith;
+          passed = λ i above below. absurd (omega arith);
+          ended = λ more below. rw (same_bits u (behind.items ∙ after_start)) (unset_there below);
+          held = λ more below. rw (behind.items) (behind.block below);
+        }
 
         pub GivesRun-next : GivesRun (walk_of x at from)
             (Some record { start = start; end = stop }) (walk_of u stop stop)

@@ -13,6 +13,7 @@ pub mod Raw
 pub mod RawLends
 pub mod Refusal
 pub mod Rest
+pub mod RunSteps
 pub mod Runs
 pub mod Same
 pub mod Serialized

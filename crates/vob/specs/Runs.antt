@@ -1,12 +1,12 @@
--- The runs of a list of bits: its longest stretches of set bits.
-use Rattle.std.specs.Prelude.{◌≡◌, ◌≢◌, ◌==◌, if◌then◌else◌, ℕ, ◌+◌, ◌-◌, ◌/◌, ◌<◌, ◌≤◌, Bool, true}
-use Rattle.std.specs.Prelude.{false, ◌&&◌, not, List, ◌∷◌, length, slice_index_or, drop, filter, map}
-use Rattle.std.specs.Prelude.{Option, MatchOption, All, Any, AllPairs}
+-- The runs of a list of bits: its longest stretches of set bits. And where there is room for some.
+use Rattle.std.specs.Prelude.{◌≡◌, ◌≢◌, ℕ, ◌+◌, ◌-◌, ◌<◌, ◌≤◌, Bool, true, false, ◌&&◌, not, List}
+use Rattle.std.specs.Prelude.{◌∷◌, length, drop, filter, map, Option, MatchOption, All, Any, AllPairs}
 use Rattle.std.specs.List.{position_or_len, range_with_len}
 use Rattle.std.specs.Iterator.{YieldsFirst}
+use Rattle.std.specs.declared.ops.Bound.{Bound}
 use Rattle.std.specs.declared.ops.Range.{Range}
-use Rattle.vob_block.specs.Packing.{item, need, bit_at}
-use Rattle.vob_walk.specs.Next.{HasNoBit}
+use Rattle.vob_block.specs.Packing.{item}
+use Rattle.vob_walk.specs.Matches.{within}
 use Rattle.vob.specs.Sets.{IsFirstFrom}
 
 -- a run starts at each set bit whose predecessor is unset or missing
@@ -39,8 +39,8 @@ pub record IsFirstRun (bits : List Bool) (from a b : ℕ) : Type 0 where
   pub first : IsFirstFrom true bits from a
   pub run : IsMaximalRun bits a b
 
--- a walk over runs: the runs still to give, the bits, the index below which each run was given, how
--- many blocks were read, and how many are unread
+-- a walk over runs: the runs still to give, the bits whose runs they are, the index below which each
+-- run was given, how many blocks were read, and how many are unread
 pub record RunWalk : Type 0 where
   pub rest : List (Range ℕ)
   pub bits : List Bool
@@ -60,22 +60,39 @@ pub record GivesRun (walk : RunWalk) (answer : Option (Range ℕ)) (after : RunW
   pub reads : after.reads + after.left ≤ walk.reads + walk.left
   pub rises : walk.reads ≤ after.reads
 
+-- the bits that a range keeps: those whose index isn't within it are unset
+abbrev pub kept : Bound ℕ → Bound ℕ → List Bool → List Bool
+kept low high bits =
+    map (λ i. within low high i && item bits i) (range_with_len 0 (length bits))
+
+-- a walk over the runs of the bits that a range keeps
+pub record IsOverRange (low high : Bound ℕ) (bits : List Bool) (walk : RunWalk) : Type 0 where
+  pub rest : walk.rest ≡ runs_of (kept low high bits)
+  pub each : (i : ℕ) → item walk.bits i ≡ item (kept low high bits) i
+
+-- n unset bits in a row stand from index i on, within the length
+pub record IsRoom (n : ℕ) (bits : List Bool) (i : ℕ) : Type 0 where
+  pub inside : i + n ≤ length bits
+  pub unset : (j : ℕ) → i ≤ j → j < i + n → item bits j ≡ false
+
+-- and from no lower index on
+pub record IsFirstRoom (n : ℕ) (bits : List Bool) (i : ℕ) : Type 0 where
+  pub there : IsRoom n bits i
+  pub least : (j : ℕ) → IsRoom n bits j → i ≤ j
+
+abbrev pub HasNoRoom : ℕ → List Bool → Type 0
+HasNoRoom n bits = (i : ℕ) → IsRoom n bits i → ⊥
+
+-- the same of unset bits: those beside them are set or are not there
+pub record IsUnsetRun (bits : List Bool) (a b : ℕ) : Type 0 where
+  pub some : a < b
+  pub inside : b ≤ length bits
+  pub unset : (i : ℕ) → a ≤ i → i < b → item bits i ≡ false
+  pub before : (i : ℕ) → i + 1 ≡ a → item bits i ≡ true
+  pub behind : b < length bits → item bits b ≡ true
+
 -- a list has each run of the bits, in their order, and so each set bit in one of them
 pub record AreRuns (bits : List Bool) (runs : List (Range ℕ)) : Type 0 where
   pub each : All (λ run. IsMaximalRun bits run.start run.end) runs
   pub order : AllPairs (λ run next. run.end < next.start) runs
   pub all : (i : ℕ) → item bits i ≡ true → Any (λ run. (run.start ≤ i) × (i < run.end)) runs
-
--- how many blocks of the first n bits are unread where the block of index `from` was read last, and
--- none where that is 0
-abbrev pub unread_from : ℕ → ℕ → ℕ → ℕ
-unread_from width n from = need n width - (if from == 0 then 0 else from / width + 1)
-
--- a walk within: no set bit stands from index `at` to below index `from`, whose block is in hand
-pub record IsOnRuns (width : ℕ) (blocks : List ℕ) (n at from hand : ℕ) : Type 0 where
-  pub count : need n width ≤ length blocks
-  pub within : from ≤ n
-  pub order : at ≤ from
-  pub passed : HasNoBit width blocks true at from
-  pub ended : 0 < at → at < n → bit_at blocks width at ≡ false
-  pub held : 0 < from → from < n → hand ≡ slice_index_or blocks (from / width) 0

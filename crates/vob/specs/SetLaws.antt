@@ -5,7 +5,7 @@ use Rattle.std.specs.declared.ops.Range.{Range}
 use Rattle.vob_block.specs.Packing.{item}
 use Rattle.vob_block.specs.Pointwise.{pointwise, without}
 use Rattle.vob.specs.Bits.{count_of}
-use Rattle.vob.specs.Runs.{AreRuns, RunWalk, GivesRun, runs_of}
+use Rattle.vob.specs.Runs.{AreRuns, IsMaximalRun, IsUnsetRun, RunWalk, GivesRun, runs_of}
 use Rattle.vob.specs.Sets.{IsIndexOfRank}
 
 -- what a list has and another hasn't is what both the first and the other negated have
@@ -41,3 +41,8 @@ abbrev pub WalkGivesRuns : Type 0
 WalkGivesRuns =
     (walk : RunWalk) (runs : List (Range ℕ)) → walk.at ≡ 0 → Drains GivesRun walk runs
     → AreRuns walk.bits runs
+
+-- the runs of the bits negated are the longest stretches of unset bits
+abbrev pub UnsetRunsAreMaximal : Type 0
+UnsetRunsAreMaximal =
+    (bits : List Bool) (a b : ℕ) → IsMaximalRun (map not bits) a b ↔ IsUnsetRun bits a b

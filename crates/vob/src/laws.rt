@@ -5,7 +5,7 @@ ghost use Rattle.vob.specs.Laws.{PointwiseChangesBits, SetChangesBit, NegateTwic
 ghost use Rattle.vob.specs.Laws.{DigitsGiveBits, NegatedAnd};
 ghost use Rattle.vob.specs.PackingLaws.{NeedIsLeast, CanonicalIsPacked};
 ghost use Rattle.vob.specs.SetLaws.{DifferenceIsAndNot, NoneIsCounted, RankUndoesSelect};
-ghost use Rattle.vob.specs.SetLaws.{SelectUndoesRank, RunsAreMaximal, WalkGivesRuns};
+ghost use Rattle.vob.specs.SetLaws.{SelectUndoesRank, RunsAreMaximal, UnsetRunsAreMaximal, WalkGivesRuns};
 ghost use Rattle.vob_walk.specs.Laws.{MatchesShareNoIndex, MatchesFillTheRange, MatchesAddUp};
 ghost use Rattle.vob_walk.specs.Laws.{MatchesExactly, MatchesRise, FirstMatchIsLeast};
 ghost use Rattle.vob_walk.specs.Laws.{NoMatchIsNone, MatchesAreCounted, MatchesAreFew};
@@ -116,6 +116,12 @@ pub fn none_is_counted()
 /// list has. So the set bits are those of its ranges.
 pub fn runs_are_maximal()
     ensures { RunsAreMaximal }
+{}
+
+/// Each range that `unset_runs()` gives has unset bits alone, and those beside it are set or not
+/// there.
+pub fn unset_runs_are_maximal()
+    ensures { UnsetRunsAreMaximal }
 {}
 
 /// A walk over runs that begins at index 0 and goes on up to `None` gives each run once, in order.

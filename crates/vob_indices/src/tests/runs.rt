@@ -1,7 +1,9 @@
-//! The set bit of a rank and the runs of set bits, against one bit after another.
+//! The set bit of a rank, the runs of set and of unset bits, and room for some, against one bit
+//! after another.
 use super::support::{filled, pattern, same, write};
+use std::ops::Bound;
 use std::process::Abort;
-use vob::Vob;
+use vob::{Runs, Vob};
 use vob_block::Block;
 
 /// Each set bit is selected by its rank, and no greater number selects one.
@@ -18,20 +20,87 @@ fn check_select<T: Block>(rt: &impl Abort, vob: &Vob<T>) {
     same(rt, "select the most", below, vob.select(usize::MAX), None);
 }
 
-/// The runs are the stretches that one bit after another shows, in order.
-fn check_runs<T: Block>(rt: &impl Abort, vob: &Vob<T>) {
-    check_select(rt, vob);
-    let mut runs = vob.runs();
-    let mut start = None;
-    for index in 0..=vob.len() {
-        if vob.get(index) == Some(true) {
-            start = start.or(Some(index));
-        } else if let Some(from) = start.take() {
-            same(rt, "run", from, runs.next(), Some(from..index));
+/// The runs are the stretches of bits of a value from `start` to below `stop` that one bit after
+/// another shows, in order.
+fn check_stretches<T: Block>(
+    rt: &impl Abort,
+    what: &str,
+    vob: &Vob<T>,
+    value: bool,
+    start: usize,
+    stop: usize,
+    mut runs: Runs<'_, T>,
+) {
+    let mut begun = None;
+    for index in start..=stop {
+        if index < stop && vob.get(index) == Some(value) {
+            begun = begun.or(Some(index));
+        } else if let Some(from) = begun.take() {
+            same(rt, what, from, runs.next(), Some(from..index));
         }
     }
-    same(rt, "behind the last run", vob.len(), runs.next(), None);
-    same(rt, "and again", vob.len(), runs.next(), None);
+    same(rt, what, vob.len(), runs.next(), None);
+    same(rt, what, vob.len(), runs.next(), None);
+}
+
+/// The runs of some ranges: within the length, past it, empty and reversed.
+fn check_ranges<T: Block>(rt: &impl Abort, vob: &Vob<T>) {
+    let len = vob.len();
+    let mid = len / 2;
+    for start in [0, 1, len / 3, mid] {
+        let start = start.min(mid);
+        check_stretches(rt, "in", vob, true, start, mid, vob.runs_in(start..mid));
+        check_stretches(rt, "from", vob, true, start, len, vob.runs_in(start..));
+        let past = vob.runs_in(start..=usize::MAX);
+        check_stretches(rt, "past the end", vob, true, start, len, past);
+    }
+    check_stretches(rt, "all", vob, true, 0, len, vob.runs_in(..));
+    same(rt, "empty", len, vob.runs_in(mid..mid).next(), None);
+    same(rt, "reversed", len, vob.runs_in(len..mid).next(), None);
+    same(rt, "greatest", len, vob.runs_in(usize::MAX..0).next(), None);
+    same(rt, "at the end", len, vob.runs_in(len..).next(), None);
+    let behind = (Bound::Excluded(usize::MAX), Bound::Unbounded);
+    same(rt, "behind all", len, vob.runs_in(behind).next(), None);
+}
+
+/// The first index at which `n` unset bits in a row stand, by one bit after another.
+fn room_of<T: Block>(vob: &Vob<T>, n: usize) -> Option<usize> {
+    let mut row: usize = 0;
+    if n == 0 {
+        return Some(0);
+    }
+    for index in 0..vob.len() {
+        row = if vob.get(index) == Some(true) {
+            0
+        } else {
+            row.saturating_add(1)
+        };
+        if row == n {
+            return Some(index.saturating_add(1).saturating_sub(n));
+        }
+    }
+    None
+}
+
+/// Room of several lengths, the extreme ones among them.
+fn check_room<T: Block>(rt: &impl Abort, vob: &Vob<T>) {
+    let len = vob.len();
+    for n in [0, 1, 2, 3, 7, 8, 9, 16, 64, 65, 128] {
+        same(rt, "room", n, vob.first_unset_run(n), room_of(vob, n));
+    }
+    for n in [len / 2, len, len.saturating_add(1), usize::MAX] {
+        same(rt, "much room", n, vob.first_unset_run(n), room_of(vob, n));
+    }
+}
+
+/// Each call on runs gives what one bit after another shows.
+fn check_runs<T: Block>(rt: &impl Abort, vob: &Vob<T>) {
+    let len = vob.len();
+    check_select(rt, vob);
+    check_stretches(rt, "set", vob, true, 0, len, vob.runs());
+    check_stretches(rt, "unset", vob, false, 0, len, vob.unset_runs());
+    check_ranges(rt, vob);
+    check_room(rt, vob);
 }
 
 /// A pattern of each length below 130, and all bits set and none.
@@ -40,7 +109,14 @@ fn check_patterns<T: Block>(rt: &(impl Abort + AllocGlobal), seed: usize) {
         check_runs(rt, &pattern::<T>(rt, seed, len));
         check_runs(rt, &filled::<T>(rt, true, len));
         check_runs(rt, &filled::<T>(rt, false, len));
+        check_negated(rt, pattern::<T>(rt, seed, len));
     }
+}
+
+/// The same of the bits negated, so that stretches of unset bits begin where set ones did.
+fn check_negated<T: Block>(rt: &impl Abort, mut vob: Vob<T>) {
+    vob.negate();
+    check_runs(rt, &vob);
 }
 
 /// One stretch of set bits from `start` to below `stop`, among 300.
@@ -50,6 +126,7 @@ fn check_stretch<T: Block>(rt: &(impl Abort + AllocGlobal), start: usize, stop: 
         write(&mut vob, index, true);
     }
     check_runs(rt, &vob);
+    check_negated(rt, vob);
 }
 
 #[test]

@@ -181,6 +181,27 @@ fn runs_are_walked(rt: HostRuntime) -> Result<(), Fail> {
 }
 
 #[test]
+fn runs_of_unset_bits_are_walked(rt: HostRuntime) -> Result<(), Fail> {
+    let alloc = rt.alloc();
+    let vob = vob::vob!(alloc; true, false, true, false, false)?;
+    let mut runs = vob.unset_runs();
+    assert_eq!(rt; runs.next(), Some(1..2));
+    assert_eq!(rt; runs.next(), Some(3..5));
+    assert_eq!(rt; runs.next(), None);
+
+    let vob = vob::vob!(alloc; true, true, false, true, true)?;
+    let mut runs = vob.runs_in(1..4);
+    assert_eq!(rt; runs.next(), Some(1..2));
+    assert_eq!(rt; runs.next(), Some(3..4));
+    assert_eq!(rt; runs.next(), None);
+
+    let vob = vob::vob!(alloc; false, true, false, false)?;
+    assert_eq!(rt; vob.first_unset_run(2), Some(2));
+    assert_eq!(rt; vob.first_unset_run(3), None);
+    Ok(())
+}
+
+#[test]
 fn single_bits_are_negated_and_exchanged(rt: HostRuntime) -> Result<(), Fail> {
     let alloc = rt.alloc();
     let mut vob = vob::vob!(alloc; true, false)?;

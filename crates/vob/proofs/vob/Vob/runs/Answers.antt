@@ -1,11 +1,13 @@
 -- No block is in hand, and none is passed.
-use Rattle.std.proofs.Common.{ap, arith, length}
+use Rattle.std.proofs.Common.{◌∙◌, ap, arith, length, true}
 use Rattle.std.proofs.lemmas.List.{length-map}
 use Rattle.vob_block.specs.Packing.{need}
 use Rattle.vob_block.proofs.PackingLemmas.{unpacking-packing}
+use Rattle.vob.specs.RunSteps.{seen}
 use Rattle.vob.specs.Runs.{runs_from}
 use Rattle.vob.proofs.RunListLemmas.{length-runs_from-le}
 use Rattle.vob.proofs.RunsLemmas.{runs_in_order}
+use Rattle.vob.proofs.SeenLemmas.{seen-all}
 use Rattle.vob.proofs.SetsLemmas.{enough_blocks}
 use Rattle.vob.proofs.vob.Vob.runs.Goals as goal
 
@@ -20,6 +22,7 @@ invariant_of-result g c =
         length-map items g.T.BitBlock.number,
       );
       within = omega arith;
+      begun = omega arith;
       order = omega arith;
       passed = λ i above below. absurd (omega arith);
       ended = λ some. absurd (omega arith);
@@ -28,7 +31,9 @@ invariant_of-result g c =
 
 pub returns-clause-bits : goal.returns-clause-bits
 returns-clause-bits g c = rw (c.blocks-2.ensures.blocks, c.len.ensures.len)
+    (ap (seen true 0)
     (unpacking-packing g.T.BitBlock.BITS g.met.T.BitBlock.wide_law c.args.self.now.bits)
+    ∙ seen-all c.args.self.now.bits)
 
 pub returns-clause-rest : goal.returns-clause-rest
 returns-clause-rest g c = ap (λ bits. runs_from bits 0) (returns-clause-bits g c)
