@@ -21,5 +21,6 @@ pub mod SeenLemmas
 pub mod SelectLemmas
 pub mod SetsLemmas
 pub mod TextLemmas
+pub mod TurnsLemmas
 pub mod VobsLemmas
 pub mod WordsLemmas

@@ -46,6 +46,7 @@ pub mod raw;
 pub mod runs;
 pub mod sets;
 pub mod text;
+pub mod turns;
 pub mod vob;
 pub mod words;
 

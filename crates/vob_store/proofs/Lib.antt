@@ -14,6 +14,7 @@ pub mod PushLemmas
 pub mod RangeLemmas
 pub mod RawLemmas
 pub mod ReverseLemmas
+pub mod ReversingLemmas
 pub mod RoomLemmas
 pub mod SplatLemmas
 pub mod StorageLemmas

@@ -4,3 +4,4 @@ pub mod Copying
 pub mod Gathering
 pub mod Joining
 pub mod Range
+pub mod Reversing

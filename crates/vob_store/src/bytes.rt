@@ -10,7 +10,7 @@ use std::alloc::{AllocError, Global};
 use vob_block::BitBlock;
 
 /// A block with the places of `mask` exchanged for those `by` above them.
-fn exchange<T: BitBlock>(block: T, by: usize, mask: T) -> T
+pub(crate) fn exchange<T: BitBlock>(block: T, by: usize, mask: T) -> T
     requires { by < T.BITS }
     ensures { HasPlaces T.BITS (T.number result) (λ j.
         ((nat_lt (j + by) T.BITS && place (j + by) (T.number block)) && place j (T.number mask))

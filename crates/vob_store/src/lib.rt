@@ -15,6 +15,7 @@ pub mod mask;
 pub mod moving;
 pub mod pack;
 pub mod range;
+pub mod reversing;
 pub mod room;
 pub mod same;
 pub mod single;

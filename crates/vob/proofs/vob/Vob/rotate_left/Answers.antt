@@ -1,0 +1,9 @@
+-- Each bit of the list stands where it should.
+use Rattle.std.proofs.Common.{arith}
+use Rattle.vob.proofs.TurnsLemmas.{IsRotated-list}
+use Rattle.vob.proofs.vob.Vob.rotate_left.Goals as goal
+
+pub returns-then-len-gt0-clause-each : goal.returns-then-len-gt0-clause-each
+returns-then-len-gt0-clause-each g c = IsRotated-list c.args.n
+    (omega (arith, c.if-len-gt0.true, c.len-len.ensures.len))
+    (rw c.len-len.ensures.len at c.rotate_by.ensures.bits)
