@@ -68,26 +68,24 @@ module _ (n : ℕ) (bits : List Bool) (few : n ≤ length bits) where
       ∙ ap (item bits) (omega (arith, past, less, few))
 
 -- both parts reversed, and then all bits
-pub rotated-by : (n m k : ℕ) {bits a b c : List Bool} → n ≤ length bits → m ≡ length a
-    → k ≡ length b → IsReversedBetween 0 n bits a → IsReversedBetween n m a b
-    → IsReversedBetween 0 k b c → c ≡ drop n bits ++ take n bits
-rotated-by n m k {bits} {a} {b} {c} few long all p q r =
-    let same : m ≡ length bits = long ∙ p.len in
-    let whole : k ≡ length bits = all ∙ q.len ∙ p.len in
+pub rotated-by : (n m : ℕ) {bits a b c : List Bool} → n ≤ length bits → m ≡ length bits
+    → IsReversedBetween 0 n bits a → IsReversedBetween n m a b → IsReversedBetween 0 m b c
+    → c ≡ drop n bits ++ take n bits
+rotated-by n m {bits} {a} {b} {c} few same p q r =
     ext_get_or false c (drop n bits ++ take n bits)
     (r.len ∙ q.len ∙ p.len ∙ sym (length-rotated n bits few)) (λ i inside.
     let less : i < length bits = omega (arith, inside, r.len, q.len, p.len) in
-    ap (item c) (omega arith) ∙ r.inside i (omega (arith, less, whole))
+    ap (item c) (omega arith) ∙ r.inside i (omega (arith, less, same))
     ∙ elim (cases_lt (i + n) (length bits)) [
       | inl low ↦
-          let at : k - 1 - i ≡ n + (length bits - 1 - i - n) = omega (arith, low, whole) in
+          let at : m - 1 - i ≡ n + (length bits - 1 - i - n) = omega (arith, low, same) in
           ap (item b) at ∙ q.inside (length bits - 1 - i - n) (omega (arith, low, same))
           ∙ p.behind (m - 1 - (length bits - 1 - i - n)) (omega (arith, low, same))
           ∙ ap (item bits) (omega (arith, low, same))
           ∙ sym (item-rotated_low n bits few i low)
       | inr high ↦
-          let at : k - 1 - i ≡ 0 + (length bits - 1 - i) = omega (arith, whole) in
-          q.before (k - 1 - i) (omega (arith, high, whole, less))
+          let at : m - 1 - i ≡ 0 + (length bits - 1 - i) = omega (arith, same) in
+          q.before (m - 1 - i) (omega (arith, high, same, less))
           ∙ ap (item a) at ∙ p.inside (length bits - 1 - i) (omega (arith, high, less))
           ∙ ap (item bits) (omega (arith, high, less, few))
           ∙ sym (item-rotated_high n bits few i high less)

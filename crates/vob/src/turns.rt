@@ -66,9 +66,10 @@ impl<T: Block> Vob<T> {
         ensures bits { self.new.bits ≡ drop n self.old.bits ++ take n self.old.bits }
         ensures capacity { self.new.capacity ≡ self.old.capacity }
     {
+        let len = self.len();
         self.reverse_between(0, n);
-        self.reverse_between(n, self.len());
-        self.reverse_between(0, self.len());
+        self.reverse_between(n, len);
+        self.reverse_between(0, len);
     }
 
     /// Reverses the order of the bits from index `start` to below `end`.

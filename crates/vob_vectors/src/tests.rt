@@ -15,3 +15,4 @@ mod raw;
 mod single_bits;
 mod support;
 mod text;
+mod turned;

@@ -246,6 +246,23 @@ fn bits_move_within_a_vob(rt: HostRuntime) -> Result<(), Fail> {
 }
 
 #[test]
+fn bits_are_turned_around(rt: HostRuntime) -> Result<(), Fail> {
+    let alloc = rt.alloc();
+    let mut vob = vob::vob!(alloc; true, true, false)?;
+    vob.reverse();
+    assert!(rt; vob == vob::vob!(alloc; false, true, true)?);
+
+    let mut vob = vob::vob!(alloc; true, true, false)?;
+    vob.rotate_left(1);
+    assert!(rt; vob == vob::vob!(alloc; true, false, true)?);
+
+    let mut vob = vob::vob!(alloc; true, true, false)?;
+    vob.rotate_right(1);
+    assert!(rt; vob == vob::vob!(alloc; false, true, true)?);
+    Ok(())
+}
+
+#[test]
 fn words_and_slices_are_read_and_written(rt: HostRuntime) -> Result<(), Fail> {
     let alloc = rt.alloc();
     let vob = vob::vob!(alloc; true, false, true, true)?;

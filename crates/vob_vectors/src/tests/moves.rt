@@ -1,29 +1,9 @@
 //! Bits moved to other indices, put in and taken out, and words at any index, against one bit after
 //! another.
-use super::support::{check_bits, check_same, pattern, pattern_bit, push, same, vob_of};
+use super::support::{check_bits, check_same, moved, pattern, pattern_bit, same, vob_of};
 use std::process::Abort;
 use vob::Vob;
 use vob_block::Block;
-
-/// The bits that a Vob of pattern 1 has once each index `i` takes the bit of index `from(i)`, and is
-/// unset if there is none.
-fn moved<T: Block, F: Fn(usize) -> Option<usize>>(
-    rt: &(impl Abort + AllocGlobal),
-    len: usize,
-    from: F,
-) -> Vob<T>
-    requires { F.IsAlwaysCallable from }
-{
-    let mut wanted = vob_of::<T>(rt, "");
-    for index in 0..len {
-        let bit = match from(index) {
-            Some(old) => pattern_bit(1, old),
-            None => false,
-        };
-        push(rt, &mut wanted, bit);
-    }
-    wanted
-}
 
 fn check_shifts<T: Block>(rt: &(impl Abort + AllocGlobal), len: usize, n: usize) {
     let mut up = pattern::<T>(rt, 1, len);

@@ -85,6 +85,26 @@ pub fn pattern<T: Block>(rt: &(impl Abort + AllocGlobal), seed: usize, len: usiz
     vob
 }
 
+/// The bits that a Vob of pattern 1 has once each index `i` takes the bit of index `from(i)`, and is
+/// unset if there is none.
+pub fn moved<T: Block, F: Fn(usize) -> Option<usize>>(
+    rt: &(impl Abort + AllocGlobal),
+    len: usize,
+    from: F,
+) -> Vob<T>
+    requires { F.IsAlwaysCallable from }
+{
+    let mut wanted = vob_of::<T>(rt, "");
+    for index in 0..len {
+        let bit = match from(index) {
+            Some(old) => pattern_bit(1, old),
+            None => false,
+        };
+        push(rt, &mut wanted, bit);
+    }
+    wanted
+}
+
 /// The digits of the first `len` bits of the pattern with this seed.
 pub fn pattern_digits(rt: &(impl Abort + AllocGlobal), seed: usize, len: usize) -> String {
     let mut digits = String::new(rt.alloc());
