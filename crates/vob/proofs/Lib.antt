@@ -8,6 +8,7 @@ pub mod ExtendingLemmas
 pub mod FreshLemmas
 pub mod HashLemmas
 pub mod IndicesLemmas
+pub mod LowBytesLemmas
 pub mod MovesLemmas
 pub mod OrderLemmas
 pub mod PairLemmas

@@ -36,6 +36,7 @@ mod error;
 pub mod fused;
 pub mod iter;
 pub mod laws;
+pub mod low_bytes;
 mod macros;
 pub mod moves;
 pub mod ops;

@@ -9,6 +9,7 @@ pub mod FunnelLemmas
 pub mod FusedLemmas
 pub mod GatherLemmas
 pub mod JoinLemmas
+pub mod LowBytesLemmas
 pub mod PackLemmas
 pub mod PushLemmas
 pub mod RangeLemmas

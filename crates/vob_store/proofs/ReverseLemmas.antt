@@ -129,7 +129,8 @@ module _ (bs : List ℕ) (small : (i : ℕ) → get_or bs i 0 < 256) where
       ap (λ n. 2 ^ n) (omega arith) ∙ pow-add 2 8 (8 * suc k) in
       omega (arith, next-sum k, sum-lt k, high, whole)
 
-  place-sum : (k j : ℕ) → j < 8 * suc k → place j
+  -- place j of the sum is one of byte j / 8
+  pub place-sum : (k j : ℕ) → j < 8 * suc k → place j
       (sum_through (λ i. byte_worth i (get_or bs i 0)) k) ≡ place (j % 8) (get_or bs (j / 8) 0)
   place-sum zero j h =
       let low : j ≡ j % 8 = omega arith in

@@ -38,7 +38,7 @@ fn word_of_bytes(bytes: [u8; 8]) -> usize
 }
 
 /// Returns up to eight bytes with zeros after them.
-fn eight_bytes(bytes: &[u8]) -> [u8; 8]
+pub(crate) fn eight_bytes(bytes: &[u8]) -> [u8; 8]
     requires { length bytes.now ≤ 8 }
     ensures { (k : ℕ) → slice_index result k ≡ slice_index bytes.now k }
 {

@@ -11,6 +11,7 @@ pub mod fused;
 pub mod gather;
 pub mod join;
 mod last;
+pub mod low_bytes;
 pub mod mask;
 pub mod moving;
 pub mod pack;

@@ -6,6 +6,7 @@ mod examples;
 mod growing;
 mod hints;
 mod lanes;
+mod low_bytes;
 mod moves;
 mod order;
 mod paths;

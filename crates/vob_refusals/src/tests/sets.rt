@@ -2,7 +2,7 @@
 use super::support::{FIRST, check_blocks, given, request, same, same_list, tell};
 use std::alloc::AllocError;
 use std::process::Abort;
-use vob::{DigitsError, IndicesError, Vob};
+use vob::{DigitsError, IndicesError, Vob, VobError};
 
 /// Whether bits were given, which then are the first, the ninth and no other of nine.
 fn is_first_and_last(rt: &impl Abort, vob: Option<Vob<u8>>) -> bool {
@@ -37,6 +37,26 @@ fn bytes_are_written_or_refused(rt: HostRuntime) {
     let written = bytes.is_some();
     if let Some(bytes) = bytes {
         same_list(&rt, "the bytes", &bytes, &[0b1100_0000]);
+    }
+    tell(&rt, written);
+}
+
+#[test]
+fn low_bytes_are_read_and_written_or_refused(rt: HostRuntime) {
+    request(&rt, FIRST);
+    let vob = given(
+        &rt,
+        Vob::from_le_bytes(rt.alloc(), &[3, 1]),
+        VobError::Memory,
+    );
+    let Some(vob) = vob else {
+        return;
+    };
+    check_blocks(&rt, &vob, 16, &[0x103]);
+    let bytes = given(&rt, vob.to_le_bytes(rt.alloc()), AllocError);
+    let written = bytes.is_some();
+    if let Some(bytes) = bytes {
+        same_list(&rt, "the bytes", &bytes, &[3, 1]);
     }
     tell(&rt, written);
 }

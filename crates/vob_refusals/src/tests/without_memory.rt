@@ -28,6 +28,7 @@ fn no_bits_take_no_memory(rt: HostRuntime) {
     check_empty(&rt, bytes);
     check_empty(&rt, Vob::from_slice(alloc, &[]));
     check_empty(&rt, Vob::from_bytes(alloc, &[]));
+    check_empty(&rt, Vob::from_le_bytes(alloc, &[]));
     check_empty(&rt, Vob::from_iter(alloc, None));
     tell(&rt, true);
 }
@@ -117,6 +118,22 @@ fn bits_are_combined_in_place(rt: HostRuntime) {
         return;
     };
     check_combined(&rt, &mut vob, &other);
+    tell(&rt, true);
+}
+
+#[test]
+fn bits_are_turned_in_place(rt: HostRuntime) {
+    request(&rt, FIRST);
+    let Ok(mut vob) = vob_of(rt.alloc(), "110100000") else {
+        return;
+    };
+    vob.reverse();
+    check_blocks(&rt, &vob, 9, &[0b1010_0000, 1]);
+    vob.rotate_left(6);
+    check_blocks(&rt, &vob, 9, &[0b0000_0110, 1]);
+    // which is 6 modulo 9
+    vob.rotate_right(usize::MAX);
+    check_blocks(&rt, &vob, 9, &[0b1010_0000, 1]);
     tell(&rt, true);
 }
 

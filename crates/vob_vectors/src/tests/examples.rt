@@ -40,6 +40,17 @@ fn digits_indices_and_bytes_are_vobs(rt: HostRuntime) -> Result<(), Fail> {
 }
 
 #[test]
+fn bytes_with_their_least_bit_first_are_vobs(rt: HostRuntime) -> Result<(), Fail> {
+    let alloc = rt.alloc();
+    let vob = Vob::from_le_bytes(alloc, &[0b0000_0101])?;
+    assert_eq!(rt; vob.get(2), Some(true));
+
+    let vob = vob::vob!(alloc; true, false, true)?;
+    assert_eq!(rt; vob.to_le_bytes(alloc)?.as_slice(), [0b101].as_slice());
+    Ok(())
+}
+
+#[test]
 fn a_vob_is_copied(rt: HostRuntime) -> Result<(), Fail> {
     let alloc = rt.alloc();
     let vob = vob::vob!(alloc; true, false)?;
