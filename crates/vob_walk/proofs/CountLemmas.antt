@@ -2,16 +2,15 @@
 use Rattle.std.specs.declared.ops.Bound.TheVariants.{Included, Excluded}
 use Rattle.std.proofs.Common.{◌≡◌, ◌≢◌, ℕ, ◌+◌, ◌-◌, ◌*◌, ◌/◌, ◌<◌, ◌≤◌, min, max}
 use Rattle.std.proofs.Common.{Bool, true, false, not, ◌&&◌, nat_le, nat_lt, List}
-use Rattle.std.proofs.Common.{length, map, get_or, Some, refl, sym, ap, ◌∙◌, arith, inl, inr}
+use Rattle.std.proofs.Common.{length, map, get_or, refl, sym, ap, ◌∙◌, arith, inl, inr}
 use Rattle.std.proofs.Common.{length-append, add-mul, mod-lt, div-add-mod', div-mul-le_self}
 use Rattle.std.proofs.lemmas.Bool.{cases_lt}
-use Rattle.std.specs.List.{range_with_len, slice_get}
+use Rattle.std.specs.List.{range_with_len}
 use Rattle.std.proofs.lemmas.List.Sums.{length-filter}
 use Rattle.std.proofs.lemmas.Nat.{mul-le}
 use Rattle.vob_block.specs.Places.{place, HasPlaces, true_places}
 use Rattle.vob_block.specs.Packing.{need, bit_at}
 use Rattle.vob_block.proofs.NeedLemmas.{need_enough}
-use Rattle.vob_block.proofs.NumberLemmas.{number_read}
 use Rattle.vob_block.proofs.PackingLemmas.{bit_at-in_block}
 use Rattle.vob_walk.specs.Matches.{has_value, blocks_met}
 use Rattle.vob_walk.specs.Count.{ones_between}
@@ -248,13 +247,13 @@ module _ (w : ℕ) (wide : 0 < w) {start stop first end : ℕ}
 
 -- one block more of those before block `to`
 pub ones-next : {A : Type 0} (w : ℕ) (number : A → ℕ) (items : List A) {from k : ℕ} {x : A}
-    {sum more : ℕ} (next to : ℕ) → slice_get items k ≡ Some x
+    {sum more : ℕ} (next to : ℕ) → number x ≡ get_or (map number items) k 0
     → sum ≡ ones_between w (map number items) (from * w) (k * w) → more ≡ true_places w (number x)
     → from ≤ k → next ≡ k + 1 → next ≤ to
     → (sum + more ≡ ones_between w (map number items) (from * w) (next * w)) × (sum + more ≤ to * w)
 ones-next w number items {from} {k} {x} next to read so_far here low is_next high =
     let xs = map number items in
-    let all = ones-more w xs from k (number x) low (number_read number items k x read) in
+    let all = ones-more w xs from k (number x) low read in
     let same = ap (λ n. ones_between w xs (from * w) (n * w)) is_next in
     let few = ones-le w xs (from * w) (next * w) in
     let within = mul-le next w to w high (omega arith) in

@@ -7,6 +7,7 @@ pub mod IndexLemmas
 pub mod MatchesLemmas
 pub mod NextLemmas
 pub mod OnceLemmas
+pub mod PairsLemmas
 pub mod PullLemmas
 pub mod ReadLemmas
 pub mod ScanLemmas

@@ -1,10 +1,9 @@
 -- A scan of one block, one that goes on after another, and which blocks its steps read.
-use Rattle.std.proofs.Common.{◌≡◌, ◌≢◌, ℕ, ◌+◌, ◌-◌, ◌<◌, ◌≤◌, true, false, List, map, get_or, slice_get}
+use Rattle.std.proofs.Common.{◌≡◌, ◌≢◌, ℕ, ◌+◌, ◌-◌, ◌<◌, ◌≤◌, true, false, List, map, get_or}
 use Rattle.std.proofs.Common.{is_some, Option, Some, None, refl, sym, ap, ◌∙◌, subst, arith, inl}
 use Rattle.std.proofs.Common.{inr}
 use Rattle.std.proofs.lemmas.Bool.{cases_lt, false≢true}
 use Rattle.vob_block.specs.Reading.{Reading}
-use Rattle.vob_block.proofs.NumberLemmas.{number_read}
 use Rattle.vob_walk.specs.declared.walk.End.{End}
 use Rattle.vob_walk.specs.declared.walk.End.TheVariants.{Front, Back}
 use Rattle.vob_walk.specs.Skip.{from_end, side_start, side_end, Steps, Scans}
@@ -19,13 +18,12 @@ module _ {X : Type 0} (number : X → ℕ) (skip : X) (at : ℕ → ℕ) where
   block_of items i = get_or (map number items) (at i) 0
 
   -- one block read
-  read_at : (items : List X) {i k : ℕ} {block : X} → k ≡ at i → slice_get items k ≡ Some block
-      → number block ≡ block_of items i
-  read_at items {i} {k} {block} here read =
-      number_read number items k block read ∙ ap (λ n. get_or (map number items) n 0) here
+  read_at : (items : List X) {i k : ℕ} {block : X} → k ≡ at i
+      → number block ≡ get_or (map number items) k 0 → number block ≡ block_of items i
+  read_at items here read = read ∙ ap (λ n. get_or (map number items) n 0) here
 
   module _ {x y : Reading X} {i k : ℕ} {block : X} (here : k ≡ at i)
-      (read : slice_get x.items k ≡ Some block)
+      (read : number block ≡ get_or (map number x.items) k 0)
       (reads : y.reads ≡ x.reads + 1) (items : y.items ≡ x.items) where
     pub Steps-skipped : number block ≡ number skip → steps x y i (i + 1) None
     Steps-skipped same = record {

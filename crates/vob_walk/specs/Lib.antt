@@ -6,6 +6,7 @@ pub mod Left
 pub mod Matches
 pub mod Next
 pub mod Once
+pub mod Pairs
 pub mod Select
 pub mod Skip
 pub mod Walk

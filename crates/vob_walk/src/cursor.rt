@@ -11,21 +11,22 @@ use crate::back_bits::BackBits;
 use crate::front_bits::FrontBits;
 use crate::range::cut_range;
 use crate::scan::Unread;
+use crate::source::Source;
 use crate::walk::End;
 use std::marker::Model;
 use std::ops::RangeBounds;
-use vob_block::{BitBlock, Blocks};
+use vob_block::BitBlock;
 
 /// A walk over the indices of the bits of one value: those in hand at either end, and the blocks
 /// between them.
 #[derive(Drop)]
-pub(crate) struct Cursor<'a, T: BitBlock> {
-    unread: Unread<'a, T>,
+pub(crate) struct Cursor<T: BitBlock, S: Source<T>> {
+    unread: Unread<T, S>,
     front: FrontBits<T>,
     back: BackBits<T>,
 }
 
-impl<'a, T: BitBlock> Model for Cursor<'a, T> {
+impl<T: BitBlock, S: Source<T>> Model for Cursor<T, S> {
     ghost use Rattle.std.specs.Prelude.{◌^◌, ◌<◌, ◌++◌, length};
     ghost use Rattle.vob_walk.specs.Walk.{Walk};
     ghost use Rattle.vob_walk.specs.Cursor.{walk_of};
@@ -41,8 +42,8 @@ impl<'a, T: BitBlock> Model for Cursor<'a, T> {
 /// Gives an empty front the indices of the first block that has some, or else what the back has. So
 /// the front is empty afterwards only if no index is left at all.
 #[inline(always)]
-fn fill_front<T: BitBlock>(
-    unread: &mut Unread<'_, T>,
+fn fill_front<T: BitBlock, S: Source<T>>(
+    unread: &mut Unread<T, S>,
     front: &mut FrontBits<T>,
     back: &mut BackBits<T>,
 )
@@ -64,8 +65,8 @@ fn fill_front<T: BitBlock>(
 /// If the back has no index in hand, gives it those of the last block that has some, or else what
 /// the front has. So it has none afterwards only if none is left at all.
 #[inline(always)]
-fn fill_back<T: BitBlock>(
-    unread: &mut Unread<'_, T>,
+fn fill_back<T: BitBlock, S: Source<T>>(
+    unread: &mut Unread<T, S>,
     front: &mut FrontBits<T>,
     back: &mut BackBits<T>,
 )
@@ -86,21 +87,21 @@ fn fill_back<T: BitBlock>(
     }
 }
 
-impl<'a, T: BitBlock> Cursor<'a, T> {
+impl<T: BitBlock, S: Source<T>> Cursor<T, S> {
     /// A walk over the first `len` bits of some blocks, within a range.
     pub(crate) fn over<R: RangeBounds<usize>>(
-        blocks: Blocks<'a, T>,
+        blocks: S,
         value: bool,
         len: usize,
         range: &R,
-    ) -> Cursor<'a, T>
-        requires { length blocks.items ≡ need len T.BITS }
+    ) -> Cursor<T, S>
+        requires { length (S.reading blocks).items ≡ need len T.BITS }
         ensures whole { R.has_bounds range.now
-            → IsWhole result (unpacking len (map T.number blocks.entry.items) T.BITS) value
+            → IsWhole result (unpacking len (map T.number (S.reading blocks).items) T.BITS) value
             (R.start_bound range.now) (R.end_bound range.now) T.BITS }
         ensures some { ForSomeRange len (λ low high. IsWhole result
-            (unpacking len (map T.number blocks.entry.items) T.BITS) value low high T.BITS) }
-        ensures reads { result.reads ≡ blocks.entry.reads }
+            (unpacking len (map T.number (S.reading blocks).items) T.BITS) value low high T.BITS) }
+        ensures reads { result.reads ≡ (S.reading blocks).reads }
     {
         let (start, stop) = cut_range(range, len);
         Cursor {
@@ -147,7 +148,7 @@ impl<'a, T: BitBlock> Cursor<'a, T> {
 
     /// How many indices are left.
     pub(crate) fn count(self) -> usize
-        ensures { result ≡ length self.entry.rest }
+        ensures { result ≡ length self.rest }
     {
         self.front.count() + self.unread.count() + self.back.count()
     }

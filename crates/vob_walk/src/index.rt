@@ -18,7 +18,7 @@ use vob_block::{Block, Blocks};
 /// holds an index of the range at most once.
 #[derive(Drop)]
 pub struct IterSetBits<'a, T: Block> {
-    cursor: Cursor<'a, T>,
+    cursor: Cursor<T, Blocks<'a, T>>,
 }
 
 impl<'a, T: Block> Model for IterSetBits<'a, T> {
@@ -105,7 +105,7 @@ impl<'a, T: Block> IndexWalk for IterSetBits<'a, T> {
 /// holds an index of the range at most once.
 #[derive(Drop)]
 pub struct IterUnsetBits<'a, T: Block> {
-    cursor: Cursor<'a, T>,
+    cursor: Cursor<T, Blocks<'a, T>>,
 }
 
 impl<'a, T: Block> Model for IterUnsetBits<'a, T> {

@@ -4,18 +4,22 @@
 
 mod back_bits;
 mod block_bits;
+mod combined;
 mod count;
 mod cursor;
 mod front_bits;
 mod index;
 mod next;
+mod pairs;
 pub mod range;
 mod scan;
 mod select;
 mod skip;
+mod source;
 mod walk;
 mod window;
 
+pub use combined::CombinedBits;
 pub use count::count_ones_in;
 pub use index::{IterSetBits, IterUnsetBits};
 pub use next::{Found, block_in_hand, next_in_hand, next_index, previous_index};

@@ -14,10 +14,11 @@ use crate::count::count_between;
 use crate::front_bits::FrontBits;
 use crate::range::blocks_of;
 use crate::skip::{Span, next_other};
+use crate::source::Source;
 use crate::walk::End;
 use crate::window::{Window, block_without, masked};
-use std::marker::Model;
-use vob_block::{BitBlock, Blocks};
+use std::marker::{Model, PhantomData};
+use vob_block::BitBlock;
 
 /// The places of block `k` that the window looks for, and the index of its place 0.
 #[inline(always)]
@@ -33,13 +34,14 @@ fn bits_in<T: BitBlock>(block: T, k: usize, window: Window) -> (T, usize)
 /// Reads blocks from an end of the span until one has an index to give, and returns its places. If
 /// none has, all are read, and no place is true.
 #[inline(always)]
-fn find<T: BitBlock>(blocks: &mut Blocks<'_, T>, window: Window, span: &mut Span) -> (T, usize)
+fn find<T: BitBlock, S: Source<T>>(blocks: &mut S, window: Window, span: &mut Span) -> (T, usize)
     requires order { span.old.start ≤ span.old.end }
-    requires count { span.old.end ≤ length blocks.old.items }
+    requires count { span.old.end ≤ length (S.reading blocks.old).items }
     requires below { (k : ℕ) → k < span.old.end → k * T.BITS < window.stop }
     ensures bits { IsBlockBits T.BITS result.1 (T.number result.0) }
     ensures reads { Reads span.old.side T.number
-        (λ xs. unread T.BITS xs window.value window.start window.stop) blocks.old blocks.new
+        (λ xs. unread T.BITS xs window.value window.start window.stop)
+        (S.reading blocks.old) (S.reading blocks.new)
         span.old.start span.old.end span.new.start span.new.end
         (block_indices T.BITS result.1 (T.number result.0)) }
     ensures none { block_indices T.BITS result.1 (T.number result.0) ≡ []
@@ -60,44 +62,42 @@ fn find<T: BitBlock>(blocks: &mut Blocks<'_, T>, window: Window, span: &mut Span
 /// The blocks that neither end of a walk has read, from `next` to below `end`, and what is looked
 /// for in them.
 #[derive(Drop)]
-pub(crate) struct Unread<'a, T: BitBlock> {
-    blocks: Blocks<'a, T>,
+pub(crate) struct Unread<T: BitBlock, S: Source<T>> {
+    blocks: S,
     window: Window,
     next: usize,
     end: usize,
+    kind: PhantomData<T>,
 }
 
-impl<'a, T: BitBlock> Model for Unread<'a, T> {
+impl<T: BitBlock, S: Source<T>> Model for Unread<T, S> {
     ghost use Rattle.std.specs.Prelude.{map, ◌-◌};
     ghost use Rattle.vob_walk.specs.Cursor.{UnreadBlocks, IsUnread, unread};
 
     ghost Value = { UnreadBlocks };
 
     ghost view = { λ u. record {
-      rest = unread T.BITS (map T.number u.blocks.items) u.window.value u.window.start u.window.stop u.next u.end;
-      reads = u.blocks.reads;
+      rest = unread T.BITS (map T.number (S.reading u.blocks).items)
+          u.window.value u.window.start u.window.stop u.next u.end;
+      reads = (S.reading u.blocks).reads;
       left = u.end - u.next;
     } };
 
-    ghost invariant = { λ u. IsUnread T.BITS (map T.number u.blocks.items) u.window.stop u.next u.end };
+    ghost invariant = { λ u. IsUnread T.BITS (map T.number (S.reading u.blocks).items)
+        u.window.stop u.next u.end };
 }
 
-impl<'a, T: BitBlock> Unread<'a, T> {
+impl<T: BitBlock, S: Source<T>> Unread<T, S> {
     /// The blocks of a walk over the indices from `start` to below `stop`, all unread.
-    pub(crate) fn over(
-        blocks: Blocks<'a, T>,
-        value: bool,
-        start: usize,
-        stop: usize,
-    ) -> Unread<'a, T>
+    pub(crate) fn over(blocks: S, value: bool, start: usize, stop: usize) -> Unread<T, S>
         requires order { start ≤ stop }
-        requires enough { need stop T.BITS ≤ length blocks.items }
+        requires enough { need stop T.BITS ≤ length (S.reading blocks).items }
         ensures rest { (low high : Bound ℕ) (len : ℕ) → IsRangeOf low high len start stop
-            → result.rest ≡ matches (unpacking len (map T.number blocks.entry.items) T.BITS)
+            → result.rest ≡ matches (unpacking len (map T.number (S.reading blocks).items) T.BITS)
             value low high }
         ensures left { (low high : Bound ℕ) (len : ℕ) → IsRangeOf low high len start stop
             → result.left ≡ blocks_met low high len T.BITS }
-        ensures reads { result.reads ≡ blocks.entry.reads }
+        ensures reads { result.reads ≡ (S.reading blocks).reads }
 
         // Countable by the type of lengths.
         ensures countable { length result.rest < 2 ^ 64 }
@@ -109,6 +109,7 @@ impl<'a, T: BitBlock> Unread<'a, T> {
             window,
             next,
             end,
+            kind: PhantomData,
         }
     }
 
@@ -160,7 +161,7 @@ impl<'a, T: BitBlock> Unread<'a, T> {
 
     /// How many indices these blocks have.
     pub(crate) fn count(self) -> usize
-        ensures { result ≡ length self.entry.rest }
+        ensures { result ≡ length self.rest }
     {
         let mut blocks = self.blocks;
         count_between(&mut blocks, self.window, self.next, self.end)

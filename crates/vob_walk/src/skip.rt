@@ -3,8 +3,9 @@
 ghost use Rattle.std.specs.Prelude.{◌≡◌, ◌+◌, ◌-◌, ◌*◌, ◌<◌, ◌≤◌, length};
 ghost use Rattle.vob_walk.specs.Skip.{from_end, other_end, side_start, side_end, Steps, Scans};
 
+use crate::source::Source;
 use crate::walk::End;
-use vob_block::{BitBlock, Blocks};
+use vob_block::BitBlock;
 
 /// The blocks from `start` to below `end`, to be taken from one end.
 #[derive(Clone, Copy)]
@@ -31,20 +32,20 @@ impl Span {
     /// The block after `i` others and `j` more, if it isn't `skip`: how many these are, its number and
     /// the block. If `j` is a constant, it is part of an address.
     #[inline(always)]
-    fn other_at<T: BitBlock>(
+    fn other_at<T: BitBlock, S: Source<T>>(
         self,
-        blocks: &mut Blocks<'_, T>,
+        blocks: &mut S,
         skip: T,
         i: usize,
         j: usize,
     ) -> Option<(usize, usize, T)>
         requires inside { self.start + (i + j) < self.end }
-        requires count { self.end ≤ length blocks.old.items }
-        ensures { Steps T.number skip (from_end self.side self.start self.end) blocks.old blocks.new
-            (i + j) (i + j + 1) result }
+        requires count { self.end ≤ length (S.reading blocks.old).items }
+        ensures { Steps T.number skip (from_end self.side self.start self.end)
+            (S.reading blocks.old) (S.reading blocks.new) (i + j) (i + j + 1) result }
     {
         let k = self.nth(i, j);
-        let block = blocks.block(k);
+        let block = blocks.read(k);
         if block == skip {
             None
         } else {
@@ -69,16 +70,16 @@ impl Span {
 
 /// The first of four blocks after `i` others that isn't `skip`.
 #[inline(always)]
-fn first_of_four<T: BitBlock>(
-    blocks: &mut Blocks<'_, T>,
+fn first_of_four<T: BitBlock, S: Source<T>>(
+    blocks: &mut S,
     skip: T,
     span: Span,
     i: usize,
 ) -> Option<(usize, usize, T)>
     requires inside { span.start + i + 4 ≤ span.end }
-    requires count { span.end ≤ length blocks.old.items }
-    ensures { Steps T.number skip (from_end span.side span.start span.end) blocks.old blocks.new i
-        (i + 4) result }
+    requires count { span.end ≤ length (S.reading blocks.old).items }
+    ensures { Steps T.number skip (from_end span.side span.start span.end)
+        (S.reading blocks.old) (S.reading blocks.new) i (i + 4) result }
 {
     let first = span.other_at(blocks, skip, i, 0);
     if first.is_some() {
@@ -97,16 +98,16 @@ fn first_of_four<T: BitBlock>(
 
 /// The first of `fours` times four blocks.
 #[inline(always)]
-fn first_of_fours<T: BitBlock>(
-    blocks: &mut Blocks<'_, T>,
+fn first_of_fours<T: BitBlock, S: Source<T>>(
+    blocks: &mut S,
     skip: T,
     span: Span,
     fours: usize,
 ) -> Option<(usize, usize, T)>
     requires inside { span.start + 4 * fours ≤ span.end }
-    requires count { span.end ≤ length blocks.old.items }
-    ensures { Steps T.number skip (from_end span.side span.start span.end) blocks.old blocks.new 0
-        (4 * fours) result }
+    requires count { span.end ≤ length (S.reading blocks.old).items }
+    ensures { Steps T.number skip (from_end span.side span.start span.end)
+        (S.reading blocks.old) (S.reading blocks.new) 0 (4 * fours) result }
 {
     for four in 0..fours {
         let found = first_of_four(blocks, skip, span, 4 * four);
@@ -119,16 +120,16 @@ fn first_of_fours<T: BitBlock>(
 
 /// The first of the blocks after `from` others, looked at one by one.
 #[inline(always)]
-fn first_of_rest<T: BitBlock>(
-    blocks: &mut Blocks<'_, T>,
+fn first_of_rest<T: BitBlock, S: Source<T>>(
+    blocks: &mut S,
     skip: T,
     span: Span,
     from: usize,
 ) -> Option<(usize, usize, T)>
     requires inside { span.start + from ≤ span.end }
-    requires count { span.end ≤ length blocks.old.items }
-    ensures { Steps T.number skip (from_end span.side span.start span.end) blocks.old blocks.new from
-        (span.end - span.start) result }
+    requires count { span.end ≤ length (S.reading blocks.old).items }
+    ensures { Steps T.number skip (from_end span.side span.start span.end)
+        (S.reading blocks.old) (S.reading blocks.new) from (span.end - span.start) result }
 {
     for i in from..span.end - span.start {
         let found = span.other_at(blocks, skip, i, 0);
@@ -141,15 +142,15 @@ fn first_of_rest<T: BitBlock>(
 
 /// The first of all blocks.
 #[inline(always)]
-fn first_other<T: BitBlock>(
-    blocks: &mut Blocks<'_, T>,
+fn first_other<T: BitBlock, S: Source<T>>(
+    blocks: &mut S,
     skip: T,
     span: Span,
 ) -> Option<(usize, usize, T)>
     requires order { span.start ≤ span.end }
-    requires count { span.end ≤ length blocks.old.items }
-    ensures { Steps T.number skip (from_end span.side span.start span.end) blocks.old blocks.new 0
-        (span.end - span.start) result }
+    requires count { span.end ≤ length (S.reading blocks.old).items }
+    ensures { Steps T.number skip (from_end span.side span.start span.end)
+        (S.reading blocks.old) (S.reading blocks.new) 0 (span.end - span.start) result }
 {
     let fours = (span.end - span.start) / 4;
     let found = first_of_fours(blocks, skip, span, fours);
@@ -162,14 +163,15 @@ fn first_other<T: BitBlock>(
 /// The first block, from the end that the span is taken from, that isn't `skip`, with its number. No
 /// block after it is read.
 #[inline(always)]
-pub(crate) fn next_other<T: BitBlock>(
-    blocks: &mut Blocks<'_, T>,
+pub(crate) fn next_other<T: BitBlock, S: Source<T>>(
+    blocks: &mut S,
     skip: T,
     span: Span,
 ) -> Option<(usize, T)>
     requires order { span.start ≤ span.end }
-    requires count { span.end ≤ length blocks.old.items }
-    ensures { Scans span.side T.number skip blocks.old blocks.new span.start span.end result }
+    requires count { span.end ≤ length (S.reading blocks.old).items }
+    ensures { Scans span.side T.number skip (S.reading blocks.old) (S.reading blocks.new)
+        span.start span.end result }
 {
     let Some(found) = first_other(blocks, skip, span) else {
         return None;

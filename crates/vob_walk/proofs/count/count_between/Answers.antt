@@ -15,7 +15,8 @@ pub overflow_sub-result-else-window : goal.overflow_sub-result-else-window
 overflow_sub-result-else-window g c =
     omega (
       arith,
-      ones-le g.T.BitBlock.BITS (map g.T.BitBlock.number c.args.blocks.now.items)
+      ones-le g.T.BitBlock.BITS
+          (map g.T.BitBlock.number (g.S.Source.reading c.args.blocks.now).items)
           c.min-from.result c.min-below.result,
     )
 
@@ -32,7 +33,8 @@ returns-else-window g c =
     let first = rw c.BITS-2.ensures at c.saturating_mul-2.ensures in
     omega (
       arith,
-      length-unread-unset g.T.BitBlock.BITS (map g.T.BitBlock.number c.args.blocks.now.items)
+      length-unread-unset g.T.BitBlock.BITS
+          (map g.T.BitBlock.number (g.S.Source.reading c.args.blocks.now).items)
           c.args.window.value c.args.window.start c.args.window.stop c.args.next c.args.end
           c.min-from.result c.min-below.result c.requires.order (omega arith) (omega arith)
           c.if-window.false,

@@ -25,7 +25,8 @@ returns-then-first-last-clause-reads g c =
 pub returns-clause-ones : goal.returns-clause-ones
 returns-clause-ones g c =
     let parts = ones-parts g.T.BitBlock.BITS g.met.T.BitBlock.wide_law
-    c.blocks_of-first.ensures c.requires.order (map g.T.BitBlock.number c.args.blocks.now.items)
+    c.blocks_of-first.ensures c.requires.order
+    (map g.T.BitBlock.number (g.S.Source.reading c.args.blocks.now).items)
     c.if-first-end.false c.if-first-last.false in
     let head = c.ones_in_block-head.ensures in
     let middle = rw head.items at c.ones_in_blocks-middle.ensures.ones in
@@ -35,12 +36,14 @@ returns-clause-ones g c =
 
 pub overflow_add-result : goal.overflow_add-result
 overflow_add-result g c =
-    let few = ones-le g.T.BitBlock.BITS (map g.T.BitBlock.number c.args.blocks.now.items) in
+    let few = ones-le g.T.BitBlock.BITS
+    (map g.T.BitBlock.number (g.S.Source.reading c.args.blocks.now).items) in
     omega (arith, returns-clause-ones g c, few c.args.start c.args.stop)
 
 pub overflow_add-result-2 : goal.overflow_add-result-2
 overflow_add-result-2 g c =
-    let few = ones-le g.T.BitBlock.BITS (map g.T.BitBlock.number c.args.blocks.now.items) in
+    let few = ones-le g.T.BitBlock.BITS
+    (map g.T.BitBlock.number (g.S.Source.reading c.args.blocks.now).items) in
     omega (arith, returns-clause-ones g c, few c.args.start c.args.stop)
 
 pub returns-clause-reads : goal.returns-clause-reads

@@ -1,11 +1,10 @@
 -- By the lemma on a block that is masked.
 use Rattle.std.proofs.Common.{◌∙◌, refl, arith}
-use Rattle.vob_block.proofs.NumberLemmas.{number_read}
 use Rattle.vob_walk.proofs.CountLemmas.{ones-masked}
 use Rattle.vob_walk.proofs.count.ones_in_block.Goals as goal
 
 pub returns-clause-ones : goal.returns-clause-ones
 returns-clause-ones g c =
     c.ones_in.ensures ∙ ones-masked _ _ c.args.start c.args.stop c.args.k _ _ _ _
-    (number_read _ _ c.args.k _ c.block.ensures.block) c.masked.ensures.places refl refl
+    c.read.ensures.block c.masked.ensures.places refl refl
     (omega arith)

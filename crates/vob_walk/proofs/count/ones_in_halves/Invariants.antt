@@ -5,10 +5,13 @@ use Rattle.vob_walk.proofs.count.ones_in_halves.Given as goal
 
 abbrev pub invariant-loop-k : goal.invariant-loop-k
 invariant-loop-k g l = record {
-  low : l.low ≡ ones_between g.T.BitBlock.BITS (map g.T.BitBlock.number l.fn.blocks.items)
+  low : l.low ≡ ones_between g.T.BitBlock.BITS
+      (map g.T.BitBlock.number (g.S.Source.reading l.fn.blocks).items)
       (l.fn.start * g.T.BitBlock.BITS) (l.k * g.T.BitBlock.BITS);
-  high : l.high ≡ ones_between g.T.BitBlock.BITS (map g.T.BitBlock.number l.fn.blocks.items)
+  high : l.high ≡ ones_between g.T.BitBlock.BITS
+      (map g.T.BitBlock.number (g.S.Source.reading l.fn.blocks).items)
       ((l.fn.start + l.fn.half) * g.T.BitBlock.BITS) ((l.k + l.fn.half) * g.T.BitBlock.BITS);
-  items : l.blocks.items ≡ l.fn.blocks.items;
-  reads : l.blocks.reads + l.fn.start + l.fn.start ≡ l.fn.blocks.reads + l.k + l.k;
+  items : (g.S.Source.reading l.blocks).items ≡ (g.S.Source.reading l.fn.blocks).items;
+  reads : (g.S.Source.reading l.blocks).reads + l.fn.start + l.fn.start
+      ≡ (g.S.Source.reading l.fn.blocks).reads + l.k + l.k;
 }

@@ -12,5 +12,6 @@ invariant-loop-found g l = record {
   side : l.span.side ≡ l.fn.span.side;
   reads : Reads l.fn.span.side g.T.BitBlock.number
       (λ xs. unread g.T.BitBlock.BITS xs l.fn.window.value l.fn.window.start l.fn.window.stop)
-      l.fn.blocks l.blocks l.fn.span.start l.fn.span.end l.span.start l.span.end [];
+      (g.S.Source.reading l.fn.blocks) (g.S.Source.reading l.blocks) l.fn.span.start
+      l.fn.span.end l.span.start l.span.end [];
 }

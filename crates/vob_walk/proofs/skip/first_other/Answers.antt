@@ -7,7 +7,8 @@ pub returns-then-is_some : goal.returns-then-is_some
 returns-then-is_some g c =
     let count = c.args.span.end - c.args.span.start in
     Steps-on _ _ _ 0 0 (4 * (count / 4)) count (omega arith) (omega arith) (omega arith) refl
-    (sym c.is_some.ensures ∙ c.if-is_some.true) (Steps-start _ _ _ c.args.blocks.now 0 0 refl)
+    (sym c.is_some.ensures ∙ c.if-is_some.true) (Steps-start _ _ _
+    (g.S.Source.reading c.args.blocks.now) 0 0 refl)
     c.first_of_fours-found.ensures
 
 pub returns : goal.returns

@@ -14,7 +14,7 @@ invariant_of-result g c =
         arith,
         spans.count,
         c.requires.enough,
-        length-map c.args.blocks.items g.T.BitBlock.number,
+        length-map (g.S.Source.reading c.args.blocks).items g.T.BitBlock.number,
       );
       below = spans.below;
     }
@@ -22,7 +22,8 @@ invariant_of-result g c =
 pub returns-clause-rest : goal.returns-clause-rest
 returns-clause-rest g c = λ low high len range.
     unread-window _ g.met.T.BitBlock.wide_law range
-    c.blocks_of-next.ensures (map g.T.BitBlock.number c.args.blocks.items) c.args.value
+    c.blocks_of-next.ensures
+    (map g.T.BitBlock.number (g.S.Source.reading c.args.blocks).items) c.args.value
 
 pub returns-clause-left : goal.returns-clause-left
 returns-clause-left g c = λ low high len range.
@@ -34,6 +35,7 @@ returns-clause-countable g c =
     let spans = c.blocks_of-next.result in
     omega (
       arith,
-      length-unread-le g.T.BitBlock.BITS (map g.T.BitBlock.number c.args.blocks.items)
+      length-unread-le g.T.BitBlock.BITS
+          (map g.T.BitBlock.number (g.S.Source.reading c.args.blocks).items)
           c.args.value c.args.start c.args.stop spans.0 spans.1,
     )
