@@ -1,9 +1,13 @@
 -- What Vobs as sets of indices obey, and their runs.
-use Rattle.std.specs.Prelude.{◌≡◌, ◌↔◌, ℕ, Bool, true, false, not, ◌&&◌, List, length, map, take, replicate, Option, Some, IsTrue}
+use Rattle.std.specs.Prelude.{◌≡◌, ◌↔◌, ℕ, ◌<◌, Bool, true, false, not, ◌&&◌, List, length, map}
+use Rattle.std.specs.Prelude.{take, replicate, Option, Some, IsTrue, Contains}
 use Rattle.std.specs.Iterator.{Drains}
+use Rattle.std.specs.declared.ops.Bound.TheVariants.{Unbounded}
 use Rattle.std.specs.declared.ops.Range.{Range}
 use Rattle.vob_block.specs.Packing.{item}
 use Rattle.vob_block.specs.Pointwise.{pointwise, without}
+use Rattle.vob_walk.specs.Matches.{matches}
+use Rattle.vob_walk.specs.Walk.{Walk, IsFresh}
 use Rattle.vob.specs.Bits.{count_of}
 use Rattle.vob.specs.Runs.{AreRuns, IsMaximalRun, IsUnsetRun, RunWalk, GivesRun, runs_of}
 use Rattle.vob.specs.Sets.{IsIndexOfRank}
@@ -46,3 +50,18 @@ WalkGivesRuns =
 abbrev pub UnsetRunsAreMaximal : Type 0
 UnsetRunsAreMaximal =
     (bits : List Bool) (a b : ℕ) → IsMaximalRun (map not bits) a b ↔ IsUnsetRun bits a b
+
+-- a walk over two lists combined gives an index exactly where f makes true of its two bits
+abbrev pub CombinedMatchesExactly : Type 0
+CombinedMatchesExactly =
+    (f : Bool → Bool → Bool) (bits others : List Bool) (i : ℕ) → length bits ≡ length others
+    → Contains (matches (pointwise f bits others) true Unbounded Unbounded) i
+    ↔ ((i < length bits) × IsTrue (f (item bits i) (item others i)))
+
+-- and it is the walk over the list that the combination leaves
+abbrev pub CombinedWalkIsOwn : Type 0
+CombinedWalkIsOwn =
+    (f : Bool → Bool → Bool) (bits others after : List Bool) (width : ℕ) (walk own : Walk)
+    → after ≡ pointwise f bits others
+    → IsFresh walk (pointwise f bits others) true Unbounded Unbounded width
+    → IsFresh own after true Unbounded Unbounded width → walk ≡ own

@@ -13,7 +13,7 @@ use std::marker::Model;
 use std::ops::RangeBounds;
 use vob_block::Block;
 use vob_store::single::block_bit;
-pub use vob_walk::{End, IndexWalk, IterSetBits, IterUnsetBits, count_ones_in, deal};
+pub use vob_walk::{CombinedBits, End, IndexWalk, IterSetBits, IterUnsetBits, count_ones_in, deal};
 
 /// A walk over the bits of a Vob, seen as the list of those that are left.
 #[derive(Drop)]

@@ -6,6 +6,7 @@ ghost use Rattle.vob.specs.Laws.{DigitsGiveBits, NegatedAnd};
 ghost use Rattle.vob.specs.PackingLaws.{NeedIsLeast, CanonicalIsPacked};
 ghost use Rattle.vob.specs.SetLaws.{DifferenceIsAndNot, NoneIsCounted, RankUndoesSelect};
 ghost use Rattle.vob.specs.SetLaws.{SelectUndoesRank, RunsAreMaximal, UnsetRunsAreMaximal, WalkGivesRuns};
+ghost use Rattle.vob.specs.SetLaws.{CombinedMatchesExactly, CombinedWalkIsOwn};
 ghost use Rattle.vob_walk.specs.Laws.{MatchesShareNoIndex, MatchesFillTheRange, MatchesAddUp};
 ghost use Rattle.vob_walk.specs.Laws.{MatchesExactly, MatchesRise, FirstMatchIsLeast};
 ghost use Rattle.vob_walk.specs.Laws.{NoMatchIsNone, MatchesAreCounted, MatchesAreFew};
@@ -195,4 +196,17 @@ pub fn matches_are_given_once()
 /// After a pull that gave `None` no index is left, and both ends together gave every index.
 pub fn none_comes_last()
     ensures { NoneComesLast }
+{}
+
+/// A walk over two Vobs combined gives an index if it is below the length, and its two bits make a
+/// set one: both set for `intersection`, either for `union`, the first alone for `difference`,
+/// exactly one for `symmetric_difference`.
+pub fn combined_matches_exactly()
+    ensures { CombinedMatchesExactly }
+{}
+
+/// The walk that `intersection` returns is the one over the set bits that `and` leaves. So it is
+/// for `union` and `or`, `difference` and `and_not`, `symmetric_difference` and `xor`.
+pub fn combined_walk_is_own()
+    ensures { CombinedWalkIsOwn }
 {}

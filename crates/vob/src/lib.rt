@@ -30,6 +30,7 @@
 #![tactic(auto)]
 
 pub mod bulk;
+pub mod combined;
 pub mod copy;
 pub mod edit;
 mod error;
@@ -53,7 +54,8 @@ pub mod words;
 
 pub use error::{IndicesError, VobError};
 pub use iter::{
-    End, IndexWalk, Iter, IterSetBits, IterUnsetBits, StorageIter, count_ones_in, deal,
+    CombinedBits, End, IndexWalk, Iter, IterSetBits, IterUnsetBits, StorageIter, count_ones_in,
+    deal,
 };
 pub use raw::{RawVob, VobRecord};
 pub use runs::Runs;
