@@ -1,4 +1,5 @@
 //! Rows worked out by hand, and patterns against lists of bits.
+mod combined;
 mod constructors;
 mod copies;
 mod draining;

@@ -318,3 +318,33 @@ fn two_vobs_are_compared_and_shared(rt: HostRuntime) -> Result<(), Fail> {
     assert!(rt; vob == vob::vob!(alloc; true, true, false)?);
     Ok(())
 }
+
+#[test]
+fn two_vobs_are_walked_together(rt: HostRuntime) -> Result<(), Fail> {
+    let alloc = rt.alloc();
+    let vob = vob::vob!(alloc; true, true, false, true)?;
+    let other = vob::vob!(alloc; false, true, true, true)?;
+    let mut indices = vob.intersection(&other);
+    assert_eq!(rt; indices.next(), Some(1));
+    assert_eq!(rt; indices.next(), Some(3));
+    assert_eq!(rt; indices.next(), None);
+
+    let vob = vob::vob!(alloc; true, false, false)?;
+    let other = vob::vob!(alloc; true, false, true)?;
+    assert_eq!(rt; vob.union(&other).next_back(), Some(2));
+    assert_eq!(rt; vob.union(&other).count(), 2);
+
+    let vob = vob::vob!(alloc; true, true, false)?;
+    let other = vob::vob!(alloc; true, false, true)?;
+    let mut indices = vob.difference(&other);
+    assert_eq!(rt; indices.next(), Some(1));
+    assert_eq!(rt; indices.next(), None);
+
+    let vob = vob::vob!(alloc; true, true, false)?;
+    let other = vob::vob!(alloc; true, false, true)?;
+    let mut indices = vob.symmetric_difference(&other);
+    assert_eq!(rt; indices.next(), Some(1));
+    assert_eq!(rt; indices.next_back(), Some(2));
+    assert_eq!(rt; indices.next(), None);
+    Ok(())
+}

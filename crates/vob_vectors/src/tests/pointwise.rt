@@ -17,6 +17,16 @@ pub(super) enum Call {
 
 pub(super) const CALLS: [Call; 4] = [Call::And, Call::Or, Call::Xor, Call::AndNot];
 
+/// What a call makes of two bits.
+pub(super) fn combined_bit(call: Call, bit: bool, other: bool) -> bool {
+    match call {
+        Call::And => bit && other,
+        Call::Or => bit || other,
+        Call::Xor => bit != other,
+        Call::AndNot => bit && !other,
+    }
+}
+
 /// `and`, `or`, `xor` or `and_not` of two Vobs of one length.
 pub(super) fn combine<T: Block>(
     rt: &impl Abort,
@@ -156,12 +166,7 @@ fn check_patterns<T: Block>(
     let mut changed = false;
     for index in 0..len {
         let (bit, other) = (pattern_bit(left, index), pattern_bit(right, index));
-        let after = match call {
-            Call::And => bit && other,
-            Call::Or => bit || other,
-            Call::Xor => bit != other,
-            Call::AndNot => bit && !other,
-        };
+        let after = combined_bit(call, bit, other);
         changed = changed || after != bit;
         push(rt, &mut wanted, after);
     }
