@@ -56,8 +56,11 @@ pub returns-in_err-index : goal.returns-in_err-index
 returns-in_err-index g c =
     let at = goal.at.returns-in_err-index g c in
     rw c.from_residual.ensures record {
-      first = (both g at.After-block_count-blocks).none (rw (c.split_at.ensures.front_len,
-          own g at.After-new, theirs g at.After-new) at c.in_err-index.ensures.found);
+      first = (both g at.After-block_count-blocks).none (rw (
+        c.split_at.ensures.front_len,
+        own g at.After-new,
+        theirs g at.After-new,
+      ) at c.in_err-index.ensures.found);
     }
 
 pub returns-then-index-shorter : goal.returns-then-index-shorter
