@@ -51,6 +51,8 @@ impl<T: Block> Vob<T> {
     /// ```
     pub fn rotate_right(&mut self, n: usize)
         ensures bits { self.new.bits ≡ rotated_back n self.old.bits }
+
+        // Rotated left by `n` again, they are the old ones.
         ensures each { IsRotated n self.new.bits self.old.bits }
         ensures capacity { self.new.capacity ≡ self.old.capacity }
     {
