@@ -39,7 +39,7 @@ pub record IsReversedBetween (start stop : ℕ) (bits after : List Bool) : Type 
   pub before : (i : ℕ) → i < start → item after i ≡ item bits i
   pub behind : (i : ℕ) → stop ≤ i → item after i ≡ item bits i
 
--- the first n bits put behind the others, n taken modulo the length
+-- the first n bits put after the others, n taken modulo the length
 abbrev pub rotated : ℕ → List Bool → List Bool
 rotated n bits = drop (n % length bits) bits ++ take (n % length bits) bits
 

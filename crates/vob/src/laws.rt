@@ -198,9 +198,9 @@ pub fn none_comes_last()
     ensures { NoneComesLast }
 {}
 
-/// A walk over two Vobs combined gives an index if it is below the length, and its two bits make a
-/// set one: both set for `intersection`, either for `union`, the first alone for `difference`,
-/// exactly one for `symmetric_difference`.
+/// A walk over two Vobs combined gives an index exactly if it is below the length, and its two bits
+/// make a set one. `intersection` wants both set, and `union` either. `difference` wants the first
+/// alone, and `symmetric_difference` exactly one.
 pub fn combined_matches_exactly()
     ensures { CombinedMatchesExactly }
 {}

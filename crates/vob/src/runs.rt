@@ -1,5 +1,5 @@
-//! The runs of a Vob, which are its longest stretches of set bits or of unset bits, and the first
-//! stretch of some length. vob 4.0.1 has no calls like these.
+//! The runs of a Vob, which are its longest stretches of set or unset bits; and the first stretch of
+//! some length. vob 4.0.1 has none of these calls.
 ghost use Rattle.std.specs.Prelude.{◌≡◌, ◌<◌, ◌≤◌, ◌+◌, ◌/◌, length, map, not, slice_index_or, MatchOption};
 ghost use Rattle.std.specs.Iterator.{item_count};
 ghost use Rattle.std.specs.Iterator.Runs.{YieldsInOrder};

@@ -22,7 +22,7 @@ impl<T: Block> Vob<T> {
         self.reverse_between(0, self.len());
     }
 
-    /// Rotates the bits down by `n` indices: the first `n` bits are put behind the others. `n` is taken
+    /// Rotates the bits down by `n` indices: the first `n` bits are put after the others. `n` is taken
     /// modulo the length. Takes no memory.
     ///
     /// ```
@@ -62,7 +62,7 @@ impl<T: Block> Vob<T> {
         }
     }
 
-    /// Puts the first `n` bits behind the others: both parts are reversed, and then all bits.
+    /// Puts the first `n` bits after the others: both parts are reversed, and then all bits.
     fn rotate_by(&mut self, n: usize)
         requires { n ≤ length self.old.bits }
         ensures bits { self.new.bits ≡ drop n self.old.bits ++ take n self.old.bits }
