@@ -1,12 +1,13 @@
 -- Where n unset bits in a row stand, by the runs that were passed.
 use Rattle.std.specs.Prelude.{Some, None, map}
 use Rattle.std.specs.declared.ops.Range.{Range}
-use Rattle.std.proofs.Common.{◌≡◌, ℕ, ◌+◌, ◌-◌, ◌<◌, ◌≤◌, Bool, true, false, not, List, length, refl}
+use Rattle.std.proofs.Common.{◌≡◌, ℕ, ◌+◌, ◌-◌, ◌<◌, ◌≤◌, Bool, true, false, not, List, length}
 use Rattle.std.proofs.Common.{sym, ap, ◌∙◌, arith, inl, inr}
 use Rattle.std.proofs.lemmas.Bool.{cases_lt, false≢true}
-use Rattle.std.proofs.lemmas.List.{get_or-map, length-map}
+use Rattle.std.proofs.lemmas.List.{length-map}
 use Rattle.vob_block.specs.Packing.{item}
 use Rattle.vob.specs.Runs.{GivesRun, HasNoRoom, IsFirstRoom, IsRoom, RunWalk}
+use Rattle.vob.proofs.SeenLemmas.{turned_at, unset_of}
 use Rattle.vob.proofs.SelectLemmas.{inside}
 
 -- each room begins at or above an index
@@ -22,16 +23,9 @@ IsFirstRoom-none bits = record {
   least = λ j room. omega arith;
 }
 
-unset_of : (b : Bool) → not b ≡ true → b ≡ false
-unset_of true e = absurd (false≢true e)
-unset_of false e = refl
-
 module _ (n : ℕ) (some : 0 < n) (bits : List Bool) where
-  negated_at : (i : ℕ) → i < length bits → item (map not bits) i ≡ not (item bits i)
-  negated_at i below = get_or-map not bits i false false below
-
   seen_set : (i : ℕ) → i < length bits → item bits i ≡ false → item (map not bits) i ≡ true
-  seen_set i below unset = negated_at i below ∙ ap not unset
+  seen_set i below unset = turned_at bits i below ∙ ap not unset
 
   module _ (walk : RunWalk) (same : walk.bits ≡ map not bits) (passed : IsBelowRoom n bits walk.at)
     where
@@ -87,7 +81,7 @@ module _ (n : ℕ) (some : 0 < n) (bits : List Bool) where
                 ∙ gives.run.0.run.set j above (omega (arith, long, below)) in
                 let within = inside (map not bits) j set in
                 unset_of (item bits j)
-                (sym (negated_at j (omega (arith, within, length-map bits not))) ∙ set);
+                (sym (turned_at bits j (omega (arith, within, length-map bits not))) ∙ set);
           };
           least = from_start;
         }

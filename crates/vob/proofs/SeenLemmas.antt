@@ -1,13 +1,12 @@
 -- The bits that a walk over runs sees, and the runs of bits that are the same at each index.
-use Rattle.std.specs.Prelude.{Any, map, replicate}
-use Rattle.std.specs.List.{range_with_len}
+use Rattle.std.specs.Prelude.{map, replicate}
 use Rattle.std.specs.declared.ops.Bound.{Bound}
 use Rattle.std.specs.declared.ops.Bound.TheVariants.{Included, Excluded}
 use Rattle.std.specs.declared.ops.Range.{Range}
-use Rattle.std.proofs.Common.{◌≡◌, ◌≢◌, ℕ, ◌+◌, ◌-◌, ◌<◌, ◌≤◌, Bool, true, false, ◌&&◌, not, List}
+use Rattle.std.proofs.Common.{◌≡◌, ℕ, ◌+◌, ◌-◌, ◌<◌, ◌≤◌, Bool, true, false, ◌&&◌, not, List}
 use Rattle.std.proofs.Common.{length, drop, refl, sym, ap, ◌∙◌, arith, inl, inr, ◌↔◌, length-append}
 use Rattle.std.proofs.Common.{length-drop}
-use Rattle.std.proofs.lemmas.Bool.{cases_lt, and_left, lt-ltb, le-leb, and_from}
+use Rattle.std.proofs.lemmas.Bool.{cases_lt}
 use Rattle.std.proofs.lemmas.List.{get_or_past, get_or-drop, get_or-map, length-map, map-id}
 use Rattle.std.proofs.lemmas.List.{length-replicate, get_or-replicate, get_or_append_left}
 use Rattle.std.proofs.lemmas.List.{get_or-append_right}
@@ -82,14 +81,15 @@ set_of : (b : Bool) → not b ≡ false → b ≡ true
 set_of true e = refl
 set_of false e = sym e
 
-unset_of : (b : Bool) → not b ≡ true → b ≡ false
+pub unset_of : (b : Bool) → not b ≡ true → b ≡ false
 unset_of true e = sym e
 unset_of false e = refl
 
-module _ (bits : List Bool) (a b : ℕ) where
-  turned_at : (i : ℕ) → i < length bits → item (map not bits) i ≡ not (item bits i)
-  turned_at i below = get_or-map not bits i false false below
+pub turned_at : (bits : List Bool) (i : ℕ) → i < length bits
+    → item (map not bits) i ≡ not (item bits i)
+turned_at bits i below = get_or-map not bits i false false below
 
+module _ (bits : List Bool) (a b : ℕ) where
   IsUnsetRun-turned : IsMaximalRun (map not bits) a b → IsUnsetRun bits a b
   IsUnsetRun-turned run =
       let within : b ≤ length bits = omega (arith, run.inside, length-map bits not) in
@@ -97,10 +97,10 @@ module _ (bits : List Bool) (a b : ℕ) where
         some = some;
         inside = within;
         unset = λ i above below. unset_of (item bits i)
-            (sym (turned_at i (omega (arith, below, within))) ∙ run.set i above below);
+            (sym (turned_at bits i (omega (arith, below, within))) ∙ run.set i above below);
         before = λ i next. set_of (item bits i)
-            (sym (turned_at i (omega (arith, next, some, within))) ∙ run.before i next);
-        behind = λ below. set_of (item bits b) (sym (turned_at b below) ∙ run.behind);
+            (sym (turned_at bits i (omega (arith, next, some, within))) ∙ run.before i next);
+        behind = λ below. set_of (item bits b) (sym (turned_at bits b below) ∙ run.behind);
       }
 
   IsMaximalRun-turned : IsUnsetRun bits a b → IsMaximalRun (map not bits) a b
@@ -109,12 +109,12 @@ module _ (bits : List Bool) (a b : ℕ) where
       let some = run.some in record {
         some = some;
         inside = omega (arith, within, length-map bits not);
-        set = λ i above below. turned_at i (omega (arith, below, within))
+        set = λ i above below. turned_at bits i (omega (arith, below, within))
             ∙ ap not (run.unset i above below);
-        before = λ i next. turned_at i (omega (arith, next, some, within))
+        before = λ i next. turned_at bits i (omega (arith, next, some, within))
             ∙ ap not (run.before i next);
         behind = elim (cases_lt b (length bits)) [
-          | inl below ↦ turned_at b below ∙ ap not (run.behind below)
+          | inl below ↦ turned_at bits b below ∙ ap not (run.behind below)
           | inr past ↦ get_or_past (map not bits) b false
               (omega (arith, past, length-map bits not))
         ];
