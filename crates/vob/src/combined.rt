@@ -1,6 +1,6 @@
 //! Walks over the indices that are set in a combination of two Vobs. vob 4.0.1 has none of these
 //! calls. None of them takes memory, or reads a block until an index is asked for.
-ghost use Rattle.std.specs.Prelude.{◌≡◌, ◌≤◌, ◌&&◌, ◌||◌, true, false, length};
+ghost use Rattle.std.specs.Prelude.{◌≤◌, ◌&&◌, ◌||◌, true, length};
 ghost use Rattle.std.specs.Iterator.Runs.{YieldsInOrder, YieldsInReverse};
 ghost use Rattle.std.specs.declared.ops.Bound.TheVariants.{Unbounded};
 ghost use Rattle.vob_block.specs.Pointwise.{differ, pointwise, without};

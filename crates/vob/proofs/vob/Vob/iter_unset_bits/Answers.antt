@@ -1,5 +1,5 @@
 -- The blocks are the packing of the bits.
-use Rattle.std.proofs.Common.{◌∙◌, arith, length, map, sym}
+use Rattle.std.proofs.Common.{◌∙◌, arith, map, sym}
 use Rattle.std.proofs.lemmas.List.{length-map}
 use Rattle.vob_block.proofs.PackingLemmas.{packing_is}
 use Rattle.vob_walk.proofs.WalkLemmas.{walk_runs, walk_runs_back}

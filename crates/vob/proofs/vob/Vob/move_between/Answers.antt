@@ -1,5 +1,5 @@
 -- The kernel's clauses on blocks are those on bits.
-use Rattle.std.proofs.Common.{◌≡◌, ◌≤◌, ℕ, ◌+◌, ◌*◌, ◌-◌, ◌++◌, ap, ◌∙◌, length, map, take, drop, arith}
+use Rattle.std.proofs.Common.{◌≤◌, ℕ, ◌+◌, ◌*◌, ◌-◌, ◌++◌, ap, ◌∙◌, length, map, take, drop, arith}
 use Rattle.std.proofs.lemmas.List.{take_at}
 use Rattle.vob_block.proofs.PackingLemmas.{length-unpacking}
 use Rattle.vob.proofs.CopyLemmas.{HasCopied, copied_here}

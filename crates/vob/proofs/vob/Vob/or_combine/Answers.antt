@@ -1,5 +1,5 @@
 -- By the lemma on two others combined, at the clauses of the way to combine.
-use Rattle.std.proofs.Common.{◌≡◌, ◌⊎◌, ◌<◌, ◌||◌, ◌++◌, List, Bool, true, subst, refl, sym, ap, map, length, take, drop, ◌∙◌}
+use Rattle.std.proofs.Common.{◌≡◌, ◌⊎◌, ◌<◌, ◌||◌, ◌++◌, List, Bool, true, subst, sym, ap, map, length, take, drop, ◌∙◌}
 use Rattle.std.proofs.lemmas.List.{take_at}
 use Rattle.vob_block.specs.Pointwise.{pointwise}
 use Rattle.vob_block.proofs.PointwiseLemmas.{length-pointwise}
