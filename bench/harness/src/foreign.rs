@@ -40,6 +40,7 @@ extern "C" {
     ) -> u64;
     fn vob_bench_closure(bytes: *const u8, len: usize, row_bytes: usize, rounds: usize) -> u64;
     fn vob_bench_matrix(steps: *const usize, count: usize, nodes: usize, rounds: usize) -> u64;
+    fn vob_bench_lists(steps: *const usize, count: usize, nodes: usize, rounds: usize) -> u64;
     fn vob_bench_live(numbers: *const usize, count: usize, vars: usize, rounds: usize) -> u64;
 }
 
@@ -96,6 +97,7 @@ pub fn conthiral(call: Call, input: &Input, rounds: usize) -> u64 {
         },
         Call::Closure => unsafe { vob_bench_closure(bytes, len, input.row_bytes, rounds) },
         Call::Matrix => unsafe { vob_bench_matrix(indices, count, bit_count, rounds) },
+        Call::Lists => unsafe { vob_bench_lists(indices, count, bit_count, rounds) },
         Call::Live => unsafe { vob_bench_live(indices, count, bit_count, rounds) },
         _ => unsafe { vob_bench_walk(name, name_len, bytes, len, rounds) },
     }

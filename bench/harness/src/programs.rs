@@ -134,10 +134,8 @@ pub fn live<B: Bits>(input: &Input, rounds: usize) -> u64 {
         let possible: Vec<B> = nodes.iter().map(possible_at).collect();
         let mut before: Vec<B> = nodes.iter().map(|node| set_of(&node.reads)).collect();
         let mut after: Vec<B> = nodes.iter().map(|_| none.copied()).collect();
+        while pass(&nodes, &possible, &mut before, &mut after) {}
         times += 1;
-        while pass(&nodes, &possible, &mut before, &mut after) {
-            times += 1;
-        }
         last = before;
     }
     checksum_all(&last, times)

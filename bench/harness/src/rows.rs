@@ -66,6 +66,7 @@ pub enum Call {
     Rank,
     OrDropped,
     AndNotDropped,
+    Lists,
 }
 
 pub struct Row {
@@ -104,7 +105,7 @@ impl Row {
             Call::Get | Call::Set | Call::FromIndices => Shape::Indices(INDICES),
             Call::FirstFree => Shape::FreeAtTheEnd,
             Call::Live => Shape::Flow,
-            Call::Matrix => Shape::Steps,
+            Call::Matrix | Call::Lists => Shape::Steps,
             _ => Shape::Plain,
         };
         Row {
@@ -263,6 +264,8 @@ pub fn all() -> Vec<Row> {
         Row::over("filter over three columns", Call::Filter, MILLION, Word),
         Row::over("closure 1000 x 1000", Call::Closure, 1_000_000, Round),
         Row::over("matrix closure, 1000 nodes", Call::Matrix, 1000, Round),
+        Row::over("closure of lists, 1000 nodes", Call::Lists, 1000, Round),
+        Row::over("closure of lists, 4000 nodes", Call::Lists, 4000, Round),
         Row::over("liveness, 10000 nodes", Call::Live, 1000, Round),
     ]);
     rows

@@ -370,7 +370,7 @@ pub fn run<B: Bits>(call: Call, input: &Input, rounds: usize) -> u64 {
         Call::ExtendAligned => joined::<B>(input, 64, rounds),
         Call::ExtendShifted => joined::<B>(input, 64 + 13, rounds),
         Call::Closure => closure::<B>(input, rounds),
-        Call::Matrix => matrix::<B>(input, rounds),
+        Call::Matrix | Call::Lists => matrix::<B>(input, rounds),
         Call::Filter => filter::<B>(input, rounds),
         Call::Live => live::<B>(input, rounds),
         Call::SetBits => walked(input, rounds, B::set_bits),

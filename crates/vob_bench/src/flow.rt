@@ -1,8 +1,9 @@
-//! A workload on a flow graph: which variables are live at its nodes.
+//! Workloads on graphs: which variables are live at the nodes of a flow graph, and the closure of lists.
 
-use crate::checksum::checksum_all;
+use crate::checksum::{checksum_all, sample};
 use crate::rounds::Missing;
 use std::alloc::{AllocError, Global};
+use vob_flow::closure;
 use vob_flow::live::{Flow, Live, liveness};
 
 /// A graph of four numbers a node: what it reads, what it writes, and two nodes that may come next.
@@ -22,7 +23,7 @@ fn nodes_of(alloc: Global, numbers: &[usize]) -> Result<Vec<Flow>, AllocError> {
     Ok(nodes)
 }
 
-/// The sets of the graph a round, and the checksum of those before its nodes and of the passes.
+/// The sets of the graph a round, and the checksum of those before its nodes.
 #[inline(never)]
 pub(crate) fn live(
     alloc: Global,
@@ -40,10 +41,49 @@ pub(crate) fn live(
         let Live {
             before,
             after: _,
-            rounds: passes,
+            rounds: _,
         } = found;
-        times = times.wrapping_add(u64::try_from(passes).unwrap_or(u64::MAX));
+        times = times.wrapping_add(1);
         last = before;
+    }
+    Ok(checksum_all(&last, times))
+}
+
+/// The lists of a graph with edges of two numbers each: from which node, and to which.
+fn lists_of(alloc: Global, steps: &[usize], nodes: usize) -> Result<Vec<Vec<usize>>, AllocError> {
+    let mut lists = Vec::new(alloc);
+    for _ in 0..nodes {
+        lists.push(Vec::new(alloc))?;
+    }
+    for step in 0..steps.len() / 2 {
+        let from = steps[2 * step];
+        if from < lists.len() {
+            lists[from].push(steps[2 * step + 1])?;
+        }
+    }
+    Ok(lists)
+}
+
+/// The closure of a graph given by lists a round, and the checksum of its sets.
+#[inline(never)]
+pub(crate) fn close_lists(
+    alloc: Global,
+    steps: &[usize],
+    nodes: usize,
+    rounds: usize,
+) -> Result<u64, Missing> {
+    let mut times: u64 = 0;
+    let mut last = Vec::new(alloc);
+    for round in 0..rounds {
+        let next = lists_of(alloc, steps, nodes)?;
+        let Ok(sets) = closure(alloc, &next) else {
+            return Err(Missing::Memory);
+        };
+        let node = if nodes == 0 { 0 } else { round % nodes };
+        if node < sets.len() {
+            times = times.wrapping_add(sample(&sets[node], round) as u64);
+        }
+        last = sets;
     }
     Ok(checksum_all(&last, times))
 }

@@ -89,6 +89,17 @@ pub extern "C" fn vob_bench_matrix(
     matrix::close_graph(alloc, steps, nodes, rounds).unwrap_or(NONE)
 }
 
+/// The transitive closure of a graph given by lists, with edges of two numbers each.
+#[unsafe(no_mangle)]
+pub extern "C" fn vob_bench_lists(
+    alloc: Global,
+    steps: &[usize],
+    nodes: usize,
+    rounds: usize,
+) -> u64 {
+    flow::close_lists(alloc, steps, nodes, rounds).unwrap_or(NONE)
+}
+
 /// Which of `vars` variables are live at the nodes of a flow graph, of four numbers each.
 #[unsafe(no_mangle)]
 pub extern "C" fn vob_bench_live(

@@ -1,16 +1,19 @@
 -- A set that got what it draws, as the code leaves it.
-use Rattle.std.proofs.Common.{◌≡◌, ◌↔◌, ℕ, ◌<◌, ◌⊎◌, Bool, true, ◌||◌, inl, inr}
-use Rattle.std.proofs.Common.{List, [], length, get_or, set, sym, ap, ◌∙◌, subst, arith}
-use Rattle.std.proofs.lemmas.Bool.{cases_eq, or_cases, or_left, or_right}
+use Rattle.std.proofs.Common.{◌≡◌, ◌≢◌, ◌↔◌, ℕ, ◌<◌, ◌+◌, ◌⊎◌, Bool, true, false, ◌&&◌, ◌||◌, inl, inr, List, [], length, take}
+use Rattle.std.proofs.Common.{get_or, set, refl, sym, ap, ◌∙◌, subst, arith}
+use Rattle.std.proofs.lemmas.Bool.{cases_eq, false≢true}
 use Rattle.std.proofs.lemmas.List.{length-map, length-set, get_or-map, map-set, get_or-set_same, get_or-set_other, set-get_or}
 use Rattle.vob_block.specs.Packing.{item}
+use Rattle.vob_block.specs.Pointwise.{pointwise, without}
 use Rattle.vob.specs.Bits.{AreCombined, GainsBits}
 use Rattle.vob.specs.Vob.{BitVector}
-use Rattle.vob.specs.Vobs.{AreOfLength, bits_of}
-use Rattle.vob.proofs.VobsLemmas.{of_length_at, total_count_set}
-use Rattle.vob_flow.specs.declared.draw.Draw.{Draw}
-use Rattle.vob_flow.specs.Draws.{IsIn, IsDrawn}
-use Rattle.vob_flow.specs.Passes.{HasDrawn}
+use Rattle.vob.specs.Vobs.{AreOfLength, bits_of, total_count}
+use Rattle.vob.proofs.BitsLemmas.{AreCombined-pointwise, and_true, or_true, without_true}
+use Rattle.vob.proofs.VobsLemmas.{any_next, of_length_at, total_count_set}
+use Rattle.vob_flow.specs.declared.draw.Mask.{Mask}
+use Rattle.vob_flow.specs.Draws.{IsIn, IsInSome, IsKept}
+use Rattle.vob_flow.specs.Passes.{HasGained, IsAdded, IsLetThrough}
+use Rattle.vob_flow.proofs.UnderwayLemmas.{HaveShape-refl, HaveShape-trans}
 
 -- the length of one of some Vobs
 pub vob_long : (places : ℕ) (sets : List BitVector) (k : ℕ) (d : BitVector) →
@@ -19,10 +22,41 @@ vob_long places sets k d long less =
     ap length (sym (get_or-map (λ v. v.bits) sets k d [] less))
     ∙ of_length_at places (bits_of sets) k [] long (omega (arith, less, length-map sets (λ v. v.bits)))
 
-module _ (sets : List (List Bool)) (n : ℕ) (draw : Draw) (sum row : List Bool) (grew : Bool)
-    (inside : n < length sets)
-    (drawn : (v : ℕ) → (item sum v ≡ true) ↔ IsDrawn sets draw v)
-    (added : AreCombined ◌||◌ (get_or sets n []) sum row)
+-- ---- what a mask lets through of another list
+
+pub IsAdded-by : (mask : Mask) (source bits after masked : List Bool) (grew : Bool)
+    → AreCombined ◌||◌ bits masked after → GainsBits grew bits after
+    → ((v : ℕ) → (item masked v ≡ true) ↔ (IsKept mask v × (item source v ≡ true)))
+    → IsAdded mask source bits after grew
+IsAdded-by mask source bits after masked grew added gains is = record {
+  len = added.len;
+  each = λ v. let either = or_true bits masked after v added in (
+    (λ e. elim (either.0 e) [ inl old ↦ inl old | inr new ↦ inr ((is v).0 new) ]),
+    (λ x. either.1 (elim x [ inl old ↦ inl old | inr new ↦ inr ((is v).1 new) ])),
+  );
+  gains = gains;
+}
+
+module _ (source kept : List Bool) (same : length source ≡ length kept) (v : ℕ) where
+  pub kept_of : (item (pointwise ◌&&◌ source kept) v ≡ true)
+      ↔ ((item kept v ≡ true) × (item source v ≡ true))
+  kept_of =
+      let both = and_true source kept (pointwise ◌&&◌ source kept) v
+      (AreCombined-pointwise ◌&&◌ source kept same refl) in
+      ((λ e. let p = both.0 e in (p.1, p.0)), (λ p. both.1 (p.1, p.0)))
+
+  pub left_of : (item (pointwise without source kept) v ≡ true)
+      ↔ ((item kept v ≡ false) × (item source v ≡ true))
+  left_of =
+      let both = without_true source kept (pointwise without source kept) v
+      (AreCombined-pointwise without source kept same refl) in
+      ((λ e. let p = both.0 e in (p.1, p.0)), (λ p. both.1 (p.1, p.0)))
+
+-- ---- one set is written
+
+module _ (sets : List (List Bool)) (n : ℕ) (P : ℕ → Type 0) (row : List Bool) (grew : Bool)
+    (inside : n < length sets) (len : length row ≡ length (get_or sets n []))
+    (bits : (v : ℕ) → (item row v ≡ true) ↔ (IsIn sets n v ⊎ P v))
     (gains : GainsBits grew (get_or sets n []) row) where
   row_is : get_or (set sets n row) n [] ≡ row
   row_is = get_or-set_same sets n row [] inside
@@ -30,44 +64,122 @@ module _ (sets : List (List Bool)) (n : ℕ) (draw : Draw) (sum row : List Bool)
   long_here : (k : ℕ) → length (get_or (set sets n row) k []) ≡ length (get_or sets k [])
   long_here k = elim (cases_eq k n) [
     | inl here ↦ subst (λ j. length (get_or (set sets n row) j []) ≡ length (get_or sets j []))
-        (sym here) (ap length row_is ∙ added.len)
+        (sym here) (ap length row_is ∙ len)
     | inr other ↦ ap length (get_or-set_other sets n k row [] other)
   ]
 
-  here : (v : ℕ) → IsIn (set sets n row) n v ↔ (IsIn sets n v ⊎ IsDrawn sets draw v)
-  here v =
-      let bit = ap (λ bs. item bs v) row_is ∙ added.each v in
-      let old = item (get_or sets n []) v in (
-        (λ e. elim (or_cases old (item sum v) (sym bit ∙ e)) [
-          | inl first ↦ inl first
-          | inr new ↦ inr ((drawn v).0 new)
-        ]),
-        (λ either. bit ∙ elim either [
-          | inl first ↦ or_left old (item sum v) first
-          | inr new ↦ or_right old (item sum v) ((drawn v).1 new)
-        ]),
-      )
-
-  pub HasDrawn-set : HasDrawn sets n draw (set sets n row) grew
-  HasDrawn-set = record {
+  pub HasGained-set : HasGained sets n P (set sets n row) grew
+  HasGained-set = record {
     shape = record { count = length-set sets n row; long = long_here };
-    here = here;
+    here = λ v. let bit = ap (λ bs. item bs v) row_is in (
+      (λ e. (bits v).0 (sym bit ∙ e)),
+      (λ either. bit ∙ (bits v).1 either),
+    );
     others = λ k other. get_or-set_other sets n k row [] other;
     same = λ quiet. ap (set sets n) (gains.same quiet) ∙ set-get_or sets n [];
     more = λ up. omega (arith, gains.more up, total_count_set sets n row inside);
   }
 
--- the same of some Vobs
-pub HasDrawn-vobs : (sets : List BitVector) (n : ℕ) (draw : Draw) (sum : List Bool)
-    (d row : BitVector) (grew : Bool) → n < length sets →
-    ((v : ℕ) → (item sum v ≡ true) ↔ IsDrawn (bits_of sets) draw v) →
-    AreCombined ◌||◌ (get_or sets n d).bits sum row.bits →
-    GainsBits grew (get_or sets n d).bits row.bits →
-    HasDrawn (bits_of sets) n draw (bits_of (set sets n row)) grew
-HasDrawn-vobs sets n draw sum d row grew inside drawn added gains =
-    let old_is = sym (get_or-map (λ v. v.bits) sets n d [] inside) in
-    rw (map-set (λ (v : BitVector). v.bits) sets n row)
-    (HasDrawn-set (bits_of sets) n draw sum row.bits grew
-    (omega (arith, inside, length-map sets (λ v. v.bits))) drawn
-    (subst (λ (bs : List Bool). AreCombined ◌||◌ bs sum row.bits) old_is added)
-    (subst (λ (bs : List Bool). GainsBits grew bs row.bits) old_is gains))
+-- the same of some Vobs, where a mask let through some of set m
+pub HasGained-added : (items after : List BitVector) (n m : ℕ) (mask : Mask) (row other : List Bool)
+    (new : BitVector) (grew : Bool) → n < length items → get_or (bits_of items) n [] ≡ row
+    → get_or (bits_of items) m [] ≡ other → after ≡ set items n new
+    → IsAdded mask other row new.bits grew
+    → HasGained (bits_of items) n (IsLetThrough (bits_of items) mask m) (bits_of after) grew
+HasGained-added items after n m mask row other new grew inside first second is added =
+    subst (λ (rows : List (List Bool)). HasGained (bits_of items) n
+    (IsLetThrough (bits_of items) mask m) rows grew)
+    (sym (ap bits_of is ∙ map-set (λ (v : BitVector). v.bits) items n new))
+    (HasGained-set (bits_of items) n (IsLetThrough (bits_of items) mask m) new.bits grew
+    (omega (arith, inside, length-map items (λ v. v.bits))) (rw (← first) at added.len)
+    (λ v. rw (← first, ← second) at (added.each v)) (rw (← first) at added.gains))
+
+-- ---- places that a set gets one after another
+
+-- none yet
+pub HasGained-none : (sets : List (List Bool)) (n : ℕ) (P : ℕ → Type 0) → ((v : ℕ) → P v → ⊥)
+    → HasGained sets n P sets false
+HasGained-none sets n P none = record {
+  shape = HaveShape-refl sets;
+  here = λ v. ((λ e. inl e), (λ either. elim either [ inl old ↦ old | inr new ↦ absurd (none v new) ]));
+  others = λ k other. refl;
+  same = λ e. refl;
+  more = λ e. absurd (false≢true e);
+}
+
+-- those that it has
+pub HasGained-own : (sets : List (List Bool)) (n m : ℕ) (mask : Mask) → m ≡ n
+    → HasGained sets n (IsLetThrough sets mask m) sets false
+HasGained-own sets n m mask own = record {
+  shape = HaveShape-refl sets;
+  here = λ v. (
+    (λ e. inl e),
+    (λ either. elim either [ inl old ↦ old | inr new ↦ subst (λ k. IsIn sets k v) own new.1 ]),
+  );
+  others = λ k other. refl;
+  same = λ e. refl;
+  more = λ e. absurd (false≢true e);
+}
+
+grew_either : (a b : Bool) {sets mid after : List (List Bool)}
+    → (a ≡ true → total_count sets < total_count mid) → (a ≡ false → mid ≡ sets)
+    → (b ≡ true → total_count mid < total_count after) → (b ≡ false → after ≡ mid)
+    → (a || b) ≡ true → total_count sets < total_count after
+grew_either true true up same more still e = omega (arith, up refl, more refl)
+grew_either true false up same more still e = omega (arith, up refl, ap total_count (still refl))
+grew_either false true up same more still e = omega (arith, more refl, ap total_count (same refl))
+grew_either false false up same more still e = absurd (false≢true e)
+
+grew_neither : (a b : Bool) {sets mid after : List (List Bool)} → (a ≡ false → mid ≡ sets)
+    → (b ≡ false → after ≡ mid) → (a || b) ≡ false → after ≡ sets
+grew_neither true b same still e = absurd (false≢true (sym e))
+grew_neither false b same still e = still e ∙ same refl
+
+-- and those of one set more
+module _ {sets mid after : List (List Bool)} (n : ℕ) (mask : Mask) (from : List ℕ) (k m : ℕ)
+    {a b : Bool} (less : k < length from) (is : m ≡ get_or from k m)
+    (h : HasGained sets n (λ v. IsKept mask v × IsInSome sets (take k from) v) mid a)
+    (d : HasGained mid n (IsLetThrough mid mask m) after b) where
+  had : (v : ℕ) → IsIn mid n v
+      → IsIn sets n v ⊎ (IsKept mask v × IsInSome sets (take (k + 1) from) v)
+  had v e = elim ((h.here v).0 e) [
+    | inl first ↦ inl first
+    | inr drawn ↦ inr (drawn.0, (any_next (λ j. IsIn sets j v) from k m less is).1 (inl drawn.1))
+  ]
+
+  has : (v : ℕ) → IsIn after n v
+      → IsIn sets n v ⊎ (IsKept mask v × IsInSome sets (take (k + 1) from) v)
+  has v e = elim ((d.here v).0 e) [
+    | inl old ↦ had v old
+    | inr new ↦ elim (cases_eq m n) [
+      | inl own ↦ had v (subst (λ j. IsIn mid j v) own new.1)
+      | inr other ↦ inr (
+        new.0,
+        (any_next (λ j. IsIn sets j v) from k m less is).1
+            (inr (sym (ap (λ bs. item bs v) (h.others m other)) ∙ new.1)),
+      )
+    ]
+  ]
+
+  gets : (v : ℕ) → IsIn sets n v ⊎ (IsKept mask v × IsInSome sets (take (k + 1) from) v)
+      → IsIn after n v
+  gets v either = elim either [
+    | inl first ↦ (d.here v).1 (inl ((h.here v).1 (inl first)))
+    | inr drawn ↦ elim ((any_next (λ j. IsIn sets j v) from k m less is).0 drawn.1) [
+      | inl old ↦ (d.here v).1 (inl ((h.here v).1 (inr (drawn.0, old))))
+      | inr new ↦ elim (cases_eq m n) [
+        | inl own ↦ (d.here v).1 (inl ((h.here v).1 (inl (subst (λ j. IsIn sets j v) own new))))
+        | inr other ↦ (d.here v).1 (inr (drawn.0, ap (λ bs. item bs v) (h.others m other) ∙ new))
+      ]
+    ]
+  ]
+
+  pub HasGained-more : HasGained sets n
+      (λ v. IsKept mask v × IsInSome sets (take (k + 1) from) v) after (a || b)
+  HasGained-more = record {
+    shape = HaveShape-trans h.shape d.shape;
+    here = λ v. (has v, gets v);
+    others = λ j other. d.others j other ∙ h.others j other;
+    same = grew_neither a b h.same d.same;
+    more = grew_either a b h.more h.same d.more d.same;
+  }

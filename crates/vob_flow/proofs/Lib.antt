@@ -9,6 +9,7 @@ pub mod FirstLemmas
 mod FlowLemmas
 mod GatherLemmas
 mod GreatestLemmas
+pub mod HalvesLemmas
 mod LawLemmas
 mod LiveLemmas
 mod OrderLemmas

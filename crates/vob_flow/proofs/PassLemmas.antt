@@ -14,7 +14,7 @@ use Rattle.vob.proofs.VobsLemmas.{of_length_at}
 use Rattle.vob_flow.specs.declared.draw.Draw.{Draw}
 use Rattle.vob_flow.specs.Draws.{HaveShape}
 use Rattle.vob_flow.specs.Order.{IsOrder}
-use Rattle.vob_flow.specs.Passes.{HasDrawn, IsDone, IsSince, IsWaiting, AreUnderway, HadTurn, AreMore, HadTurns, HadPass, HasGrown}
+use Rattle.vob_flow.specs.Passes.{HasDrawn, HasGained, IsDone, IsSince, IsWaiting, AreUnderway, HadTurn, AreMore, HadTurns, HadPass, HasGrown}
 use Rattle.vob_flow.proofs.AnyLemmas.{Any-map}
 use Rattle.vob_flow.proofs.UnderwayLemmas.{HaveShape-refl, HaveShape-trans, AreUnderway-turn, AreUnderway-again, place_inside, place_other}
 
@@ -35,9 +35,9 @@ total_le : (grew : Bool) (sets after : List (List Bool)) → (grew ≡ false →
 total_le true sets after same more = omega (arith, more refl)
 total_le false sets after same more = omega (arith, ap total_count (same refl))
 
-AreMore-drawn : {sets after : List (List Bool)} {n : ℕ} {draw : Draw} {grew : Bool} →
-    HasDrawn sets n draw after grew → AreMore sets after
-AreMore-drawn {sets} {after} {n} {draw} {grew} d = record {
+AreMore-drawn : {sets after : List (List Bool)} {n : ℕ} {P : ℕ → Type 0} {grew : Bool} →
+    HasGained sets n P after grew → AreMore sets after
+AreMore-drawn {sets} {after} {n} {P} {grew} d = record {
   shape = d.shape;
   total = total_le grew sets after d.same d.more;
 }

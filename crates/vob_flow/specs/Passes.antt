@@ -1,23 +1,39 @@
 -- What the passes over sets that draw from one another keep. No public clause cites this page.
 use Rattle.std.specs.Prelude.{◌≡◌, ◌≢◌, ◌↔◌, ◌⊎◌, ℕ, ◌<◌, ◌≤◌, Bool, true, false, List, [], length, slice_index_or, slice_get, Some, Any}
 use Rattle.vob_block.specs.Packing.{item}
-use Rattle.vob.specs.Bits.{IsWritten}
+use Rattle.vob.specs.Bits.{GainsBits, IsWritten}
 use Rattle.vob.specs.Vobs.{total_count}
 use Rattle.vob_flow.specs.declared.draw.Draw.{Draw}
-use Rattle.vob_flow.specs.Draws.{IsIn, IsDrawn, Comes, HaveShape}
+use Rattle.vob_flow.specs.declared.draw.Mask.{Mask}
+use Rattle.vob_flow.specs.Draws.{IsIn, IsDrawn, IsKept, Comes, HaveShape}
 
 -- one of some sets grew
 abbrev pub HasGrown : List Bool → List ℕ → Type 0
 HasGrown grown from = Any (λ m. item grown m ≡ true) from
 
--- set n got what it draws, and no other set changed
-pub record HasDrawn (sets : List (List Bool)) (n : ℕ) (draw : Draw) (after : List (List Bool))
+-- a list got what a mask lets through of another
+pub record IsAdded (mask : Mask) (source bits after : List Bool) (grew : Bool) : Type 0 where
+  pub len : length after ≡ length bits
+  pub each : (v : ℕ) → (item after v ≡ true)
+      ↔ ((item bits v ≡ true) ⊎ (IsKept mask v × (item source v ≡ true)))
+  pub gains : GainsBits grew bits after
+
+-- a mask lets v through of set m
+abbrev pub IsLetThrough : List (List Bool) → Mask → ℕ → ℕ → Type 0
+IsLetThrough sets mask m v = IsKept mask v × IsIn sets m v
+
+-- set n got the places that P holds of, and no other set changed
+pub record HasGained (sets : List (List Bool)) (n : ℕ) (P : ℕ → Type 0) (after : List (List Bool))
     (grew : Bool) : Type 0 where
   pub shape : HaveShape sets after
-  pub here : (v : ℕ) → IsIn after n v ↔ (IsIn sets n v ⊎ IsDrawn sets draw v)
+  pub here : (v : ℕ) → IsIn after n v ↔ (IsIn sets n v ⊎ P v)
   pub others : (k : ℕ) → k ≢ n → slice_index_or after k [] ≡ slice_index_or sets k []
   pub same : grew ≡ false → after ≡ sets
   pub more : grew ≡ true → total_count sets < total_count after
+
+-- it got what it draws
+abbrev pub HasDrawn : List (List Bool) → ℕ → Draw → List (List Bool) → Bool → Type 0
+HasDrawn sets n draw after grew = HasGained sets n (IsDrawn sets draw) after grew
 
 -- set n had its turn: it got what it draws, or none of those that it draws from grew since the last
 pub record HadTurn (sets : List (List Bool)) (grown : List Bool) (n : ℕ) (draw : Draw)

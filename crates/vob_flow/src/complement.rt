@@ -4,7 +4,7 @@ ghost use Rattle.std.specs.Prelude.{◌≡◌, ◌≢◌, ◌↔◌, ℕ, ◌<�
 ghost use Rattle.vob.specs.Vobs.{AreOfLength, bits_of};
 ghost use Rattle.vob_flow.specs.Draws.{DrawsInside, FitsMask};
 ghost use Rattle.vob_flow.specs.Greatest.{AreGreatest, IsPassCount};
-ghost use Rattle.vob_flow.specs.SolveFaults.{IsBadLength, IsBadSet};
+ghost use Rattle.vob_flow.specs.SolveFaults.{AreSound, IsBadLength, IsBadSet};
 ghost use Rattle.vob_flow.specs.Turned.{AreLacking, AreNegated, AreTurned, HaveMasks, IsLacking};
 
 use crate::draw::{Draw, Mask};
@@ -83,10 +83,9 @@ fn solve_turned(
     ensures err { OnErr result (sets.new ≡ sets.old) }
 {
     let order = postorder(alloc, turned)?;
-    let mut sum = Vob::from_elem(alloc, false, places)?;
     let mut grown = Vob::from_elem(alloc, false, sets.len())?;
     turn_starts(sets, draws);
-    let passes = settle(sets, turned, &order, &mut sum, &mut grown);
+    let passes = settle(sets, turned, &order, places, &mut grown);
     negate_each(sets);
     Ok(passes)
 }
@@ -141,6 +140,7 @@ pub fn greatest(
     ensures err { OnErr result (sets.new ≡ sets.old) }
 
     // The sets are checked first, and memory is asked for only if there are sets.
+    ensures sound { OnOk result (AreSound places (bits_of sets.old) draws.now) }
     ensures bad_length { (n : ℕ) → (result ≡ Err (SolveError.BadLength n))
         ↔ IsBadLength places (bits_of sets.old) draws.now n }
     ensures bad_set { (n : ℕ) → (result ≡ Err (SolveError.BadSet n))

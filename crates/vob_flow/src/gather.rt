@@ -12,7 +12,7 @@ use crate::draw::Draw;
 use std::alloc::{AllocError, Global};
 use vob::Vob;
 
-/// Returns so many empty sets. Fails if memory runs out.
+/// Returns the given number of empty sets. Fails if memory runs out.
 pub(crate) fn empty_sets(alloc: Global, places: usize, count: usize) -> Result<Vec<Vob>, AllocError>
     ensures sets { IfOk result
         (λ sets. bits_of sets.items ≡ replicate count (replicate places false)) }

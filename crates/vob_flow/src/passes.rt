@@ -1,31 +1,45 @@
 //! Passes over sets that draw from one another. A pass looks again only at those sets that draw
 //! from one that grew since they were looked at.
-ghost use Rattle.std.specs.Prelude.{◌≡◌, ◌↔◌, ◌⊎◌, ℕ, ◌<◌, true, length, All, IsTrue};
-ghost use Rattle.vob_block.specs.Packing.{item};
+ghost use Rattle.std.specs.Prelude.{◌≡◌, ◌↔◌, ◌⊎◌, ◌<◌, length, All, IsTrue};
 ghost use Rattle.vob.specs.Vobs.{AreOfLength, bits_of};
-ghost use Rattle.vob_flow.specs.Draws.{AreLeast, DrawsInside, FitsMask, IsKept, TakePasses};
+ghost use Rattle.vob_flow.specs.Draws.{AreLeast, DrawsInside, FitsMask, TakePasses};
 ghost use Rattle.vob_flow.specs.Order.{IsOrder};
-ghost use Rattle.vob_flow.specs.Passes.{HadPass, HadTurn, HasDrawn, HasGrown};
+ghost use Rattle.vob_flow.specs.Passes.{HadPass, HadTurn, HasDrawn, HasGained, HasGrown, IsAdded, IsLetThrough};
 
 use crate::draw::{Draw, Mask};
-use crate::gather::gather;
 use vob::Vob;
 
-/// Leaves of a set what a mask lets through.
-fn apply(mask: &Mask<'_>, set: &mut Vob)
-    requires { FitsMask (length set.old.bits) mask.now }
-    ensures len { length set.new.bits ≡ length set.old.bits }
-    ensures each { (v : ℕ) → (item set.new.bits v ≡ true)
-        ↔ (IsKept mask.now v × (item set.old.bits v ≡ true)) }
+/// Adds to a set what a mask lets through of another, and returns whether that was more.
+fn add(set: &mut Vob, source: &Vob, mask: &Mask<'_>) -> bool
+    requires source { length source.now.bits ≡ length set.old.bits }
+    requires mask { FitsMask (length set.old.bits) mask.now }
+    ensures { IsAdded mask.now source.now.bits set.old.bits set.new.bits result }
 {
     match mask {
-        Mask::All => {}
-        Mask::Keep(kept) => {
-            set.and(kept);
-        }
-        Mask::Without(others) => {
-            set.and_not(others);
-        }
+        Mask::All => set.or(source),
+        Mask::Keep(kept) => set.or_and(source, kept),
+        Mask::Without(others) => set.or_and_not(source, others),
+    }
+}
+
+/// Adds to a set what a mask lets through of another of them, and returns whether that was more. From
+/// itself it gets nothing.
+fn add_from(sets: &mut [Vob], set: usize, source: usize, mask: &Mask<'_>, _places: usize) -> bool
+    requires set { set < length sets.old }
+    requires source { source < length sets.old }
+    requires mask { FitsMask _places mask.now }
+    requires long { AreOfLength _places (bits_of sets.old) }
+    ensures { HasGained (bits_of sets.old) set (IsLetThrough (bits_of sets.old) mask.now source)
+        (bits_of sets.new) result }
+{
+    if set < source {
+        let (low, high) = sets.split_at_mut(source);
+        add(&mut low[set], &high[0], mask)
+    } else if source < set {
+        let (low, high) = sets.split_at_mut(set);
+        add(&mut high[0], &low[source], mask)
+    } else {
+        false
     }
 }
 
@@ -35,21 +49,22 @@ fn draw_set(
     sets: &mut [Vob],
     set: usize,
     draw: &Draw<'_>,
-    sum: &mut Vob,
+    places: usize,
     _grown: &Vob,
     _first: bool,
 ) -> bool
     requires waits { IsTrue _first ⊎ HasGrown _grown.now.bits draw.now.from.now }
     requires set { set < length sets.old }
-    requires mask { FitsMask (length sum.old.bits) draw.now.mask }
+    requires mask { FitsMask places draw.now.mask }
     requires from { DrawsInside (length sets.old) draw.now }
-    requires long { AreOfLength (length sum.old.bits) (bits_of sets.old) }
-    ensures len { length sum.new.bits ≡ length sum.old.bits }
-    ensures drawn { HasDrawn (bits_of sets.old) set draw.now (bits_of sets.new) result }
+    requires long { AreOfLength places (bits_of sets.old) }
+    ensures { HasDrawn (bits_of sets.old) set draw.now (bits_of sets.new) result }
 {
-    gather(sum, draw.from, sets);
-    apply(&draw.mask, sum);
-    sets[set].or(sum)
+    let mut grew = false;
+    for source in draw.from {
+        grew |= add_from(sets, set, *source, &draw.mask, places);
+    }
+    grew
 }
 
 /// Whether one of the sets with these numbers grew.
@@ -62,18 +77,17 @@ fn any_grown(from: &[usize], grown: &Vob) -> bool
 
 /// Gives a set its turn: in the first pass, and where one that it draws from grew since its last
 /// turn, it gets what it draws. `grown` has a bit for each set: whether it grew at its latest turn.
-fn turn(sets: &mut [Vob], set: usize, draw: &Draw<'_>, sum: &mut Vob, grown: &mut Vob, first: bool)
+fn turn(sets: &mut [Vob], set: usize, draw: &Draw<'_>, places: usize, grown: &mut Vob, first: bool)
     requires set { set < length sets.old }
-    requires mask { FitsMask (length sum.old.bits) draw.now.mask }
+    requires mask { FitsMask places draw.now.mask }
     requires from { DrawsInside (length sets.old) draw.now }
-    requires long { AreOfLength (length sum.old.bits) (bits_of sets.old) }
+    requires long { AreOfLength places (bits_of sets.old) }
     requires grown { length grown.old.bits ≡ length sets.old }
-    ensures len { length sum.new.bits ≡ length sum.old.bits }
-    ensures turned { HadTurn (bits_of sets.old) grown.old.bits set draw.now first
+    ensures { HadTurn (bits_of sets.old) grown.old.bits set draw.now first
         (bits_of sets.new) grown.new.bits }
 {
     let looks = first || any_grown(draw.from, grown);
-    let grew = looks && draw_set(sets, set, draw, sum, grown, first);
+    let grew = looks && draw_set(sets, set, draw, places, grown, first);
     grown.set(set, grew);
 }
 
@@ -82,22 +96,21 @@ fn pass(
     sets: &mut [Vob],
     draws: &[Draw<'_>],
     order: &[usize],
-    sum: &mut Vob,
+    places: usize,
     grown: &mut Vob,
     first: bool,
 ) -> bool
     requires count { length draws.now ≡ length sets.old }
-    requires masks { All (λ draw. FitsMask (length sum.old.bits) draw.mask) draws.now }
+    requires masks { All (λ draw. FitsMask places draw.mask) draws.now }
     requires from { All (DrawsInside (length sets.old)) draws.now }
-    requires long { AreOfLength (length sum.old.bits) (bits_of sets.old) }
+    requires long { AreOfLength places (bits_of sets.old) }
     requires order { IsOrder (length draws.now) order.now }
     requires grown { length grown.old.bits ≡ length sets.old }
-    ensures len { length sum.new.bits ≡ length sum.old.bits }
-    ensures passed { (one : IsOrder (length draws.now) order.now) → HadPass one.place draws.now first
+    ensures { (one : IsOrder (length draws.now) order.now) → HadPass one.place draws.now first
         (bits_of sets.old) grown.old.bits (bits_of sets.new) grown.new.bits result }
 {
     for set in order {
-        turn(sets, *set, &draws[*set], sum, grown, first);
+        turn(sets, *set, &draws[*set], places, grown, first);
     }
     grown.any()
 }
@@ -107,23 +120,21 @@ pub(crate) fn settle(
     sets: &mut [Vob],
     draws: &[Draw<'_>],
     order: &[usize],
-    sum: &mut Vob,
+    places: usize,
     grown: &mut Vob,
 ) -> u128
     requires count { length draws.now ≡ length sets.old }
-    requires masks { All (λ draw. FitsMask (length sum.old.bits) draw.mask) draws.now }
+    requires masks { All (λ draw. FitsMask places draw.mask) draws.now }
     requires from { All (DrawsInside (length sets.old)) draws.now }
-    requires long { AreOfLength (length sum.old.bits) (bits_of sets.old) }
+    requires long { AreOfLength places (bits_of sets.old) }
     requires order { IsOrder (length draws.now) order.now }
     requires grown { length grown.old.bits ≡ length sets.old }
     ensures least { AreLeast draws.now (bits_of sets.old) (bits_of sets.new) }
     ensures passes { TakePasses (bits_of sets.old) (bits_of sets.new) result }
 {
-    // The places fit a usize, and so the passes a u128.
-    let _places = sum.len();
     let mut passes = 1;
     let mut first = true;
-    'passes: while pass(sets, draws, order, sum, grown, first) {
+    'passes: while pass(sets, draws, order, places, grown, first) {
         first = false;
         passes += 1;
     }

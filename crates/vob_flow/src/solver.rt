@@ -2,7 +2,7 @@
 ghost use Rattle.std.specs.Prelude.{◌≡◌, ◌≢◌, ◌↔◌, ℕ, ◌<◌, [], length, All, Err, IfOk, IsOk, OnErr, OnOk};
 ghost use Rattle.vob.specs.Vobs.{AreOfLength, bits_of};
 ghost use Rattle.vob_flow.specs.Draws.{AreLeast, DrawsInside, FitsMask, TakePasses};
-ghost use Rattle.vob_flow.specs.SolveFaults.{IsBadLength, IsBadSet};
+ghost use Rattle.vob_flow.specs.SolveFaults.{AreSound, IsBadLength, IsBadSet};
 
 use crate::draw::Draw;
 use crate::faults::{SolveError, check_sets};
@@ -31,9 +31,8 @@ pub(crate) fn solve(
         return Ok(0);
     }
     let order = postorder(alloc, draws)?;
-    let mut sum = Vob::from_elem(alloc, false, places)?;
     let mut grown = Vob::from_elem(alloc, false, sets.len())?;
-    Ok(settle(sets, draws, &order, &mut sum, &mut grown))
+    Ok(settle(sets, draws, &order, places, &mut grown))
 }
 
 /// Adds to each set what its mask lets through of the sets that it draws from, until none grows.
@@ -55,6 +54,7 @@ pub fn least(
     ensures err { OnErr result (sets.new ≡ sets.old) }
 
     // The sets are checked first, and memory is asked for only if there are sets.
+    ensures sound { OnOk result (AreSound places (bits_of sets.old) draws.now) }
     ensures bad_length { (n : ℕ) → (result ≡ Err (SolveError.BadLength n))
         ↔ IsBadLength places (bits_of sets.old) draws.now n }
     ensures bad_set { (n : ℕ) → (result ≡ Err (SolveError.BadSet n))

@@ -155,35 +155,3 @@ IsRowCombined-same rows i k same = record {
   };
   gains = record { same = λ off. refl; more = λ on. absurd (false≢true on) };
 }
-
--- the items in two parts
-module _ (items low high : List BitVector) (n : ℕ) (is : items ≡ low ++ high)
-    (count : length low ≡ n) where
-  -- a row of the first part
-  pub row_of-low : (i : ℕ) (d : BitVector) → i < n →
-      row_of (bits_of items) i ≡ (get_or low i d).bits
-  row_of-low i d inside =
-      row_of-items items i d (omega (arith, inside, count, ap length is, length-append low high))
-      ∙ ap (λ v. v.bits) (ap (λ xs. get_or xs i d) is
-      ∙ get_or_append_left low high d i (omega (arith, inside, count)))
-
-  -- the first row of the second
-  pub row_of-high : (d : BitVector) → n < length items →
-      row_of (bits_of items) n ≡ (get_or high 0 d).bits
-  row_of-high d inside =
-      let none : n - n ≡ 0 = omega arith in
-      row_of-items items n d inside
-      ∙ ap (λ v. v.bits) (ap (λ xs. get_or xs n d) is
-      ∙ get_or-append_right low high n n d count (omega arith) ∙ ap (λ k. get_or high k d) none)
-
-  pub set-low : (i : ℕ) (new : BitVector) → i < n → set low i new ++ high ≡ set items i new
-  set-low i new inside =
-      sym (set-append_left low high i new (omega (arith, inside, count)))
-      ∙ ap (λ xs. set xs i new) (sym is)
-
-  pub set-high : (new : BitVector) → low ++ set high 0 new ≡ set items n new
-  set-high new =
-      let none : 0 ≡ n - n = omega arith in
-      ap (λ k. low ++ set high k new) none
-      ∙ sym (set-append_right low high n n new count (omega arith))
-      ∙ ap (λ xs. set xs n new) (sym is)

@@ -19,6 +19,7 @@ impl Bits for BitSet {
             | Call::OrDropped
             | Call::AndNotDropped
             | Call::Matrix
+            | Call::Lists
             | Call::Clone
             | Call::Hash
             | Call::Equal

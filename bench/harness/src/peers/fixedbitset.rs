@@ -29,6 +29,7 @@ impl Bits for FixedBitSet {
             | Call::OrDropped
             | Call::AndNotDropped
             | Call::Matrix
+            | Call::Lists
             | Call::Clone
             | Call::Hash
             | Call::Equal

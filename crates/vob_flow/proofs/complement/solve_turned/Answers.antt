@@ -2,8 +2,8 @@
 use Rattle.std.proofs.Common.{◌∙◌, length, sym, subst}
 use Rattle.std.specs.List.{All}
 use Rattle.std.proofs.lemmas.List.{length-map}
-use Rattle.vob.specs.Vobs.{AreOfLength, bits_of}
-use Rattle.vob_flow.specs.Draws.{DrawsInside, FitsMask}
+use Rattle.vob.specs.Vobs.{bits_of}
+use Rattle.vob_flow.specs.Draws.{DrawsInside}
 use Rattle.vob_flow.proofs.GreatestLemmas.{AreGreatest-turned, IsPassCount-lacking, lacking_all, masks_beside, turned_from, turned_masks}
 use Rattle.vob_flow.proofs.complement.solve_turned.Goals as goal
 
@@ -28,9 +28,8 @@ settle-passes-requires-clause-count c =
 pub settle-passes-requires-clause-masks : goal.settle-passes-requires-clause-masks
 settle-passes-requires-clause-masks c =
     let sets = c.args.sets.now in
-    subst (λ n. All (λ draw. FitsMask n draw.mask) c.args.turned.now) (sym c.in_ok-sum.ensures.len)
-    (turned_masks c.args.places c.args.draws.now (bits_of sets) c.args.turned.now
-    (c.requires.count ∙ sym (length-map sets (λ v. v.bits))) c.requires.long c.requires.turned)
+    turned_masks c.args.places c.args.draws.now (bits_of sets) c.args.turned.now
+    (c.requires.count ∙ sym (length-map sets (λ v. v.bits))) c.requires.long c.requires.turned
 
 pub settle-passes-requires-clause-from : goal.settle-passes-requires-clause-from
 settle-passes-requires-clause-from c =
@@ -43,9 +42,8 @@ settle-passes-requires-clause-from c =
 pub settle-passes-requires-clause-long : goal.settle-passes-requires-clause-long
 settle-passes-requires-clause-long c =
     let sets = c.args.sets.now in
-    subst (λ n. AreOfLength n (bits_of c.turn_starts.new.sets)) (sym c.in_ok-sum.ensures.len)
-    (lacking_all c.args.places c.args.draws.now (bits_of sets) (bits_of c.turn_starts.new.sets)
-    (c.requires.count ∙ sym (length-map sets (λ v. v.bits))) c.requires.long c.turn_starts.ensures)
+    lacking_all c.args.places c.args.draws.now (bits_of sets) (bits_of c.turn_starts.new.sets)
+    (c.requires.count ∙ sym (length-map sets (λ v. v.bits))) c.requires.long c.turn_starts.ensures
 
 pub returns-clause-greatest : goal.returns-clause-greatest
 returns-clause-greatest c =

@@ -1,7 +1,7 @@
 -- A pass that goes on made a bit more true, of which there are only so many.
-use Rattle.std.proofs.Common.{length, ◌∙◌, ◌*◌, ◌≤◌, refl, sym, subst, arith}
+use Rattle.std.proofs.Common.{length, ◌∙◌, ◌*◌, ◌≤◌, refl, subst, arith}
 use Rattle.std.proofs.lemmas.List.{length-map}
-use Rattle.vob.specs.Vobs.{AreOfLength, bits_of, total_count}
+use Rattle.vob.specs.Vobs.{bits_of, total_count}
 use Rattle.vob.proofs.VobsLemmas.{total_count_at_most}
 use Rattle.vob_flow.proofs.PassLemmas.{AreMore-refl, AreMore-trans, shape_long, product_fits}
 use Rattle.vob_flow.proofs.UnderwayLemmas.{AreUnderway-start, AreUnderway-done, AreLeast-done}
@@ -9,7 +9,6 @@ use Rattle.vob_flow.proofs.passes.settle.Goals as goal
 
 pub passes-init : goal.passes-init
 passes-init c = record {
-  len = refl;
   grown_len = refl;
   sets_more = AreMore-refl (bits_of c.args.sets.now);
   underway = λ one. AreUnderway-start one.place c.args.draws.now (bits_of c.args.sets.now)
@@ -21,41 +20,39 @@ passes-init c = record {
 
 pub pass-requires-clause-long : goal.pass-requires-clause-long
 pass-requires-clause-long c =
-    subst (λ n. AreOfLength n (bits_of c.passes.sets)) (sym c.passes.invariant.len)
-    (shape_long _ _ _ c.passes.invariant.sets_more.shape c.requires.long)
+    shape_long _ _ _ c.passes.invariant.sets_more.shape c.requires.long
 
 -- at most as many bits are true as there are places
 few_true : (c : goal.In-passes) → total_count (bits_of c.pass.new.sets)
-    ≤ length c.args.sets.now * length c.args.sum.now.bits
+    ≤ length c.args.sets.now * c.args.places
 few_true c =
-    let passed = c.pass.ensures.passed c.requires.order in
+    let passed = c.pass.ensures c.requires.order in
     let more = AreMore-trans c.passes.invariant.sets_more passed.sets_more in
-    let long = shape_long (length c.args.sum.now.bits) _ (bits_of c.pass.new.sets) more.shape
+    let long = shape_long c.args.places _ (bits_of c.pass.new.sets) more.shape
     c.requires.long in
-    let most = total_count_at_most (length c.args.sum.now.bits) (bits_of c.pass.new.sets) long in
+    let most = total_count_at_most c.args.places (bits_of c.pass.new.sets) long in
     let count = more.shape.count ∙ length-map c.args.sets.now (λ v. v.bits) in
-    subst (λ n. total_count (bits_of c.pass.new.sets) ≤ n * length c.args.sum.now.bits) count most
+    subst (λ n. total_count (bits_of c.pass.new.sets) ≤ n * c.args.places) count most
 
 pub overflow_add-passes : goal.overflow_add-passes
 overflow_add-passes c =
-    let passed = c.pass.ensures.passed c.requires.order in
-    let fits = product_fits (length c.args.sets.now) (length c.args.sum.now.bits) (omega arith)
-    (omega (arith, c.len-places.ensures.len)) in
+    let passed = c.pass.ensures c.requires.order in
+    let fits = product_fits (length c.args.sets.now) c.args.places (omega arith)
+    (omega arith) in
     omega (arith, fits, few_true c, passed.more c.passes-test.true, c.passes.invariant.most)
 
 pub passes-smaller : goal.passes-smaller
 passes-smaller c =
-    let passed = c.pass.ensures.passed c.requires.order in
+    let passed = c.pass.ensures c.requires.order in
     omega (arith, few_true c, passed.more c.passes-test.true)
 
 pub passes-preserved : goal.passes-preserved
 passes-preserved c =
-    let passed = c.pass.ensures.passed c.requires.order in
+    let passed = c.pass.ensures c.requires.order in
     record {
-      len = c.pass.ensures.len ∙ c.passes.invariant.len;
       grown_len = passed.len ∙ c.passes.invariant.grown_len;
       sets_more = AreMore-trans c.passes.invariant.sets_more passed.sets_more;
-      underway = λ one. (c.pass.ensures.passed one).underway _ (c.passes.invariant.underway one);
+      underway = λ one. (c.pass.ensures one).underway _ (c.passes.invariant.underway one);
       most = omega (arith, passed.more c.passes-test.true, c.passes.invariant.most);
       one_more = omega arith;
       one_pass = λ e. absurd (omega (arith, e, c.passes.invariant.one_more));
@@ -63,13 +60,13 @@ passes-preserved c =
 
 pub returns-clause-least : goal.returns-clause-least
 returns-clause-least c =
-    let passed = c.pass.ensures.passed c.requires.order in
+    let passed = c.pass.ensures c.requires.order in
     let under = passed.underway _ (c.passes.invariant.underway c.requires.order) in
     AreLeast-done under (AreUnderway-done under (passed.none c.passes-test.false))
 
 pub returns-clause-passes : goal.returns-clause-passes
 returns-clause-passes c =
-    let passed = c.pass.ensures.passed c.requires.order in
+    let passed = c.pass.ensures c.requires.order in
     record {
       most = omega (arith, c.passes.invariant.most, passed.sets_more.total);
       no_pass = λ none. absurd (omega (arith, none, c.passes.invariant.one_more));

@@ -8,7 +8,6 @@ use Rattle.vob_flow.proofs.passes.settle.Given as goal
 abbrev pub invariant-passes : goal.invariant-passes
 invariant-passes l =
     record {
-      len : length l.sum.bits ≡ length l.fn.sum.bits;
       grown_len : length l.grown.bits ≡ length l.fn.grown.bits;
       sets_more : AreMore (bits_of l.fn.sets) (bits_of l.sets);
       underway : (one : IsOrder (length l.draws) l.order) → AreUnderway one.place l.draws
@@ -20,4 +19,4 @@ invariant-passes l =
 
 abbrev pub decreases-passes : goal.decreases-passes
 decreases-passes l =
-    length l.fn.sets * length l.fn.sum.bits - total_count (bits_of l.sets)
+    length l.fn.sets * l.fn.places - total_count (bits_of l.sets)
