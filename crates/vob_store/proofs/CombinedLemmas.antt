@@ -1,10 +1,11 @@
 -- Blocks combined one after another: how many places are true so far, and whether one is.
+use Rattle.std.specs.Prelude.{Some, slice_get}
 use Rattle.std.specs.List.{range_with_len}
 use Rattle.std.proofs.Common.{◌≡◌, ◌↔◌, ℕ, zero, suc, ◌+◌, ◌-◌, ◌*◌, ◌/◌, ◌%◌, ◌^◌, ◌<◌, ◌≤◌, Bool}
-use Rattle.std.proofs.Common.{◌||◌, cond, List, All, length, get_or, count_by, refl, sym, ap, ◌∙◌}
-use Rattle.std.proofs.Common.{subst, arith, inl, inr, add-mul, mod-lt}
+use Rattle.std.proofs.Common.{◌||◌, cond, List, All, length, map, get_or, count_by, refl, sym, ap}
+use Rattle.std.proofs.Common.{◌∙◌, subst, arith, inl, inr, add-mul, mod-lt, div-add-mod'}
 use Rattle.std.proofs.lemmas.Bool.{cases_eq}
-use Rattle.std.proofs.lemmas.List.{ext_get_or}
+use Rattle.std.proofs.lemmas.List.{ext_get_or, get_or-map}
 use Rattle.std.proofs.lemmas.List.Elements.{All-get_or}
 use Rattle.std.proofs.lemmas.List.Sums.{sum_by-cons}
 use Rattle.std.proofs.lemmas.Nat.{div-mul-add, mul-le, pow_pos}
@@ -13,7 +14,8 @@ use Rattle.vob_block.specs.Packing.{bit_at}
 use Rattle.vob_block.specs.Pointwise.{differ}
 use Rattle.vob_block.proofs.BoolLemmas.{same_from_differ, differ-same}
 use Rattle.vob_block.proofs.KernelLemmas.{or-zero, zero-or}
-use Rattle.vob_block.proofs.PackingLemmas.{bit_at-in_block, bit_at-is_place}
+use Rattle.vob_block.proofs.NumberLemmas.{number_read}
+use Rattle.vob_block.proofs.PackingLemmas.{bit_at-in_block}
 use Rattle.vob_block.proofs.PlaceLemmas.{same_from_places, place-zero}
 use Rattle.vob_store.specs.Combined.{combined_bit, ones_combined, HaveNone}
 
@@ -58,15 +60,9 @@ count-split p a (suc n) m =
     omega (arith, first, count-split p (a + 1) n m, last, part)
 
 module _ (f : Bool → Bool → Bool) (w : ℕ) (xs ys : List ℕ) where
-  -- the places of a block that both combined make are the bits there
-  pub combined-in_block : (k x y z : ℕ) → x ≡ get_or xs k 0 → y ≡ get_or ys k 0
-      → HasPlaces w z (λ j. f (place j x) (place j y)) → (j : ℕ) → j < w
-      → combined_bit f w xs ys (k * w + j) ≡ place j z
-  combined-in_block k x y z is its places j less =
-      ap (λ b. f b (bit_at ys w (k * w + j)))
-      (bit_at-in_block xs w k j less ∙ ap (place j) (sym is))
-      ∙ ap (f (place j x)) (bit_at-in_block ys w k j less ∙ ap (place j) (sym its))
-      ∙ sym (places.each j less)
+  -- z has the places of block k of both combined
+  pub record IsBlock (k z : ℕ) : Type 0 where
+    pub each : (j : ℕ) → j < w → combined_bit f w xs ys (k * w + j) ≡ place j z
 
   -- ---- how many
 
@@ -77,11 +73,10 @@ module _ (f : Bool → Bool → Bool) (w : ℕ) (xs ys : List ℕ) where
       ap (λ n. count_by (combined_bit f w xs ys) (range_with_len 0 n)) nothing
 
   -- one block more
-  pub ones_combined-more : (k x y z : ℕ) → x ≡ get_or xs k 0 → y ≡ get_or ys k 0
-      → HasPlaces w z (λ j. f (place j x) (place j y))
+  pub ones_combined-more : (k z : ℕ) → IsBlock k z
       → ones_combined f w xs ys (k + 1) ≡ ones_combined f w xs ys k + true_places w z
   unfolding ones_combined true_places
-  ones_combined-more k x y z is its places =
+  ones_combined-more k z here =
       let p = combined_bit f w xs ys in
       let whole : (k + 1) * w ≡ k * w + w = omega (arith, add-mul k 1 w) in
       let block : count_by p (range_with_len (0 + k * w) w)
@@ -89,7 +84,7 @@ module _ (f : Bool → Bool → Bool) (w : ℕ) (xs ys : List ℕ) where
       count-along p (λ j. place j z) (0 + k * w) 0 w (λ j less.
       let at : 0 + k * w + j ≡ k * w + j = omega arith in
       let there : j ≡ 0 + j = omega arith in
-      ap p at ∙ combined-in_block k x y z is its places j less ∙ ap (λ i. place i z) there) in
+      ap p at ∙ here.each j less ∙ ap (λ i. place i z) there) in
       ap (λ n. count_by p (range_with_len 0 n)) whole ∙ count-split p 0 (k * w) w
       ∙ ap (λ n. count_by p (range_with_len 0 (k * w)) + n) block
 
@@ -107,6 +102,17 @@ module _ (f : Bool → Bool → Bool) (w : ℕ) (xs ys : List ℕ) where
 
   -- ---- whether there is one
 
+  -- a block more that has none
+  pub HaveNone-next : 0 < w → (from k z : ℕ) → IsBlock k z → HaveNone f w from k xs ys → z ≡ 0
+      → HaveNone f w from (k + 1) xs ys
+  HaveNone-next wide from k z here h none i above below = elim (cases_eq (i / w) k) [
+    | inl at ↦
+        let whole : k * w + i % w ≡ i = ap (λ q. q * w + i % w) (sym at) ∙ div-add-mod' i w in
+        ap (combined_bit f w xs ys) (sym whole) ∙ here.each (i % w) (mod-lt i wide)
+        ∙ ap (place (i % w)) none ∙ place-zero (i % w)
+    | inr other ↦ h i above (omega arith)
+  ]
+
   -- blocks from one on, combined and gathered in a block that is 0 exactly where they have none
   pub record IsFound (from k found : ℕ) : Type 0 where
     pub small : found < 2 ^ w
@@ -120,45 +126,49 @@ module _ (f : Bool → Bool → Bool) (w : ℕ) (xs ys : List ℕ) where
     zero = λ _. e;
   }
 
-  module _ (wide : 0 < w) (from k found : ℕ) (h : IsFound from k found) (order : from ≤ k)
-      (x y z after : ℕ) (is : x ≡ get_or xs k 0) (its : y ≡ get_or ys k 0) (z-in : z < 2 ^ w)
-      (after-in : after < 2 ^ w) (places : HasPlaces w z (λ j. f (place j x) (place j y)))
+  module _ (from k found z after : ℕ) (h : IsFound from k found) (order : from ≤ k)
+      (here : IsBlock k z) (z-in : z < 2 ^ w) (after-in : after < 2 ^ w)
       (packed : HasPlaces w after (λ j. place j found || place j z)) where
-    none_more : after ≡ 0 → HaveNone f w from (k + 1) xs ys
-    none_more e i above below =
+    none_more : 0 < w → after ≡ 0 → HaveNone f w from (k + 1) xs ys
+    none_more wide e i above below =
         let parts = or-zero w found z after h.small z-in packed e in
-        elim (cases_eq (i / w) k) [
-          | inl here ↦
-              ap (λ b. f b (bit_at ys w i)) (bit_at-is_place xs w i
-              ∙ ap (λ q. place (i % w) (get_or xs q 0)) here ∙ ap (place (i % w)) (sym is))
-              ∙ ap (f (place (i % w) x)) (bit_at-is_place ys w i
-              ∙ ap (λ q. place (i % w) (get_or ys q 0)) here ∙ ap (place (i % w)) (sym its))
-              ∙ sym (places.each (i % w) (mod-lt i wide)) ∙ ap (place (i % w)) parts.1
-              ∙ place-zero (i % w)
-          | inr other ↦ h.none parts.0 i above (omega arith)
-        ]
+        HaveNone-next wide from k z here (h.none parts.0) parts.1 i above below
 
     zero_more : HaveNone f w from (k + 1) xs ys → after ≡ 0
     zero_more all =
         let earlier = h.zero (λ i above below. all i above (omega arith)) in
         let this : z ≡ 0 = same_from_places w z 0 z-in (pow_pos w) (λ j less.
         let at : (k * w + j) / w ≡ k = div-mul-add k w j less in
-        sym (combined-in_block k x y z is its places j less)
+        sym (here.each j less)
         ∙ all (k * w + j) (omega (arith, at, order)) (omega (arith, at)) ∙ sym (place-zero j)) in
         zero-or w found z after after-in packed earlier this
 
-    pub IsFound-more : IsFound from (k + 1) after
-    IsFound-more = record { small = after-in; none = none_more; zero = zero_more }
+    pub IsFound-more : 0 < w → IsFound from (k + 1) after
+    IsFound-more wide = record { small = after-in; none = none_more wide; zero = zero_more }
 
   -- one block alone
-  pub HaveNone-alone : 0 < w → (x y z : ℕ) → x ≡ get_or xs 0 0 → y ≡ get_or ys 0 0 → z < 2 ^ w
-      → HasPlaces w z (λ j. f (place j x) (place j y)) → (z ≡ 0) ↔ HaveNone f w 0 1 xs ys
-  HaveNone-alone wide x y z is its z-in places =
+  pub HaveNone-alone : 0 < w → (z : ℕ) → IsBlock 0 z → z < 2 ^ w
+      → (z ≡ 0) ↔ HaveNone f w 0 1 xs ys
+  HaveNone-alone wide z here z-in =
       let packed : HasPlaces w z (λ j. place j 0 || place j z) =
       record { each = λ j _. sym (ap (λ b. b || place j z) (place-zero j)) } in
-      let found = IsFound-more wide 0 0 0 (IsFound-start 0 0 refl) (omega arith) x y z z is its
-      z-in z-in places packed in
+      let found = IsFound-more 0 0 0 z z (IsFound-start 0 0 refl) (omega arith) here z-in z-in
+      packed wide in
       (found.none, found.zero)
+
+-- the block that two read make
+module _ {X : Type 0} (number : X → ℕ) (f : Bool → Bool → Bool) (w : ℕ) (own others : List X) where
+  pub IsBlock-read : (k : ℕ) (x y : X) (z : ℕ) → x ≡ get_or own k x → k < length own
+      → slice_get others k ≡ Some y → HasPlaces w z (λ j. f (place j (number x)) (place j (number y)))
+      → IsBlock f w (map number own) (map number others) k z
+  IsBlock-read k x y z is inside its places = record {
+    each = λ j less. ap (λ b. f b (bit_at (map number others) w (k * w + j)))
+        (bit_at-in_block (map number own) w k j less
+        ∙ ap (place j) (get_or-map number own k x 0 inside ∙ ap number (sym is)))
+        ∙ ap (f (place j (number x))) (bit_at-in_block (map number others) w k j less
+        ∙ ap (place j) (sym (number_read number others k y its)))
+        ∙ sym (places.each j less);
+  }
 
 -- no place differs exactly if the blocks are the same
 module _ (w : ℕ) (wide : 0 < w) (xs ys : List ℕ) (same : length xs ≡ length ys)

@@ -4,21 +4,24 @@ use Rattle.std.proofs.lemmas.List.{take_at, length-map}
 use Rattle.vob_block.proofs.NeedLemmas.{lt-need}
 use Rattle.vob_store.proofs.BuildLemmas.{AreBuilt-upto}
 use Rattle.vob_store.proofs.FunnelLemmas.{start-le, need-le-tail, Stores-tail}
+use Rattle.vob_store.proofs.split.split_blocks.Given as given
 use Rattle.vob_store.proofs.split.split_blocks.Goals as goal
+use Rattle.vob_store.proofs.split.split_blocks.Goals.{After-BITS-width}
+
+start : (g : given.Over) (c : After-BITS-width g)
+    → c.args.at / c.BITS-width.result ≤ length c.args.blocks.now
+start g c = start-le g.T.BitBlock.number _ g.met.T.BitBlock.wide_law _ _ _ c.requires.count
+    c.requires.inside _ c.BITS-width.ensures
 
 pub offset_bounds-blocks-at : goal.offset_bounds-blocks-at
-offset_bounds-blocks-at g c = start-le g.T.BitBlock.number _ g.met.T.BitBlock.wide_law _ _ _
-    c.requires.count c.requires.inside _ c.BITS-width.ensures
+offset_bounds-blocks-at g c = start g (goal.at.offset_bounds-blocks-at g c).After-BITS-width
 
 pub slice_bounds-split_into-count : goal.slice_bounds-split_into-count
-slice_bounds-split_into-count g c = start-le g.T.BitBlock.number _ g.met.T.BitBlock.wide_law _ _ _
-    c.requires.count c.requires.inside _ c.BITS-width.ensures
+slice_bounds-split_into-count g c = start g (goal.at.slice_bounds-split_into-count g c).After-BITS-width
 
 pub slice_bounds-split_into-start : goal.slice_bounds-split_into-start
 slice_bounds-split_into-start g c =
-    let start : c.args.at / c.BITS-width.result ≤ length c.args.blocks.now =
-    start-le g.T.BitBlock.number _ g.met.T.BitBlock.wide_law _ _ _ c.requires.count
-    c.requires.inside _ c.BITS-width.ensures in
+    let first = start g (goal.at.slice_bounds-split_into-start g c).After-BITS-width in
     search rules
 
 pub split_into-requires-clause-some : goal.split_into-requires-clause-some
@@ -48,17 +51,9 @@ returns g c =
     let whole : length c.mask_last.new.blocks ≡ count =
     omega (arith, c.mask_last.auto.blocks, c.deref_mut-2.ensures.len) in
     let same = length-map moved number in
+    let made = c.block_count-count.ensures in
+    let kept = rw (c.deref_mut-2.ensures.value, take_at moved _ count long) at c.mask_last.ensures in
     rw (take_at c.mask_last.new.blocks _ count whole) (Stores-tail number _
     g.met.T.BitBlock.wide_law _ _ _ c.requires.count c.requires.inside _ c.BITS-width.ensures
-    (map number moved) _ (omega (
-      arith,
-      same,
-      long,
-      c.in_ok-resize.ensures.len,
-      c.block_count-count.ensures,
-    )) (AreBuilt-upto _ c.split_into.ensures (omega (
-      arith,
-      same,
-      c.split_into.auto.rest,
-    ))) (rw (c.deref_mut-2.ensures.value, take_at moved _ count long) at
-    c.mask_last.ensures))
+    (map number moved) _ (omega (arith, same, long, c.in_ok-resize.ensures.len, made)) (AreBuilt-upto _
+    c.split_into.ensures (omega (arith, same, c.split_into.auto.rest))) kept)
