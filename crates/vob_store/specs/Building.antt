@@ -1,5 +1,5 @@
 -- Blocks stored one by one so that they hold wanted bits. No public contract cites this page.
-use Rattle.std.specs.Prelude.{◌≡◌, ℕ, ◌+◌, ◌-◌, ◌/◌, ◌<◌, Bool, if◌then◌else◌, nat_lt, List}
+use Rattle.std.specs.Prelude.{◌≡◌, ℕ, ◌-◌, ◌/◌, ◌<◌, Bool, if◌then◌else◌, nat_lt, List}
 use Rattle.vob_block.specs.Packing.{bit_at}
 
 -- the first k blocks hold the wanted bits

@@ -1,6 +1,6 @@
 //! Blocks of which nothing is promised: whether they are canonical for a length, and the last one
 //! masked.
-ghost use Rattle.std.specs.Prelude.{◌≡◌, ◌==◌, ◌↔◌, map, length, IsTrue};
+ghost use Rattle.std.specs.Prelude.{◌≡◌, ◌↔◌, map, length, IsTrue};
 ghost use Rattle.vob_block.specs.Packing.{need, unpacking, IsCanonical, packing};
 
 use crate::mask::mask_last;

@@ -1,5 +1,5 @@
 //! Bits of one value: a block of them, all bits made it, and more of it appended.
-ghost use Rattle.std.specs.Prelude.{◌≡◌, ◌+◌, ◌-◌, ◌*◌, ◌^◌, ◌≤◌, ◌++◌, if◌then◌else◌, map, length, replicate, vec_capacity, IsOk, IfOk};
+ghost use Rattle.std.specs.Prelude.{◌≡◌, ◌-◌, ◌*◌, ◌^◌, ◌≤◌, ◌++◌, if◌then◌else◌, map, length, replicate, vec_capacity, IsOk, IfOk};
 ghost use Rattle.vob_block.specs.Packing.{need, unpacking, IsCanonical, Stores};
 
 use crate::last::extend_last;

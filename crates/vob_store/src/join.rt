@@ -1,6 +1,6 @@
 //! Joining: the bits of some blocks after those of others. Blocks are stored whole, each made of two
 //! neighbours if the offset lies within a block.
-ghost use Rattle.std.specs.Prelude.{◌≡◌, ◌≢◌, ◌+◌, ◌-◌, ◌*◌, ◌%◌, ◌<◌, ◌≤◌, ◌∷◌, map, length, vec_capacity};
+ghost use Rattle.std.specs.Prelude.{◌≡◌, ◌≢◌, ◌+◌, ◌*◌, ◌%◌, ◌<◌, ◌≤◌, ◌∷◌, map, length, vec_capacity};
 ghost use Rattle.vob_block.specs.Packing.{bit_at, IsCanonical};
 ghost use Rattle.vob_block.specs.Reading.{AreReadOnce};
 ghost use Rattle.vob_store.specs.Building.{AreBuilt, joined_bit};

@@ -1,5 +1,5 @@
 //! The last block, where bits stand in it and places are left.
-ghost use Rattle.std.specs.Prelude.{◌≡◌, ◌≢◌, ◌+◌, ◌-◌, ◌%◌, ◌≤◌, ◌++◌, List, Bool, map, length};
+ghost use Rattle.std.specs.Prelude.{◌≢◌, ◌+◌, ◌-◌, ◌%◌, ◌≤◌, ◌++◌, List, Bool, map, length};
 ghost use Rattle.vob_block.specs.Places.{HasPlaces};
 ghost use Rattle.vob_block.specs.Packing.{item, unpacking, IsCanonical, Stores};
 

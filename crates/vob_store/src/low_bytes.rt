@@ -2,7 +2,7 @@
 //! Bytes are then blocks of eight places.
 ghost use Rattle.std.specs.Prelude.{◌≡◌, ℕ, ◌+◌, ◌*◌, ◌^◌, ◌<◌, ◌≤◌, [], ◌++◌, length, slice_index_or, vec_capacity, IsOk, IfOk};
 ghost use Rattle.vob_block.specs.Places.{HasPlaces};
-ghost use Rattle.vob_block.specs.Packing.{item, need, bit_at, packing, unpacking, IsCanonical, Stores};
+ghost use Rattle.vob_block.specs.Packing.{need, bit_at, packing, unpacking, IsCanonical, Stores};
 
 use crate::bytes::eight_bytes;
 use std::alloc::{AllocError, Global};

@@ -1,6 +1,6 @@
 //! Bits moved within some blocks: those of a stretch written over those from another index on, as if
 //! all of them were read first.
-ghost use Rattle.std.specs.Prelude.{◌≡◌, ◌≢◌, ◌+◌, ◌*◌, ◌%◌, ◌^◌, ◌<◌, ◌≤◌, All, map, length};
+ghost use Rattle.std.specs.Prelude.{◌+◌, ◌*◌, ◌%◌, ◌^◌, ◌<◌, ◌≤◌, All, map, length};
 ghost use Rattle.vob_store.specs.Copying.{AreCopied};
 
 use crate::copy::{Stretch, bits_at, write_part};

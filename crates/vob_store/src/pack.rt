@@ -1,5 +1,5 @@
 //! Bits of a slice put into blocks: as many as a block holds are packed first, and then stored.
-ghost use Rattle.std.specs.Prelude.{◌≡◌, ◌≢◌, ◌+◌, ◌%◌, ◌^◌, ◌<◌, ◌≤◌, ◌++◌, map, length, take, vec_capacity, ◌-◌, [], IsOk, IfOk};
+ghost use Rattle.std.specs.Prelude.{◌≡◌, ◌≢◌, ◌+◌, ◌%◌, ◌^◌, ◌<◌, ◌≤◌, ◌++◌, map, length, take, vec_capacity, [], IsOk, IfOk};
 ghost use Rattle.vob_block.specs.Places.{HasPlaces};
 ghost use Rattle.vob_block.specs.Packing.{item, need, packing, unpacking, IsCanonical, Stores};
 

@@ -1,5 +1,5 @@
 //! Bits put in reverse order within some blocks: a block at a time from both ends.
-ghost use Rattle.std.specs.Prelude.{◌≡◌, ◌+◌, ◌-◌, ◌*◌, ◌^◌, ◌<◌, ◌≤◌, All, map, length};
+ghost use Rattle.std.specs.Prelude.{◌+◌, ◌-◌, ◌*◌, ◌^◌, ◌<◌, ◌≤◌, All, map, length};
 ghost use Rattle.vob_block.specs.Packing.{bit_at};
 ghost use Rattle.vob_block.specs.Places.{place, HasPlaces};
 ghost use Rattle.vob_store.specs.Reversing.{AreExchanged, AreReversed, IsHalvable};

@@ -1,5 +1,5 @@
 -- By the lemma on one block more.
-use Rattle.std.proofs.Common.{◌≡◌, ◌∙◌, ◌+◌, ◌||◌, map, length, refl, sym, ap, subst, ℕ, arith}
+use Rattle.std.proofs.Common.{◌≡◌, ◌∙◌, ◌||◌, map, length, refl, sym, ap, subst, ℕ, arith}
 use Rattle.std.proofs.lemmas.List.{length-map}
 use Rattle.vob_block.specs.Kernel.{Takes}
 use Rattle.vob_block.proofs.KernelLemmas.{Takes-none, IsCombined-taken}

@@ -1,5 +1,5 @@
 -- The blocks so far have what the others combine to, and each of these was read once.
-use Rattle.std.proofs.Common.{◌≡◌, ℕ, ◌^◌, ◌<◌, ◌||◌, List, map}
+use Rattle.std.proofs.Common.{◌≡◌, ℕ, ◌||◌, List, map}
 use Rattle.vob_block.specs.Kernel.{Takes}
 use Rattle.vob_block.specs.Pointwise.{IsPointwise}
 use Rattle.vob_store.proofs.fused.or_combined.Given as goal
