@@ -1,23 +1,23 @@
 -- The bits that a walk over runs sees, and the runs of bits that are the same at each index.
-use Rattle.std.specs.Prelude.{map, replicate}
+use Rattle.std.specs.Prelude.{◌/◌, map, replicate, slice_index_or}
 use Rattle.std.specs.declared.ops.Bound.{Bound}
 use Rattle.std.specs.declared.ops.Bound.TheVariants.{Included, Excluded}
 use Rattle.std.specs.declared.ops.Range.{Range}
 use Rattle.std.proofs.Common.{◌≡◌, ℕ, ◌+◌, ◌-◌, ◌<◌, ◌≤◌, Bool, true, false, ◌&&◌, not, List}
 use Rattle.std.proofs.Common.{length, drop, refl, sym, ap, ◌∙◌, arith, inl, inr, ◌↔◌, length-append}
 use Rattle.std.proofs.Common.{length-drop}
-use Rattle.std.proofs.lemmas.Bool.{cases_lt}
+use Rattle.std.proofs.lemmas.Bool.{cases_lt, false≢true}
 use Rattle.std.proofs.lemmas.List.{get_or_past, get_or-drop, get_or-map, length-map, map-id}
 use Rattle.std.proofs.lemmas.List.{length-replicate, get_or-replicate, get_or_append_left}
 use Rattle.std.proofs.lemmas.List.{get_or-append_right}
 use Rattle.std.proofs.lemmas.List.FromFn.{length-map-range_with_len, get_or-map-range_with_len}
-use Rattle.vob_block.specs.Packing.{item, packing, unpacking}
+use Rattle.vob_block.specs.Packing.{item, need, packing, unpacking}
 use Rattle.vob_block.proofs.PackingLemmas.{get_or-unpacking, length-unpacking}
 use Rattle.vob_walk.specs.Matches.{has_value, within, IsRangeOf}
-use Rattle.vob.specs.Runs.{AreRuns, IsMaximalRun, IsUnsetRun, kept, runs_of}
-use Rattle.vob.specs.RunSteps.{seen}
+use Rattle.vob.specs.Runs.{AreRuns, IsMaximalRun, IsOverRange, IsUnsetRun, kept, runs_of}
+use Rattle.vob.specs.RunSteps.{seen, IsOnRuns}
 use Rattle.vob.proofs.RangeLemmas.{within-there, within-before, within-behind}
-use Rattle.vob.proofs.RunListLemmas.{AreRuns-only}
+use Rattle.vob.proofs.RunListLemmas.{AreRuns-only, length-runs_from-le}
 use Rattle.vob.proofs.SelectLemmas.{inside}
 use Rattle.vob.proofs.SetsLemmas.{bit-in_blocks}
 
@@ -74,6 +74,29 @@ seen-all bits = map-id bits
 
 pub seen-negated : (bits : List Bool) → seen false 0 bits ≡ map not bits
 seen-negated bits = refl
+
+-- no more runs than bits
+pub length-runs_of-seen : (value : Bool) (first n : ℕ) (xs : List ℕ) (w : ℕ) → first ≤ n
+    → length (runs_of (seen value first (unpacking n xs w))) ≤ n
+length-runs_of-seen value first n xs w order =
+    let long = length-unpacking n xs w in
+    let all = length-seen value first (unpacking n xs w) (omega (arith, long, order)) in
+    omega (arith, long, all, length-runs_from-le (seen value first (unpacking n xs w)) 0)
+
+-- a walk before its first step: no bit below the start of its range is seen set
+pub IsOnRuns-start : (value : Bool) {w first n hand : ℕ} (xs : List ℕ) → need n w ≤ length xs
+    → first ≤ n → (0 < first → first < n → hand ≡ slice_index_or xs (first / w) 0)
+    → IsOnRuns w xs (seen value first (unpacking n xs w)) n first 0 first hand
+IsOnRuns-start value {w} {first} {n} xs count order held = record {
+  count = count;
+  within = order;
+  begun = omega arith;
+  order = omega arith;
+  passed = λ i above below same.
+      false≢true (sym (seen-below value first (unpacking n xs w) i below) ∙ same);
+  ended = λ some. absurd (omega arith);
+  held = held;
+}
 
 -- ---- a run of the bits negated
 
@@ -203,15 +226,18 @@ module _ (w : ℕ) (wide : 0 < w) (bits : List Bool) (xs : List ℕ) (blocks : x
     same_below i below =
         get_or-unpacking stop xs w i false below ∙ bit-in_blocks w wide bits xs blocks i
 
-    pub each-in_blocks : (i : ℕ) → item (seen true start (unpacking stop xs w)) i
-        ≡ item (kept low high bits) i
-    each-in_blocks =
-        seen-kept bits range (unpacking stop xs w) (length-unpacking stop xs w) same_below
-
-    pub runs-in_blocks : runs_of (seen true start (unpacking stop xs w))
-        ≡ runs_of (kept low high bits)
-    runs-in_blocks =
-        runs_of-kept bits range (unpacking stop xs w) (length-unpacking stop xs w) same_below
+    -- so a walk from the start on is over the bits that the range keeps
+    pub IsOverRange-blocks : (reads left : ℕ) → IsOverRange low high bits record {
+      rest = runs_of (seen true start (unpacking stop xs w));
+      bits = seen true start (unpacking stop xs w);
+      at = 0;
+      reads = reads;
+      left = left;
+    }
+    IsOverRange-blocks reads left = record {
+      rest = runs_of-kept bits range (unpacking stop xs w) (length-unpacking stop xs w) same_below;
+      each = seen-kept bits range (unpacking stop xs w) (length-unpacking stop xs w) same_below;
+    }
 
 pub IsRangeOf-itself : (len start stop : ℕ) → start ≤ stop → stop ≤ len
     → IsRangeOf (Included start) (Excluded stop) len start stop

@@ -7,27 +7,14 @@ use Rattle.vob.specs.RunSteps.{seen}
 use Rattle.vob.specs.Runs.{runs_from}
 use Rattle.vob.proofs.RunListLemmas.{length-runs_from-le}
 use Rattle.vob.proofs.RunsLemmas.{runs_in_order}
-use Rattle.vob.proofs.SeenLemmas.{seen-all}
+use Rattle.vob.proofs.SeenLemmas.{IsOnRuns-start, seen-all}
 use Rattle.vob.proofs.SetsLemmas.{enough_blocks}
 use Rattle.vob.proofs.vob.Vob.runs.Goals as goal
 
 pub invariant_of-result : goal.invariant_of-result
-invariant_of-result g c =
-    let items = c.blocks-2.result.items in
-    record {
-      count = omega (
-        arith,
-        enough_blocks g.T.BitBlock.BITS g.met.T.BitBlock.wide_law g.T.BitBlock.number items
-            c.args.self.now.bits c.len.result c.blocks-2.ensures.blocks c.len.ensures.len,
-        length-map items g.T.BitBlock.number,
-      );
-      within = omega arith;
-      begun = omega arith;
-      order = omega arith;
-      passed = λ i above below. absurd (omega arith);
-      ended = λ some. absurd (omega arith);
-      held = λ some. absurd (omega arith);
-    }
+invariant_of-result g c = IsOnRuns-start true _ (rw length-map (enough_blocks g.T.BitBlock.BITS
+    g.met.T.BitBlock.wide_law g.T.BitBlock.number _ c.args.self.now.bits _ c.blocks-2.ensures.blocks
+    c.len.ensures.len)) (omega arith) (λ some. absurd (omega arith))
 
 pub returns-clause-bits : goal.returns-clause-bits
 returns-clause-bits g c = rw (c.blocks-2.ensures.blocks, c.len.ensures.len)
