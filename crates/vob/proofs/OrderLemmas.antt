@@ -7,7 +7,7 @@ use Rattle.std.specs.Cmp.Lexicographic.{slice_cmp}
 use Rattle.std.proofs.Common.{◌≡◌, ◌≢◌, ℕ, zero, suc, ◌/◌, ◌<◌, ◌≤◌, max, min, nat_lt, nat_eq, Bool, true, false, not, List}
 use Rattle.std.proofs.Common.{[], ◌∷◌, cond, length, map, take, refl, sym, ap, ◌∙◌, arith, inl, inr}
 use Rattle.std.proofs.lemmas.Bool.{cases_lt, cases_eq, cond-true, cond-false, false≢true, lt-ltb, le-ltb, eq-eqb, ne_eqb}
-use Rattle.std.proofs.lemmas.List.{get_or_past, length-take-le, take-map}
+use Rattle.std.proofs.lemmas.List.{get_or_past, length-map, length-take-le, take-map}
 use Rattle.vob_block.specs.Packing.{item, need, bit_at, unpacking, IsCanonical}
 use Rattle.vob_block.specs.Pointwise.{differ}
 use Rattle.vob_block.proofs.BoolLemmas.{differ-same, same_from_differ}
@@ -38,14 +38,19 @@ module _ (bits others : List Bool) where
 
 -- ---- the blocks of two lists, as many as the shorter one needs
 
+-- fewer bits need no more blocks than there are
+pub count-le : {X : Type 0} (number : X → ℕ) (w : ℕ) → 0 < w → {n k j : ℕ} (items : List X)
+    → IsCanonical n (map number items) w → j ≤ n → k ≡ need j w → k ≤ length items
+count-le number w wide {n} {k} {j} items own order count =
+    omega (arith, count, own.count, need-le-need w wide j n order, length-map items number)
+
 -- the first place where these differ is where the lists do, if it is within both
-pub record DecideFirst (w n m : ℕ) (xs ys : List ℕ) (bits others : List Bool) (k : ℕ) : Type 0 where
-  pub counts : (k ≤ length xs) × (k ≤ length ys)
-  pub below : (i : ℕ) → combined_bit differ w (take k xs) (take k ys) i ≡ true → i < max n m
-  pub none : HaveNone differ w 0 k (take k xs) (take k ys) → IsDifference bits others None
-  pub inside : (i : ℕ) → IsFirstCombined differ w (take k xs) (take k ys) i → i < min n m
+pub record DecideFirst (w n m k : ℕ) (xs ys : List ℕ) (bits others : List Bool) : Type 0 where
+  pub below : (i : ℕ) → combined_bit differ w xs ys i ≡ true → i < max n m
+  pub none : HaveNone differ w 0 k xs ys → IsDifference bits others None
+  pub inside : (i : ℕ) → IsFirstCombined differ w xs ys i → i < min n m
       → IsDifference bits others (Some i)
-  pub past : (i : ℕ) → IsFirstCombined differ w (take k xs) (take k ys) i → min n m ≤ i
+  pub past : (i : ℕ) → IsFirstCombined differ w xs ys i → min n m ≤ i
       → IsDifference bits others None
 
 module _ (w : ℕ) (wide : 0 < w) (n m : ℕ) (xs ys : List ℕ) (bits others : List Bool)
@@ -111,9 +116,8 @@ module _ (w : ℕ) (wide : 0 < w) (n m : ℕ) (xs ys : List ℕ) (bits others : 
         let less : j < min n m = omega (arith, inside, theirs, long.0, long.1) in
         agree_below j less (first.before j (omega (arith, less, past))))
 
-  pub decide : DecideFirst w n m xs ys bits others k
+  pub decide : DecideFirst w n m k (take k xs) (take k ys) bits others
   decide = record {
-    counts = blocks-le;
     below = λ i h. (differs-below i h).1;
     none = none_found;
     inside = found_inside;
