@@ -36,6 +36,11 @@ kept_without vars flow set made v = (
   (λ without. false_from_ne_true (item set v) (λ on. without ((made.each v).0 on))),
 )
 
+pub reads_count : (vars : ℕ) (nodes : List Flow) (reads : List BitVector) →
+    AreReads vars nodes reads → length reads ≡ length nodes
+reads_count vars nodes reads r =
+    beside_length (λ flow set. IsMadeOf vars flow.reads.items set.bits) nodes reads r
+
 pub reads_long : (vars : ℕ) (nodes : List Flow) (reads : List BitVector) →
     AreReads vars nodes reads → AreOfLength vars (bits_of reads)
 reads_long vars nodes reads r =
@@ -69,9 +74,8 @@ module _ (vars : ℕ) (nodes : List Flow) (reads : List BitVector) (draws : List
       let set = beside_of (λ flow set. IsMadeOf vars flow.reads.items set.bits) nodes reads n flow r is in
       rw (bits_of_at reads n set.0 set.1) (set.2.each v)
 
-  reads_count : length (bits_of reads) ≡ length nodes
-  reads_count = length-map reads (λ set. set.bits)
-      ∙ beside_length (λ flow set. IsMadeOf vars flow.reads.items set.bits) nodes reads r
+  bits_count : length (bits_of reads) ≡ length nodes
+  bits_count = length-map reads (λ set. set.bits) ∙ reads_count vars nodes reads r
 
   module _ (before after : List (List Bool)) (least : Solved.AreLeast draws (bits_of reads) before)
       (g : AreGathered draws before after) where
@@ -102,7 +106,7 @@ module _ (vars : ℕ) (nodes : List Flow) (reads : List BitVector) (draws : List
         (s : IsSolution vars nodes others others_after) where
       come_in : {n v : ℕ} → Comes draws (bits_of reads) n v → IsIn others n v
       come_in {n} {v} (starts_in e) =
-          let flow = element_at nodes n (omega (arith, row_inside (bits_of reads) n v e, reads_count)) in
+          let flow = element_at nodes n (omega (arith, row_inside (bits_of reads) n v e, bits_count)) in
           (s.before_is n flow.0 flow.1 v).1 (inl ((read_is n flow.0 flow.1 v).0 e))
       come_in {n} {v} (drawn {m = m} draw is keeps (k, less, e) c) =
           let inside : n < length nodes =
@@ -136,7 +140,7 @@ module _ (vars : ℕ) (nodes : List Flow) (reads : List BitVector) (draws : List
         (reads_long vars nodes reads r)
 
     before_count : length before ≡ length nodes
-    before_count = least.solution.shape.count ∙ reads_count
+    before_count = least.solution.shape.count ∙ bits_count
 
     pub AreLive-least : (live : Live) → AreOfLength vars after →
         TakePasses (bits_of reads) before live.rounds → bits_of live.before.items ≡ before →
@@ -158,7 +162,7 @@ module _ (vars : ℕ) (nodes : List Flow) (reads : List BitVector) (draws : List
               (λ others others_after s. (before_within others others_after s, after_within others others_after s));
           rounds = omega (arith, passes.most, fit);
           no_round = λ none. nil_from_length nodes
-              (sym reads_count ∙ ap length (passes.no_pass none));
+              (sym bits_count ∙ ap length (passes.no_pass none));
           one_round = λ one. rw (b, passes.one_pass one)
               (λ n flow is v live. (read_is n flow is v).0 live);
         }
