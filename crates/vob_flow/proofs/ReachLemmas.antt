@@ -3,7 +3,7 @@ use Rattle.std.proofs.Common.{◌≡◌, ℕ, ◌+◌, ◌<◌, ◌⊎◌, Bool,
 use Rattle.std.proofs.Common.{List, [], ◌∷◌, ◌++◌, length, get_or, take, replicate, refl, sym, ap, ◌∙◌, subst, arith}
 use Rattle.std.specs.List.{All, Contains}
 use Rattle.std.proofs.lemmas.Bool.{cases_eq, false≢true}
-use Rattle.std.proofs.lemmas.List.{length_push, take_more}
+use Rattle.std.proofs.lemmas.List.{length-replicate, length_push, take_more}
 use Rattle.std.proofs.lemmas.List.Elements.{Contains-append_left, Contains-push, Contains-push_cases}
 use Rattle.vob_block.specs.Packing.{item}
 use Rattle.vob_block.specs.Pointwise.{differ}
@@ -115,12 +115,12 @@ module _ (nodes : List ℕ) (reached : List Bool) (waiting : List ℕ) (mid : Li
 
 pub AreOnTheWay-start : (next : List (List ℕ)) (from : List ℕ) (after : List Bool)
     (waits : List ℕ) → HaveEntered from (replicate (length next) false) [] after waits →
-    length after ≡ length next → AreOnTheWay next from after waits
-AreOnTheWay-start next from after waits h len =
+    AreOnTheWay next from after waits
+AreOnTheWay-start next from after waits h =
     let none : (n : ℕ) → item (replicate (length next) false) n ≡ true → ⊥ =
     λ n e. false≢true (sym (item_false (length next) n) ∙ e) in
     record {
-      len = len;
+      len = h.len ∙ length-replicate (length next) false;
       starts = h.given;
       reaches = λ n e. elim (h.only n e) [
         | inl old ↦ absurd (none n old)
