@@ -10,7 +10,7 @@ use Rattle.vob.specs.Sets.{HasBit}
 use Rattle.vob.specs.Vob.{BitVector}
 use Rattle.vob.specs.Vobs.{AreOfLength, bits_of, total_count}
 use Rattle.vob.proofs.BitsLemmas.{true_inside}
-use Rattle.vob.proofs.VobsLemmas.{of_length_at}
+use Rattle.vob.proofs.VobsLemmas.{of_length_at, total_count_at_most}
 use Rattle.vob_flow.specs.declared.draw.Draw.{Draw}
 use Rattle.vob_flow.specs.Draws.{HaveShape}
 use Rattle.vob_flow.specs.Order.{IsOrder}
@@ -55,6 +55,13 @@ shape_count starts sets h =
     sym (length-map sets (λ v. v.bits)) ∙ h.count ∙ length-map starts (λ v. v.bits)
 
 -- ---- how many passes there are
+
+-- at most as many bits are true as there are places
+pub few_true : (places : ℕ) (starts : List BitVector) {sets : List (List Bool)}
+    → AreMore (bits_of starts) sets → AreOfLength places (bits_of starts)
+    → total_count sets ≤ length starts * places
+few_true places starts more long = rw (← length-map starts (λ v. v.bits), ← more.shape.count)
+    (total_count_at_most places _ (shape_long _ _ _ more.shape long))
 
 pub product_fits : (n places : ℕ) → n < 2 ^ 64 → places < 2 ^ 64 → n * places + 1 < 2 ^ 128
 product_fits n places few small =

@@ -1,50 +1,36 @@
 -- A pass that goes on made a bit more true, of which there are only so many.
-use Rattle.std.proofs.Common.{length, ◌∙◌, ◌*◌, ◌≤◌, refl, subst, arith}
-use Rattle.std.proofs.lemmas.List.{length-map}
+use Rattle.std.proofs.Common.{length, ◌∙◌, ◌*◌, ◌≤◌, refl, arith}
 use Rattle.vob.specs.Vobs.{bits_of, total_count}
-use Rattle.vob.proofs.VobsLemmas.{total_count_at_most}
-use Rattle.vob_flow.proofs.PassLemmas.{AreMore-refl, AreMore-trans, shape_long, product_fits}
+use Rattle.vob_flow.proofs.PassLemmas.{AreMore-refl, AreMore-trans, few_true, shape_long, product_fits}
 use Rattle.vob_flow.proofs.UnderwayLemmas.{AreUnderway-start, AreUnderway-done, AreLeast-done}
 use Rattle.vob_flow.proofs.passes.settle.Goals as goal
 
 pub passes-init : goal.passes-init
 passes-init c = record {
   grown_len = refl;
-  sets_more = AreMore-refl (bits_of c.args.sets.now);
-  underway = λ one. AreUnderway-start one.place c.args.draws.now (bits_of c.args.sets.now)
-      c.args.grown.now.bits;
+  sets_more = AreMore-refl _;
+  underway = λ one. AreUnderway-start _ _ _ _;
   most = omega arith;
   one_more = omega arith;
   one_pass = λ _. refl;
 }
 
 pub pass-requires-clause-long : goal.pass-requires-clause-long
-pass-requires-clause-long c =
-    shape_long _ _ _ c.passes.invariant.sets_more.shape c.requires.long
+pass-requires-clause-long c = shape_long _ _ _ c.passes.invariant.sets_more.shape c.requires.long
 
--- at most as many bits are true as there are places
-few_true : (c : goal.In-passes) → total_count (bits_of c.pass.new.sets)
+few : (c : goal.In-passes) → total_count (bits_of c.pass.new.sets)
     ≤ length c.args.sets.now * c.args.places
-few_true c =
-    let passed = c.pass.ensures c.requires.order in
-    let more = AreMore-trans c.passes.invariant.sets_more passed.sets_more in
-    let long = shape_long c.args.places _ (bits_of c.pass.new.sets) more.shape
-    c.requires.long in
-    let most = total_count_at_most c.args.places (bits_of c.pass.new.sets) long in
-    let count = more.shape.count ∙ length-map c.args.sets.now (λ v. v.bits) in
-    subst (λ n. total_count (bits_of c.pass.new.sets) ≤ n * c.args.places) count most
+few c = few_true _ _ (AreMore-trans c.passes.invariant.sets_more
+    (c.pass.ensures c.requires.order).sets_more) c.requires.long
 
 pub overflow_add-passes : goal.overflow_add-passes
 overflow_add-passes c =
-    let passed = c.pass.ensures c.requires.order in
-    let fits = product_fits (length c.args.sets.now) c.args.places (omega arith)
-    (omega arith) in
-    omega (arith, fits, few_true c, passed.more c.passes-test.true, c.passes.invariant.most)
+    let fits = product_fits (length c.args.sets.now) c.args.places (omega arith) (omega arith) in
+    let more = (c.pass.ensures c.requires.order).more c.passes-test.true in
+    omega (arith, fits, few c, more, c.passes.invariant.most)
 
 pub passes-smaller : goal.passes-smaller
-passes-smaller c =
-    let passed = c.pass.ensures c.requires.order in
-    omega (arith, few_true c, passed.more c.passes-test.true)
+passes-smaller c = omega (arith, few c, (c.pass.ensures c.requires.order).more c.passes-test.true)
 
 pub passes-preserved : goal.passes-preserved
 passes-preserved c =
