@@ -1,6 +1,6 @@
 //! The greatest sets that meet an equation at each node of a graph: the complements of the least ones
 //! of what they lack.
-ghost use Rattle.std.specs.Prelude.{◌≡◌, ◌≢◌, ◌↔◌, ℕ, ◌<◌, [], length, All, Err, IfOk, IsOk, OnErr, OnOk};
+ghost use Rattle.std.specs.Prelude.{◌≡◌, ◌≢◌, ◌↔◌, ℕ, [], length, All, Err, IfOk, IsOk, OnErr, OnOk};
 ghost use Rattle.vob.specs.Vobs.{AreOfLength, bits_of};
 ghost use Rattle.vob_flow.specs.Draws.{DrawsInside, FitsMask};
 ghost use Rattle.vob_flow.specs.Greatest.{AreGreatest, IsPassCount};

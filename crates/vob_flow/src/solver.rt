@@ -1,5 +1,5 @@
 //! The least sets that meet an equation at each node of a graph.
-ghost use Rattle.std.specs.Prelude.{◌≡◌, ◌≢◌, ◌↔◌, ℕ, ◌<◌, [], length, All, Err, IfOk, IsOk, OnErr, OnOk};
+ghost use Rattle.std.specs.Prelude.{◌≡◌, ◌≢◌, ◌↔◌, ℕ, [], length, All, Err, IfOk, IsOk, OnErr, OnOk};
 ghost use Rattle.vob.specs.Vobs.{AreOfLength, bits_of};
 ghost use Rattle.vob_flow.specs.Draws.{AreLeast, DrawsInside, FitsMask, TakePasses};
 ghost use Rattle.vob_flow.specs.SolveFaults.{AreSound, IsBadLength, IsBadSet};

@@ -1,7 +1,6 @@
 //! The indices of one block, at the front end of a walk.
-ghost use Rattle.std.specs.Prelude.{◌≡◌, ◌≢◌, ◌==◌, ◌↔◌, ℕ, if◌then◌else◌, true, false, ◌^◌, ◌<◌, [], length, IsTrue};
+ghost use Rattle.std.specs.Prelude.{◌≡◌, ◌↔◌, ℕ, [], length, IsTrue};
 ghost use Rattle.std.specs.Iterator.{YieldsFirst};
-ghost use Rattle.vob_block.specs.Places.{place, HasPlaces, HasZerosLow};
 ghost use Rattle.vob_walk.specs.Cursor.{block_indices};
 ghost use Rattle.vob_walk.specs.InHand.{IsBlockBits};
 

@@ -1,9 +1,8 @@
 //! Walks over the indices of the set bits, or of the unset ones, within a range, from both ends. A
 //! block is read once, when an end first enters it, and its indices are then in hand at that end.
-ghost use Rattle.std.specs.Prelude.{ℕ, ◌≡◌, ◌≤◌, ◌∷◌, ◌++◌, [], ⊤, ◌+◌, length, map};
+ghost use Rattle.std.specs.Prelude.{◌≡◌, ◌≤◌, ◌∷◌, ◌++◌, [], ⊤, ◌+◌, length, map};
 ghost use Rattle.std.specs.Iterator.{YieldsFirst, YieldsLast, MakesProgress, item_count};
 ghost use Rattle.vob_block.specs.Packing.{need, unpacking};
-ghost use Rattle.std.specs.declared.ops.Bound.{Bound};
 ghost use Rattle.vob_walk.specs.Matches.{ForSomeRange};
 ghost use Rattle.vob_walk.specs.Walk.{Walk, IsWhole, IsPulled, end_item, without_end};
 

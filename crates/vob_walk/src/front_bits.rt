@@ -1,5 +1,5 @@
 //! The indices of one block, at the front end of a walk.
-ghost use Rattle.std.specs.Prelude.{◌≡◌, ◌≢◌, ◌↔◌, ◌^◌, ◌<◌, [], length, IsTrue};
+ghost use Rattle.std.specs.Prelude.{◌≡◌, ◌≢◌, ◌↔◌, [], length, IsTrue};
 ghost use Rattle.std.specs.Iterator.{YieldsFirst};
 ghost use Rattle.vob_walk.specs.Cursor.{block_indices};
 ghost use Rattle.vob_walk.specs.InHand.{IsBlockBits};
