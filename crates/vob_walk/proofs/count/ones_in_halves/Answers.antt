@@ -33,29 +33,22 @@ overflow_add-high g c =
 
 pub loop-k-preserved : goal.loop-k-preserved
 loop-k-preserved g c =
-    let same = c.read.ensures.items ∙ c.loop-k.invariant.items in
+    let h = c.loop-k.invariant in
+    let same = c.read.ensures.items ∙ h.items in
     let k = c.loop-k.k + 1 in
     record {
-      low = (ones-next _ _ _ k k (rw c.loop-k.invariant.items at c.read.ensures.block)
-          c.loop-k.invariant.low c.ones_in-low.ensures (omega (arith, c.loop-k.auto.k)) refl
-          (omega arith)).0;
+      low = (ones-next _ _ _ k k (rw h.items at c.read.ensures.block) h.low c.ones_in-low.ensures
+          (omega (arith, c.loop-k.auto.k)) refl (omega arith)).0;
       high = (ones-next _ _ _ (k + c.args.half) (k + c.args.half)
-          (rw same at c.read-in-loop-k.ensures.block) c.loop-k.invariant.high c.ones_in-high.ensures
+          (rw same at c.read-in-loop-k.ensures.block) h.high c.ones_in-high.ensures
           (omega (arith, c.loop-k.auto.k)) (omega arith) (omega arith)).0;
       items = c.read-in-loop-k.ensures.items ∙ same;
-      reads = omega (
-        arith,
-        c.read.ensures.reads,
-        c.read-in-loop-k.ensures.reads,
-        c.loop-k.invariant.reads,
-      );
+      reads = omega (arith, c.read.ensures.reads, c.read-in-loop-k.ensures.reads, h.reads);
     }
 
 pub returns-clause-ones : goal.returns-clause-ones
-returns-clause-ones g c =
-    ones-halves g.T.BitBlock.BITS
-    (map g.T.BitBlock.number (g.S.Source.reading c.args.blocks.now).items) c.args.start c.args.half
-    c.loop-k.k (omega (arith, c.loop-k.auto.k-end, c.loop-k-test.false)) c.loop-k.invariant.low
+returns-clause-ones g c = ones-halves _ _ _ _ _
+    (omega (arith, c.loop-k.auto.k-end, c.loop-k-test.false)) c.loop-k.invariant.low
     c.loop-k.invariant.high
 
 pub overflow_add-result : goal.overflow_add-result

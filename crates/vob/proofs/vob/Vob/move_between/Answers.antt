@@ -11,12 +11,10 @@ use Rattle.vob.proofs.vob.Vob.move_between.Goals.{After-as_mut_slice, After-move
 inside : (g : given.Over) (c : After-as_mut_slice g) (at count : ℕ)
     → at + count ≤ length c.args.self.now.bits
     → at + count ≤ length c.as_mut_slice.result.now * g.T.BitBlock.BITS
-inside g c at count fits = omega (
-  arith,
-  own_inside g.T.BitBlock.number g.T.BitBlock.BITS g.met.T.BitBlock.wide_law c.self.inside.len
-      c.self.inside.vec.items c.self.invariant (ap (λ v. v.bits) c.self.view_is) at count fits,
-  ap (λ xs. length xs * g.T.BitBlock.BITS) c.as_mut_slice.ensures.value,
-)
+inside g c at count fits =
+    let fit = own_inside g.T.BitBlock.number _ g.met.T.BitBlock.wide_law _ _ c.self.invariant
+    (ap (λ v. v.bits) c.self.view_is) at count fits in
+    rw c.as_mut_slice.ensures.value fit
 
 moved : (g : given.Over) (c : After-move_bits g)
     → HasCopied g.T.BitBlock.BITS c.self.inside.len c.args.at c.args.start
@@ -25,16 +23,12 @@ moved : (g : given.Over) (c : After-move_bits g)
     (c.move_bits.new.own ++ drop (length c.move_bits.new.own) c.self.inside.vec.items)))
 moved g c =
     let number = g.T.BitBlock.number in
-    let now = c.move_bits.new.own in
+    let wide = g.met.T.BitBlock.wide_law in
     let own = ap (λ v. v.bits) c.self.view_is in
-    copied_here number g.T.BitBlock.BITS g.met.T.BitBlock.wide_law c.self.inside.len c.args.at
-    c.args.start (c.args.end - c.args.start) c.self.inside.vec.items c.as_mut_slice.result.now
-    c.args.self.now.bits c.args.self.now.bits c.self.invariant own
-    (ap (map number) c.as_mut_slice.ensures.value ∙ own_blocks number g.T.BitBlock.BITS
-    g.met.T.BitBlock.wide_law c.self.inside.len c.self.inside.vec.items c.self.invariant own)
-    c.requires.fits
-    c.as_mut_slice.ensures.value (take_at now (drop (length now) c.self.inside.vec.items)
-    c.self.inside.vec.len (c.move_bits.auto.own ∙ c.as_mut_slice.ensures.len)) c.move_bits.auto.own
+    copied_here number _ wide _ _ _ _ _ _ _ _ c.self.invariant own
+    (ap (map number) c.as_mut_slice.ensures.value ∙ own_blocks number _ wide _ _ c.self.invariant own)
+    c.requires.fits c.as_mut_slice.ensures.value (take_at c.move_bits.new.own _ c.self.inside.vec.len
+    (c.move_bits.auto.own ∙ c.as_mut_slice.ensures.len)) c.move_bits.auto.own
     c.move_bits.ensures.within c.move_bits.ensures.moved
 
 pub move_bits-requires-clause-inside : goal.move_bits-requires-clause-inside

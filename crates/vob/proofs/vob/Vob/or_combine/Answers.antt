@@ -15,26 +15,22 @@ added : (g : given.Over) (c : After-or_combined g)
     (pointwise g.C.Combine.of_bits c.args.first.now.bits c.args.second.now.bits)
     c.or_combined.result (map g.T.BitBlock.number (take c.self.inside.vec.len
     (c.or_combined.new.own ++ drop (length c.or_combined.new.own) c.self.inside.vec.items)))
-added g c = added_here g.T.BitBlock.number g.T.BitBlock.of_bits g.T.BitBlock.BITS
-    g.met.T.BitBlock.wide_law g.met.T.BitBlock.of_bits_number_law c.self.inside.len
-    c.self.inside.vec.items c.args.self.now.bits c.args.first.now.bits c.args.second.now.bits
-    c.self.invariant (ap (λ v. v.bits) c.self.view_is) c.requires.first c.requires.second
-    g.C.Combine.of_bits c.requires.none c.or_combined.result c.as_mut_slice.ensures.value
-    (take_at c.or_combined.new.own (drop (length c.or_combined.new.own) c.self.inside.vec.items)
-    c.self.inside.vec.len (c.or_combined.auto.own ∙ c.as_mut_slice.ensures.len)) _ _
-    c.blocks-2.ensures.blocks c.blocks-3.ensures.blocks c.or_combined.ensures
+added g c = added_here g.T.BitBlock.number g.T.BitBlock.of_bits _ g.met.T.BitBlock.wide_law
+    g.met.T.BitBlock.of_bits_number_law _ _ _ _ _ c.self.invariant (ap (λ v. v.bits) c.self.view_is)
+    c.requires.first c.requires.second g.C.Combine.of_bits c.requires.none c.or_combined.result
+    c.as_mut_slice.ensures.value (take_at c.or_combined.new.own _ c.self.inside.vec.len
+    (c.or_combined.auto.own ∙ c.as_mut_slice.ensures.len)) _ _ c.blocks-2.ensures.blocks
+    c.blocks-3.ensures.blocks c.or_combined.ensures
 
 pub or_combined-requires-clause-first : goal.or_combined-requires-clause-first
 or_combined-requires-clause-first g c = ap length c.as_mut_slice.ensures.value
-    ∙ as_many g.T.BitBlock.number g.T.BitBlock.BITS g.met.T.BitBlock.wide_law c.self.inside.len
-    c.self.inside.vec.items c.blocks-2.result.items c.args.self.now.bits c.args.first.now.bits
-    c.self.invariant (ap (λ v. v.bits) c.self.view_is) c.requires.first c.blocks-2.ensures.blocks
+    ∙ as_many g.T.BitBlock.number _ g.met.T.BitBlock.wide_law _ _ _ _ _ c.self.invariant
+    (ap (λ v. v.bits) c.self.view_is) c.requires.first c.blocks-2.ensures.blocks
 
 pub or_combined-requires-clause-second : goal.or_combined-requires-clause-second
 or_combined-requires-clause-second g c = ap length c.as_mut_slice.ensures.value
-    ∙ as_many g.T.BitBlock.number g.T.BitBlock.BITS g.met.T.BitBlock.wide_law c.self.inside.len
-    c.self.inside.vec.items c.blocks-3.result.items c.args.self.now.bits c.args.second.now.bits
-    c.self.invariant (ap (λ v. v.bits) c.self.view_is) c.requires.second c.blocks-3.ensures.blocks
+    ∙ as_many g.T.BitBlock.number _ g.met.T.BitBlock.wide_law _ _ _ _ _ c.self.invariant
+    (ap (λ v. v.bits) c.self.view_is) c.requires.second c.blocks-3.ensures.blocks
 
 pub invariant_of-self : goal.invariant_of-self
 invariant_of-self g c = (added g (goal.at.invariant_of-self g c).After-or_combined).canonical
