@@ -11,11 +11,20 @@ use Rattle.vob_flow.proofs.FirstLemmas.{same_at, all_at, one_first}
 
 module _ (vars : ℕ) (nodes : List Flow) where
   -- where nothing is wrong no node is the first with a fault
-  pub no_bad_variable : All (IsSound vars nodes) nodes → (n : ℕ) → ¬ IsBadVariable vars nodes n
+  no_bad_variable : All (IsSound vars nodes) nodes → (n : ℕ) → ¬ IsBadVariable vars nodes n
   no_bad_variable all n h = h.bad (all_at (IsSound vars nodes) nodes all n h.flow h.is).0
 
-  pub no_bad_next : All (IsSound vars nodes) nodes → (n : ℕ) → ¬ IsBadNext vars nodes n
+  no_bad_next : All (IsSound vars nodes) nodes → (n : ℕ) → ¬ IsBadNext vars nodes n
   no_bad_next all n h = h.bad (all_at (IsSound vars nodes) nodes all n h.flow h.is).1
+
+  -- so what no answer says, none is
+  pub not_variable : {P : ℕ → Type 0} → All (IsSound vars nodes) nodes → ((n : ℕ) → ¬ P n) → (n : ℕ)
+      → P n ↔ IsBadVariable vars nodes n
+  not_variable all none n = ((λ p. absurd (none n p)), (λ bad. absurd (no_bad_variable all n bad)))
+
+  pub not_next : {P : ℕ → Type 0} → All (IsSound vars nodes) nodes → ((n : ℕ) → ¬ P n) → (n : ℕ)
+      → P n ↔ IsBadNext vars nodes n
+  not_next all none n = ((λ p. absurd (none n p)), (λ bad. absurd (no_bad_next all n bad)))
 
   -- one node has both faults at first: no
   one_fault : (n m : ℕ) → IsBadVariable vars nodes n → ¬ IsBadNext vars nodes m
