@@ -1,5 +1,5 @@
 -- A set that got what it draws, as the code leaves it.
-use Rattle.std.proofs.Common.{◌≡◌, ◌↔◌, ℕ, ◌<◌, ◌+◌, ◌⊎◌, Bool, true, false, ◌&&◌, ◌||◌, inl, inr, List, [], length, take}
+use Rattle.std.proofs.Common.{All, ◌≡◌, ◌↔◌, ℕ, ◌<◌, ◌+◌, ◌⊎◌, Bool, true, false, ◌&&◌, ◌||◌, inl, inr, List, [], length, take}
 use Rattle.std.proofs.Common.{get_or, set, refl, sym, ap, ◌∙◌, subst, arith}
 use Rattle.std.proofs.lemmas.Bool.{cases_eq, false≢true}
 use Rattle.std.proofs.lemmas.List.{length-map, length-set, get_or-map, map-set, get_or-set_same, get_or-set_other, set-get_or}
@@ -21,6 +21,17 @@ pub vob_long : (places : ℕ) (sets : List BitVector) (k : ℕ) (d : BitVector) 
 vob_long places sets k d long less =
     ap length (sym (get_or-map (λ v. v.bits) sets k d [] less))
     ∙ of_length_at places (bits_of sets) k [] long (omega (arith, less, length-map sets (λ v. v.bits)))
+
+-- one that a list names, read
+module _ (sets : List BitVector) (from : List ℕ) (k : ℕ) (set : BitVector)
+    (named : All (λ m. m < length sets) from) (less : k < length from)
+    (is : set ≡ get_or sets (get_or from k 0) set) where
+  pub read_bits : get_or (bits_of sets) (get_or from k 0) [] ≡ set.bits
+  read_bits = get_or-map (λ v. v.bits) sets _ set [] (named k 0 less) ∙ ap (λ v. v.bits) (sym is)
+
+  pub read_long : (places : ℕ) → AreOfLength places (bits_of sets) → length set.bits ≡ places
+  read_long places long =
+      ap (λ v. length v.bits) is ∙ vob_long places sets (get_or from k 0) set long (named k 0 less)
 
 -- ---- what a mask lets through of another list
 

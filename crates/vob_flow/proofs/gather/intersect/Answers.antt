@@ -1,14 +1,14 @@
 -- One set more was intersected.
-use Rattle.std.proofs.Common.{ap, sym, ◌∙◌, length, arith, List, ℕ, ◌≡◌, ◌↔◌, ◌<◌, true, [], get_or, subst}
+use Rattle.std.proofs.Common.{ap, sym, ◌∙◌, arith, List, ℕ, ◌≡◌, ◌↔◌, true, subst}
 use Rattle.std.proofs.lemmas.Grind.{get_or_default_zero}
-use Rattle.std.proofs.lemmas.List.{take_all, get_or-map}
+use Rattle.std.proofs.lemmas.List.{take_all}
 use Rattle.vob_block.specs.Packing.{item}
 use Rattle.vob.specs.Vobs.{bits_of}
 use Rattle.vob.proofs.BitsLemmas.{and_true}
 use Rattle.vob.proofs.VobsLemmas.{all_next}
 use Rattle.vob_flow.specs.Draws.{IsIn}
 use Rattle.vob_flow.specs.Greatest.{IsInAll}
-use Rattle.vob_flow.proofs.DrawLemmas.{vob_long}
+use Rattle.vob_flow.proofs.DrawLemmas.{read_bits, read_long}
 use Rattle.vob_flow.proofs.gather.intersect.Goals as goal
 
 pub loop-set-init : goal.loop-set-init
@@ -18,28 +18,20 @@ loop-set-init c = record {
 }
 
 pub and-requires : goal.and-requires
-and-requires c =
-    let from = c.args.from.now in
-    let k = c.loop-set.set-index in
-    let inside : get_or from k 0 < length c.args.sets.now = c.requires.from k 0 c.loop-set-test.true in
-    c.loop-set.invariant.len ∙ sym (ap (λ vob. length vob.bits) c.index-sets-set.is
-    ∙ vob_long _ c.args.sets.now (get_or from k 0) c.index-sets-set.result c.requires.long inside)
+and-requires c = c.loop-set.invariant.len ∙ sym (read_long _ _ _ _ c.requires.from
+    c.loop-set-test.true c.index-sets-set.is _ c.requires.long)
 
 pub loop-set-preserved : goal.loop-set-preserved
 loop-set-preserved c =
-    let sets = c.args.sets.now in
     let from = c.args.from.now in
     let k = c.loop-set.set-index in
-    let m = get_or from k 0 in
-    let inside : m < length sets = c.requires.from k 0 c.loop-set-test.true in
-    let is = get_or-map (λ vob. vob.bits) sets _ c.index-sets-set.result [] inside
-    ∙ ap (λ vob. vob.bits) (sym c.index-sets-set.is) in
+    let is = read_bits _ from k _ c.requires.from c.loop-set-test.true c.index-sets-set.is in
     record {
       len = c.and.ensures.each.len ∙ c.loop-set.invariant.len;
       each = λ v less.
           let both = and_true c.loop-set.common.bits c.index-sets-set.result.bits c.and.new.self.bits v
           c.and.ensures.each in
-          let next = all_next (λ n. IsIn (bits_of sets) n v) from k m c.loop-set-test.true
+          let next = all_next (λ n. IsIn (bits_of c.args.sets.now) n v) from k _ c.loop-set-test.true
           (sym (get_or_default_zero from k _ c.loop-set-test.true)) in
           let bit = ap (λ bits. item bits v) is in
           let old = c.loop-set.invariant.each v less in (
