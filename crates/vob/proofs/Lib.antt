@@ -9,8 +9,11 @@ pub mod FreshLemmas
 pub mod HashLemmas
 pub mod IndicesLemmas
 pub mod LowBytesLemmas
+pub mod MoveLawsLemmas
 pub mod MovesLemmas
+pub mod OrderLawsLemmas
 pub mod OrderLemmas
+pub mod PackingLawsLemmas
 pub mod PairLemmas
 pub mod RangeLemmas
 pub mod RestLemmas

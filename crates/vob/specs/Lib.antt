@@ -5,8 +5,10 @@ pub mod Extending
 pub mod Fed
 pub mod Indices
 pub mod Laws
+pub mod MoveLaws
 pub mod Moves
 pub mod Order
+pub mod OrderLaws
 pub mod PackingLaws
 pub mod Ranges
 pub mod Raw

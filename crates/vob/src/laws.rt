@@ -3,7 +3,11 @@ ghost use Rattle.vob.specs.Laws.{JoinUndoesCut, DrainFromIsSplit, JoinIsPushes, 
 ghost use Rattle.vob.specs.Laws.{EqualWhereStorageIs, UnequalWherePlacesDiffer};
 ghost use Rattle.vob.specs.Laws.{PointwiseChangesBits, SetChangesBit, NegateTwice, XorOfEqual};
 ghost use Rattle.vob.specs.Laws.{DigitsGiveBits, NegatedAnd};
-ghost use Rattle.vob.specs.PackingLaws.{NeedIsLeast, CanonicalIsPacked};
+ghost use Rattle.vob.specs.MoveLaws.{DownAfterUp, FlipTwice, InsertUndoesRemove, RemoveUndoesInsert};
+ghost use Rattle.vob.specs.MoveLaws.{ReverseTwice, RotateBack, RotateByLengths, UpAfterDown};
+ghost use Rattle.vob.specs.OrderLaws.{OrderIsStrict, OrderIsTotal, OrderIsTransitive};
+ghost use Rattle.vob.specs.PackingLaws.{CanonicalIsPacked, LoadGivesStored, LowBytesGiveBits};
+ghost use Rattle.vob.specs.PackingLaws.{NeedIsLeast};
 ghost use Rattle.vob.specs.SetLaws.{DifferenceIsAndNot, NoneIsCounted, RankUndoesSelect};
 ghost use Rattle.vob.specs.SetLaws.{SelectUndoesRank, RunsAreMaximal, UnsetRunsAreMaximal, WalkGivesRuns};
 ghost use Rattle.vob.specs.SetLaws.{CombinedMatchesExactly, CombinedWalkIsOwn};
@@ -209,4 +213,76 @@ pub fn combined_matches_exactly()
 /// for `union` and `or`, `difference` and `and_not`, `symmetric_difference` and `xor`.
 pub fn combined_walk_is_own()
     ensures { CombinedWalkIsOwn }
+{}
+
+/// Flipping a bit twice leaves the list. So two calls of `flip` with one index leave the bits.
+pub fn flip_twice()
+    ensures { FlipTwice }
+{}
+
+/// Bits moved up by `n` and down again are as they were, but for the last `n`, which are unset. So
+/// `shl` and then `shr` by one count drop those that passed the length, and no other.
+pub fn down_after_up()
+    ensures { DownAfterUp }
+{}
+
+/// Bits moved down by `n` and up again are as they were, but for the first `n`, which are unset. So
+/// it is for `shr` and then `shl` by one count.
+pub fn up_after_down()
+    ensures { UpAfterDown }
+{}
+
+/// Reversing a list twice leaves it, and so do two calls of `reverse`.
+pub fn reverse_twice()
+    ensures { ReverseTwice }
+{}
+
+/// A list rotated by `n` and back is the list. So `rotate_left` and `rotate_right` by one count
+/// undo each other, in either order and at any count.
+pub fn rotate_back()
+    ensures { RotateBack }
+{}
+
+/// A rotation either way by a multiple of the length leaves the list.
+pub fn rotate_by_lengths()
+    ensures { RotateByLengths }
+{}
+
+/// Removing the bit that `insert_bit` put in returns it and leaves the list as it was before.
+pub fn remove_undoes_insert()
+    ensures { RemoveUndoesInsert }
+{}
+
+/// Inserting the bit that `remove` returned at its index leaves the list as it was before.
+pub fn insert_undoes_remove()
+    ensures { InsertUndoesRemove }
+{}
+
+/// What `load` returns of a range after a `store` there is the stored block's remainder by `2^n`,
+/// for a range of `n` bits. So it is the block itself where the places from `n` on are unset.
+pub fn load_gives_stored()
+    ensures { LoadGivesStored }
+{}
+
+/// The bytes of a list hold its bits, and then as many unset ones as fill the last byte. So
+/// `from_le_bytes` of what `to_le_bytes` gave, cut at the length, has the bits, if both succeed.
+pub fn low_bytes_give_bits()
+    ensures { LowBytesGiveBits }
+{}
+
+/// Of two lists one comes before the other, or they are equal.
+pub fn order_is_total()
+    ensures { OrderIsTotal }
+{}
+
+/// Two lists compare as `Equal` exactly if they are equal, and as `Greater` exactly if the other
+/// comes first. So `cmp` returns `Equal` exactly if `==` is true.
+pub fn order_is_strict()
+    ensures { OrderIsStrict }
+{}
+
+/// A list that comes before another comes before all that the other comes before. So Vobs can be
+/// sorted.
+pub fn order_is_transitive()
+    ensures { OrderIsTransitive }
 {}
