@@ -1,10 +1,10 @@
 -- The next bit of a value, within a block and over blocks without one, and the previous one.
 use Rattle.std.specs.Bool.{beq}
-use Rattle.std.proofs.Common.{◌≡◌, ◌≢◌, ℕ, ◌+◌, ◌-◌, ◌*◌, ◌/◌, ◌%◌, ◌^◌, ◌<◌, ◌≤◌, min, Bool, true}
+use Rattle.std.proofs.Common.{◌≡◌, ◌≢◌, ℕ, ◌+◌, ◌-◌, ◌*◌, ◌/◌, ◌%◌, ◌^◌, ◌<◌, ◌≤◌, max, min, Bool, true}
 use Rattle.std.proofs.Common.{false, ◌&&◌, nat_lt, leb, cond, List, map, get_or, Some, None, refl}
 use Rattle.std.proofs.Common.{sym, ap, ◌∙◌, arith, inl, inr, mod-lt, div-add-mod'}
 use Rattle.std.proofs.lemmas.Bool.{cases_lt, and_from, and_parts, le-leb, leb-true, lt-ltb, ltb-true, false≢true}
-use Rattle.std.proofs.lemmas.Nat.{div-mul-add, div_below, mul-le, pow_pos}
+use Rattle.std.proofs.lemmas.Nat.{div-mul-add, le-div, mul-le, pow_pos}
 use Rattle.vob_block.specs.Places.{place, HasPlaces, HasZerosLow, HasZerosHigh}
 use Rattle.vob_block.specs.Packing.{need, bit_at}
 use Rattle.vob_block.specs.Reading.{Reading}
@@ -13,7 +13,7 @@ use Rattle.vob_block.proofs.PackingLemmas.{bit_at-in_block}
 use Rattle.vob_block.proofs.PlaceLemmas.{place-zero, place-ones, same_from_places}
 use Rattle.vob_walk.specs.declared.walk.End.TheVariants.{Front, Back}
 use Rattle.vob_walk.specs.Matches.{has_value}
-use Rattle.vob_walk.specs.Next.{HasNoBit, IsFirstPlace, IsLastPlace, FindsUp, FindsDown}
+use Rattle.vob_walk.specs.Next.{HasNoBit, IsFirstPlace, IsLastPlace, FindsUp, FindsBack}
 use Rattle.vob_walk.specs.Skip.{AreSkipped, Scans}
 use Rattle.vob_walk.proofs.IndexLemmas.{value_is, has_value-same}
 use Rattle.vob_walk.proofs.ScanLemmas.{HasPlaces-from_part, without_value, bit_at-skipped, product-more}
@@ -296,90 +296,100 @@ module _ {X : Type 0} (w : ℕ) (wide : 0 < w) (number : X → ℕ) (value : Boo
               mul-le (from / w + 1) w k w h (omega arith),
             )
 
-  module _ (upto : ℕ) where
+  module _ (start from : ℕ) (order : start ≤ from) where
+    start_block : start / w ≤ from / w
+    start_block = le-div (start / w) from w wide (omega (arith, div-add-mod' start w))
+
     -- a search down ends in block k
-    FindsDown-block : (k j i : ℕ) (block : X) → number block ≡ get_or xs k 0 → j ≤ w → 0 < j
-        → place (j - 1) (number block) ≡ value → k * w + j ≤ upto + 1
-        → HasNoBit w xs value (k * w + j) (upto + 1) → y.reads + k ≡ x.reads + (upto / w + 1)
-        → y.items ≡ x.items → i ≡ k * w + j → FindsDown w number value x y upto i
-    FindsDown-block k j i block read inside some there below none reads items is =
-        let last : i - 1 ≡ k * w + (j - 1) = omega arith in
-        let at : (i - 1) / w ≡ k = ap (λ n. n / w) last ∙ div-mul-add k w (j - 1) (omega arith) in
-        record {
+    FindsBack-block : (k j i : ℕ) (block : X) → number block ≡ get_or xs k 0 → j ≤ w → 0 < j
+        → place (j - 1) (number block) ≡ value → k * w + j ≤ from + 1
+        → HasNoBit w xs value (k * w + j) (from + 1) → start / w ≤ k
+        → y.reads + k ≡ x.reads + from / w → y.items ≡ x.items → i ≡ max start (k * w + j)
+        → FindsBack w number value x y start from i block
+    FindsBack-block k j i block read inside some there below none least reads items is =
+        let last : start < i → i - 1 ≡ k * w + (j - 1) = λ above. omega arith in
+        let at : start < i → (i - 1) / w ≡ k =
+        λ above. ap (λ n. n / w) (last above) ∙ div-mul-add k w (j - 1) (omega arith) in record {
+          above = omega arith;
           within = omega arith;
-          there = λ h. ap (bit_at xs w) last
+          there = λ above. ap (bit_at xs w) (last above)
               ∙ bit-place w wide xs value k (number block) read (j - 1) (omega arith) ∙ there;
           between = λ n low high. none n (omega arith) high;
-          reads = omega arith;
+          block = λ above. read ∙ ap (λ q. get_or xs q 0) (sym (at above));
+          reads = elim (cases_lt start i) [
+            | inl above ↦ omega (arith, at above)
+            | inr here ↦
+                let same : i ≡ start = omega arith in
+                let more : k ≤ start / w = le-div k start w wide (omega arith) in
+                let less : (start - 1) / w ≤ start / w =
+                le-div ((start - 1) / w) start w wide (omega (arith, div-add-mod' (start - 1) w)) in
+                omega (arith, ap (λ n. (n - 1) / w) same)
+          ];
           items = items;
         }
 
-    module _ (k n j : ℕ) (block : X) (at : k ≡ upto / w) (place_at : n ≡ upto % w + 1)
-        (read : number block ≡ get_or xs k 0)
+    module _ {n j : ℕ} (block : X) (at : n ≡ from % w + 1)
+        (read : number block ≡ get_or xs (from / w) 0)
         (last : IsLastPlace (number block) value n j) where
-      whole_is : k * w + n ≡ upto + 1
-      whole_is = omega (arith, div-add-mod' upto w, ap (λ q. q * w) at)
+      whole_is : from / w * w + n ≡ from + 1
+      whole_is = omega (arith, div-add-mod' from w)
 
       fits_in : n ≤ w
-      fits_in = omega (arith, mod-lt upto wide)
+      fits_in = omega (arith, mod-lt from wide)
 
-      passed_down : HasNoBit w xs value (k * w + j) (upto + 1)
-      passed_down i low high = none_between w wide xs value k (number block) read j n fits_in
-          last.between i low (omega (arith, whole_is))
+      passed_down : HasNoBit w xs value (from / w * w + j) (from + 1)
+      passed_down i low high = none_between w wide xs value (from / w) (number block) read j n
+          fits_in last.between i low (omega (arith, whole_is))
 
-      -- in the first block that it reads
-      pub FindsDown-here : (i : ℕ) → 0 < j → y.reads ≡ x.reads + 1 → y.items ≡ x.items
-          → i ≡ k * w + j → FindsDown w number value x y upto i
-      FindsDown-here i some reads items is = FindsDown-block k j i block read
-          (omega (arith, fits_in)) some (last.there some)
-          (omega (arith, whole_is)) passed_down (omega arith) items is
+      -- in the block in hand
+      pub FindsBack-here : (i : ℕ) → 0 < j → y.reads ≡ x.reads → y.items ≡ x.items
+          → i ≡ max start (from / w * w + j) → FindsBack w number value x y start from i block
+      FindsBack-here i some reads items is = FindsBack-block (from / w) j i block read
+          (omega (arith, last.within, fits_in)) some (last.there some)
+          (omega (arith, last.within, whole_is)) passed_down start_block (omega arith) items is
 
-      module _ (z : Reading X) (skip : X) (without : number skip ≡ cond value 0 (2 ^ w - 1))
-          (none : j ≤ 0) (reads : z.reads ≡ x.reads + 1) (items : z.items ≡ x.items) where
-        passed_all : HasNoBit w xs value (k * w) (upto + 1)
-        passed_all i low high = passed_down i (omega arith) high
-
-        skipped_there : (c d : ℕ)
-            → AreSkipped (number skip) (λ q. get_or (map number z.items) q 0) c d
-            → AreSkipped (number skip) (λ q. get_or xs q 0) c d
-        skipped_there c d h i from below =
-            ap (λ l. get_or (map number l) i 0) (sym items) ∙ h i from below
+      module _ (skip : X) (without : number skip ≡ cond value 0 (2 ^ w - 1)) (none : j ≤ 0)
+          {a b : ℕ} (begin : a ≡ start / w) (end : b ≡ from / w) where
+        passed_all : HasNoBit w xs value (b * w) (from + 1)
+        passed_all i low high = passed_down i (omega (arith, ap (λ k. k * w) end)) high
 
         -- in none
-        pub FindsDown-none : Scans Back number skip z y 0 k None
-            → FindsDown w number value x y upto 0
-        FindsDown-none scan =
-            let empty : 0 * w ≡ 0 = omega arith in
-            let zero : (0 - 1) / w < 1 = div_below (0 - 1) w 1 wide (omega arith) in record {
-              within = omega arith;
-              there = λ h. absurd (omega arith);
-              between = λ i low high. none_joined w wide xs value 0 (k * w) (upto + 1)
-                  (λ q least most. none_skipped w wide xs value (number skip) 0 k without
-                  (skipped_there 0 k scan.found) q (omega arith) most) passed_all i low
-                  high;
-              reads = omega arith;
-              items = scan.items ∙ items;
-            }
+        pub FindsBack-none : (found : X) → Scans Back number skip x y a b None
+            → FindsBack w number value x y start from start found
+        FindsBack-none found scan = record {
+          above = omega arith;
+          within = omega arith;
+          there = λ above. absurd (omega arith);
+          between = λ i low high. none_joined w wide xs value (a * w) (b * w) (from + 1)
+              (none_skipped w wide xs value (number skip) a b without scan.found) passed_all i
+              (omega (arith, div-add-mod' start w, ap (λ k. k * w) begin)) high;
+          block = λ above. absurd (omega arith);
+          reads =
+              let less : (start - 1) / w ≤ start / w =
+              le-div ((start - 1) / w) start w wide (omega (arith, div-add-mod' (start - 1) w)) in
+              omega (arith, start_block);
+          items = scan.items;
+        }
 
         -- in one before it
-        pub FindsDown-before : (p : ℕ × X) (m c i : ℕ) → Scans Back number skip z y 0 k (Some p)
-            → number p.1 < 2 ^ w → c ≡ w → IsLastPlace (number p.1) value c m → i ≡ p.0 * w + m
-            → FindsDown w number value x y upto i
-        FindsDown-before p m c i scan within full tail is =
+        pub FindsBack-before : (p : ℕ × X) (m c i : ℕ) → Scans Back number skip x y a b (Some p)
+            → number p.1 < 2 ^ w → c ≡ w → IsLastPlace (number p.1) value c m
+            → i ≡ max start (p.0 * w + m) → FindsBack w number value x y start from i p.1
+        FindsBack-before p m c i scan within full tail is =
             let q = p.0 in
-            let read : number p.1 ≡ get_or xs q 0 =
-            scan.found.0.same ∙ ap (λ l. get_or (map number l) q 0) items in
+            let read = scan.found.0.same in
             let some = last-some w (number p.1) (number skip) value within without
             scan.found.0.other c m full tail in
-            let less : q + 1 ≤ k = omega arith in
+            let less : q + 1 ≤ b = omega arith in
             let more = product-more w q in
-            let order = mul-le (q + 1) w k w less (omega arith) in
-            FindsDown-block q m i p.1 read (omega arith) some (tail.there some)
-            (omega (arith, whole_is))
-            (λ r low high. none_joined w wide xs value (q * w + m) ((q + 1) * w) (upto + 1)
+            let rises = mul-le (q + 1) w b w less (omega arith) in
+            let high : b * w ≤ from = omega (arith, div-add-mod' from w, ap (λ k. k * w) end) in
+            FindsBack-block q m i p.1 read (omega (arith, tail.within)) some (tail.there some)
+            (omega (arith, tail.within))
+            (λ r low high. none_joined w wide xs value (q * w + m) ((q + 1) * w) (from + 1)
             (λ s least most. none_between w wide xs value q (number p.1) read m c
             (omega arith) tail.between s least (omega arith))
-            (none_joined w wide xs value ((q + 1) * w) (k * w) (upto + 1)
-            (none_skipped w wide xs value (number skip) (q + 1) k without
-            (skipped_there (q + 1) k scan.found.1)) passed_all) r low high)
-            (omega arith) (scan.items ∙ items) is
+            (none_joined w wide xs value ((q + 1) * w) (b * w) (from + 1)
+            (none_skipped w wide xs value (number skip) (q + 1) b without scan.found.1) passed_all)
+            r low high)
+            (omega arith) (omega arith) scan.items is

@@ -1,5 +1,5 @@
 -- The next bit of a value among some blocks, and the previous one.
-use Rattle.std.specs.Prelude.{◌≡◌, ◌≢◌, ℕ, ◌+◌, ◌-◌, ◌/◌, ◌<◌, ◌≤◌, Bool, List, map, min, slice_index_or}
+use Rattle.std.specs.Prelude.{◌≡◌, ◌≢◌, ℕ, ◌+◌, ◌-◌, ◌/◌, ◌<◌, ◌≤◌, Bool, List, map, max, min, slice_index_or}
 use Rattle.vob_block.specs.Packing.{need, bit_at}
 use Rattle.vob_block.specs.Places.{place}
 use Rattle.vob_block.specs.Reading.{Reading}
@@ -48,12 +48,17 @@ pub record FindsUp {X : Type 0} (width : ℕ) (number : X → ℕ) (value : Bool
       ≡ before.reads + min (at / width + 1) (need stop width)
   pub items : after.items ≡ before.items
 
--- a search down from index `upto` ends one above the last index whose bit has the value, or at 0.
--- Each block from that of `upto` down was read once
-pub record FindsDown {X : Type 0} (width : ℕ) (number : X → ℕ) (value : Bool)
-    (before after : Reading X) (upto found : ℕ) : Type 0 where
-  pub within : found ≤ upto + 1
-  pub there : 0 < found → bit_at (map number before.items) width (found - 1) ≡ value
-  pub between : HasNoBit width (map number before.items) value found (upto + 1)
-  pub reads : after.reads + (found - 1) / width ≡ before.reads + (upto / width + 1)
+-- a search down from index `from`, whose block is in hand, ends one above the last index whose bit
+-- has the value, with that index's block, or at `start`. Each block before the one in hand was read
+-- once, down to there
+pub record FindsBack {X : Type 0} (width : ℕ) (number : X → ℕ) (value : Bool)
+    (before after : Reading X) (start from stop : ℕ) (held : X) : Type 0 where
+  pub above : start ≤ stop
+  pub within : stop ≤ from + 1
+  pub there : start < stop → bit_at (map number before.items) width (stop - 1) ≡ value
+  pub between : HasNoBit width (map number before.items) value stop (from + 1)
+  pub block : start < stop
+      → number held ≡ slice_index_or (map number before.items) ((stop - 1) / width) 0
+  pub reads : after.reads + max (start / width) ((stop - 1) / width)
+      ≡ before.reads + from / width
   pub items : after.items ≡ before.items

@@ -22,6 +22,6 @@ mod window;
 pub use combined::CombinedBits;
 pub use count::count_ones_in;
 pub use index::{IterSetBits, IterUnsetBits};
-pub use next::{Found, block_in_hand, next_in_hand, next_index, previous_index};
+pub use next::{Found, block_in_hand, next_in_hand, next_index, previous_in_hand, previous_index};
 pub use select::index_of_rank;
 pub use walk::{End, IndexWalk, deal};

@@ -1,8 +1,8 @@
 //! The next index whose bit has a value, and the previous one. The block of the first index is
 //! searched, and then the next block that has such a bit.
-ghost use Rattle.std.specs.Prelude.{◌≡◌, ◌==◌, if◌then◌else◌, ◌+◌, ◌-◌, ◌/◌, ◌<◌, ◌≤◌, length, map, min, slice_index_or, option_map, unwrap_or, MatchOption};
+ghost use Rattle.std.specs.Prelude.{◌≡◌, ◌==◌, if◌then◌else◌, ◌+◌, ◌-◌, ◌/◌, ◌<◌, ◌≤◌, length, map, max, min, slice_index_or, option_map, unwrap_or, MatchOption};
 ghost use Rattle.vob_block.specs.Packing.{need};
-ghost use Rattle.vob_walk.specs.Next.{HasNoBit, IsFirstBit, IsLastBit, IsFirstPlace, IsLastPlace, FindsUp, FindsDown};
+ghost use Rattle.vob_walk.specs.Next.{HasNoBit, IsFirstBit, IsLastBit, IsFirstPlace, IsLastPlace, FindsUp, FindsBack};
 
 use crate::block_bits::is_zero;
 use crate::skip::{Span, next_other};
@@ -101,28 +101,48 @@ pub fn next_in_hand<T: BitBlock>(
     Found { index, block }
 }
 
-/// Returns one past the last index up to `upto` whose bit has the value, or 0 if there is none.
+/// Returns one past the last index from `start` up to that of `from` whose bit has the value, with the
+/// block of that last index. If there is none, returns `start`; the block is then unspecified. The
+/// block of `from` isn't read again. The blocks before it are read, once each, until one has such a
+/// bit.
 #[inline(always)]
-fn past_last_index_of<T: BitBlock>(blocks: &mut Blocks<'_, T>, value: bool, upto: usize) -> usize
-    requires count { upto / T.BITS < length blocks.old.items }
-    requires fits { upto < usize.MAX }
-    ensures { FindsDown T.BITS T.number value blocks.old blocks.new upto result }
+pub fn previous_in_hand<T: BitBlock>(
+    blocks: &mut Blocks<'_, T>,
+    value: bool,
+    start: usize,
+    from: Found<T>,
+) -> Found<T>
+    requires inside { start ≤ from.index }
+    requires fits { from.index < usize.MAX }
+    requires count { from.index / T.BITS < length blocks.old.items }
+    requires hand { T.number from.block
+        ≡ slice_index_or (map T.number blocks.old.items) (from.index / T.BITS) 0 }
+    ensures { FindsBack T.BITS T.number value blocks.old blocks.new start from.index result.index
+        result.block }
 {
-    let k = upto / T::BITS;
-    let end = past_last_place(blocks.block(k), value, upto % T::BITS);
+    let Found { index, block } = from;
+    let k = index / T::BITS;
+    let end = past_last_place(block, value, index % T::BITS);
     if end > 0 {
-        return k * T::BITS + end;
+        let index = start.max(k * T::BITS + end);
+        return Found { index, block };
     }
     let rest = Span {
         side: End::Back,
-        start: 0,
+        start: start / T::BITS,
         end: k,
     };
     let Some(found) = next_other(blocks, block_without(value), rest) else {
-        return 0;
+        return Found {
+            index: start,
+            block,
+        };
     };
-    found.1.in_range();
-    found.0 * T::BITS + past_last_place(found.1, value, T::BITS - 1)
+    let (k, block) = found;
+    block.in_range();
+    let end = past_last_place(block, value, T::BITS - 1);
+    let index = start.max(k * T::BITS + end);
+    Found { index, block }
 }
 
 /// Returns the first index from `from` to below `len` whose bit has the value. Reads the blocks from
@@ -182,6 +202,8 @@ pub fn previous_index<T: BitBlock>(
     if len == 0 {
         return None;
     }
-    let end = past_last_index_of(blocks, value, upto.min(len - 1));
+    let index = upto.min(len - 1);
+    let block = blocks.block(index / T::BITS);
+    let end = previous_in_hand(blocks, value, 0, Found { index, block }).index;
     if end > 0 { Some(end - 1) } else { None }
 }
