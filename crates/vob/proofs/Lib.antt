@@ -19,6 +19,8 @@ pub mod RangeLemmas
 pub mod RestLemmas
 pub mod RoomLemmas
 pub mod RunListLemmas
+pub mod RunPullsLemmas
+pub mod RunsBackLemmas
 pub mod RunsLemmas
 pub mod SameLemmas
 pub mod SeenLemmas

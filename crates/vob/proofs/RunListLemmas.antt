@@ -20,11 +20,11 @@ use Rattle.vob.specs.Runs.{AreRuns, IsMaximalRun, IsFirstRun, RunWalk, GivesRun,
 use Rattle.vob.specs.Runs.{runs_from, runs_of}
 use Rattle.vob.proofs.SelectLemmas.{inside}
 
-set_from : (b : Bool) → b ≢ false → b ≡ true
+pub set_from : (b : Bool) → b ≢ false → b ≡ true
 set_from true h = refl
 set_from false h = absurd (h refl)
 
-unset_from : (b : Bool) → b ≢ true → b ≡ false
+pub unset_from : (b : Bool) → b ≢ true → b ≡ false
 unset_from true h = absurd (h refl)
 unset_from false h = refl
 
@@ -186,14 +186,14 @@ length-runs_from-le bits from =
 -- ---- each of them, and no other list has each of them
 
 -- a run that begins at or above an index
-abbrev IsAbove : List Bool → ℕ → Range ℕ → Type 0
+abbrev pub IsAbove : List Bool → ℕ → Range ℕ → Type 0
 IsAbove bits from run = IsMaximalRun bits run.start run.end × (from ≤ run.start)
 
 -- a list has the runs from an index on
-record AreRunsFrom (bits : List Bool) (from : ℕ) (runs : List (Range ℕ)) : Type 0 where
-  each : All (IsAbove bits from) runs
-  order : AllPairs (λ run next. run.end < next.start) runs
-  all : (i : ℕ) → from ≤ i → item bits i ≡ true
+pub record AreRunsFrom (bits : List Bool) (from : ℕ) (runs : List (Range ℕ)) : Type 0 where
+  pub each : All (IsAbove bits from) runs
+  pub order : AllPairs (λ run next. run.end < next.start) runs
+  pub all : (i : ℕ) → from ≤ i → item bits i ≡ true
       → Any (λ run. (run.start ≤ i) × (i < run.end)) runs
 
 none_from : (bits : List Bool) (from : ℕ)
@@ -271,7 +271,7 @@ none_at : (bits : List Bool) (from : ℕ)
 none_at bits from none =
     subst (AreRunsFrom bits from) (sym (runs_from-none bits from none)) (none_from bits from none)
 
-all_from : (most : ℕ) (bits : List Bool) (from : ℕ) → length bits ≤ from + most
+pub all_from : (most : ℕ) (bits : List Bool) (from : ℕ) → length bits ≤ from + most
     → (0 < from → from < length bits → item bits from ≡ false)
     → AreRunsFrom bits from (runs_from bits from)
 all_from zero bits from enough ended = none_at bits from (λ i above below. absurd (omega arith))
@@ -334,7 +334,7 @@ module _ (bits : List Bool) (from : ℕ) (run : Range ℕ) (runs : List (Range �
           let same = ap (λ (x : Range ℕ). x.end) is in absurd (omega (arith, same, there.1))
       after i above (suc k, r, inside, is, there) = (k, r, omega arith, is, there)
 
-only_these : (runs : List (Range ℕ)) (bits : List Bool) (from : ℕ) → AreRunsFrom bits from runs
+pub only_these : (runs : List (Range ℕ)) (bits : List Bool) (from : ℕ) → AreRunsFrom bits from runs
     → runs ≡ runs_from bits from
 only_these [] bits from are = sym (runs_from-none bits from
     (λ i above below there. let found = (are.all i above there).2 in absurd (omega arith)))

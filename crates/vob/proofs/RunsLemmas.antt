@@ -23,7 +23,7 @@ use Rattle.vob.proofs.SeenLemmas.{length-seen, seen-above}
 
 -- ---- among blocks
 
-quotients_rise : (w : ℕ) → 0 < w → (i j : ℕ) → i ≤ j → i / w ≤ j / w
+pub quotients_rise : (w : ℕ) → 0 < w → (i j : ℕ) → i ≤ j → i / w ≤ j / w
 quotients_rise w wide i j order = le-div (i / w) j w wide (omega (arith, div-add-mod' i w))
 
 module _ (w : ℕ) (wide : 0 < w) (n from : ℕ) where
@@ -61,10 +61,10 @@ module _ (w : ℕ) (wide : 0 < w) (n from : ℕ) where
 
 module _ {X : Type 0} (w : ℕ) (wide : 0 < w) (number : X → ℕ) (value : Bool) (first n : ℕ)
     (x : Reading X) where
-  abbrev xs : List ℕ
+  abbrev pub xs : List ℕ
   xs = map number x.items
 
-  abbrev bits_in : Reading X → List Bool
+  abbrev pub bits_in : Reading X → List Bool
   bits_in r = seen value first (unpacking n (map number r.items) w)
 
   -- the walk whose blocks are these
@@ -77,13 +77,13 @@ module _ {X : Type 0} (w : ℕ) (wide : 0 < w) (number : X → ℕ) (value : Boo
     left = unread_from w n from;
   }
 
-  abbrev bits : List Bool
+  abbrev pub bits : List Bool
   bits = bits_in x
 
   same_bits : (r : Reading X) → r.items ≡ x.items → bits_in r ≡ bits
   same_bits r same = ap (λ l. seen value first (unpacking n (map number l) w)) same
 
-  bit-is : (r : Reading X) → r.items ≡ x.items → (i : ℕ) → first ≤ i → i < n
+  pub bit-is : (r : Reading X) → r.items ≡ x.items → (i : ℕ) → first ≤ i → i < n
       → item bits i ≡ has_value value (bit_at (map number r.items) w i)
   bit-is r same i above below =
       let xs_long = length-unpacking n xs w in
@@ -92,7 +92,7 @@ module _ {X : Type 0} (w : ℕ) (wide : 0 < w) (number : X → ℕ) (value : Boo
       ∙ ap (λ l. bit_at (map number l) w i) (sym same))
 
   module _ {at from hand : ℕ} (on : IsOnRuns w xs bits n first at from hand) where
-    long : length bits ≡ n
+    pub long : length bits ≡ n
     long =
         let xs_long = length-unpacking n xs w in
         length-seen value first (unpacking n xs w) (omega (arith, xs_long, on.begun, on.within))

@@ -17,6 +17,7 @@ pub mod Refusal
 pub mod Rest
 pub mod RunSteps
 pub mod Runs
+pub mod RunsBack
 pub mod Same
 pub mod Serialized
 pub mod SetLaws

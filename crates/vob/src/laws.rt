@@ -8,6 +8,7 @@ ghost use Rattle.vob.specs.MoveLaws.{ReverseTwice, RotateBack, RotateByLengths, 
 ghost use Rattle.vob.specs.OrderLaws.{OrderIsStrict, OrderIsTotal, OrderIsTransitive};
 ghost use Rattle.vob.specs.PackingLaws.{CanonicalIsPacked, LoadGivesStored, LowBytesGiveBits};
 ghost use Rattle.vob.specs.PackingLaws.{NeedIsLeast};
+ghost use Rattle.vob.specs.RunsBack.{RunsAreGivenOnce, WalkBackGivesRuns};
 ghost use Rattle.vob.specs.SetLaws.{DifferenceIsAndNot, NoneIsCounted, RankUndoesSelect};
 ghost use Rattle.vob.specs.SetLaws.{SelectUndoesRank, RunsAreMaximal, UnsetRunsAreMaximal, WalkGivesRuns};
 ghost use Rattle.vob.specs.SetLaws.{CombinedMatchesExactly, CombinedWalkIsOwn};
@@ -132,6 +133,17 @@ pub fn unset_runs_are_maximal()
 /// A walk over runs that begins at index 0 and goes on up to `None` gives each run once, in order.
 pub fn walk_gives_runs()
     ensures { WalkGivesRuns }
+{}
+
+/// A walk over runs that goes on from the back up to `None` gives each run once, the last one first.
+pub fn walk_back_gives_runs()
+    ensures { WalkBackGivesRuns }
+{}
+
+/// What the front of a walk over runs gave, what is left, and what the back gave in reverse are the
+/// runs: pulls at both ends give no run twice or in parts, and leave none out.
+pub fn runs_are_given_once()
+    ensures { RunsAreGivenOnce }
 {}
 
 /// No index matches both values, so walks over the set and the unset bits of one range give no index

@@ -2,11 +2,12 @@
 //! some length. vob 4.0.1 has none of these calls.
 ghost use Rattle.std.specs.Prelude.{◌≡◌, ◌<◌, ◌≤◌, ◌+◌, ◌/◌, length, map, not, slice_index_or, MatchOption};
 ghost use Rattle.std.specs.Iterator.{item_count};
-ghost use Rattle.std.specs.Iterator.Runs.{YieldsInOrder};
+ghost use Rattle.std.specs.Iterator.Runs.{YieldsInOrder, YieldsInReverse};
 ghost use Rattle.vob_block.specs.Packing.{need};
 ghost use Rattle.vob_walk.specs.Matches.{ForSomeRange};
 ghost use Rattle.vob.specs.Runs.{GivesRun, HasNoRoom, IsFirstRoom, IsOverRange, runs_of};
 ghost use Rattle.vob.specs.RunSteps.{unread_from};
+ghost use Rattle.vob.specs.RunsBack.{GivesLastRun};
 
 use crate::vob::Vob;
 use std::iter::FusedIterator;
@@ -14,19 +15,20 @@ use std::marker::Model;
 use std::ops::{Range, RangeBounds};
 use vob_block::{Block, Blocks};
 use vob_walk::range::cut_range;
-use vob_walk::{Found, block_in_hand, next_in_hand};
+use vob_walk::{Found, block_in_hand, next_in_hand, previous_in_hand};
 
-/// The runs of a Vob, in order. Seen as the runs still to come, the bits whose runs they are, the end
-/// of the last run returned, and how many blocks are read and unread.
+/// The runs of a Vob, in order and from both ends. Seen as the runs still to come, the bits whose runs
+/// they are, the end of the last run that `next` returned, and how many blocks are read and unread.
 #[derive(Drop)]
 pub struct Runs<'a, T: Block> {
     blocks: Blocks<'a, T>,
     // The bits of this value make the runs.
     value: bool,
-    // The indices from `first` to below `len` are walked over.
+    // The indices from `first` to below `len` are walked over: `len` is the start of the run that the
+    // back gave last, once it gave one.
     first: usize,
     len: usize,
-    // 0, or the end of the run that was given last.
+    // 0, or the end of the run that the front gave last.
     at: usize,
     // Where the search for the next run begins: `at` or `first`, or the end if no run is left.
     from: usize,
@@ -73,6 +75,7 @@ impl<T: Block> Vob<T> {
         ensures rest { result.rest ≡ runs_of self.now.bits }
         ensures longest { length result.rest ≤ usize.MAX }
         ensures runs { YieldsInOrder GivesRun (λ walk. walk.rest) }
+        ensures runs_back { YieldsInReverse GivesLastRun (λ walk. walk.rest) }
         ensures bits { result.bits ≡ self.now.bits }
         ensures start { result.at ≡ 0 }
         ensures reads { result.reads ≡ 0 }
@@ -103,6 +106,7 @@ impl<T: Block> Vob<T> {
         ensures rest { result.rest ≡ runs_of (map not self.now.bits) }
         ensures longest { length result.rest ≤ usize.MAX }
         ensures runs { YieldsInOrder GivesRun (λ walk. walk.rest) }
+        ensures runs_back { YieldsInReverse GivesLastRun (λ walk. walk.rest) }
         ensures bits { result.bits ≡ map not self.now.bits }
         ensures start { result.at ≡ 0 }
         ensures reads { result.reads ≡ 0 }
@@ -137,6 +141,7 @@ impl<T: Block> Vob<T> {
             IsOverRange low high self.now.bits result) }
         ensures longest { length result.rest ≤ usize.MAX }
         ensures runs { YieldsInOrder GivesRun (λ walk. walk.rest) }
+        ensures runs_back { YieldsInReverse GivesLastRun (λ walk. walk.rest) }
         ensures start { result.at ≡ 0 }
         ensures reads { result.reads + result.left ≤ need (length self.now.bits) T.BITS }
     {
@@ -222,6 +227,32 @@ impl<'a, T: Block> Iterator for Runs<'a, T> {
         self.from = stop.index;
         self.hand = stop.block;
         Some(start.index..stop.index)
+    }
+}
+
+impl<'a, T: Block> DoubleEndedIterator for Runs<'a, T> {
+    ghost next_back_gives = { GivesLastRun };
+
+    /// Returns the last of the runs that are left. It overlaps no run that either end returned, and is
+    /// never a part of a run. May read one block again at each call.
+    #[inline(always)]
+    fn next_back(&mut self) -> Option<Range<usize>> {
+        if self.from == self.len {
+            return None;
+        }
+        let value = self.value;
+        let index = self.len - 1;
+        let block = self.blocks.block(index / T::BITS);
+        let end = previous_in_hand(&mut self.blocks, value, self.from, Found { index, block });
+        if end.index == self.from {
+            self.from = self.len;
+            return None;
+        }
+        let index = end.index - 1;
+        let block = end.block;
+        let start = previous_in_hand(&mut self.blocks, !value, self.from, Found { index, block });
+        self.len = start.index;
+        Some(start.index..end.index)
     }
 }
 

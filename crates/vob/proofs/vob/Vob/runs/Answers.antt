@@ -6,6 +6,7 @@ use Rattle.vob_block.proofs.PackingLemmas.{unpacking-packing}
 use Rattle.vob.specs.RunSteps.{seen}
 use Rattle.vob.specs.Runs.{runs_from}
 use Rattle.vob.proofs.RunListLemmas.{length-runs_from-le}
+use Rattle.vob.proofs.RunsBackLemmas.{runs_in_reverse}
 use Rattle.vob.proofs.RunsLemmas.{runs_in_order}
 use Rattle.vob.proofs.SeenLemmas.{IsOnRuns-start, seen-all}
 use Rattle.vob.proofs.SetsLemmas.{enough_blocks}
@@ -36,6 +37,9 @@ returns-clause-longest g c = omega (
 
 pub returns-clause-runs : goal.returns-clause-runs
 returns-clause-runs g c = runs_in_order
+
+pub returns-clause-runs_back : goal.returns-clause-runs_back
+returns-clause-runs_back g c = runs_in_reverse
 
 pub returns-clause-left : goal.returns-clause-left
 returns-clause-left g c = omega (arith, ap (λ n. need n g.T.BitBlock.BITS) c.len.ensures.len)

@@ -3,6 +3,7 @@ use Rattle.std.proofs.Common.{◌≤◌, ◌∙◌, ap, arith, length, map, refl
 use Rattle.std.proofs.lemmas.List.{length-map}
 use Rattle.vob_block.specs.Packing.{need}
 use Rattle.vob_block.proofs.NeedLemmas.{need-le-need}
+use Rattle.vob.proofs.RunsBackLemmas.{runs_in_reverse}
 use Rattle.vob.proofs.RunsLemmas.{runs_in_order}
 use Rattle.vob.proofs.SeenLemmas.{IsOnRuns-start, IsOverRange-blocks, IsRangeOf-itself, length-runs_of-seen}
 use Rattle.vob.proofs.SetsLemmas.{enough_blocks}
@@ -53,6 +54,9 @@ returns-clause-longest g c =
 
 pub returns-clause-runs : goal.returns-clause-runs
 returns-clause-runs g c = runs_in_order
+
+pub returns-clause-runs_back : goal.returns-clause-runs_back
+returns-clause-runs_back g c = runs_in_reverse
 
 pub returns-clause-reads : goal.returns-clause-reads
 returns-clause-reads g c =
