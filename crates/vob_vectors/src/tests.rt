@@ -14,6 +14,7 @@ mod paths;
 mod pointwise;
 mod ranges;
 mod raw;
+mod run_ends;
 mod single_bits;
 mod support;
 mod text;
