@@ -23,7 +23,7 @@ impl<T: Block> Vob<T> {
     }
 
     /// Rotates the bits down by `n` indices: the first `n` bits are put after the others. `n` is taken
-    /// modulo the length. Takes no memory.
+    /// modulo the length. If it is a multiple of the length, writes no block. Takes no memory.
     ///
     /// ```
     /// let mut vob = vob::vob!(alloc; true, true, false)?;
@@ -42,7 +42,7 @@ impl<T: Block> Vob<T> {
     }
 
     /// Rotates the bits up by `n` indices: the last `n` bits are put before the others. `n` is taken
-    /// modulo the length. Takes no memory.
+    /// modulo the length. If it is a multiple of the length, writes no block. Takes no memory.
     ///
     /// ```
     /// let mut vob = vob::vob!(alloc; true, true, false)?;
@@ -62,13 +62,17 @@ impl<T: Block> Vob<T> {
         }
     }
 
-    /// Puts the first `n` bits after the others: both parts are reversed, and then all bits.
+    /// Puts the first `n` bits after the others: both parts are reversed, and then all bits. If there
+    /// is one part alone, writes no block.
     fn rotate_by(&mut self, n: usize)
         requires { n ≤ length self.old.bits }
         ensures bits { self.new.bits ≡ drop n self.old.bits ++ take n self.old.bits }
         ensures capacity { self.new.capacity ≡ self.old.capacity }
     {
         let len = self.len();
+        if n == 0 || n == len {
+            return;
+        }
         self.reverse_between(0, n);
         self.reverse_between(n, len);
         self.reverse_between(0, len);
