@@ -7,13 +7,14 @@ use Rattle.std.proofs.Common.{[], ◌∷◌, ◌++◌, length, take, drop, refl,
 use Rattle.std.proofs.Math.Seq.{take-append-add}
 use Rattle.std.proofs.iter.runs.Sources.{from_back, as_is_back}
 use Rattle.std.proofs.lemmas.Bool.{cases_eq, cases_lt, false≢true}
-use Rattle.std.proofs.lemmas.List.{drop-take, get_or-take, get_or_append_left, get_or_past, length-append}
-use Rattle.std.proofs.lemmas.List.{get_or-append-add, length-replicate, length-take-le, take-map}
+use Rattle.std.proofs.lemmas.List.{drop-take, get_or-append-add, get_or-take, get_or_append_left}
+use Rattle.std.proofs.lemmas.List.{get_or_past, length-append, length-map, length-replicate}
+use Rattle.std.proofs.lemmas.List.{length-take-le, take-map}
 use Rattle.std.proofs.lemmas.List.Elements.{All-push}
 use Rattle.std.proofs.lemmas.List.Quantifiers.{all_pairs_push}
 use Rattle.vob_block.specs.Packing.{item, need, bit_at, unpacking}
 use Rattle.vob_block.specs.Reading.{Reading}
-use Rattle.vob_block.proofs.NeedLemmas.{need-le-need, need-zero}
+use Rattle.vob_block.proofs.NeedLemmas.{div-lt-need, need-le-need, need-zero}
 use Rattle.vob_store.proofs.CutLemmas.{take-unpacking}
 use Rattle.vob_walk.specs.Matches.{has_value}
 use Rattle.vob_walk.specs.Next.{FindsBack}
@@ -155,6 +156,16 @@ module _ {X : Type 0} (w : ℕ) (wide : 0 < w) (number : X → ℕ) (value : Boo
 
     ended_there : 0 < at → at < length bits → item bits at ≡ false
     ended_there some below = on.ended some (omega (arith, below, size))
+
+    -- the block of each index that is walked over is there
+    pub block_there : {i : ℕ} {items : List X} → i < n → items ≡ x.items → i / w < length items
+    block_there {i} below same = omega (
+      arith,
+      on.count,
+      length-map x.items number,
+      ap length same,
+      div-lt-need w wide n i below,
+    )
 
     -- no block is read where all is passed
     pub GivesLastRun-end : from ≡ n → GivesLastRun (walk_of n x at from) None (walk_of n x at from)
