@@ -131,13 +131,14 @@ module _ {X : Type 0} (w : ℕ) (wide : 0 < w) (number : X → ℕ) (value : Boo
   abbrev bits_of : ℕ → Reading X → List Bool
   bits_of m r = seen value first (unpacking m (map number r.items) w)
 
-  abbrev walk_of : ℕ → Reading X → ℕ → ℕ → RunWalk
-  walk_of m r at from = record {
+  abbrev walk_of : ℕ → Reading X → ℕ → ℕ → Bool → RunWalk
+  walk_of m r at from ready = record {
     rest = runs_from (bits_of m r) at;
     bits = bits_of m r;
     at = at;
     reads = r.reads;
     left = unread_from w m from;
+    again = cond ready 0 1;
   }
 
   abbrev bits : List Bool
@@ -150,7 +151,8 @@ module _ {X : Type 0} (w : ℕ) (wide : 0 < w) (number : X → ℕ) (value : Boo
       → item bits i ≡ has_value value (bit_at (map number r.items) w i)
   bit_is = bit-is w wide number value first n x
 
-  module _ {at from hand : ℕ} (on : IsOnRuns w (map number x.items) bits n first at from hand) where
+  module _ {at from hand back : ℕ} {ready : Bool}
+      (on : IsOnRuns w (map number x.items) bits n first at from hand ready back) where
     size : length bits ≡ n
     size = long w wide number value first n x on
 
@@ -168,7 +170,8 @@ module _ {X : Type 0} (w : ℕ) (wide : 0 < w) (number : X → ℕ) (value : Boo
     )
 
     -- no block is read where all is passed
-    pub GivesLastRun-end : from ≡ n → GivesLastRun (walk_of n x at from) None (walk_of n x at from)
+    pub GivesLastRun-end : from ≡ n
+        → GivesLastRun (walk_of n x at from ready) None (walk_of n x at from ready)
     GivesLastRun-end end =
         let none : (i : ℕ) → at ≤ i → i < length bits → item bits i ≢ true =
         λ i above inside. on.passed i above (omega (arith, inside, size, end)) in record {
@@ -180,7 +183,7 @@ module _ {X : Type 0} (w : ℕ) (wide : 0 < w) (number : X → ℕ) (value : Boo
         }
 
     module _ (more : from ≢ n) {y z : Reading X} (held : y.items ≡ x.items)
-        (counted : y.reads ≡ x.reads + 1) {upto end : ℕ} (top : upto ≡ n - 1) {found : X}
+        (counted : y.reads ≡ x.reads + cond ready 0 1) {upto end : ℕ} (top : upto ≡ n - 1) {found : X}
         (search : FindsBack w number value y z from upto end found) where
       some : from < n
       some = omega (arith, on.within, more)
@@ -221,7 +224,8 @@ module _ {X : Type 0} (w : ℕ) (wide : 0 < w) (number : X → ℕ) (value : Boo
           | inr past ↦ unset_behind i (omega (arith, none, past)) (omega (arith, inside, size))
         ]
 
-        pub GivesLastRun-none : GivesLastRun (walk_of n x at from) None (walk_of n z at n)
+        pub GivesLastRun-none : GivesLastRun (walk_of n x at from ready) None
+            (walk_of n z at n true)
         GivesLastRun-none = record {
           gives = (
             runs_from-none bits at none_left,
@@ -240,8 +244,8 @@ module _ {X : Type 0} (w : ℕ) (wide : 0 < w) (number : X → ℕ) (value : Boo
           rises = rises_so_far;
         }
 
-        pub IsOnRuns-back_none : {any : ℕ}
-            → IsOnRuns w (map number z.items) (bits_of n z) n first at n any
+        pub IsOnRuns-back_none : {any any_back : ℕ}
+            → IsOnRuns w (map number z.items) (bits_of n z) n first at n any true any_back
         IsOnRuns-back_none = record {
           count = rw (after_end) on.count;
           within = omega arith;
@@ -252,6 +256,7 @@ module _ {X : Type 0} (w : ℕ) (wide : 0 < w) (number : X → ℕ) (value : Boo
           ended = λ more below.
               rw (same_bits z after_end) (ended_there more (omega (arith, below, size)));
           held = λ more below. absurd (omega arith);
+          held_back = λ own below. absurd (omega arith);
         }
 
       module _ (inside : end ≢ from) {u : Reading X} {last : ℕ} (below_end : last ≡ end - 1)
@@ -340,7 +345,7 @@ module _ {X : Type 0} (w : ℕ) (wide : 0 < w) (number : X → ℕ) (value : Boo
         left_item i below = ap (λ l. item l i) left_bits ∙ get_or-take start bits i false below
 
         pub IsOnRuns-back : IsOnRuns w (map number u.items) (bits_of start u) start first at from
-            hand
+            hand true (number held_last)
         IsOnRuns-back = record {
           count = rw (after_start) (omega (
             arith,
@@ -356,9 +361,11 @@ module _ {X : Type 0} (w : ℕ) (wide : 0 < w) (number : X → ℕ) (value : Boo
               ∙ on.ended more (omega (arith, below, some_set, upto_end.1));
           held = λ more below. rw (after_start)
               (on.held more (omega (arith, below, some_set, upto_end.1)));
+          held_back = λ own below. rw (before.items) (before.block below);
         }
 
-        reads_in_all : u.reads + unread_from w start from ≤ x.reads + unread_from w n from + 1
+        reads_in_all : u.reads + unread_from w start from + 0
+            ≤ x.reads + unread_from w n from + cond ready 0 1
         reads_in_all = elim (cases_lt from start) [
           | inr same ↦
               let here : start ≡ from = omega (arith, same, before.above) in
@@ -395,8 +402,8 @@ module _ {X : Type 0} (w : ℕ) (wide : 0 < w) (number : X → ℕ) (value : Boo
                   ∙ omega (arith, need_most w wide from, ap (λ m. need m w) here)
             ]
 
-        pub GivesLastRun-next : GivesLastRun (walk_of n x at from)
-            (Some record { start = start; end = end }) (walk_of start u at from)
+        pub GivesLastRun-next : GivesLastRun (walk_of n x at from ready)
+            (Some record { start = start; end = end }) (walk_of start u at from true)
         GivesLastRun-next = record {
           gives = runs_from-last bits at record { start = start; end = end } last_run ended_there
               ∙ ap (λ l. runs_from l at ++ record { start = start; end = end } ∷ []) (sym left_bits);

@@ -68,13 +68,14 @@ module _ {X : Type 0} (w : ℕ) (wide : 0 < w) (number : X → ℕ) (value : Boo
   bits_in r = seen value first (unpacking n (map number r.items) w)
 
   -- the walk whose blocks are these
-  abbrev walk_of : Reading X → ℕ → ℕ → RunWalk
-  walk_of r at from = record {
+  abbrev walk_of : Reading X → ℕ → ℕ → ℕ → RunWalk
+  walk_of r at from again = record {
     rest = runs_from (bits_in r) at;
     bits = bits_in r;
     at = at;
     reads = r.reads;
     left = unread_from w n from;
+    again = again;
   }
 
   abbrev pub bits : List Bool
@@ -91,7 +92,8 @@ module _ {X : Type 0} (w : ℕ) (wide : 0 < w) (number : X → ℕ) (value : Boo
       ∙ ap (has_value value) (get_or-unpacking n xs w i false below
       ∙ ap (λ l. bit_at (map number l) w i) (sym same))
 
-  module _ {at from hand : ℕ} (on : IsOnRuns w xs bits n first at from hand) where
+  module _ {at from hand back : ℕ} {ready : Bool}
+      (on : IsOnRuns w xs bits n first at from hand ready back) where
     pub long : length bits ≡ n
     long =
         let xs_long = length-unpacking n xs w in
@@ -105,7 +107,8 @@ module _ {X : Type 0} (w : ℕ) (wide : 0 < w) (number : X → ℕ) (value : Boo
     passed_there = on.passed
 
     -- nothing is looked at where all is passed
-    pub GivesRun-end : from ≡ n → GivesRun (walk_of x at from) None (walk_of x at from)
+    pub GivesRun-end : {again : ℕ} → from ≡ n
+        → GivesRun (walk_of x at from again) None (walk_of x at from again)
     GivesRun-end end =
         let none : (i : ℕ) → at ≤ i → i < length bits → item bits i ≢ true =
         λ i above inside. passed_there i above (omega (arith, inside, long, end)) in record {
@@ -114,6 +117,7 @@ module _ {X : Type 0} (w : ℕ) (wide : 0 < w) (number : X → ℕ) (value : Boo
           run = (none, refl);
           reads = omega arith;
           rises = omega arith;
+          again = refl;
         }
 
     module _ (more : from ≢ n) {y z : Reading X} (held : y.items ≡ x.items)
@@ -156,7 +160,8 @@ module _ {X : Type 0} (w : ℕ) (wide : 0 < w) (number : X → ℕ) (value : Boo
         none_left : (i : ℕ) → at ≤ i → i < length bits → item bits i ≢ true
         none_left i above inside = unset_below i above (omega (arith, none, inside, long))
 
-        pub GivesRun-none : GivesRun (walk_of x at from) None (walk_of z at n)
+        pub GivesRun-none : {again : ℕ}
+            → GivesRun (walk_of x at from again) None (walk_of z at n again)
         GivesRun-none = record {
           gives = (
             runs_from-none bits at none_left,
@@ -172,10 +177,11 @@ module _ {X : Type 0} (w : ℕ) (wide : 0 < w) (number : X → ℕ) (value : Boo
             ap (λ k. k / w) none,
           );
           rises = rises_so_far;
+          again = refl;
         }
 
         pub IsOnRuns-none : {any : ℕ}
-            → IsOnRuns w (map number z.items) (bits_in z) n first at n any
+            → IsOnRuns w (map number z.items) (bits_in z) n first at n any ready back
         IsOnRuns-none = record {
           count = rw (after_start) on.count;
           within = omega arith;
@@ -186,6 +192,7 @@ module _ {X : Type 0} (w : ℕ) (wide : 0 < w) (number : X → ℕ) (value : Boo
           ended = λ more below.
               rw (same_bits z after_start) (ended_there more (omega (arith, below, long)));
           held = λ more below. absurd (omega arith);
+          held_back = λ own below. absurd (omega arith);
         }
 
       module _ (inside : start ≢ n) {u : Reading X} {stop : ℕ} {last : X}
@@ -216,7 +223,7 @@ module _ {X : Type 0} (w : ℕ) (wide : 0 < w) (number : X → ℕ) (value : Boo
             (λ below. unset_there (omega (arith, below, long)))
 
         pub IsOnRuns-next : IsOnRuns w (map number u.items) (bits_in u) n first stop stop
-            (number last)
+            (number last) ready back
         IsOnRuns-next = record {
           count = rw (behind.items ∙ after_start) on.count;
           within = behind.within;
@@ -225,10 +232,11 @@ module _ {X : Type 0} (w : ℕ) (wide : 0 < w) (number : X → ℕ) (value : Boo
           passed = λ i above below. absurd (omega arith);
           ended = λ more below. rw (same_bits u (behind.items ∙ after_start)) (unset_there below);
           held = λ more below. rw (behind.items) (behind.block below);
+          held_back = λ own below. rw (behind.items ∙ after_start) (on.held_back own some);
         }
 
-        pub GivesRun-next : GivesRun (walk_of x at from)
-            (Some record { start = start; end = stop }) (walk_of u stop stop)
+        pub GivesRun-next : {again : ℕ} → GivesRun (walk_of x at from again)
+            (Some record { start = start; end = stop }) (walk_of u stop stop again)
         GivesRun-next = record {
           gives = runs_from-first bits at record { start = start; end = stop } run_there
               ∙ ap (λ l. record { start = start; end = stop } ∷ runs_from l stop)
@@ -249,6 +257,7 @@ module _ {X : Type 0} (w : ℕ) (wide : 0 < w) (number : X → ℕ) (value : Boo
             div-lt-need w wide n start (omega (arith, search.within, inside)),
             quotients_rise w wide start stop behind.above,
           );
+          again = refl;
         }
 
 -- what is still to come grows fewer by each run that is given

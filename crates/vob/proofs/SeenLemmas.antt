@@ -84,9 +84,9 @@ length-runs_of-seen value first n xs w order =
     omega (arith, long, all, length-runs_from-le (seen value first (unpacking n xs w)) 0)
 
 -- a walk before its first step: no bit below the start of its range is seen set
-pub IsOnRuns-start : (value : Bool) {w first n hand : ℕ} (xs : List ℕ) → need n w ≤ length xs
+pub IsOnRuns-start : (value : Bool) {w first n hand back : ℕ} (xs : List ℕ) → need n w ≤ length xs
     → first ≤ n → (0 < first → first < n → hand ≡ slice_index_or xs (first / w) 0)
-    → IsOnRuns w xs (seen value first (unpacking n xs w)) n first 0 first hand
+    → IsOnRuns w xs (seen value first (unpacking n xs w)) n first 0 first hand false back
 IsOnRuns-start value {w} {first} {n} xs count order held = record {
   count = count;
   within = order;
@@ -96,6 +96,7 @@ IsOnRuns-start value {w} {first} {n} xs count order held = record {
       false≢true (sym (seen-below value first (unpacking n xs w) i below) ∙ same);
   ended = λ some. absurd (omega arith);
   held = held;
+  held_back = λ ready. absurd (false≢true ready);
 }
 
 -- ---- a run of the bits negated
@@ -227,14 +228,15 @@ module _ (w : ℕ) (wide : 0 < w) (bits : List Bool) (xs : List ℕ) (blocks : x
         get_or-unpacking stop xs w i false below ∙ bit-in_blocks w wide bits xs blocks i
 
     -- so a walk from the start on is over the bits that the range keeps
-    pub IsOverRange-blocks : (reads left : ℕ) → IsOverRange low high bits record {
+    pub IsOverRange-blocks : (reads left again : ℕ) → IsOverRange low high bits record {
       rest = runs_of (seen true start (unpacking stop xs w));
       bits = seen true start (unpacking stop xs w);
       at = 0;
       reads = reads;
       left = left;
+      again = again;
     }
-    IsOverRange-blocks reads left = record {
+    IsOverRange-blocks reads left again = record {
       rest = runs_of-kept bits range (unpacking stop xs w) (length-unpacking stop xs w) same_below;
       each = seen-kept bits range (unpacking stop xs w) (length-unpacking stop xs w) same_below;
     }

@@ -40,13 +40,15 @@ pub record IsFirstRun (bits : List Bool) (from a b : ℕ) : Type 0 where
   pub run : IsMaximalRun bits a b
 
 -- a walk over runs: the runs still to give, the bits whose runs they are, the index below which each
--- run was given, how many blocks were read, and how many are unread
+-- run was given, how many blocks were read, how many are unread, and how many may be read again: one,
+-- until the back has a block in hand
 pub record RunWalk : Type 0 where
   pub rest : List (Range ℕ)
   pub bits : List Bool
   pub at : ℕ
   pub reads : ℕ
   pub left : ℕ
+  pub again : ℕ
 
 -- what a call of `next` does: the first of the runs still to give, if any. It is the first run from
 -- index `at` on, and the walk goes on at its end. No block is read again
@@ -59,6 +61,7 @@ pub record GivesRun (walk : RunWalk) (answer : Option (Range ℕ)) (after : RunW
       (λ run. IsFirstRun walk.bits walk.at run.start run.end × (after.at ≡ run.end))
   pub reads : after.reads + after.left ≤ walk.reads + walk.left
   pub rises : walk.reads ≤ after.reads
+  pub again : after.again ≡ walk.again
 
 -- the bits that a range keeps: those whose index isn't within it are unset
 abbrev pub kept : Bound ℕ → Bound ℕ → List Bool → List Bool

@@ -15,7 +15,7 @@ pub record IsLastRun (bits : List Bool) (from a b : ℕ) : Type 0 where
   pub last : (i : ℕ) → b ≤ i → item bits i ≢ true
 
 -- what a call of `next_back` does: the last of the runs still to give, if any. The walk goes on over
--- the bits before that run. At most one more block is read than there are fewer left to read
+-- the bits before that run. No block is read again, but for the one that may be
 pub record GivesLastRun (walk : RunWalk) (answer : Option (Range ℕ)) (after : RunWalk) : Type 0 where
   pub gives : YieldsLast (λ (w : RunWalk). w.rest) walk answer after
   pub at : after.at ≡ walk.at
@@ -24,7 +24,7 @@ pub record GivesLastRun (walk : RunWalk) (answer : Option (Range ℕ)) (after : 
       × (after.bits ≡ walk.bits))
       (λ run. IsLastRun walk.bits walk.at run.start run.end
       × (after.bits ≡ take run.start walk.bits))
-  pub reads : after.reads + after.left ≤ walk.reads + walk.left + 1
+  pub reads : after.reads + after.left + after.again ≤ walk.reads + walk.left + walk.again
   pub rises : walk.reads ≤ after.reads
 
 -- a walk up to `None` from the back gives all runs, the last one first

@@ -1,6 +1,7 @@
 //! The runs of a Vob, which are its longest stretches of set or unset bits; and the first stretch of
 //! some length. vob 4.0.1 has none of these calls.
-ghost use Rattle.std.specs.Prelude.{◌≡◌, ◌<◌, ◌≤◌, ◌+◌, ◌/◌, length, map, not, slice_index_or, MatchOption};
+ghost use Rattle.std.specs.Prelude.{◌≡◌, ◌<◌, ◌≤◌, ◌+◌, ◌/◌, if◌then◌else◌, length, map, not, slice_index_or};
+ghost use Rattle.std.specs.Prelude.{IsTrue, MatchOption};
 ghost use Rattle.std.specs.Iterator.{item_count};
 ghost use Rattle.std.specs.Iterator.Runs.{YieldsInOrder, YieldsInReverse};
 ghost use Rattle.vob_block.specs.Packing.{need};
@@ -34,10 +35,13 @@ pub struct Runs<'a, T: Block> {
     from: usize,
     // The block of index `from`, unless that is 0 or the end.
     hand: T,
+    // Whether the back has a block in hand, which is that of index `len - 1` then, `back`.
+    ready: bool,
+    back: T,
 }
 
 impl<'a, T: Block> Model for Runs<'a, T> {
-    ghost use Rattle.std.specs.Prelude.{map};
+    ghost use Rattle.std.specs.Prelude.{if◌then◌else◌, map};
     ghost use Rattle.vob_block.specs.Packing.{unpacking};
     ghost use Rattle.vob.specs.RunSteps.{IsOnRuns, seen, unread_from};
     ghost use Rattle.vob.specs.Runs.{RunWalk, runs_from};
@@ -52,12 +56,14 @@ impl<'a, T: Block> Model for Runs<'a, T> {
       at = runs.at;
       reads = runs.blocks.reads;
       left = unread_from T.BITS runs.len runs.from;
+      again = if runs.ready then 0 else 1;
     } };
 
     ghost invariant = { λ runs. IsOnRuns T.BITS (map T.number runs.blocks.items)
         (seen runs.value runs.first
         (unpacking runs.len (map T.number runs.blocks.items) T.BITS))
-        runs.len runs.first runs.at runs.from (T.number runs.hand) };
+        runs.len runs.first runs.at runs.from (T.number runs.hand) runs.ready
+        (T.number runs.back) };
 }
 
 impl<T: Block> Vob<T> {
@@ -78,6 +84,7 @@ impl<T: Block> Vob<T> {
         ensures runs_back { YieldsInReverse GivesLastRun (λ walk. walk.rest) }
         ensures bits { result.bits ≡ self.now.bits }
         ensures start { result.at ≡ 0 }
+        ensures again { result.again ≡ 1 }
         ensures reads { result.reads ≡ 0 }
         ensures left { result.left ≡ need (length self.now.bits) T.BITS }
     {
@@ -89,6 +96,8 @@ impl<T: Block> Vob<T> {
             at: 0,
             from: 0,
             hand: T::ZERO,
+            ready: false,
+            back: T::ZERO,
         }
     }
 
@@ -109,6 +118,7 @@ impl<T: Block> Vob<T> {
         ensures runs_back { YieldsInReverse GivesLastRun (λ walk. walk.rest) }
         ensures bits { result.bits ≡ map not self.now.bits }
         ensures start { result.at ≡ 0 }
+        ensures again { result.again ≡ 1 }
         ensures reads { result.reads ≡ 0 }
         ensures left { result.left ≡ need (length self.now.bits) T.BITS }
     {
@@ -120,12 +130,15 @@ impl<T: Block> Vob<T> {
             at: 0,
             from: 0,
             hand: T::ZERO,
+            ready: false,
+            back: T::ZERO,
         }
     }
 
     /// Returns a walk over the runs of set bits within a range, in order. A run that goes on past the
     /// range is cut there. Every pair of bounds is accepted, and the range is cut at the length. Each
-    /// block is read at most once; that of a start past 0 is read at once.
+    /// block is read at most once, but one twice if both ends are pulled. That of a start past 0 is read
+    /// at once.
     ///
     /// ```
     /// let vob = vob::vob!(alloc; true, true, false, true, true)?;
@@ -143,6 +156,7 @@ impl<T: Block> Vob<T> {
         ensures runs { YieldsInOrder GivesRun (λ walk. walk.rest) }
         ensures runs_back { YieldsInReverse GivesLastRun (λ walk. walk.rest) }
         ensures start { result.at ≡ 0 }
+        ensures again { result.again ≡ 1 }
         ensures reads { result.reads + result.left ≤ need (length self.now.bits) T.BITS }
     {
         let (start, stop) = cut_range(&range, self.len());
@@ -156,6 +170,8 @@ impl<T: Block> Vob<T> {
             at: 0,
             from: start,
             hand,
+            ready: false,
+            back: T::ZERO,
         }
     }
 
@@ -202,6 +218,25 @@ fn hand_at<T: Block>(blocks: &mut Blocks<'_, T>, start: usize, stop: usize) -> T
     }
 }
 
+/// Returns the block of index `index`, at which the back of a walk goes on. If the back is ready, that
+/// is `back`, which isn't read again.
+#[inline(always)]
+fn block_at_back<T: Block>(blocks: &mut Blocks<'_, T>, ready: bool, back: T, index: usize) -> T
+    requires count { index / T.BITS < length blocks.old.items }
+    requires back { IsTrue ready → T.number back
+        ≡ slice_index_or (map T.number blocks.old.items) (index / T.BITS) 0 }
+    ensures block { T.number result
+        ≡ slice_index_or (map T.number blocks.old.items) (index / T.BITS) 0 }
+    ensures reads { blocks.new.reads ≡ blocks.old.reads + (if ready then 0 else 1) }
+    ensures items { blocks.new.items ≡ blocks.old.items }
+{
+    if ready {
+        back
+    } else {
+        blocks.block(index / T::BITS)
+    }
+}
+
 impl<'a, T: Block> Iterator for Runs<'a, T> {
     type Item = Range<usize>;
 
@@ -234,7 +269,7 @@ impl<'a, T: Block> DoubleEndedIterator for Runs<'a, T> {
     ghost next_back_gives = { GivesLastRun };
 
     /// Returns the last of the runs that are left. It overlaps no run that either end returned, and is
-    /// never a part of a run. May read one block again at each call.
+    /// never a part of a run. All calls of both ends together read one block again at most.
     #[inline(always)]
     fn next_back(&mut self) -> Option<Range<usize>> {
         if self.from == self.len {
@@ -242,7 +277,8 @@ impl<'a, T: Block> DoubleEndedIterator for Runs<'a, T> {
         }
         let value = self.value;
         let index = self.len - 1;
-        let block = self.blocks.block(index / T::BITS);
+        let block = block_at_back(&mut self.blocks, self.ready, self.back, index);
+        self.ready = true;
         let end = previous_in_hand(&mut self.blocks, value, self.from, Found { index, block });
         if end.index == self.from {
             self.from = self.len;
@@ -252,6 +288,7 @@ impl<'a, T: Block> DoubleEndedIterator for Runs<'a, T> {
         let block = end.block;
         let start = previous_in_hand(&mut self.blocks, !value, self.from, Found { index, block });
         self.len = start.index;
+        self.back = start.block;
         Some(start.index..end.index)
     }
 }

@@ -1,6 +1,5 @@
 -- By what the two searches find.
-use Rattle.std.proofs.Common.{◌-◌, ◌/◌, ◌∙◌, arith, refl}
-use Rattle.vob_block.proofs.NumberLemmas.{number_read}
+use Rattle.std.proofs.Common.{◌∙◌, arith, refl}
 use Rattle.vob.proofs.RunsBackLemmas.{GivesLastRun-end, GivesLastRun-none, GivesLastRun-next}
 use Rattle.vob.proofs.RunsBackLemmas.{IsOnRuns-back, IsOnRuns-back_none, block_there, fewer_left_back}
 use Rattle.vob.proofs.runs.RunsDoubleEndedIterator.next_back.Goals as goal
@@ -9,47 +8,50 @@ pub returns-then-self-clause-steps : goal.returns-then-self-clause-steps
 returns-then-self-clause-steps g c = rw (← c.self.view_is) (GivesLastRun-end _
     g.met.T.BitBlock.wide_law _ _ _ _ c.self.inside.blocks c.self.invariant c.if-self.true)
 
-pub block-block-requires : goal.block-block-requires
-block-block-requires g c = rw c.BITS.ensures (block_there _ g.met.T.BitBlock.wide_law _ _ _ _
+pub block_at_back-block-requires-clause-count : goal.block_at_back-block-requires-clause-count
+block_at_back-block-requires-clause-count g c = block_there _ g.met.T.BitBlock.wide_law _ _ _ _
     c.self.inside.blocks c.self.invariant
-    (omega (arith, c.self.invariant.within, c.if-self.false)) refl)
+    (omega (arith, c.self.invariant.within, c.if-self.false)) refl
+
+pub block_at_back-block-requires-clause-back : goal.block_at_back-block-requires-clause-back
+block_at_back-block-requires-clause-back g c = λ ready. c.self.invariant.held_back ready
+    (omega (arith, c.self.invariant.within, c.if-self.false))
 
 pub previous_in_hand-end-requires-clause-count : goal.previous_in_hand-end-requires-clause-count
 previous_in_hand-end-requires-clause-count g c = block_there _ g.met.T.BitBlock.wide_law _ _ _ _
     c.self.inside.blocks c.self.invariant
-    (omega (arith, c.self.invariant.within, c.if-self.false)) c.block-block.ensures.items
+    (omega (arith, c.self.invariant.within, c.if-self.false)) c.block_at_back-block.ensures.items
 
 pub previous_in_hand-end-requires-clause-hand : goal.previous_in_hand-end-requires-clause-hand
-previous_in_hand-end-requires-clause-hand g c = rw c.block-block.ensures.items (number_read
-    g.T.BitBlock.number c.self.inside.blocks.items ((c.self.inside.len - 1) / g.T.BitBlock.BITS)
-    c.block-block.result (rw c.BITS.ensures at c.block-block.ensures.block))
+previous_in_hand-end-requires-clause-hand g c =
+    rw c.block_at_back-block.ensures.items c.block_at_back-block.ensures.block
 
 pub invariant_of-self : goal.invariant_of-self
 invariant_of-self g c = IsOnRuns-back_none _ g.met.T.BitBlock.wide_law _ _ _ _ c.self.inside.blocks
-    c.self.invariant c.if-self.false c.block-block.ensures.items c.block-block.ensures.reads refl
+    c.self.invariant c.if-self.false c.block_at_back-block.ensures.items c.block_at_back-block.ensures.reads refl
     c.previous_in_hand-end.ensures c.if-end-self.true
 
 pub returns-then-end-self-clause-steps : goal.returns-then-end-self-clause-steps
 returns-then-end-self-clause-steps g c = rw (← c.self.view_is) (GivesLastRun-none _
     g.met.T.BitBlock.wide_law _ _ _ _ c.self.inside.blocks c.self.invariant c.if-self.false
-    c.block-block.ensures.items c.block-block.ensures.reads refl c.previous_in_hand-end.ensures
+    c.block_at_back-block.ensures.items c.block_at_back-block.ensures.reads refl c.previous_in_hand-end.ensures
     c.if-end-self.true)
 
 pub previous_in_hand-start-requires-clause-count : goal.previous_in_hand-start-requires-clause-count
 previous_in_hand-start-requires-clause-count g c = block_there _ g.met.T.BitBlock.wide_law _ _ _ _
     c.self.inside.blocks c.self.invariant
     (omega (arith, c.previous_in_hand-end.ensures.within, c.self.invariant.within, c.if-self.false))
-    (c.previous_in_hand-end.ensures.items ∙ c.block-block.ensures.items)
+    (c.previous_in_hand-end.ensures.items ∙ c.block_at_back-block.ensures.items)
 
 pub invariant_of-self-2 : goal.invariant_of-self-2
 invariant_of-self-2 g c = IsOnRuns-back _ g.met.T.BitBlock.wide_law _ _ _ _ c.self.inside.blocks
-    c.self.invariant c.if-self.false c.block-block.ensures.items c.block-block.ensures.reads refl
+    c.self.invariant c.if-self.false c.block_at_back-block.ensures.items c.block_at_back-block.ensures.reads refl
     c.previous_in_hand-end.ensures c.if-end-self.false refl c.previous_in_hand-start.ensures
 
 pub returns-clause-steps : goal.returns-clause-steps
 returns-clause-steps g c = rw (← c.self.view_is) (GivesLastRun-next _ g.met.T.BitBlock.wide_law _ _
-    _ _ c.self.inside.blocks c.self.invariant c.if-self.false c.block-block.ensures.items
-    c.block-block.ensures.reads refl c.previous_in_hand-end.ensures c.if-end-self.false refl
+    _ _ c.self.inside.blocks c.self.invariant c.if-self.false c.block_at_back-block.ensures.items
+    c.block_at_back-block.ensures.reads refl c.previous_in_hand-end.ensures c.if-end-self.false refl
     c.previous_in_hand-start.ensures)
 
 pub returns-clause-goes : goal.returns-clause-goes

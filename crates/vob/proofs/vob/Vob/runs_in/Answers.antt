@@ -35,7 +35,7 @@ invariant_of-result g c =
 pub returns-clause-within : goal.returns-clause-within
 returns-clause-within g c = λ in_range. IsOverRange-blocks _ g.met.T.BitBlock.wide_law _ _
     (ap (map g.T.BitBlock.number) c.hand_at-hand.ensures.items ∙ c.blocks-blocks.ensures.blocks)
-    (rw c.len.ensures.len at c.cut_range-start.ensures.window in_range) _ _
+    (rw c.len.ensures.len at c.cut_range-start.ensures.window in_range) _ _ _
 
 pub returns-clause-some : goal.returns-clause-some
 returns-clause-some g c =
@@ -44,7 +44,7 @@ returns-clause-some g c =
     let over = IsOverRange-blocks _ g.met.T.BitBlock.wide_law _ _
     (ap (map g.T.BitBlock.number) c.hand_at-hand.ensures.items ∙ c.blocks-blocks.ensures.blocks)
     (IsRangeOf-itself _ _ _ order inside) in
-    (_, _, order, inside, over _ _)
+    (_, _, order, inside, over _ _ _)
 
 pub returns-clause-longest : goal.returns-clause-longest
 returns-clause-longest g c =
