@@ -1,5 +1,6 @@
 //! How many blocks a walk reads, said by contracts: at most one for each index that it gave and each
-//! block of its range. No block is read twice. A walk over runs reads each block once.
+//! block of its range. No block is read twice. A walk over runs reads each block once, but one twice
+//! if both ends are pulled.
 ghost use Rattle.std.specs.Prelude.{◌≡◌, ◌+◌, ◌≤◌, [], length, None, IfOk};
 ghost use Rattle.vob_walk.specs.Walk.{given_count};
 
@@ -80,6 +81,18 @@ fn third_of_ten<'a>(vob: &'a Vob<u8>) -> (Option<Range<usize>>, Runs<'a, u8>)
     (third, runs)
 }
 
+/// The first run of ten bits, which two bytes hold, the last but one, and the walk after them.
+fn ends_of_ten<'a>(vob: &'a Vob<u8>) -> (Option<Range<usize>>, Option<Range<usize>>, Runs<'a, u8>)
+    requires ten { length vob.now.bits ≡ 10 }
+    ensures { result.2.reads ≤ 3 }
+{
+    let mut runs = vob.runs();
+    runs.next_back();
+    let first = runs.next();
+    let last = runs.next_back();
+    (first, last, runs)
+}
+
 /// Pulls at both ends in turn until none of ten bits is left: seven are set, three are unset.
 fn check_ten(rt: &(impl Abort + AllocGlobal), vob: &Vob<u8>) {
     let (front, back) = (End::Front, End::Back);
@@ -122,6 +135,12 @@ fn blocks_in_hand_are_not_read_again(rt: HostRuntime) {
         found,
         (Some(5..8), Some(9..10)),
     );
+    let ten = vob_of(&rt, "1011011101");
+    assert!(rt; ten.len() == 10);
+    let (first, last, mut runs) = ends_of_ten(&ten);
+    let found = (first, last, runs.next_back());
+    let wanted = (Some(0..1), Some(5..8), Some(2..4));
+    same(&rt, "the others", 0, found, wanted);
     let none = vob_of::<u8>(&rt, "");
     assert!(rt; none.len() == 0);
     let (first, last, walk) = ends_of_none(&none);
