@@ -1,6 +1,5 @@
 -- No block is in hand, and none is passed.
 use Rattle.std.proofs.Common.{◌∙◌, ap, arith, length, true}
-use Rattle.std.proofs.lemmas.Bool.{false≢true}
 use Rattle.std.proofs.lemmas.List.{length-map}
 use Rattle.vob_block.specs.Packing.{need}
 use Rattle.vob_block.proofs.PackingLemmas.{unpacking-packing}
