@@ -2,52 +2,65 @@
 use super::pointwise::{CALLS, Call, combined_bit};
 use super::support::{listed, pattern, pattern_bit, same, vob_of};
 use std::process::Abort;
-use vob::{CombinedBits, End, Vob, deal};
-use vob_block::{Block, Combine};
+use vob::{End, Vob, deal};
+use vob_block::Block;
 
-/// A walk gives these indices from the front.
-fn check_front<C: Combine, T: Block>(
+/// Pulls of which so many in three are at the back, and what they give of these indices.
+fn pulls_at(
     rt: &(impl Abort + AllocGlobal),
-    walk: CombinedBits<'_, C, T>,
-    wanted: &[usize],
-) {
-    let given = listed(rt, walk);
-    same(rt, "from the front", 0, given.as_slice(), wanted);
-}
-
-/// A walk gives these indices from the back, the last one first.
-fn check_back<C: Combine, T: Block>(
-    rt: &(impl Abort + AllocGlobal),
-    walk: CombinedBits<'_, C, T>,
-    wanted: &[usize],
-) {
-    let mut given = listed(rt, walk.rev());
-    given.reverse();
-    same(rt, "from the back", 0, given.as_slice(), wanted);
-}
-
-/// A walk gives these indices from both ends by turns, and then none.
-fn check_turns<C: Combine, T: Block>(
-    rt: &impl Abort,
-    walk: CombinedBits<'_, C, T>,
-    wanted: &[usize],
-) {
-    let mut walk = walk;
-    for turn in 0..wanted.len() {
-        let passed = turn / 2;
-        if turn % 2 == 0 {
-            let index = wanted.get(passed).copied();
-            same(rt, "from the front", turn, walk.next(), index);
+    backs: usize,
+    indices: &[usize],
+) -> (Vec<End>, Vec<Option<usize>>) {
+    let mut left = indices;
+    let mut pulls = Vec::new(rt.alloc());
+    let mut answers = Vec::new(rt.alloc());
+    for turn in 0..indices.len().saturating_add(2) {
+        let (end, split) = if turn % 3 < backs {
+            (End::Back, left.split_last())
         } else {
-            let index = wanted.get(wanted.len() - 1 - passed).copied();
-            same(rt, "from the back", turn, walk.next_back(), index);
-        }
+            (End::Front, left.split_first())
+        };
+        pulls.push(end).expect(rt, "memory");
+        answers
+            .push(split.map(|(index, _)| *index))
+            .expect(rt, "memory");
+        left = split.map(|(_, rest)| rest).unwrap_or(left);
     }
-    same(rt, "at the front", wanted.len(), walk.next(), None);
-    same(rt, "at the back", wanted.len(), walk.next_back(), None);
+    (pulls, answers)
 }
 
-/// The walk of a call over two Vobs of one length gives these indices, and counts them.
+/// What pulls at the walk of a call over two Vobs of one length give.
+fn pulled<T: Block>(
+    rt: &(impl Abort + AllocGlobal),
+    call: Call,
+    (vob, other): (&Vob<T>, &Vob<T>),
+    pulls: &[End],
+) -> Vec<Option<usize>> {
+    assert!(rt; vob.len() == other.len(), "{call:?}");
+    let mut answers = Vec::new(rt.alloc());
+    let dealt = match call {
+        Call::And => deal(&mut vob.intersection(other), pulls, &mut answers),
+        Call::Or => deal(&mut vob.union(other), pulls, &mut answers),
+        Call::Xor => deal(&mut vob.symmetric_difference(other), pulls, &mut answers),
+        Call::AndNot => deal(&mut vob.difference(other), pulls, &mut answers),
+    };
+    dealt.expect(rt, "memory");
+    answers
+}
+
+/// How many indices the walk of a call over two Vobs of one length gives.
+fn counted<T: Block>(rt: &impl Abort, call: Call, vob: &Vob<T>, other: &Vob<T>) -> usize {
+    assert!(rt; vob.len() == other.len(), "{call:?}");
+    match call {
+        Call::And => vob.intersection(other).count(),
+        Call::Or => vob.union(other).count(),
+        Call::Xor => vob.symmetric_difference(other).count(),
+        Call::AndNot => vob.difference(other).count(),
+    }
+}
+
+/// The walk of a call over two Vobs of one length gives these indices from either end and from both,
+/// and counts them.
 fn check_walk<T: Block>(
     rt: &(impl Abort + AllocGlobal),
     call: Call,
@@ -55,45 +68,13 @@ fn check_walk<T: Block>(
     other: &Vob<T>,
     wanted: &[usize],
 ) {
-    assert!(rt; vob.len() == other.len(), "{call:?}");
-    match call {
-        Call::And => {
-            check_front(rt, vob.intersection(other), wanted);
-            check_back(rt, vob.intersection(other), wanted);
-            check_turns(rt, vob.intersection(other), wanted);
-            same(
-                rt,
-                "count",
-                0,
-                vob.intersection(other).count(),
-                wanted.len(),
-            );
-        }
-        Call::Or => {
-            check_front(rt, vob.union(other), wanted);
-            check_back(rt, vob.union(other), wanted);
-            check_turns(rt, vob.union(other), wanted);
-            same(rt, "count", 0, vob.union(other).count(), wanted.len());
-        }
-        Call::Xor => {
-            check_front(rt, vob.symmetric_difference(other), wanted);
-            check_back(rt, vob.symmetric_difference(other), wanted);
-            check_turns(rt, vob.symmetric_difference(other), wanted);
-            same(
-                rt,
-                "count",
-                0,
-                vob.symmetric_difference(other).count(),
-                wanted.len(),
-            );
-        }
-        Call::AndNot => {
-            check_front(rt, vob.difference(other), wanted);
-            check_back(rt, vob.difference(other), wanted);
-            check_turns(rt, vob.difference(other), wanted);
-            same(rt, "count", 0, vob.difference(other).count(), wanted.len());
-        }
+    for backs in 0..4 {
+        let (pulls, answers) = pulls_at(rt, backs, wanted);
+        let found = pulled(rt, call, (vob, other), &pulls);
+        same(rt, "pulls", backs, found.as_slice(), answers.as_slice());
     }
+    let count = counted(rt, call, vob, other);
+    same(rt, "the count", 0, count, wanted.len());
 }
 
 /// The walk of a call over patterns of `len` bits, against the bits one by one.
@@ -155,13 +136,15 @@ fn indices_of_both_are_given(rt: HostRuntime) {
 }
 
 #[test]
-fn pulls_are_dealt_from_both_ends(rt: HostRuntime) {
-    let mut answers = Vec::new(rt.alloc());
+fn a_walk_is_an_iterator_from_both_ends(rt: HostRuntime) {
     let vob = vob_of::<u8>(&rt, "0111000011");
     let other = vob_of::<u8>(&rt, "1110000001");
     assert!(rt; vob.len() == other.len());
-    let pulls = [End::Back, End::Front, End::Front, End::Back];
-    deal(&mut vob.intersection(&other), &pulls, &mut answers).expect(&rt, "memory");
-    let wanted = [Some(9), Some(1), Some(2), None];
-    same(&rt, "dealt", 0, answers.as_slice(), wanted.as_slice());
+    let forth = listed(&rt, vob.union(&other));
+    same(&rt, "forth", 0, forth.as_slice(), &[0, 1, 2, 3, 8, 9]);
+    let back = listed(&rt, vob.union(&other).rev());
+    same(&rt, "back", 0, back.as_slice(), &[9, 8, 3, 2, 1, 0]);
+    let mut walk = vob.intersection(&other);
+    same(&rt, "the first", 0, walk.next(), Some(1));
+    same(&rt, "the last", 0, walk.next_back(), Some(9));
 }
