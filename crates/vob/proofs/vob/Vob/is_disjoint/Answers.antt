@@ -4,26 +4,19 @@ use Rattle.vob.proofs.PairLemmas.{lent_as_many, flag_of, flag_of_list, disjoint_
 use Rattle.vob.proofs.vob.Vob.is_disjoint.Goals as goal
 
 pub has_none-requires : goal.has_none-requires
-has_none-requires g c =
-    lent_as_many g.T.BitBlock.number g.T.BitBlock.BITS g.met.T.BitBlock.wide_law c.self.inside.len
-    c.self.inside.vec.items c.blocks-2.result.items c.args.self.now.bits c.args.other.now.bits
-    c.self.invariant (ap (λ v. v.bits) c.self.view_is) c.requires c.blocks-2.ensures.blocks
-    ◌&&◌ refl c.as_slice.ensures.value
+has_none-requires g c = lent_as_many _ _ g.met.T.BitBlock.wide_law _ _ _ _ _ c.self.invariant
+    (ap (λ v. v.bits) c.self.view_is) c.requires c.blocks-2.ensures.blocks ◌&&◌ refl
+    c.as_slice.ensures.value
 
 pub returns-clause-answer : goal.returns-clause-answer
-returns-clause-answer g c =
-    flag_of g.T.BitBlock.number g.T.BitBlock.BITS g.met.T.BitBlock.wide_law c.self.inside.len
-    c.self.inside.vec.items c.blocks-2.result.items c.args.self.now.bits c.args.other.now.bits
-    c.self.invariant (ap (λ v. v.bits) c.self.view_is) c.requires c.blocks-2.ensures.blocks
-    ◌&&◌ refl c.as_slice.ensures.value c.has_none.result c.has_none.ensures.none _
-    (disjoint_is c.args.self.now.bits c.args.other.now.bits)
+returns-clause-answer g c = flag_of _ _ g.met.T.BitBlock.wide_law _ _ _ _ _ c.self.invariant
+    (ap (λ v. v.bits) c.self.view_is) c.requires c.blocks-2.ensures.blocks ◌&&◌ refl
+    c.as_slice.ensures.value _ c.has_none.ensures.none _ (disjoint_is _ _)
 
 pub returns-clause-list : goal.returns-clause-list
-returns-clause-list g c =
-    flag_of_list g.T.BitBlock.number g.T.BitBlock.BITS g.met.T.BitBlock.wide_law c.self.inside.len
-    c.self.inside.vec.items c.blocks-2.result.items c.args.self.now.bits c.args.other.now.bits
-    c.self.invariant (ap (λ v. v.bits) c.self.view_is) c.requires c.blocks-2.ensures.blocks
-    ◌&&◌ refl c.as_slice.ensures.value c.has_none.result c.has_none.ensures.none
+returns-clause-list g c = flag_of_list _ _ g.met.T.BitBlock.wide_law _ _ _ _ _ c.self.invariant
+    (ap (λ v. v.bits) c.self.view_is) c.requires c.blocks-2.ensures.blocks ◌&&◌ refl
+    c.as_slice.ensures.value _ c.has_none.ensures.none
 
 pub returns-clause-shared : goal.returns-clause-shared
 returns-clause-shared g c = HasShared-missed _ _ _ (returns-clause-answer g c)

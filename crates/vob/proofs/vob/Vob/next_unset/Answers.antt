@@ -4,15 +4,12 @@ use Rattle.vob.proofs.SetsLemmas.{enough_blocks, IsNext-blocks, IsNext-above, Is
 use Rattle.vob.proofs.vob.Vob.next_unset.Goals as goal
 
 pub next_index-requires : goal.next_index-requires
-next_index-requires g c =
-    enough_blocks g.T.BitBlock.BITS g.met.T.BitBlock.wide_law g.T.BitBlock.number c.blocks-2.result.items
-    c.args.self.now.bits c.len.result c.blocks-2.ensures.blocks c.len.ensures.len
+next_index-requires g c = enough_blocks _ g.met.T.BitBlock.wide_law _ _ c.args.self.now.bits _
+    c.blocks-2.ensures.blocks c.len.ensures.len
 
 pub returns-clause-next : goal.returns-clause-next
-returns-clause-next g c =
-    IsNext-blocks g.T.BitBlock.BITS g.met.T.BitBlock.wide_law g.T.BitBlock.number
-    c.blocks-2.result.items c.args.self.now.bits c.len.result c.blocks-2.ensures.blocks
-    c.len.ensures.len false c.args.from c.next_index.result c.next_index.ensures.found
+returns-clause-next g c = IsNext-blocks _ g.met.T.BitBlock.wide_law _ _ _ _
+    c.blocks-2.ensures.blocks c.len.ensures.len false _ _ c.next_index.ensures.found
 
 pub returns-clause-inside : goal.returns-clause-inside
 returns-clause-inside g c = IsNext-inside _ _ _ _ (returns-clause-next g c)

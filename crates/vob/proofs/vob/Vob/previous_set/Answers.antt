@@ -4,15 +4,12 @@ use Rattle.vob.proofs.SetsLemmas.{enough_blocks, IsPrevious-blocks, IsPrevious-b
 use Rattle.vob.proofs.vob.Vob.previous_set.Goals as goal
 
 pub previous_index-requires : goal.previous_index-requires
-previous_index-requires g c =
-    enough_blocks g.T.BitBlock.BITS g.met.T.BitBlock.wide_law g.T.BitBlock.number c.blocks-2.result.items
-    c.args.self.now.bits c.len.result c.blocks-2.ensures.blocks c.len.ensures.len
+previous_index-requires g c = enough_blocks _ g.met.T.BitBlock.wide_law _ _ c.args.self.now.bits _
+    c.blocks-2.ensures.blocks c.len.ensures.len
 
 pub returns-clause-previous : goal.returns-clause-previous
-returns-clause-previous g c =
-    IsPrevious-blocks g.T.BitBlock.BITS g.met.T.BitBlock.wide_law g.T.BitBlock.number
-    c.blocks-2.result.items c.args.self.now.bits c.len.result c.blocks-2.ensures.blocks
-    c.len.ensures.len true c.args.from c.previous_index.result c.previous_index.ensures.found
+returns-clause-previous g c = IsPrevious-blocks _ g.met.T.BitBlock.wide_law _ _ _ _
+    c.blocks-2.ensures.blocks c.len.ensures.len true _ _ c.previous_index.ensures.found
 
 pub returns-clause-inside : goal.returns-clause-inside
 returns-clause-inside g c = IsPrevious-inside _ _ _ _ (returns-clause-previous g c)
