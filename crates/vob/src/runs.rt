@@ -19,7 +19,8 @@ use vob_walk::range::cut_range;
 use vob_walk::{Found, block_in_hand, next_in_hand, previous_in_hand};
 
 /// The runs of a Vob, in order and from both ends. Seen as the runs still to come, the bits whose runs
-/// they are, the end of the last run that `next` returned, and how many blocks are read and unread.
+/// they are, the end of the last run that `next` returned, and how many blocks are read, are unread and
+/// may be read again.
 #[derive(Drop)]
 pub struct Runs<'a, T: Block> {
     blocks: Blocks<'a, T>,
@@ -35,7 +36,7 @@ pub struct Runs<'a, T: Block> {
     from: usize,
     // The block of index `from`, unless that is 0 or the end.
     hand: T,
-    // Whether the back has a block in hand, which is that of index `len - 1` then, `back`.
+    // Whether the back has a block in hand: if so, `back` is that of index `len - 1`.
     ready: bool,
     back: T,
 }
