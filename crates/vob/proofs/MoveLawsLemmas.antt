@@ -2,7 +2,7 @@
 use Rattle.std.specs.Prelude.{replicate}
 use Rattle.std.proofs.Common.{◌≡◌, ℕ, ◌+◌, ◌-◌, ◌%◌, ◌<◌, ◌≤◌, min, Bool, true, false, not, List}
 use Rattle.std.proofs.Common.{[], ◌∷◌, ◌++◌, length, take, drop, refl, sym, ap, ◌∙◌, arith, inl, inr, mod-lt}
-use Rattle.std.proofs.Math.Nat.{mul-mod_left}
+use Rattle.std.proofs.Math.Nat.{mod-add-mod, mul-mod_left}
 use Rattle.std.proofs.Math.Seq.{drop-append_seam, drop-append-add, take-append_seam, take-append-add}
 use Rattle.std.proofs.lemmas.Bool.{cases_eq, cases_lt}
 use Rattle.std.proofs.lemmas.List.{append-nil, drop_all, ext_get_or, get_or-append-add, get_or-drop}
@@ -13,7 +13,8 @@ use Rattle.vob_block.specs.Packing.{item}
 use Rattle.vob.specs.Moves.{rotated, rotated_back}
 use Rattle.vob.specs.MoveLaws.{flipped, inserted, moved_down, moved_up, DownAfterUp, FlipTwice}
 use Rattle.vob.specs.MoveLaws.{InsertUndoesRemove, RemoveUndoesInsert, RotateBack, RotateByLengths}
-use Rattle.vob.specs.MoveLaws.{UpAfterDown}
+use Rattle.vob.specs.MoveLaws.{RotationsAdd, UpAfterDown}
+use Rattle.vob.proofs.TurnsLemmas.{IsRotated-list}
 
 -- ---- a bit
 
@@ -179,6 +180,32 @@ rotated-lengths bits k =
           ∙ ap (λ l. l ++ take size bits) (drop_all size bits (omega arith))
           ∙ take_all size bits (omega arith),
     )
+
+-- ---- two rotations
+
+pub rotated-rotated : RotationsAdd
+rotated-rotated bits n m = elim (cases_lt 0 (length bits)) [
+  | inr none ↦
+      let short : length bits ≡ 0 = omega arith in
+      ap (rotated m) (turned-none bits (n % length bits) short)
+      ∙ turned-none bits (m % length bits) short
+      ∙ sym (turned-none bits ((n + m) % length bits) short)
+  | inl some ↦
+      let size = length bits in
+      let once = rotated n bits in
+      let p = IsRotated-list n {bits = bits} {after = once} some refl in
+      let some_once : 0 < length once = omega (arith, p.len, some) in
+      let q = IsRotated-list m {bits = once} {after = rotated m once} some_once refl in
+      let r = IsRotated-list (n + m) {bits = bits} {after = rotated (n + m) bits} some refl in
+      ext_get_or false (rotated m once) (rotated (n + m) bits) (q.len ∙ p.len ∙ sym r.len)
+      (λ i less.
+      let inside : i < size = omega (arith, less, q.len, p.len) in
+      let sum : i + m + n ≡ i + (n + m) = omega arith in
+      q.each i (omega (arith, less, q.len)) ∙ ap (λ k. item once ((i + m) % k)) p.len
+      ∙ p.each ((i + m) % size) (mod-lt (i + m) some)
+      ∙ ap (item bits) (mod-add-mod (i + m) size n ∙ ap (λ k. k % size) sum)
+      ∙ sym (r.each i inside))
+]
 
 -- ---- a bit put in and taken out
 

@@ -48,6 +48,10 @@ RotateByLengths =
     (bits : List Bool) (k : ℕ)
     → (rotated (k * length bits) bits ≡ bits) × (rotated_back (k * length bits) bits ≡ bits)
 
+-- a list rotated twice is rotated by both counts together
+abbrev pub RotationsAdd : Type 0
+RotationsAdd = (bits : List Bool) (n m : ℕ) → rotated m (rotated n bits) ≡ rotated (n + m) bits
+
 -- a list with a bit put in at an index, and a list with one taken out
 abbrev pub inserted : ℕ → Bool → List Bool → List Bool
 inserted index value bits = take index bits ++ value ∷ drop index bits

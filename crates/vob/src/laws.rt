@@ -4,7 +4,8 @@ ghost use Rattle.vob.specs.Laws.{EqualWhereStorageIs, UnequalWherePlacesDiffer};
 ghost use Rattle.vob.specs.Laws.{PointwiseChangesBits, SetChangesBit, NegateTwice, XorOfEqual};
 ghost use Rattle.vob.specs.Laws.{DigitsGiveBits, NegatedAnd};
 ghost use Rattle.vob.specs.MoveLaws.{DownAfterUp, FlipTwice, InsertUndoesRemove, RemoveUndoesInsert};
-ghost use Rattle.vob.specs.MoveLaws.{ReverseTwice, RotateBack, RotateByLengths, UpAfterDown};
+ghost use Rattle.vob.specs.MoveLaws.{ReverseTwice, RotateBack, RotateByLengths, RotationsAdd};
+ghost use Rattle.vob.specs.MoveLaws.{UpAfterDown};
 ghost use Rattle.vob.specs.OrderLaws.{OrderIsStrict, OrderIsTotal, OrderIsTransitive};
 ghost use Rattle.vob.specs.PackingLaws.{CanonicalIsPacked, LoadGivesStored, LowBytesGiveBits};
 ghost use Rattle.vob.specs.PackingLaws.{NeedIsLeast};
@@ -258,6 +259,11 @@ pub fn rotate_back()
 /// A rotation either way by a multiple of the length leaves the list.
 pub fn rotate_by_lengths()
     ensures { RotateByLengths }
+{}
+
+/// Two rotations one way are one by the sum of both counts, as a whole number. So they commute.
+pub fn rotations_add()
+    ensures { RotationsAdd }
 {}
 
 /// Removing the bit that `insert_bit` put in returns it and leaves the list as it was before.
