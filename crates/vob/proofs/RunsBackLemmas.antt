@@ -169,6 +169,9 @@ module _ {X : Type 0} (w : ℕ) (wide : 0 < w) (number : X → ℕ) (value : Boo
       div-lt-need w wide n i below,
     )
 
+    pub last_there : from ≢ n → {items : List X} → items ≡ x.items → (n - 1) / w < length items
+    last_there more same = block_there (omega (arith, on.within, more)) same
+
     -- no block is read where all is passed
     pub GivesLastRun-end : from ≡ n
         → GivesLastRun (walk_of n x at from ready) None (walk_of n x at from ready)

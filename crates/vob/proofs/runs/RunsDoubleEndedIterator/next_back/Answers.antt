@@ -2,6 +2,7 @@
 use Rattle.std.proofs.Common.{◌∙◌, arith, refl}
 use Rattle.vob.proofs.RunsBackLemmas.{GivesLastRun-end, GivesLastRun-none, GivesLastRun-next}
 use Rattle.vob.proofs.RunsBackLemmas.{IsOnRuns-back, IsOnRuns-back_none, block_there, fewer_left_back}
+use Rattle.vob.proofs.RunsBackLemmas.{last_there}
 use Rattle.vob.proofs.runs.RunsDoubleEndedIterator.next_back.Goals as goal
 
 pub returns-then-self-clause-steps : goal.returns-then-self-clause-steps
@@ -9,18 +10,12 @@ returns-then-self-clause-steps g c = rw (← c.self.view_is) (GivesLastRun-end _
     g.met.T.BitBlock.wide_law _ _ _ _ c.self.inside.blocks c.self.invariant c.if-self.true)
 
 pub block_at_back-block-requires-clause-count : goal.block_at_back-block-requires-clause-count
-block_at_back-block-requires-clause-count g c = block_there _ g.met.T.BitBlock.wide_law _ _ _ _
-    c.self.inside.blocks c.self.invariant
-    (omega (arith, c.self.invariant.within, c.if-self.false)) refl
-
-pub block_at_back-block-requires-clause-back : goal.block_at_back-block-requires-clause-back
-block_at_back-block-requires-clause-back g c = λ ready. c.self.invariant.held_back ready
-    (omega (arith, c.self.invariant.within, c.if-self.false))
+block_at_back-block-requires-clause-count g c = last_there _ g.met.T.BitBlock.wide_law _ _ _ _
+    c.self.inside.blocks c.self.invariant c.if-self.false refl
 
 pub previous_in_hand-end-requires-clause-count : goal.previous_in_hand-end-requires-clause-count
-previous_in_hand-end-requires-clause-count g c = block_there _ g.met.T.BitBlock.wide_law _ _ _ _
-    c.self.inside.blocks c.self.invariant
-    (omega (arith, c.self.invariant.within, c.if-self.false)) c.block_at_back-block.ensures.items
+previous_in_hand-end-requires-clause-count g c = last_there _ g.met.T.BitBlock.wide_law _ _ _ _
+    c.self.inside.blocks c.self.invariant c.if-self.false c.block_at_back-block.ensures.items
 
 pub previous_in_hand-end-requires-clause-hand : goal.previous_in_hand-end-requires-clause-hand
 previous_in_hand-end-requires-clause-hand g c =
