@@ -176,6 +176,23 @@ template <class B> uint64_t equal(const Input &in, size_t rounds) {
     return checksum(bits, times);
 }
 
+// Of two that are equal, so that no bit decides.
+template <class B> uint64_t before(const Input &in, size_t rounds) {
+    uint64_t times = 0;
+    B bits = made_of<B>(in.bytes, in.byte_count);
+    B other = bits;
+    for (size_t round = 0; round < rounds; round++) {
+        touch(bits, round);
+        touch(other, round);
+        times += bits < other;
+    }
+    return checksum(bits, times);
+}
+
+void flip(Dynamic &bits, size_t index) { bits.flip(index); }
+
+void flip(Vector &bits, size_t index) { bits[index].flip(); }
+
 template <class B> uint64_t extend(const Input &in, size_t at, size_t rounds) {
     B other = made_of<B>(in.others, in.other_count);
     return changed<B>(in, rounds, [&](B &bits, size_t) {
@@ -215,6 +232,13 @@ template <class B> uint64_t run(Call call, const Input &in, size_t rounds) {
         });
     case Call::equal:
         return equal<B>(in, rounds);
+    case Call::order:
+        return before<B>(in, rounds);
+    case Call::flip:
+        return changed<B>(in, rounds, [&](B &bits, size_t) {
+            for (size_t k = 0; k < in.index_count; k++)
+                flip(bits, in.indices[k]);
+        });
     case Call::extend_aligned:
         return extend<B>(in, 64, rounds);
     case Call::extend_shifted:
@@ -354,6 +378,14 @@ uint64_t run_dynamic(Call call, const Input &in, size_t rounds) {
     case Call::negate_range:
         return changed<Dynamic>(
             in, rounds, [&](Dynamic &bits, size_t) { bits.flip(13, 8 * in.byte_count - 42); });
+    case Call::minus: {
+        Dynamic other = made_of<Dynamic>(in.others, in.other_count);
+        return seen<Dynamic>(in, rounds, [&](const Dynamic &bits, size_t round) {
+            return sample(Dynamic(bits - other), round);
+        });
+    }
+    case Call::shift_up:
+        return changed<Dynamic>(in, rounds, [](Dynamic &bits, size_t) { bits <<= 13; });
     case Call::count_and:
         return counted(in, rounds, [](Dynamic &bits, const Dynamic &other) { bits &= other; });
     case Call::superset:
@@ -441,6 +473,22 @@ uint64_t run_vector(Call call, const Input &in, size_t rounds) {
             std::copy(other.begin() + 13, other.end() - 64, bits.begin() + 29);
         });
     }
+    case Call::slice:
+        return seen<Vector>(in, rounds, [](const Vector &bits, size_t round) {
+            return sample(Vector(bits.begin() + 13, bits.end() - 29), round);
+        });
+    case Call::reverse:
+        return changed<Vector>(
+            in, rounds, [](Vector &bits, size_t) { std::reverse(bits.begin(), bits.end()); });
+    case Call::rotate:
+        return changed<Vector>(in, rounds, [](Vector &bits, size_t) {
+            std::rotate(bits.begin(), bits.begin() + 13, bits.end());
+        });
+    case Call::insert_remove:
+        return changed<Vector>(in, rounds, [](Vector &bits, size_t round) {
+            bits.insert(bits.begin() + bits.size() / 2, round % 2 == 1);
+            bits.erase(bits.begin() + 13);
+        });
     case Call::drain_aligned:
         return drained(in, 0, 64, rounds);
     case Call::drain_shifted:

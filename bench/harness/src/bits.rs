@@ -105,6 +105,11 @@ pub trait Bits: Sized {
     fn or_grows(&mut self, other: &Self) -> bool {
         self.or(other)
     }
+
+    /// `and`, and whether the library or a test of it says that a bit was taken.
+    fn and_shrinks(&mut self, other: &Self) -> bool {
+        self.and(other)
+    }
     fn xor(&mut self, _other: &Self) -> bool {
         unimplemented!()
     }
@@ -214,6 +219,30 @@ pub trait Bits: Sized {
         unimplemented!()
     }
     fn same(&self, _other: &Self) -> bool {
+        unimplemented!()
+    }
+
+    /// Whether this one comes before another in the order of lists.
+    fn before(&self, _other: &Self) -> bool {
+        unimplemented!()
+    }
+
+    /// The sum of the indices that both have.
+    fn both(&self, _other: &Self) -> u64 {
+        unimplemented!()
+    }
+    fn minus(&self, _other: &Self) -> Self {
+        unimplemented!()
+    }
+    fn slice(&self, _from: usize, _to: usize) -> Self {
+        unimplemented!()
+    }
+    fn flip(&mut self, _index: usize) {
+        unimplemented!()
+    }
+
+    /// The bits at these indices, in one that grows where it must.
+    fn grown(_indices: &[usize]) -> Self {
         unimplemented!()
     }
     fn join(&mut self, _other: &Self) {

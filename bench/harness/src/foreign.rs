@@ -42,6 +42,7 @@ extern "C" {
     fn vob_bench_matrix(steps: *const usize, count: usize, nodes: usize, rounds: usize) -> u64;
     fn vob_bench_lists(steps: *const usize, count: usize, nodes: usize, rounds: usize) -> u64;
     fn vob_bench_live(numbers: *const usize, count: usize, vars: usize, rounds: usize) -> u64;
+    fn vob_bench_available(numbers: *const usize, count: usize, vars: usize, rounds: usize) -> u64;
 }
 
 /// Runs the workload of `vob_bench` that has the call's name. Its exports require nothing but what slices
@@ -59,6 +60,8 @@ pub fn conthiral(call: Call, input: &Input, rounds: usize) -> u64 {
         | Call::ExtendFromSlice
         | Call::Get
         | Call::Set
+        | Call::Flip
+        | Call::GrowAndSet
         | Call::FromIndices => unsafe {
             vob_bench_bits(name, name_len, bits, bit_count, bytes, len, indices, count, rounds)
         },
@@ -74,6 +77,11 @@ pub fn conthiral(call: Call, input: &Input, rounds: usize) -> u64 {
         | Call::DrainShifted
         | Call::SetRange
         | Call::NegateRange
+        | Call::Slice
+        | Call::ShiftUp
+        | Call::Reverse
+        | Call::Rotate
+        | Call::InsertRemove
         | Call::ToBytes => unsafe { vob_bench_whole(name, name_len, bytes, len, rounds) },
         Call::And
         | Call::Or
@@ -82,6 +90,9 @@ pub fn conthiral(call: Call, input: &Input, rounds: usize) -> u64 {
         | Call::OrDropped
         | Call::AndNotDropped
         | Call::Equal
+        | Call::Order
+        | Call::Minus
+        | Call::Intersection
         | Call::ExtendAligned
         | Call::ExtendShifted
         | Call::Filter
@@ -99,6 +110,7 @@ pub fn conthiral(call: Call, input: &Input, rounds: usize) -> u64 {
         Call::Matrix => unsafe { vob_bench_matrix(indices, count, bit_count, rounds) },
         Call::Lists => unsafe { vob_bench_lists(indices, count, bit_count, rounds) },
         Call::Live => unsafe { vob_bench_live(indices, count, bit_count, rounds) },
+        Call::Available => unsafe { vob_bench_available(indices, count, bit_count, rounds) },
         _ => unsafe { vob_bench_walk(name, name_len, bytes, len, rounds) },
     }
 }
@@ -192,6 +204,7 @@ pub fn twin_offer(library: Twin, call: Call) -> Offer {
         }
         (Twin::Boost, Call::Superset) => Offer::Other("is_subset_of, turned round"),
         (Twin::Boost, Call::SetRange) => NO_FLAG,
+        (Twin::Boost, Call::Order) => Offer::Other("the order of numbers"),
         (Twin::Boost, Call::NegateRange) => Offer::Other("flip of a range"),
         (Twin::Boost, Call::NextSet) => Offer::Other("find_first, then find_next"),
         (Twin::Boost, Call::FirstSet) => Offer::Other("find_first"),
@@ -213,6 +226,9 @@ pub fn twin_offer(library: Twin, call: Call) -> Offer {
             | Call::Any
             | Call::All
             | Call::SetBits
+            | Call::Minus
+            | Call::ShiftUp
+            | Call::Flip
             | Call::Count,
         ) => Offer::Same,
         (Twin::VectorBool, Call::ExtendFromSlice | Call::ExtendAligned | Call::ExtendShifted) => {
@@ -221,7 +237,9 @@ pub fn twin_offer(library: Twin, call: Call) -> Offer {
         (Twin::VectorBool, Call::SetAll) => Offer::Other("std::fill"),
         (Twin::VectorBool, Call::SetRange) => NO_FLAG,
         (Twin::VectorBool, Call::CopyRange) => Offer::Other("std::copy"),
-        (Twin::VectorBool, Call::SplitOff) => Offer::Other("a copy of the range"),
+        (Twin::VectorBool, Call::SplitOff | Call::Slice) => Offer::Other("a copy of the range"),
+        (Twin::VectorBool, Call::Reverse) => Offer::Other("std::reverse"),
+        (Twin::VectorBool, Call::Rotate) => Offer::Other("std::rotate"),
         (Twin::VectorBool, Call::DrainAligned | Call::DrainShifted) => {
             Offer::Other("a copy of the range, and erase")
         }
@@ -233,7 +251,10 @@ pub fn twin_offer(library: Twin, call: Call) -> Offer {
             | Call::Resize
             | Call::Negate
             | Call::Clone
-            | Call::Equal,
+            | Call::Equal
+            | Call::Order
+            | Call::InsertRemove
+            | Call::Flip,
         ) => Offer::Same,
         (Twin::VectorBool, Call::Hash) => Offer::Less("another hash function"),
         _ => Offer::None,

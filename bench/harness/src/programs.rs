@@ -88,6 +88,27 @@ struct Flow {
     next: Vec<usize>,
 }
 
+/// One pass over the nodes of a flow graph: what is available at the end of a node is what it reads, and
+/// what is at the ends of all nodes before it and isn't what it writes.
+fn forward<B: Bits>(nodes: &[Flow], reads: &[B], ends: &mut [B], scratch: &mut B) -> bool {
+    let mut changed = false;
+    for node in 0..nodes.len() {
+        if nodes[node].next.is_empty() {
+            continue;
+        }
+        scratch.set_all(true);
+        for before in &nodes[node].next {
+            scratch.and(&ends[*before]);
+        }
+        for variable in &nodes[node].writes {
+            scratch.set(*variable, false);
+        }
+        scratch.or(&reads[node]);
+        changed |= ends[node].and_shrinks(scratch);
+    }
+    changed
+}
+
 /// One pass over the nodes of a flow graph, the last one first, as `vob_flow::live` makes it.
 fn pass<B: Bits>(nodes: &[Flow], possible: &[B], before: &mut [B], after: &mut [B]) -> bool {
     let mut changed = false;
@@ -137,6 +158,51 @@ pub fn live<B: Bits>(input: &Input, rounds: usize) -> u64 {
         while pass(&nodes, &possible, &mut before, &mut after) {}
         times += 1;
         last = before;
+    }
+    checksum_all(&last, times)
+}
+
+/// Which expressions are available at the ends of the nodes of a flow graph, by passes over all nodes. The
+/// lists of nodes that may come next are turned into those of nodes that come before.
+pub fn available<B: Bits>(input: &Input, rounds: usize) -> u64 {
+    let mut nodes: Vec<Flow> = input
+        .indices
+        .chunks(4)
+        .map(|numbers| Flow {
+            reads: numbers[..1].to_vec(),
+            writes: numbers[1..2].to_vec(),
+            next: Vec::new(),
+        })
+        .collect();
+    for (node, numbers) in input.indices.chunks(4).enumerate() {
+        for next in &numbers[2..] {
+            nodes[*next].next.push(node);
+        }
+    }
+    let mut times = 0;
+    let mut last = Vec::new();
+    for _ in 0..rounds {
+        let none = B::from_bytes(&vec![0; input.bits.len() / 8]);
+        let set_of = |variables: &[usize]| {
+            let mut set = none.copied();
+            for variable in variables {
+                set.set(*variable, true);
+            }
+            set
+        };
+        let reads: Vec<B> = nodes.iter().map(|node| set_of(&node.reads)).collect();
+        let end_of = |(node, reads): (&Flow, &B)| {
+            let mut set = reads.copied();
+            if !node.next.is_empty() {
+                set.set_all(true);
+            }
+            set
+        };
+        let mut ends: Vec<B> = nodes.iter().zip(&reads).map(end_of).collect();
+        let mut scratch = none.copied();
+        while forward(&nodes, &reads, &mut ends, &mut scratch) {}
+        times += 1;
+        last = ends;
     }
     checksum_all(&last, times)
 }

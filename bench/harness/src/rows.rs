@@ -67,6 +67,17 @@ pub enum Call {
     OrDropped,
     AndNotDropped,
     Lists,
+    Intersection,
+    Order,
+    Minus,
+    Slice,
+    ShiftUp,
+    Reverse,
+    Rotate,
+    InsertRemove,
+    Flip,
+    GrowAndSet,
+    Available,
 }
 
 pub struct Row {
@@ -102,9 +113,11 @@ impl Row {
         };
         let shape = match call {
             Call::Closure => Shape::Matrix,
-            Call::Get | Call::Set | Call::FromIndices => Shape::Indices(INDICES),
+            Call::Get | Call::Set | Call::FromIndices | Call::Flip | Call::GrowAndSet => {
+                Shape::Indices(INDICES)
+            }
             Call::FirstFree => Shape::FreeAtTheEnd,
-            Call::Live => Shape::Flow,
+            Call::Live | Call::Available => Shape::Flow,
             Call::Matrix | Call::Lists => Shape::Steps,
             _ => Shape::Plain,
         };
@@ -167,6 +180,8 @@ pub fn all() -> Vec<Row> {
         Row::over("push", Call::Push, 1_000_000, Bit),
         Row::over("get at random", Call::Get, MILLION, Index),
         Row::over("set at random", Call::Set, MILLION, Index),
+        Row::over("flip at random", Call::Flip, MILLION, Index),
+        Row::over("grow_and_set", Call::GrowAndSet, MILLION, Index),
         Row::over("iterate", Call::Iterate, MILLION, Bit),
         Row::over("from_bytes", Call::FromBytes, MILLION, Word),
         Row::over("from_slice", Call::FromSlice, MILLION, Bit),
@@ -223,7 +238,14 @@ pub fn all() -> Vec<Row> {
         Row::over("drain aligned", Call::DrainAligned, MILLION, Word),
         Row::over("drain misaligned", Call::DrainShifted, MILLION, Word),
         Row::over("copy_range", Call::CopyRange, MILLION, Word),
+        Row::over("slice", Call::Slice, MILLION, Word),
+        Row::over("difference in a new one", Call::Minus, MILLION, Word),
+        Row::over("shl", Call::ShiftUp, MILLION, Word),
+        Row::over("reverse", Call::Reverse, MILLION, Word),
+        Row::over("rotate_left", Call::Rotate, MILLION, Word),
+        Row::over("insert_bit and remove", Call::InsertRemove, MILLION, Word),
         Row::over("equality", Call::Equal, MILLION, Word),
+        Row::over("order of equal ones", Call::Order, MILLION, Word),
         Row::over("hash", Call::Hash, MILLION, Word),
     ]);
     for (name, call) in [
@@ -243,6 +265,7 @@ pub fn all() -> Vec<Row> {
         rows.push(Row::walk(name, Call::SetBitsBetween, density, set));
     }
     rows.extend([
+        Row::over("intersection", Call::Intersection, MILLION, Word),
         Row::walk("previous_set", Call::PreviousSet, "half set", 32768),
         Row::walk("next_unset", Call::NextUnset, "half set", 32768),
         Row::walk("previous_unset", Call::PreviousUnset, "half set", 32768),
@@ -267,6 +290,7 @@ pub fn all() -> Vec<Row> {
         Row::over("closure of lists, 1000 nodes", Call::Lists, 1000, Round),
         Row::over("closure of lists, 4000 nodes", Call::Lists, 4000, Round),
         Row::over("liveness, 10000 nodes", Call::Live, 1000, Round),
+        Row::over("available, 10000 nodes", Call::Available, 1000, Round),
     ]);
     rows
 }

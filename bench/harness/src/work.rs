@@ -2,7 +2,7 @@
 
 use crate::bits::{Bits, End};
 use crate::input::Input;
-use crate::programs::{closure, filter, live, matrix};
+use crate::programs::{available, closure, filter, live, matrix};
 use crate::rows::{Call, INDICES};
 
 /// A digest looks at every bit of so many, and at every second, third .. one of more.
@@ -142,6 +142,18 @@ fn equal<B: Bits>(input: &Input, rounds: usize) -> u64 {
         touch(&mut bits, round);
         touch(&mut other, round);
         times += bits.same(&other) as u64;
+    }
+    checksum(&bits, times)
+}
+
+fn before<B: Bits>(input: &Input, rounds: usize) -> u64 {
+    let mut times = 0;
+    let mut bits = B::from_bytes(&input.bytes);
+    let mut other = B::from_bytes(&input.bytes);
+    for round in 0..rounds {
+        touch(&mut bits, round);
+        touch(&mut other, round);
+        times += bits.before(&other) as u64;
     }
     checksum(&bits, times)
 }
@@ -367,12 +379,35 @@ pub fn run<B: Bits>(call: Call, input: &Input, rounds: usize) -> u64 {
         }),
         Call::All => seen(input, rounds, |bits: &B, _| bits.all() as u64),
         Call::Equal => equal::<B>(input, rounds),
+        Call::Order => before::<B>(input, rounds),
+        Call::Intersection => {
+            let other = B::from_bytes(&input.others);
+            walked(input, rounds, |bits: &B| bits.both(&other))
+        }
+        Call::Minus => {
+            let other = B::from_bytes(&input.others);
+            seen(input, rounds, |bits: &B, round| {
+                sample(&bits.minus(&other), round)
+            })
+        }
+        Call::Slice => seen(input, rounds, |bits: &B, round| {
+            sample(&bits.slice(13, 8 * input.bytes.len() - 29), round)
+        }),
+        Call::Flip => changed(input, rounds, |bits: &mut B, _| {
+            for index in &input.indices {
+                bits.flip(*index);
+            }
+        }),
+        Call::GrowAndSet => made(rounds, || B::grown(&input.indices)),
+        // No peer in Rust has these.
+        Call::ShiftUp | Call::Reverse | Call::Rotate | Call::InsertRemove => unimplemented!(),
         Call::ExtendAligned => joined::<B>(input, 64, rounds),
         Call::ExtendShifted => joined::<B>(input, 64 + 13, rounds),
         Call::Closure => closure::<B>(input, rounds),
         Call::Matrix | Call::Lists => matrix::<B>(input, rounds),
         Call::Filter => filter::<B>(input, rounds),
         Call::Live => live::<B>(input, rounds),
+        Call::Available => available::<B>(input, rounds),
         Call::SetBits => walked(input, rounds, B::set_bits),
         Call::SetBitsBack => walked(input, rounds, B::set_bits_back),
         Call::UnsetBits => walked(input, rounds, B::unset_bits),

@@ -40,6 +40,26 @@ fn write_at(vob: &mut Vob, indices: &[usize], round: usize) -> u64 {
     times
 }
 
+/// Negates the bit at each of these indices.
+#[inline(never)]
+fn flip_at(vob: &mut Vob, indices: &[usize]) {
+    for index in indices.iter() {
+        if *index < vob.len() {
+            vob.flip(*index);
+        }
+    }
+}
+
+/// A Vob of the bits at these indices, which grows where it must.
+#[inline(never)]
+fn grown(alloc: Global, indices: &[usize]) -> Result<Vob, VobError> {
+    let mut vob = Vob::new(alloc);
+    for index in indices.iter() {
+        vob.grow_and_set(*index)?;
+    }
+    Ok(vob)
+}
+
 /// Runs the workload of a name.
 pub(crate) fn run(
     alloc: Global,
@@ -71,6 +91,14 @@ pub(crate) fn run(
             Ok(true_at(vob, indices))
         }),
         b"Set" => each_round(vob, rounds, |vob, round| Ok(write_at(vob, indices, round))),
+        b"Flip" => each_round(vob, rounds, |vob, round| {
+            flip_at(vob, indices);
+            Ok(sample(vob, round) as u64)
+        }),
+        b"GrowAndSet" => each_round(vob, rounds, |vob, round| {
+            *vob = grown(alloc, indices)?;
+            Ok(sample(vob, round) as u64)
+        }),
         b"FromIndices" => each_round(vob, rounds, |vob, round| {
             if let Ok(made) = Vob::from_indices(alloc, len, indices) {
                 *vob = made;

@@ -110,3 +110,15 @@ pub extern "C" fn vob_bench_live(
 ) -> u64 {
     flow::live(alloc, numbers, vars, rounds).unwrap_or(NONE)
 }
+
+/// Which of `expressions` expressions are available at the ends of the nodes of a flow graph, of four
+/// numbers each.
+#[unsafe(no_mangle)]
+pub extern "C" fn vob_bench_available(
+    alloc: Global,
+    numbers: &[usize],
+    expressions: usize,
+    rounds: usize,
+) -> u64 {
+    flow::available(alloc, numbers, expressions, rounds).unwrap_or(NONE)
+}

@@ -1,6 +1,6 @@
 //! Workloads on two Vobs, which are as long. If they aren't, nothing is done.
 
-use crate::checksum::{clear, sample, touch};
+use crate::checksum::{clear, flip, sample, touch};
 use crate::rounds::{Missing, each_round};
 use std::alloc::Global;
 use vob::Vob;
@@ -57,6 +57,40 @@ fn equal(vob: Vob, rounds: usize) -> Result<u64, Missing> {
         touch(vob, round);
         touch(&mut other, round);
         Ok((*vob == other) as u64)
+    })
+}
+
+/// `<` of two Vobs that are equal in each round, so that no bit decides.
+fn before(vob: Vob, rounds: usize) -> Result<u64, Missing> {
+    let mut other = vob.clone()?;
+    each_round(vob, rounds, |vob, round| {
+        touch(vob, round);
+        touch(&mut other, round);
+        Ok((*vob < other) as u64)
+    })
+}
+
+/// The sum of the indices that two Vobs of one length have both.
+#[inline(never)]
+fn both(vob: &Vob, other: &Vob) -> u64 {
+    let mut sum: u64 = 0;
+    if vob.len() == other.len() {
+        for index in vob.intersection(other) {
+            sum = sum.wrapping_add(index as u64);
+        }
+    }
+    sum
+}
+
+/// A new Vob a round of the bits that one has and another hasn't.
+fn minus(vob: Vob, other: &Vob, rounds: usize) -> Result<u64, Missing> {
+    each_round(vob, rounds, |vob, round| {
+        touch(vob, round);
+        if vob.len() != other.len() {
+            return Ok(0);
+        }
+        let made = &*vob - other;
+        Ok(sample(&made?, round) as u64)
     })
 }
 
@@ -124,6 +158,12 @@ pub(crate) fn run(
         b"Superset" => superset(vob, other, rounds),
         b"Disjoint" => disjoint(vob, other, rounds),
         b"Equal" => equal(vob, rounds),
+        b"Order" => before(vob, rounds),
+        b"Minus" => minus(vob, &other, rounds),
+        b"Intersection" => each_round(vob, rounds, |vob, round| {
+            flip(vob, round);
+            Ok(both(vob, &other))
+        }),
         b"ExtendAligned" => extend(vob, &other, 64, rounds),
         b"ExtendShifted" => extend(vob, &other, 64 + 13, rounds),
         b"Filter" => filter(vob, &other, rounds),

@@ -54,6 +54,26 @@ fn to_bytes(alloc: Global, vob: &mut Vob, round: usize) -> Result<u64, Missing> 
     Ok(byte.unwrap_or(0) as u64)
 }
 
+/// A change a round, with a look at a bit behind it.
+fn change<F: FnMut(&mut Vob)>(vob: Vob, rounds: usize, mut call: F) -> Result<u64, Missing>
+    requires { F.IsAlwaysCallable call }
+{
+    each_round(vob, rounds, |vob, round| {
+        call(vob);
+        Ok(sample(vob, round) as u64)
+    })
+}
+
+/// A bit put in behind the middle, and one near the front taken out.
+fn insert_and_remove(vob: &mut Vob, round: usize) -> Result<u64, Missing> {
+    let middle = vob.len() / 2;
+    vob.insert_bit(middle, round % 2 == 1)?;
+    if 13 < vob.len() {
+        vob.remove(13);
+    }
+    Ok(sample(vob, round) as u64)
+}
+
 /// Runs the workload of a name.
 pub(crate) fn run(alloc: Global, name: &[u8], bytes: &[u8], rounds: usize) -> Result<u64, Missing> {
     let vob = Vob::from_bytes(alloc, bytes)?;
@@ -79,9 +99,14 @@ pub(crate) fn run(alloc: Global, name: &[u8], bytes: &[u8], rounds: usize) -> Re
             vob.set_all(round % 2 == 1);
             Ok(sample(vob, round) as u64)
         }),
-        b"Negate" => each_round(vob, rounds, |vob, round| {
-            vob.negate();
-            Ok(sample(vob, round) as u64)
+        b"Negate" => change(vob, rounds, |vob| vob.negate()),
+        b"Reverse" => change(vob, rounds, |vob| vob.reverse()),
+        b"Rotate" => change(vob, rounds, |vob| vob.rotate_left(13)),
+        b"ShiftUp" => change(vob, rounds, |vob| vob.shl(13)),
+        b"InsertRemove" => each_round(vob, rounds, insert_and_remove),
+        b"Slice" => each_round(vob, rounds, |vob, round| {
+            touch(vob, round);
+            Ok(sample(&vob.slice(13..end)?, round) as u64)
         }),
         b"Clone" => each_round(vob, rounds, |vob, round| {
             touch(vob, round);
@@ -99,10 +124,7 @@ pub(crate) fn run(alloc: Global, name: &[u8], bytes: &[u8], rounds: usize) -> Re
             vob.set_range(13..end, round % 2 == 1);
             Ok(sample(vob, round) as u64)
         }),
-        b"NegateRange" => each_round(vob, rounds, |vob, round| {
-            vob.negate_range(13..end);
-            Ok(sample(vob, round) as u64)
-        }),
+        b"NegateRange" => change(vob, rounds, |vob| vob.negate_range(13..end)),
         b"ToBytes" => each_round(vob, rounds, |vob, round| to_bytes(alloc, vob, round)),
         _ => Err(Missing::Name),
     }

@@ -15,6 +15,8 @@ impl Bits for BitSet {
             Call::CountXor => Offer::Other("symmetric_difference, counted"),
             Call::FirstSet => Offer::Other("next of iter"),
             Call::Set => Offer::Other("insert or remove"),
+            Call::GrowAndSet => Offer::Other("insert"),
+            Call::Minus => Offer::Other("difference_with, of a copy"),
             Call::Get
             | Call::OrDropped
             | Call::AndNotDropped
@@ -27,6 +29,7 @@ impl Bits for BitSet {
             | Call::Superset
             | Call::Disjoint
             | Call::Any
+            | Call::Intersection
             | Call::SetBits
             | Call::Count => Offer::Same,
             _ => Offer::None,
@@ -102,6 +105,21 @@ impl Bits for BitSet {
     fn xor(&mut self, other: &BitSet) -> bool {
         self.symmetric_difference_with(other);
         false
+    }
+    fn both(&self, other: &BitSet) -> u64 {
+        sum_of(self.intersection(other))
+    }
+    fn minus(&self, other: &BitSet) -> BitSet {
+        let mut made = self.clone();
+        made.difference_with(other);
+        made
+    }
+    fn grown(indices: &[usize]) -> BitSet {
+        let mut set = BitSet::new();
+        for index in indices {
+            set.insert(*index);
+        }
+        set
     }
     fn same(&self, other: &BitSet) -> bool {
         self == other

@@ -42,10 +42,19 @@ impl Bits for BitVec {
             | Call::SetBitsBetween
             | Call::UnsetBitsBack
             | Call::Deal
+            | Call::Intersection
+            | Call::Slice
+            | Call::ShiftUp
+            | Call::Reverse
+            | Call::Rotate
+            | Call::InsertRemove
+            | Call::Flip
+            | Call::GrowAndSet
             | Call::FirstFree
             | Call::Filter => Offer::None,
             // Its split_off within a block can leave a block too many, which append takes in.
             Call::DrainAligned | Call::DrainShifted => Offer::None,
+            Call::Minus => Offer::Other("difference, of a copy"),
             _ => Offer::Same,
         }
     }
@@ -130,6 +139,14 @@ impl Bits for BitVec {
     }
     fn same(&self, other: &BitVec) -> bool {
         self == other
+    }
+    fn before(&self, other: &BitVec) -> bool {
+        self < other
+    }
+    fn minus(&self, other: &BitVec) -> BitVec {
+        let mut made = self.clone();
+        made.difference(other);
+        made
     }
     fn join(&mut self, other: &BitVec) {
         self.append(&mut other.clone());

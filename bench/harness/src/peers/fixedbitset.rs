@@ -24,6 +24,9 @@ impl Bits for FixedBitSet {
             Call::SetAll => Offer::Other("insert_range or clear"),
             Call::Negate => Offer::Other("toggle_range"),
             Call::Live => Offer::Other("is_subset, then union_with"),
+            Call::Available => Offer::Other("is_subset, then intersect_with"),
+            Call::Flip => Offer::Other("toggle"),
+            Call::Minus => Offer::Other("difference_with, of a copy"),
             Call::Filter => NO_FLAG,
             Call::Get
             | Call::OrDropped
@@ -37,6 +40,7 @@ impl Bits for FixedBitSet {
             | Call::Superset
             | Call::Disjoint
             | Call::Any
+            | Call::Intersection
             | Call::SetBits
             | Call::Count => Offer::Same,
             _ => Offer::None,
@@ -166,6 +170,24 @@ impl Bits for FixedBitSet {
             self.union_with(other);
         }
         grows
+    }
+    fn and_shrinks(&mut self, other: &FixedBitSet) -> bool {
+        let shrinks = !self.is_subset(other);
+        if shrinks {
+            self.intersect_with(other);
+        }
+        shrinks
+    }
+    fn both(&self, other: &FixedBitSet) -> u64 {
+        sum_of(self.intersection(other))
+    }
+    fn minus(&self, other: &FixedBitSet) -> FixedBitSet {
+        let mut made = self.clone();
+        made.difference_with(other);
+        made
+    }
+    fn flip(&mut self, index: usize) {
+        self.toggle(index);
     }
     fn xor(&mut self, other: &FixedBitSet) -> bool {
         self.symmetric_difference_with(other);

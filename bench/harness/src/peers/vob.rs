@@ -33,6 +33,12 @@ impl Bits for Vob {
             Call::FirstFree => Offer::Other("next of iter_unset_bits"),
             Call::Select => Offer::Other("nth of a walk"),
             Call::Deal => Offer::Other("next or next_back, pull by pull"),
+            Call::Intersection => Offer::Other("and of a copy, then iter_set_bits"),
+            Call::Minus => Offer::Other("and with a negated copy"),
+            Call::Slice => Offer::Other("two cuts of a copy"),
+            Call::Flip => Offer::Other("set of what get reads"),
+            Call::GrowAndSet => Offer::Other("resize, then set"),
+            Call::Order | Call::ShiftUp | Call::Reverse | Call::Rotate | Call::InsertRemove => Offer::None,
             _ => Offer::Same,
         }
     }
@@ -213,6 +219,37 @@ impl Bits for Vob {
         let mut vob = Vob::from_elem(false, len);
         for index in indices {
             vob.set(*index, true);
+        }
+        vob
+    }
+    fn both(&self, other: &Vob) -> u64 {
+        let mut both = self.clone();
+        both.and(other);
+        sum_of(both.iter_set_bits(..))
+    }
+    fn minus(&self, other: &Vob) -> Vob {
+        let mut made = other.clone();
+        made.negate();
+        made.and(self);
+        made
+    }
+    fn slice(&self, from: usize, to: usize) -> Vob {
+        let mut made = self.clone();
+        made.truncate(to);
+        made.split_off(from)
+    }
+    fn flip(&mut self, index: usize) {
+        if let Some(bit) = Vob::get(self, index) {
+            Vob::set(self, index, !bit);
+        }
+    }
+    fn grown(indices: &[usize]) -> Vob {
+        let mut vob = Vob::new();
+        for index in indices {
+            if *index >= Vob::len(&vob) {
+                Vob::resize(&mut vob, *index + 1, false);
+            }
+            Vob::set(&mut vob, *index, true);
         }
         vob
     }
