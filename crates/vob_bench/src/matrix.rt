@@ -100,7 +100,7 @@ pub(crate) fn close_graph(
     let mut last = BitMatrix::new(alloc, 0, 0)?;
     for round in 0..rounds {
         let mut matrix = graph_of(alloc, steps, nodes)?;
-        matrix.close();
+        matrix.close(alloc);
         let node = if nodes == 0 { 0 } else { round % nodes };
         times = times.wrapping_add((matrix.get(node, node) == Some(true)) as u64);
         last = matrix;

@@ -6,3 +6,4 @@ mod MatrixLemmas
 mod PathLemmas
 mod ReachLemmas
 mod ShapeLemmas
+mod UnionLemmas

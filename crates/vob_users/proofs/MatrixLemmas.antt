@@ -1,7 +1,7 @@
 -- Rows that are led through a node one after another, and columns that are marked.
 use Rattle.std.specs.declared.ops.Bound.TheVariants.{Unbounded}
 use Rattle.std.specs.List.{Contains}
-use Rattle.std.proofs.Common.{◌≡◌, ◌≢◌, ℕ, ◌+◌, ◌<◌, ◌≤◌, Bool, true, false, ◌||◌, ◌&&◌, List, []}
+use Rattle.std.proofs.Common.{◌≡◌, ◌≢◌, ℕ, ◌+◌, ◌<◌, ◌≤◌, Bool, true, false, ◌||◌, List, []}
 use Rattle.std.proofs.Common.{◌∷◌, length, replicate, refl, sym, ap, ◌∙◌, subst, arith, inl, inr}
 use Rattle.std.proofs.lemmas.Bool.{cases_eq, cases_lt, false≢true}
 use Rattle.std.proofs.lemmas.List.{get_or_past, get_or-replicate, length-replicate, length-map}
@@ -12,65 +12,10 @@ use Rattle.vob_walk.proofs.IndexLemmas.{matches-exactly}
 use Rattle.vob.specs.Vob.{BitVector}
 use Rattle.vob.specs.Vobs.{AreOfLength, bits_of}
 use Rattle.vob_users.specs.Matrix.{Matrix, row_of, entry, HaveShapeOf, IsEntryWritten, IsTransposed}
-use Rattle.vob_users.specs.MatrixRows.{IsRowCombined, IsColumnMarked, AreColumnsMarked}
-use Rattle.vob_block.proofs.BoolLemmas.{or-false, or-absorbs}
+use Rattle.vob_users.specs.MatrixRows.{IsColumnMarked, AreColumnsMarked}
+use Rattle.vob_block.proofs.BoolLemmas.{or-false}
 use Rattle.vob.proofs.BitsLemmas.{true_inside, item_false}
-use Rattle.vob_users.proofs.ShapeLemmas.{HaveShapeOf-same, HaveShapeOf-trans, AreOfLength-kept, AreOfLength-empty, GetsRow-combined}
-
--- ---- rows that are led through node k
-
--- the rows before row n have what row k has where an edge leads to node k, and the others are as before
-pub record AreLedBefore (rows : List (List Bool)) (k n : ℕ) (after : List (List Bool))
-    : Type 0 where
-  pub shape : HaveShapeOf rows after
-  pub done : (i j : ℕ) → i < n →
-      entry after i j ≡ (entry rows i j || (entry rows i k && entry rows k j))
-  pub left : (i j : ℕ) → n ≤ i → entry after i j ≡ entry rows i j
-
-module _ (rows : List (List Bool)) (k n : ℕ) (before : List (List Bool))
-    (h : AreLedBefore rows k n before) where
-  -- row k stays as it was
-  row_stays : (j : ℕ) → entry before k j ≡ entry rows k j
-  row_stays j = elim (cases_lt k n) [
-    | inl less ↦ h.done k j less ∙ or-absorbs (entry rows k k) (entry rows k j)
-    | inr past ↦ h.left k j past
-  ]
-
-  -- no edge leads from node n to node k
-  pub AreLedBefore-skip : entry before n k ≡ false → AreLedBefore rows k (n + 1) before
-  AreLedBefore-skip none = record {
-    shape = h.shape;
-    done = λ i j less. elim (cases_eq i n) [
-      | inl here ↦
-          let stays = ap (λ l. entry rows l k) here ∙ sym (h.left n k (omega arith)) ∙ none in
-          h.left i j (omega (arith, here)) ∙ sym (or-false (entry rows i j))
-          ∙ ap (λ b. entry rows i j || (b && entry rows k j)) (sym stays)
-      | inr other ↦ h.done i j (omega (arith, less))
-    ];
-    left = λ i j past. h.left i j (omega (arith, past));
-  }
-
-  -- one does, and row k is added
-  pub AreLedBefore-more : (after : List (List Bool)) (gained : Bool) → n < length before →
-      entry before n k ≡ true → IsRowCombined before n k after gained →
-      AreLedBefore rows k (n + 1) after
-  AreLedBefore-more after gained inside edge added =
-      let gets = GetsRow-combined before n k after gained inside added in
-      record {
-        shape = HaveShapeOf-trans rows before after h.shape gets.shape;
-        done = λ i j less. elim (cases_eq i n) [
-          | inl here ↦
-              let edges = ap (λ l. entry rows l k) here ∙ sym (h.left n k (omega arith)) ∙ edge in
-              ap (λ l. entry after l j) here ∙ gets.there j
-              ∙ ap (λ b. b || entry before k j)
-              (h.left n j (omega arith) ∙ ap (λ l. entry rows l j) (sym here))
-              ∙ ap (λ b. entry rows i j || b) (row_stays j)
-              ∙ ap (λ b. entry rows i j || (b && entry rows k j)) (sym edges)
-          | inr other ↦ gets.others i j other ∙ h.done i j (omega (arith, less))
-        ];
-        left = λ i j past.
-            gets.others i j (λ here. omega (arith, past, here)) ∙ h.left i j (omega (arith, past));
-      }
+use Rattle.vob_users.proofs.ShapeLemmas.{HaveShapeOf-same, HaveShapeOf-trans, AreOfLength-kept, AreOfLength-empty}
 
 -- ---- a column that is marked at the true bits of a list
 

@@ -1,12 +1,10 @@
 -- Rows of a matrix that keep their lengths where one of them is replaced.
-use Rattle.std.proofs.Common.{◌≡◌, ◌≢◌, ℕ, ◌<◌, Bool, true, false, ◌||◌, List, [], ◌++◌, ◌-◌}
+use Rattle.std.proofs.Common.{◌≡◌, ◌≢◌, ℕ, ◌<◌, Bool, true, false, ◌||◌, List, []}
 use Rattle.std.proofs.Common.{length, replicate, get_or, set, refl, sym, ap, ◌∙◌, subst, arith, inl}
 use Rattle.std.proofs.Common.{inr}
 use Rattle.std.proofs.lemmas.Bool.{cases_eq, false≢true}
 use Rattle.std.proofs.lemmas.List.{length-set, length-replicate, get_or-set_same}
 use Rattle.std.proofs.lemmas.List.{get_or-set_other, set-get_or, get_or-map, map-set, length-map}
-use Rattle.std.proofs.lemmas.List.{length-append, get_or_append_left, get_or-append_right}
-use Rattle.std.proofs.lemmas.List.{set-append_left, set-append_right}
 use Rattle.std.proofs.lemmas.List.Elements.{All-from_get_or}
 use Rattle.vob_block.specs.Packing.{item}
 use Rattle.vob.specs.Bits.{IsWritten, AreCombined, GainsBits}

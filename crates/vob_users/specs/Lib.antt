@@ -3,6 +3,8 @@ pub mod Grammar
 pub mod GrammarFaults
 pub mod GrammarPass
 pub mod Matrix
+pub mod MatrixPaths
 pub mod MatrixRows
 pub mod Reachable
 pub mod Rows
+pub mod Unions

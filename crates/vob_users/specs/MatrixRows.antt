@@ -1,5 +1,5 @@
 -- What the work on the rows of a matrix keeps. No public clause cites this page.
-use Rattle.std.specs.Prelude.{◌≡◌, ◌≢◌, ℕ, ◌<◌, Bool, ◌||◌, ◌&&◌, List, length, slice_set}
+use Rattle.std.specs.Prelude.{◌≡◌, ◌≢◌, ℕ, Bool, ◌||◌, List, slice_set}
 use Rattle.vob_block.specs.Packing.{item}
 use Rattle.vob.specs.Bits.{AreCombined, GainsBits}
 use Rattle.vob_users.specs.Matrix.{row_of, entry, HaveShapeOf}
@@ -11,12 +11,6 @@ pub record IsRowCombined (rows : List (List Bool)) (i k : ℕ) (after : List (Li
   pub is : after ≡ slice_set rows i row
   pub combined : AreCombined ◌||◌ (row_of rows i) (row_of rows k) row
   pub gains : GainsBits gained (row_of rows i) row
-
--- row k was added to each row with an edge to node k
-pub record IsLedThrough (rows : List (List Bool)) (k : ℕ) (after : List (List Bool))
-    : Type 0 where
-  pub shape : HaveShapeOf rows after
-  pub each : (i j : ℕ) → entry after i j ≡ (entry rows i j || (entry rows i k && entry rows k j))
 
 -- the entries of a column at the true bits of a list were made true, and no other changed
 pub record IsColumnMarked (rows : List (List Bool)) (column : ℕ) (bits : List Bool)

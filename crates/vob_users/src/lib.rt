@@ -3,6 +3,7 @@
 #![tactic(auto)]
 
 pub mod calendar;
+mod closing;
 pub mod grammar;
 pub mod loops;
 pub mod matrix;
@@ -11,5 +12,6 @@ pub mod reachable;
 pub mod rows;
 pub mod slots;
 pub mod take_slot;
+mod unions;
 
 pub use vob_flow::live;

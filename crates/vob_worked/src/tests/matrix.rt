@@ -40,7 +40,7 @@ pub fn check_rows(rt: &impl Abort, matrix: &BitMatrix, columns: usize, wanted: &
 
 fn check_closure(rt: &(impl Abort + AllocGlobal), columns: usize, rows: &[&str], wanted: &[&str]) {
     let mut matrix = matrix_of(rt, columns, rows);
-    matrix.close();
+    matrix.close(rt.alloc());
     check_rows(rt, &matrix, columns, wanted);
 }
 
@@ -96,9 +96,9 @@ fn chains_and_a_ring_longer_than_a_block_are_closed(rt: HostRuntime) {
     for node in 0..70 {
         mark(&mut ring, node, (node + 29) % 70);
     }
-    up.close();
-    down.close();
-    ring.close();
+    up.close(rt.alloc());
+    down.close(rt.alloc());
+    ring.close(rt.alloc());
     for row in 0..70 {
         for column in 0..70 {
             check_entry(&rt, &up, row, column, row < column);
@@ -140,7 +140,7 @@ fn every_graph_of_three_nodes_is_closed(rt: HostRuntime) {
                 }
             }
         }
-        matrix.close();
+        matrix.close(rt.alloc());
         for from in 0..NODES {
             for to in 0..NODES {
                 check_entry(&rt, &matrix, from, to, has_path(graph, from, to));

@@ -1,12 +1,15 @@
 -- A row with a step to the node gets that node's row.
-use Rattle.std.proofs.Common.{◌∙◌, ◌<◌, [], false, length, unwrap_or, sym, ap, arith}
+use Rattle.std.proofs.Common.{◌∙◌, ◌<◌, ◌≤◌, [], false, length, unwrap_or, sym, ap, arith}
 use Rattle.std.proofs.lemmas.List.{length-map}
 use Rattle.std.proofs.lemmas.Option.{unwrap_or-slice_get}
 use Rattle.vob_block.specs.Packing.{item}
 use Rattle.vob_users.proofs.ShapeLemmas.{row_of-items}
-use Rattle.vob_users.proofs.MatrixLemmas.{AreLedBefore-skip, AreLedBefore-more}
-use Rattle.vob_users.proofs.matrix.lead_through.Goals as goal
-use Rattle.vob_users.proofs.matrix.lead_through.Goals.{then-unwrap_or, else-unwrap_or}
+use Rattle.vob_users.proofs.UnionLemmas.{IsLedThrough-start, IsLedThrough-skip, IsLedThrough-more}
+use Rattle.vob_users.proofs.closing.lead_through.Goals as goal
+use Rattle.vob_users.proofs.closing.lead_through.Goals.{then-unwrap_or, else-unwrap_or}
+
+pub loop-row-init : goal.loop-row-init
+loop-row-init c = IsLedThrough-start _ _ _
 
 pub or_row-requires-clause-long : goal.or_row-requires-clause-long
 or_row-requires-clause-long c =
@@ -21,6 +24,8 @@ loop-row-preserved c =
     let items = c.loop-row.rows in
     let row = c.loop-row.row in
     let k = c.args.through in
+    let first = c.args.first in
+    let from : first ≤ row = omega arith in
     let inside : row < length items = omega arith in
     let count = length-map items (λ v. v.bits) in
     let h = c.loop-row.invariant in
@@ -29,8 +34,8 @@ loop-row-preserved c =
     ∙ ap (λ o. unwrap_or o false) (sym c.get.ensures.bit) ∙ sym c.unwrap_or.ensures in
     elim c.if-unwrap_or.branch [
       | then-unwrap_or w ↦ rw w.rows-is
-          (AreLedBefore-more _ k row _ h _ _ (omega (arith, count)) (step ∙ w.if-unwrap_or.true)
+          (IsLedThrough-more _ k first row _ from h _ _ (omega (arith, count)) (step ∙ w.if-unwrap_or.true)
           w.or_row.ensures)
       | else-unwrap_or w ↦ rw w.rows-is
-          (AreLedBefore-skip _ k row _ h (step ∙ w.if-unwrap_or.false))
+          (IsLedThrough-skip _ k first row _ from h (step ∙ w.if-unwrap_or.false))
     ]

@@ -2,7 +2,7 @@
 use Rattle.std.proofs.Common.{◌∙◌, ap, sym, arith, length}
 use Rattle.vob_flow.proofs.HalvesLemmas.{bits-low, bits-high, set-low, set-high}
 use Rattle.vob_users.proofs.ShapeLemmas.{IsRowCombined-items, IsRowCombined-same}
-use Rattle.vob_users.proofs.matrix.or_row.Goals as goal
+use Rattle.vob_users.proofs.unions.or_row.Goals as goal
 
 pub or-requires : goal.or-requires
 or-requires c =
