@@ -4,6 +4,7 @@ mod GrammarLemmas
 mod GrowthLemmas
 mod MatrixLemmas
 mod PathLemmas
+mod ProductLemmas
 mod ReachLemmas
 mod ShapeLemmas
 mod UnionLemmas

@@ -117,7 +117,7 @@ module _ (rows from : List (List Bool)) where
   }
 
 -- no entry of an empty matrix is true
-entry-empty : (rows columns i j : ℕ) → entry (replicate rows (replicate columns false)) i j ≡ false
+pub entry-empty : (rows columns i j : ℕ) → entry (replicate rows (replicate columns false)) i j ≡ false
 entry-empty rows columns i j = elim (cases_lt i rows) [
   | inl less ↦
       ap (λ r. item r j) (get_or-replicate rows i (replicate columns false) [] less)

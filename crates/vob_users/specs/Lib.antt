@@ -5,6 +5,7 @@ pub mod GrammarPass
 pub mod Matrix
 pub mod MatrixPaths
 pub mod MatrixRows
+pub mod Products
 pub mod Reachable
 pub mod Rows
 pub mod Unions

@@ -7,6 +7,7 @@ mod closing;
 pub mod grammar;
 pub mod loops;
 pub mod matrix;
+mod products;
 pub mod raises;
 pub mod reachable;
 pub mod rows;

@@ -5,9 +5,11 @@ ghost use Rattle.vob.specs.Bits.{GainsBits, IsWritten};
 ghost use Rattle.vob_block.specs.Pointwise.{differ};
 ghost use Rattle.vob.specs.Vobs.{AreOfLength, bits_of};
 ghost use Rattle.vob_users.specs.Matrix.{row_of, entry, GetsRow, HaveShapeOf, IsClosure, IsEntryWritten, IsTransposed};
+ghost use Rattle.vob_users.specs.Products.{IsIdentity, IsPower, IsProduct};
 ghost use Rattle.vob_users.specs.MatrixRows.{AreColumnsMarked, IsColumnMarked};
 
 use crate::closing::close_rows;
+use crate::products::{copy_rows, mark_diagonal, product_rows};
 use crate::unions::{blank_rows, or_row};
 use std::alloc::{AllocError, Global};
 use std::marker::Model;
@@ -46,6 +48,29 @@ impl BitMatrix {
     {
         let rows = blank_rows(alloc, rows, columns)?;
         Ok(BitMatrix { rows, columns })
+    }
+
+    /// Returns the matrix of `n` rows and columns whose entries (i, i) are true and the others false.
+    /// No rows take no memory.
+    pub fn identity(alloc: Global, n: usize) -> Result<BitMatrix, AllocError>
+        ensures identity { IfOk result (λ made. IsIdentity n made) }
+        ensures nothing { n ≡ 0 → IsOk result }
+    {
+        let mut rows = blank_rows(alloc, n, n)?;
+        mark_diagonal(&mut rows);
+        Ok(BitMatrix { rows, columns: n })
+    }
+
+    /// Makes a matrix with the same entries. Fails if memory runs out; no rows take none.
+    pub fn clone(&self) -> Result<BitMatrix, AllocError>
+        ensures matrix { IfOk result (λ made. made ≡ self.now) }
+        ensures nothing { self.now.rows ≡ [] → IsOk result }
+    {
+        let rows = copy_rows(*self.rows.allocator(), &self.rows)?;
+        Ok(BitMatrix {
+            rows,
+            columns: self.columns,
+        })
     }
 
     /// Returns the number of rows.
@@ -116,6 +141,48 @@ impl BitMatrix {
         ensures columns { self.new.columns ≡ self.old.columns }
     {
         close_rows(alloc, &mut self.rows, self.columns);
+    }
+
+    /// Returns the Boolean product: entry (i, j) is true if some k has (i, k) in this matrix and (k, j)
+    /// in the other. The columns must be as many as the rows of the other. Fails if memory runs out;
+    /// without rows none is asked for.
+    ///
+    /// It takes eight rows of the other at once, by a table of 256 rows, or four by 16 if there are
+    /// fewer than 256 rows. A row then costs one row operation for each eight, or four.
+    pub fn product(&self, alloc: Global, other: &BitMatrix) -> Result<BitMatrix, AllocError>
+        requires fits { self.now.columns ≡ length other.now.rows }
+        ensures product { IfOk result (λ made. IsProduct self.now other.now made) }
+        ensures nothing { self.now.rows ≡ [] → IsOk result }
+    {
+        let rows = product_rows(alloc, &self.rows, &other.rows, other.columns)?;
+        Ok(BitMatrix {
+            rows,
+            columns: other.columns,
+        })
+    }
+
+    /// Makes entry (i, j) of a new matrix true if a path of exactly `n` edges leads from node i to node
+    /// j: the product of `n` matrices that are this one, and the identity if `n` is 0. The rows must be
+    /// as many as the columns. Fails if memory runs out.
+    ///
+    /// It takes at most two products for each binary digit of `n` but the first.
+    pub fn power(&self, alloc: Global, n: usize) -> Result<BitMatrix, AllocError>
+        requires square { length self.now.rows ≡ self.now.columns }
+        ensures power { IfOk result (λ made. IsPower self.now n made) }
+    {
+        if n == 0 {
+            return BitMatrix::identity(alloc, self.columns);
+        }
+        if n == 1 {
+            return self.clone();
+        }
+        let half = self.power(alloc, n / 2)?;
+        let square = half.product(alloc, &half)?;
+        if n % 2 == 0 {
+            return Ok(square);
+        }
+        let made = square.product(alloc, self)?;
+        Ok(made)
     }
 
     /// Returns the matrix with rows and columns exchanged. No columns take no memory.

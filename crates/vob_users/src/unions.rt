@@ -113,3 +113,23 @@ pub(crate) fn link_rows(rows: &mut [Vob], unions: &[Vob], first: usize, last: us
         }
     }
 }
+
+/// Adds to each row the union that the bits of another from `first` to below `last` name.
+pub(crate) fn link_by(rows: &mut [Vob], by: &[Vob], unions: &[Vob], first: usize, last: usize)
+    requires order { first ≤ last }
+    requires few { last ≤ first + 8 }
+    requires count { length by.now ≡ length rows.old }
+    requires inside { (i : ℕ) → i < length by.now → last ≤ length (row_of (bits_of by.now) i) }
+    requires room { 2 ^ (last - first) ≤ length unions.now }
+    requires long { AreOfLength (length (row_of (bits_of unions.now) 0)) (bits_of unions.now) }
+    requires rows { AreOfLength (length (row_of (bits_of unions.now) 0)) (bits_of rows.old) }
+    ensures { (others : List (List Bool)) → AreUnions others first (last - first) (bits_of unions.now)
+        → AreLinked (bits_of rows.old) (bits_of by.now) others first last (bits_of rows.new) }
+{
+    for row in 0..by.len() {
+        let named = by[row].load(first..last);
+        if named != 0 {
+            rows[row].or(&unions[named]);
+        }
+    }
+}
