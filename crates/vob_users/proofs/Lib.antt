@@ -5,6 +5,5 @@ mod GrowthLemmas
 mod MatrixLemmas
 mod PathLemmas
 mod ProductLemmas
-mod ReachLemmas
 mod ShapeLemmas
 mod UnionLemmas

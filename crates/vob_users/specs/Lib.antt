@@ -6,6 +6,5 @@ pub mod Matrix
 pub mod MatrixPaths
 pub mod MatrixRows
 pub mod Products
-pub mod Reachable
 pub mod Rows
 pub mod Unions

@@ -9,7 +9,6 @@ pub mod loops;
 pub mod matrix;
 mod products;
 pub mod raises;
-pub mod reachable;
 pub mod rows;
 pub mod slots;
 pub mod take_slot;

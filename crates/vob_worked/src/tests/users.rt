@@ -1,5 +1,5 @@
-//! The worked users: which nodes of graphs lead to which, slots taken in turn, the rows of a
-//! filter, and the free stretches of two calendars.
+//! The worked users: slots taken in turn, the rows of a filter, and the free stretches of two
+//! calendars.
 use super::support::{check_bits, check_error, same, vob_of};
 use std::process::Abort;
 use vob::Vob;
@@ -7,108 +7,9 @@ use vob_users::calendar::{Calendar, common_stretches};
 use vob_users::grammar::GrammarError;
 use vob_users::live::LiveError;
 use vob_users::loops::clear_those;
-use vob_users::reachable::{is_square, reach};
 use vob_users::rows::{count_between, count_rows, kept_rows, page, page_back, select};
 use vob_users::slots::Slots;
 use vob_users::take_slot::take_slot;
-
-/// How many nodes the graphs have of which each is tried.
-const NODES: usize = 3;
-
-/// Rows of a bit for each node: whether node `from` leads to node `to`.
-fn rows_of(rt: &(impl Abort + AllocGlobal), graph: u32) -> Vec<Vob> {
-    let mut rest = graph;
-    let mut rows = Vec::new(rt.alloc());
-    for _ in 0..NODES {
-        let mut row = Vob::new(rt.alloc());
-        for _ in 0..NODES {
-            row.push(rest % 2 == 1).expect(rt, "memory");
-            rest /= 2;
-        }
-        rows.push(row).expect(rt, "memory");
-    }
-    rows
-}
-
-/// The nodes that `start` leads to.
-fn reached_from(rt: &(impl Abort + AllocGlobal), rows: &[Vob], start: usize) -> Vob {
-    let mut reached = Vob::from_elem(rt.alloc(), false, rows.len()).expect(rt, "memory");
-    if start < reached.len() {
-        reached.set(start, true);
-    }
-    assert!(rt; is_square(&reached, rows));
-    reach(&mut reached, rows);
-    reached
-}
-
-/// The nodes that `start` leads to, one edge further at a time, by as many edges as there are
-/// nodes.
-fn plainly_reached(rt: &(impl Abort + AllocGlobal), rows: &[Vob], start: usize) -> Vec<bool> {
-    let mut reached = Vec::new(rt.alloc());
-    for node in 0..NODES {
-        reached.push(node == start).expect(rt, "memory");
-    }
-    for _ in 0..NODES {
-        let mut further = Vec::new(rt.alloc());
-        for node in 0..NODES {
-            let mut led = reached.get(node) == Some(&true);
-            for (from, there) in reached.iter().enumerate() {
-                let edge = rows.get(from).and_then(|row| row.get(node));
-                led = led || *there && edge == Some(true);
-            }
-            further.push(led).expect(rt, "memory");
-        }
-        reached = further;
-    }
-    reached
-}
-
-#[test]
-fn every_graph_of_three_nodes_is_followed(rt: HostRuntime) {
-    for graph in 0..512 {
-        let rows = rows_of(&rt, graph);
-        for start in 0..NODES {
-            let reached = reached_from(&rt, &rows, start);
-            for (node, wanted) in plainly_reached(&rt, &rows, start).iter().enumerate() {
-                let found = reached.get(node);
-                same(&rt, "graph", graph as usize, found, Some(*wanted));
-            }
-        }
-    }
-}
-
-#[test]
-fn a_chain_is_followed_from_its_head(rt: HostRuntime) {
-    // Each node leads to the one before it, so that each round reaches one node more.
-    let mut rows = Vec::new(rt.alloc());
-    for node in 0..200 {
-        let mut row = Vob::new(rt.alloc());
-        for other in 0..200 {
-            row.push(other + 1 == node).expect(&rt, "memory");
-        }
-        rows.push(row).expect(&rt, "memory");
-    }
-    for start in [0, 99, 199] {
-        let mut wanted = Vob::new(rt.alloc());
-        for node in 0..200 {
-            wanted.push(node <= start).expect(&rt, "memory");
-        }
-        assert!(rt; reached_from(&rt, &rows, start) == wanted, "from {start}");
-    }
-}
-
-#[test]
-fn rows_of_another_length_are_seen(rt: HostRuntime) {
-    let nodes = vob_of(&rt, "00");
-    let mut rows = Vec::new(rt.alloc());
-    rows.push(vob_of(&rt, "11")).expect(&rt, "memory");
-    same(&rt, "a row is missing", 1, is_square(&nodes, &rows), false);
-    rows.push(vob_of(&rt, "111")).expect(&rt, "memory");
-    same(&rt, "a row is too long", 3, is_square(&nodes, &rows), false);
-    rows.pop();
-    rows.push(vob_of(&rt, "11")).expect(&rt, "memory");
-    same(&rt, "square", 2, is_square(&nodes, &rows), true);
-}
 
 #[test]
 fn a_filter_keeps_the_rows_of_its_set_bits(rt: HostRuntime) {
