@@ -6,7 +6,8 @@ use Rattle.std.proofs.Common.{sym, ap, ◌∙◌, arith, inl, inr}
 use Rattle.std.proofs.lemmas.Bool.{cases_lt, false≢true}
 use Rattle.std.proofs.lemmas.List.{length-map}
 use Rattle.vob_block.specs.Packing.{item}
-use Rattle.vob.specs.Runs.{GivesRun, HasNoRoom, IsFirstRoom, IsRoom, RunWalk}
+use Rattle.vob.specs.Room.{HasNoRoom, IsFirstRoom, IsRoom}
+use Rattle.vob.specs.Runs.{GivesRun, RunWalk}
 use Rattle.vob.proofs.SeenLemmas.{turned_at, unset_of}
 use Rattle.vob.proofs.SelectLemmas.{inside}
 

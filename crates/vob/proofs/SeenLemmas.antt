@@ -14,7 +14,8 @@ use Rattle.std.proofs.lemmas.List.FromFn.{length-map-range_with_len, get_or-map-
 use Rattle.vob_block.specs.Packing.{item, need, packing, unpacking}
 use Rattle.vob_block.proofs.PackingLemmas.{get_or-unpacking, length-unpacking}
 use Rattle.vob_walk.specs.Matches.{has_value, within, IsRangeOf}
-use Rattle.vob.specs.Runs.{AreRuns, IsMaximalRun, IsOverRange, IsUnsetRun, kept, runs_of}
+use Rattle.vob.specs.Room.{IsUnsetRun}
+use Rattle.vob.specs.Runs.{AreRuns, IsMaximalRun, IsOverRange, kept, runs_of}
 use Rattle.vob.specs.RunSteps.{seen, IsOnRuns}
 use Rattle.vob.proofs.RangeLemmas.{within-there, within-before, within-behind}
 use Rattle.vob.proofs.RunListLemmas.{AreRuns-only, length-runs_from-le}

@@ -1,7 +1,6 @@
 -- What lists of bits obey, and so the calls that stand for their operations.
 use Rattle.std.specs.Prelude.{◌≡◌, ◌≢◌, ◌↔◌, ℕ, ◌<◌, ◌≤◌, Bool, false, not, ◌&&◌, ◌||◌, List, []}
-use Rattle.std.specs.Prelude.{◌∷◌, ◌++◌, length, map, take, drop, replicate, slice_get, slice_set}
-use Rattle.std.specs.Prelude.{Some, IsTrue}
+use Rattle.std.specs.Prelude.{◌∷◌, ◌++◌, length, map, take, drop, replicate, slice_get, slice_set, Some, IsTrue}
 use Rattle.std.specs.declared.ops.Bound.TheVariants.{Included, Unbounded}
 use Rattle.vob_block.specs.Digits.{digit, IsFirstBad}
 use Rattle.vob_block.specs.Packing.{item, packing}

@@ -15,6 +15,7 @@ pub mod Raw
 pub mod RawLends
 pub mod Refusal
 pub mod Rest
+pub mod Room
 pub mod RunSteps
 pub mod Runs
 pub mod RunsBack

@@ -1,4 +1,4 @@
--- The runs of a list of bits: its longest stretches of set bits. And where there is room for some.
+-- The runs of a list of bits: its longest stretches of set bits.
 use Rattle.std.specs.Prelude.{◌≡◌, ◌≢◌, ℕ, ◌+◌, ◌-◌, ◌<◌, ◌≤◌, Bool, true, false, ◌&&◌, not, List}
 use Rattle.std.specs.Prelude.{◌∷◌, length, drop, filter, map, Option, MatchOption, All, Any, AllPairs}
 use Rattle.std.specs.List.{position_or_len, range_with_len}
@@ -72,27 +72,6 @@ kept low high bits =
 pub record IsOverRange (low high : Bound ℕ) (bits : List Bool) (walk : RunWalk) : Type 0 where
   pub rest : walk.rest ≡ runs_of (kept low high bits)
   pub each : (i : ℕ) → item walk.bits i ≡ item (kept low high bits) i
-
--- n unset bits in a row stand from index i on, within the length
-pub record IsRoom (n : ℕ) (bits : List Bool) (i : ℕ) : Type 0 where
-  pub inside : i + n ≤ length bits
-  pub unset : (j : ℕ) → i ≤ j → j < i + n → item bits j ≡ false
-
--- and from no lower index on
-pub record IsFirstRoom (n : ℕ) (bits : List Bool) (i : ℕ) : Type 0 where
-  pub there : IsRoom n bits i
-  pub least : (j : ℕ) → IsRoom n bits j → i ≤ j
-
-abbrev pub HasNoRoom : ℕ → List Bool → Type 0
-HasNoRoom n bits = (i : ℕ) → IsRoom n bits i → ⊥
-
--- the same of unset bits: those beside them are set or are not there
-pub record IsUnsetRun (bits : List Bool) (a b : ℕ) : Type 0 where
-  pub some : a < b
-  pub inside : b ≤ length bits
-  pub unset : (i : ℕ) → a ≤ i → i < b → item bits i ≡ false
-  pub before : (i : ℕ) → i + 1 ≡ a → item bits i ≡ true
-  pub behind : b < length bits → item bits b ≡ true
 
 -- a list has each run of the bits, in their order, and so each set bit in one of them
 pub record AreRuns (bits : List Bool) (runs : List (Range ℕ)) : Type 0 where

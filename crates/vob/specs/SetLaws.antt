@@ -9,7 +9,8 @@ use Rattle.vob_block.specs.Pointwise.{pointwise, without}
 use Rattle.vob_walk.specs.Matches.{matches}
 use Rattle.vob_walk.specs.Walk.{Walk, IsFresh}
 use Rattle.vob.specs.Bits.{count_of}
-use Rattle.vob.specs.Runs.{AreRuns, IsMaximalRun, IsUnsetRun, RunWalk, GivesRun, runs_of}
+use Rattle.vob.specs.Room.{IsUnsetRun}
+use Rattle.vob.specs.Runs.{AreRuns, IsMaximalRun, RunWalk, GivesRun, runs_of}
 use Rattle.vob.specs.Sets.{IsIndexOfRank}
 
 -- what a list has and another hasn't is what both the first and the other negated have

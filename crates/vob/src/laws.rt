@@ -141,8 +141,8 @@ pub fn walk_back_gives_runs()
     ensures { WalkBackGivesRuns }
 {}
 
-/// What the front of a walk over runs gave, what is left, and what the back gave in reverse are the
-/// runs: pulls at both ends give no run twice or in parts, and leave none out.
+/// Pulls at both ends of a walk over runs give no run twice or in parts, and leave none out: the runs
+/// are what the front gave, what is left, and what the back gave in reverse.
 pub fn runs_are_given_once()
     ensures { RunsAreGivenOnce }
 {}

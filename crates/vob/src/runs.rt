@@ -6,7 +6,8 @@ ghost use Rattle.std.specs.Iterator.{item_count};
 ghost use Rattle.std.specs.Iterator.Runs.{YieldsInOrder, YieldsInReverse};
 ghost use Rattle.vob_block.specs.Packing.{need};
 ghost use Rattle.vob_walk.specs.Matches.{ForSomeRange};
-ghost use Rattle.vob.specs.Runs.{GivesRun, HasNoRoom, IsFirstRoom, IsOverRange, runs_of};
+ghost use Rattle.vob.specs.Room.{HasNoRoom, IsFirstRoom};
+ghost use Rattle.vob.specs.Runs.{GivesRun, IsOverRange, runs_of};
 ghost use Rattle.vob.specs.RunSteps.{unread_from};
 ghost use Rattle.vob.specs.RunsBack.{GivesLastRun};
 
@@ -18,9 +19,9 @@ use vob_block::{Block, Blocks};
 use vob_walk::range::cut_range;
 use vob_walk::{Found, block_in_hand, next_in_hand, previous_in_hand};
 
-/// The runs of a Vob, in order and from both ends. Seen as the runs still to come, the bits whose runs
-/// they are, the end of the last run that `next` returned, and how many blocks are read, are unread and
-/// may be read again.
+/// The runs of a Vob, in order and from both ends. A contract sees the runs still to come, the bits
+/// whose runs they are, and the end of the last run that `next` returned. It also sees how many blocks
+/// are read, are unread and may be read again.
 #[derive(Drop)]
 pub struct Runs<'a, T: Block> {
     blocks: Blocks<'a, T>,
