@@ -2,6 +2,7 @@
 //! transposes; entries and rows.
 use super::support::{check_bits, same};
 use std::process::Abort;
+use vob_flow::closure;
 use vob_users::matrix::BitMatrix;
 
 /// A matrix whose entries are all false.
@@ -105,6 +106,135 @@ fn chains_and_a_ring_longer_than_a_block_are_closed(rt: HostRuntime) {
             check_entry(&rt, &down, row, column, column < row);
             check_entry(&rt, &ring, row, column, true);
         }
+    }
+}
+
+/// The next of some numbers that look random, below a bound.
+fn draw(state: &mut u64, bound: usize) -> usize {
+    *state = state
+        .wrapping_mul(6364136223846793005)
+        .wrapping_add(1442695040888963407);
+    ((*state >> 33) as usize).checked_rem(bound).unwrap_or(0)
+}
+
+/// A matrix with so many entries that look random.
+fn random(
+    rt: &(impl Abort + AllocGlobal),
+    rows: usize,
+    columns: usize,
+    entries: usize,
+) -> BitMatrix {
+    let mut matrix = none(rt, rows, columns);
+    let mut state: u64 = 7;
+    for _ in 0..entries {
+        let row = draw(&mut state, rows);
+        let column = draw(&mut state, columns);
+        mark(&mut matrix, row, column);
+    }
+    matrix
+}
+
+/// For each node the list of those that an edge leads to.
+fn lists_of(rt: &(impl Abort + AllocGlobal), matrix: &BitMatrix) -> Vec<Vec<usize>> {
+    let mut lists = Vec::new(rt.alloc());
+    for row in 0..matrix.rows() {
+        let list = matrix.row(row).iter_set_bits(..).collect(rt.alloc());
+        lists.push(list.expect(rt, "memory")).expect(rt, "memory");
+    }
+    lists
+}
+
+// From 256 rows on eight nodes are taken at once: all of them, and one or seven behind the others.
+#[test]
+fn closures_by_a_table_are_those_of_lists(rt: HostRuntime) {
+    for nodes in [256, 257, 263] {
+        let mut matrix = random(&rt, nodes, nodes, 400);
+        let wanted = closure(rt.alloc(), &lists_of(&rt, &matrix)).expect(&rt, "lists");
+        matrix.close(rt.alloc());
+        for row in 0..matrix.rows() {
+            same(&rt, "row", row, Some(matrix.row(row)), wanted.get(row));
+        }
+    }
+}
+
+// Each node leads to the one that a 32nd of its number names, and one more.
+#[test]
+fn chains_with_fewer_columns_than_rows_are_closed(rt: HostRuntime) {
+    for columns in [7, 8, 9] {
+        let mut matrix = none(&rt, 256, columns);
+        for node in 0..256 {
+            mark(&mut matrix, node, (node + 1) % 256);
+        }
+        matrix.close(rt.alloc());
+        for row in 0..256 {
+            for column in 0..columns {
+                // The way from a node below the last column goes up, and the last node leads on to 0.
+                let up = row < column;
+                check_entry(&rt, &matrix, row, column, up || row == 255);
+            }
+        }
+    }
+}
+
+/// Compares two matrices, row by row.
+fn check_same(rt: &impl Abort, found: &BitMatrix, wanted: &BitMatrix) {
+    same(rt, "rows", 0, found.rows(), wanted.rows());
+    same(rt, "columns", 0, found.columns(), wanted.columns());
+    for row in 0..found.rows() {
+        if row < wanted.rows() {
+            same(rt, "row", row, found.row(row), wanted.row(row));
+        }
+    }
+}
+
+/// The product, with the ends tested first.
+fn times(rt: &(impl Abort + AllocGlobal), first: &BitMatrix, second: &BitMatrix) -> BitMatrix {
+    assert_eq!(rt; first.columns(), second.rows());
+    first.product(rt.alloc(), second).expect(rt, "memory")
+}
+
+/// The power, with the ends tested first.
+fn power(rt: &(impl Abort + AllocGlobal), matrix: &BitMatrix, n: usize) -> BitMatrix {
+    assert_eq!(rt; matrix.columns(), matrix.rows());
+    matrix.power(rt.alloc(), n).expect(rt, "memory")
+}
+
+/// Whether an edge and one of others lead from one node to another.
+fn has_two(first: &BitMatrix, second: &BitMatrix, row: usize, column: usize) -> bool {
+    let mut found = false;
+    for through in 0..second.rows() {
+        let edge = first.get(row, through) == Some(true);
+        found = found || edge && second.get(through, column) == Some(true);
+    }
+    found
+}
+
+// Four rows of the second are taken at once, and eight if the first has 256 rows.
+#[test]
+fn products_have_an_entry_for_two_edges(rt: HostRuntime) {
+    for (rows, through, columns) in [(9, 7, 65), (3, 65, 8), (2, 0, 1), (257, 9, 2), (256, 8, 1)] {
+        let first = random(&rt, rows, through, 200);
+        let second = random(&rt, through, columns, 40);
+        let product = times(&rt, &first, &second);
+        for row in 0..rows {
+            for column in 0..columns {
+                let wanted = has_two(&first, &second, row, column);
+                check_entry(&rt, &product, row, column, wanted);
+            }
+        }
+    }
+}
+
+#[test]
+fn powers_are_products_of_equals(rt: HostRuntime) {
+    for nodes in [0, 1, 3, 9] {
+        let matrix = random(&rt, nodes, nodes, nodes + nodes / 2);
+        let mut wanted = BitMatrix::identity(rt.alloc(), nodes).expect(&rt, "memory");
+        for n in 0..8 {
+            check_same(&rt, &power(&rt, &matrix, n), &wanted);
+            wanted = times(&rt, &wanted, &matrix);
+        }
+        check_same(&rt, &matrix.clone().expect(&rt, "memory"), &matrix);
     }
 }
 
