@@ -1,13 +1,13 @@
 -- Products of rows, group by group, and paths of exactly so many edges.
-use Rattle.std.proofs.Common.{◌≡◌, ℕ, zero, suc, ◌+◌, ◌^◌, ◌<◌, ◌≤◌, Bool, false, List, length, replicate}
+use Rattle.std.proofs.Common.{◌≡◌, ℕ, zero, suc, ◌+◌, ◌^◌, ◌<◌, ◌≤◌, Bool, false, List, [], ◌∷◌, length, replicate}
 use Rattle.std.proofs.Common.{refl, sym, ap, ◌∙◌, subst, arith, inl, inr}
 use Rattle.std.proofs.lemmas.Bool.{cases_lt, false≢true}
 use Rattle.std.proofs.lemmas.List.{length-replicate}
 use Rattle.std.proofs.Math.Pow.{pow_mono}
 use Rattle.vob.specs.Vobs.{AreOfLength}
-use Rattle.vob_users.specs.Matrix.{Matrix, entry, IsEdge}
+use Rattle.vob_users.specs.Matrix.{IsPath, HasPath, Matrix, entry, IsEdge}
 use Rattle.vob_users.specs.Unions.{AreLinked}
-use Rattle.vob_users.specs.Products.{HasPathOf, IsIdentity, IsProduct, IsPower, AreProducts}
+use Rattle.vob_users.specs.Products.{ClosureIsOfPowers, HasPathOf, IsIdentity, IsProduct, IsPower, AreProducts}
 use Rattle.vob_users.proofs.ShapeLemmas.{HaveShapeOf-same, HaveShapeOf-trans, AreOfLength-kept, AreOfLength-empty}
 use Rattle.vob_users.proofs.MatrixLemmas.{entry-empty}
 use Rattle.vob_users.proofs.PathLemmas.{edge_row, edge_column}
@@ -164,3 +164,36 @@ IsPower-product matrix first second after m n sum is low high made =
             )),
       );
     })
+
+-- ---- paths of any length, and of exactly so many edges
+
+path_of : (rows : List (List Bool)) (columns : ℕ) → length rows ≡ columns →
+    AreOfLength columns rows → (i : ℕ) (through : List ℕ) (j : ℕ) → IsPath rows i through j →
+    (n : ℕ) × (0 < n) × HasPathOf n rows i j
+path_of rows columns square long i [] j path = (
+  1,
+  omega arith,
+  (j, path, (refl, omega (arith, square, edge_column rows columns i j long path))),
+)
+path_of rows columns square long i (x ∷ through) j path =
+    let on = path_of rows columns square long x through j path.1 in
+    (suc on.0, omega arith, (x, path.0, on.2))
+
+has_path : (rows : List (List Bool)) (n i j : ℕ) → HasPathOf (suc n) rows i j → HasPath rows i j
+has_path rows zero i j path = ([], subst (IsEdge rows i) path.2.0 path.1)
+has_path rows (suc n) i j path =
+    let on = has_path rows n path.0 j path.2 in
+    (path.0 ∷ on.0, (path.1, on.1))
+
+pub closure-of_powers : ClosureIsOfPowers
+closure-of_powers matrix after power square long closed powers i j = (
+  (λ edge.
+      let path = (closed.each i j).0 edge in
+      let of = path_of matrix.rows matrix.columns square long i path.0 j path.1 in
+      (of.0, of.1, ((powers of.0).each i j).1 of.2)),
+  (λ some. (closed.each i j).1 (above some.0 some.1 (((powers some.0).each i j).0 some.2))),
+)
+  where
+    above : (n : ℕ) → 0 < n → HasPathOf n matrix.rows i j → HasPath matrix.rows i j
+    above zero some path = absurd (omega (arith, some))
+    above (suc n) some path = has_path matrix.rows n i j path

@@ -5,6 +5,7 @@
 pub mod calendar;
 mod closing;
 pub mod grammar;
+pub mod laws;
 pub mod loops;
 pub mod matrix;
 mod products;
