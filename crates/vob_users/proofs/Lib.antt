@@ -5,5 +5,6 @@ mod GrowthLemmas
 mod MatrixLemmas
 mod PathLemmas
 mod ProductLemmas
+mod SameLemmas
 mod ShapeLemmas
 mod UnionLemmas

@@ -2,9 +2,15 @@
 //! set bits.
 ghost use Rattle.std.specs.Prelude.{◌≡◌, ◌≢◌, ◌↔◌, ◌<◌, ◌≤◌, ℕ, [], false, length, map, replicate, slice_get, IsOk, IsTrue, IfOk};
 ghost use Rattle.vob.specs.Bits.{GainsBits, IsWritten};
+ghost use Rattle.std.proofs.Common.{rules};
+ghost use Rattle.std.specs.Bool.{nat_eq};
+ghost use Rattle.std.specs.Cmp.Lexicographic.{pointwise};
+ghost use Rattle.std.specs.Cmp.Rules.{comparing};
+ghost use Rattle.std.specs.Ordering.{eq_of_both, on};
+ghost use Rattle.vob.specs.Same.{same_bits};
 ghost use Rattle.vob_block.specs.Pointwise.{differ};
 ghost use Rattle.vob.specs.Vobs.{AreOfLength, bits_of};
-ghost use Rattle.vob_users.specs.Matrix.{row_of, entry, GetsRow, HaveShapeOf, IsClosure, IsEntryWritten, IsTransposed};
+ghost use Rattle.vob_users.specs.Matrix.{row_of, entry, GetsRow, HaveShapeOf, IsClosure, IsEntryWritten, IsTransposed, Matrix, same_matrix};
 ghost use Rattle.vob_users.specs.Products.{IsIdentity, IsPower, IsProduct};
 ghost use Rattle.vob_users.specs.MatrixRows.{AreColumnsMarked, IsColumnMarked};
 
@@ -193,6 +199,21 @@ impl BitMatrix {
         let mut made = BitMatrix::new(alloc, self.columns, self.rows.len())?;
         mark_columns(&mut made.rows, &self.rows);
         Ok(made)
+    }
+}
+
+impl PartialEq for BitMatrix {
+    ghost eq = { eq_of_both (on (λ (m : Matrix). m.columns) nat_eq)
+        (on (λ (m : Matrix). m.rows) (pointwise same_bits)) };
+
+    ghost laws = { Prim.search (comparing, rules) depth 9 };
+
+    /// Returns whether both have the same rows, and as many columns.
+    fn eq(&self, other: &BitMatrix) -> bool
+        ensures answer { result ≡ same_matrix self.now other.now }
+        ensures same { IsTrue result ↔ (self.now ≡ other.now) }
+    {
+        self.columns == other.columns && self.rows == other.rows
     }
 }
 
