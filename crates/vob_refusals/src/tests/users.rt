@@ -97,6 +97,53 @@ fn first_sets_are_found_or_refused(rt: HostRuntime) {
     tell(&rt, found);
 }
 
+/// Whether a matrix was given, whose shape and first entry then are these.
+fn is_given(
+    rt: &impl Abort,
+    made: Result<BitMatrix, AllocError>,
+    shape: (usize, usize),
+    first: Option<bool>,
+) -> bool {
+    let Some(made) = given(rt, made, AllocError) else {
+        return false;
+    };
+    same(rt, "the shape", (made.rows(), made.columns()), shape);
+    same(rt, "the first entry", made.get(0, 0), first);
+    true
+}
+
+#[test]
+fn identities_and_copies_are_made_or_refused(rt: HostRuntime) {
+    request(&rt, FIRST - 1);
+    let blank = BitMatrix::new(rt.alloc(), 1, 0).expect(&rt, "memory");
+    let identity = BitMatrix::identity(rt.alloc(), 1);
+    let one = is_given(&rt, identity, (1, 1), Some(true));
+    let copy = is_given(&rt, blank.clone(), (1, 0), None);
+    tell(&rt, one && copy);
+}
+
+// Without columns the rows and the table's entries take no memory.
+#[test]
+fn products_are_made_or_refused(rt: HostRuntime) {
+    request(&rt, FIRST - 1);
+    let wide = BitMatrix::new(rt.alloc(), 1, 0).expect(&rt, "memory");
+    let none = BitMatrix::new(rt.alloc(), 0, 0).expect(&rt, "memory");
+    if wide.columns() == none.rows() {
+        let product = wide.product(rt.alloc(), &none);
+        tell(&rt, is_given(&rt, product, (1, 0), None));
+    }
+}
+
+#[test]
+fn powers_are_made_or_refused(rt: HostRuntime) {
+    request(&rt, FIRST - 2);
+    let one = BitMatrix::identity(rt.alloc(), 1).expect(&rt, "memory");
+    if one.rows() == one.columns() {
+        let power = one.power(rt.alloc(), 1);
+        tell(&rt, is_given(&rt, power, (1, 1), Some(true)));
+    }
+}
+
 /// Whether rows were given, which then are these.
 fn are_given(rt: &impl Abort, rows: Result<Vec<usize>, AllocError>, wanted: &[usize]) -> bool {
     let Some(rows) = given(rt, rows, AllocError) else {
