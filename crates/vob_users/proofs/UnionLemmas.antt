@@ -111,6 +111,16 @@ IsUnionSet-items items i d new row inside combined =
     (combined.len ∙ ap length (sym own))
     (λ j. combined.each j ∙ ap (λ r. item r j || item row j) (sym own)))
 
+-- a row that gets an empty entry stays
+pub IsUnionSet-blank : (rows unions : List (List Bool)) (i m : ℕ) → m ≡ 0 →
+    ((j : ℕ) → entry unions 0 j ≡ false) → IsUnionSet rows i i (row_of unions m) rows
+IsUnionSet-blank rows unions i m none blank = record {
+  shape = HaveShapeOf-same rows;
+  there = λ j. sym (ap (λ b. entry rows i j || b) (ap (λ n. entry unions n j) none ∙ blank j)
+      ∙ or-false (entry rows i j));
+  others = λ l j other. refl;
+}
+
 -- ---- a table that is doubled
 
 pub AreDoubled-start : (unions : List (List Bool)) (width : ℕ) (row : List Bool) →
@@ -358,22 +368,14 @@ module _ (some rows others unions : List (List Bool)) (first last : ℕ)
         made.others i j (λ here. omega (arith, past, here)) ∙ h.left i j (omega (arith, past));
   }
 
-  -- no node is named, and the row stays
-  pub IsUnionSet-none : (n number : ℕ) (before : List (List Bool)) → number ≡ 0 →
-      IsUnionSet before n n (row_of unions number) before
-  IsUnionSet-none n number before none = record {
-    shape = HaveShapeOf-same before;
-    there = λ j. sym (ap (λ b. entry before n j || b) (blank j) ∙ or-false (entry before n j));
-    others = λ l j other. refl;
-  }
-    where
-      blank : (j : ℕ) → entry unions number j ≡ false
-      blank j = elim (cases_Bool (entry unions number j)) [
-        | inl on ↦
-            let named = (table.each number j (omega (arith, none, pow_pos (last - first)))).0 on in
-            absurd (false≢true (sym (ap (place named.0) none ∙ place-zero named.0) ∙ named.2))
-        | inr off ↦ off
-      ]
+  -- 0 names no row
+  pub AreUnions-blank : (j : ℕ) → entry unions 0 j ≡ false
+  AreUnions-blank j = elim (cases_Bool (entry unions 0 j)) [
+    | inl on ↦
+        let named = (table.each 0 j (pow_pos (last - first))).0 on in
+        absurd (false≢true (sym (place-zero named.0) ∙ named.2))
+    | inr off ↦ off
+  ]
 
   -- all rows are linked
   pub AreLinked-whole : (n : ℕ) (after : List (List Bool)) → n ≡ length some →

@@ -2,7 +2,7 @@
 ghost use Rattle.std.specs.Prelude.{◌≡◌, ℕ, ◌+◌, ◌-◌, ◌*◌, ◌^◌, ◌<◌, ◌≤◌, ◌||◌, List, Bool, [], false, length, replicate, IsOk, IfOk};
 ghost use Rattle.vob.specs.Bits.{AreCombined};
 ghost use Rattle.vob.specs.Vobs.{AreOfLength, bits_of};
-ghost use Rattle.vob_users.specs.Matrix.{row_of, HaveShapeOf};
+ghost use Rattle.vob_users.specs.Matrix.{row_of, entry, HaveShapeOf};
 ghost use Rattle.vob_users.specs.MatrixRows.{IsRowCombined};
 ghost use Rattle.vob_users.specs.Unions.{AreDoubled, AreLinked, AreUnions, IsUnionSet};
 
@@ -95,6 +95,22 @@ pub(crate) fn fill_unions(unions: &mut [Vob], rows: &[Vob], first: usize, last: 
     }
 }
 
+/// Adds an entry of a table to a row. Entry 0 is empty, and isn't looked at.
+fn add_union(rows: &mut [Vob], row: usize, unions: &[Vob], named: usize)
+    requires row { row < length rows.old }
+    requires named { named < length unions.now }
+    requires long { AreOfLength (length (row_of (bits_of unions.now) 0)) (bits_of unions.now) }
+    requires rows { AreOfLength (length (row_of (bits_of unions.now) 0)) (bits_of rows.old) }
+    ensures shape { HaveShapeOf (bits_of rows.old) (bits_of rows.new) }
+    ensures set { ((j : ℕ) → entry (bits_of unions.now) 0 j ≡ false)
+        → IsUnionSet (bits_of rows.old) row row (row_of (bits_of unions.now) named)
+        (bits_of rows.new) }
+{
+    if named != 0 {
+        rows[row].or(&unions[named]);
+    }
+}
+
 /// Adds to each row the union that its own bits from `first` to below `last` name.
 pub(crate) fn link_rows(rows: &mut [Vob], unions: &[Vob], first: usize, last: usize)
     requires order { first ≤ last }
@@ -108,9 +124,7 @@ pub(crate) fn link_rows(rows: &mut [Vob], unions: &[Vob], first: usize, last: us
 {
     for row in 0..rows.len() {
         let named = rows[row].load(first..last);
-        if named != 0 {
-            rows[row].or(&unions[named]);
-        }
+        add_union(rows, row, unions, named);
     }
 }
 
@@ -128,8 +142,6 @@ pub(crate) fn link_by(rows: &mut [Vob], by: &[Vob], unions: &[Vob], first: usize
 {
     for row in 0..by.len() {
         let named = by[row].load(first..last);
-        if named != 0 {
-            rows[row].or(&unions[named]);
-        }
+        add_union(rows, row, unions, named);
     }
 }

@@ -1,24 +1,12 @@
--- The union that a row's own bits name is added, or none is named.
-use Rattle.std.proofs.Common.{[], ◌≡◌, ◌∙◌, ◌<◌, ◌||◌, List, Bool, length, get_or, ap, sym, subst, arith}
+-- The union that a row's own bits name is added.
+use Rattle.std.proofs.Common.{[], length, ap, arith}
 use Rattle.std.proofs.lemmas.List.{length-map}
-use Rattle.vob.specs.Bits.{AreCombined}
-use Rattle.vob.specs.Vob.{BitVector}
 use Rattle.vob.specs.Vobs.{bits_of}
 use Rattle.vob_users.specs.Matrix.{row_of}
-use Rattle.vob_users.proofs.ShapeLemmas.{HaveShapeOf-trans, row_of-items}
-use Rattle.vob_users.proofs.UnionLemmas.{IsNumberOf, IsNumberOf-loaded, IsNumberOf-same, IsUnionSet-items, IsUnionSet-none, AreLinkedBefore-more}
+use Rattle.vob_users.proofs.ShapeLemmas.{HaveShapeOf-trans, AreOfLength-kept, row_of-items}
+use Rattle.vob_users.proofs.UnionLemmas.{IsNumberOf, IsNumberOf-loaded, IsNumberOf-same, AreUnions-blank, AreLinkedBefore-more}
 use Rattle.vob_users.proofs.unions.link_rows.Goals as goal
-use Rattle.vob_users.proofs.unions.link_rows.Goals.{After-index-rows-row, After-load-named, then-named-ne0, else-named-ne0}
-
-long : (c : After-index-rows-row) (d : BitVector) →
-    length (get_or c.loop-row.rows c.loop-row.row d).bits
-    ≡ length (row_of (bits_of c.args.unions.now) 0)
-long c d =
-    let items = c.loop-row.rows in
-    let row = c.loop-row.row in
-    ap length (sym (row_of-items items row d (omega arith)))
-    ∙ c.loop-row.invariant.shape.long row
-    ∙ c.requires.rows row [] (omega (arith, length-map c.args.rows.now (λ v. v.bits)))
+use Rattle.vob_users.proofs.unions.link_rows.Goals.{After-load-named}
 
 names : (c : After-load-named) → IsNumberOf (row_of (bits_of c.loop-row.rows) c.loop-row.row)
     c.args.first c.args.last c.load-named.result
@@ -29,64 +17,34 @@ names c =
 
 pub load-named-requires-clause-inside : goal.load-named-requires-clause-inside
 load-named-requires-clause-inside c =
+    let items = c.loop-row.rows in
+    let row = c.loop-row.row in
     omega (
       arith,
-      long (goal.at.load-named-requires-clause-inside c).After-index-rows-row
-          c.index-rows-row.result,
+      ap length (row_of-items items row c.index-rows-row.result (omega arith)),
+      c.loop-row.invariant.shape.long row,
+      c.requires.rows row [] (omega (arith, length-map c.args.rows.now (λ v. v.bits))),
     )
 
-pub bounds-unions-named : goal.bounds-unions-named
-bounds-unions-named c =
-    omega (arith, (names (goal.at.bounds-unions-named c).After-load-named).within)
+pub add_union-requires-clause-named : goal.add_union-requires-clause-named
+add_union-requires-clause-named c =
+    omega (arith, (names (goal.at.add_union-requires-clause-named c).After-load-named).within)
 
-pub offset_bounds-unions-named : goal.offset_bounds-unions-named
-offset_bounds-unions-named c =
-    omega (arith, (names (goal.at.offset_bounds-unions-named c).After-load-named).within, c.well_formed)
-
-pub or-requires : goal.or-requires
-or-requires c =
-    let number = c.load-named.result in
-    let unions = c.args.unions.now in
-    let below : number < length unions =
-    omega (arith, (names (goal.at.or-requires c).After-load-named).within) in
-    long (goal.at.or-requires c).After-index-rows-row c.index-rows-row-then-named-ne0.result
-    ∙ sym (ap (λ v. length v.bits) c.index-unions-named.is
-    ∙ ap length (sym (row_of-items unions number c.index-unions-named.result below))
-    ∙ c.requires.long number [] (omega (arith, below, length-map unions (λ v. v.bits))))
+pub add_union-requires-clause-rows : goal.add_union-requires-clause-rows
+add_union-requires-clause-rows c =
+    AreOfLength-kept _ _ _ c.requires.rows c.loop-row.invariant.shape
 
 pub loop-row-preserved : goal.loop-row-preserved
 loop-row-preserved c =
-    let items = c.loop-row.rows in
-    let unions = c.args.unions.now in
     let row = c.loop-row.row in
     let number = c.load-named.result in
     let h = c.loop-row.invariant in
     let own = names (goal.at.loop-row-preserved c).After-load-named in
-    let inside : row < length items = omega arith in
-    let below : number < length unions = omega (arith, own.within) in
-    elim c.if-named-ne0.branch [
-      | then-named-ne0 w ↦
-          let new = w.or.new.self in
-          let d = w.index-rows-row-then-named-ne0.result in
-          let union = row_of-items unions number w.index-unions-named.result below
-          ∙ ap (λ v. v.bits) (sym w.index-unions-named.is) in
-          let made = IsUnionSet-items items row d new (row_of (bits_of unions) number) inside
-          (subst (λ (bits : List Bool). AreCombined ◌||◌ (get_or items row d).bits bits new.bits)
-          (sym union) w.or.ensures.each) in
-          rw w.rows-is (record {
-            shape = HaveShapeOf-trans _ _ _ h.shape made.shape;
-            linked = λ others table.
-                let before = h.linked others table in
-                AreLinkedBefore-more _ _ others _ _ _ table row number _ _ before
-                (IsNumberOf-same _ _ _ _ number (λ j. before.left row j (omega arith)) own) made;
-          })
-      | else-named-ne0 w ↦ rw w.rows-is (record {
-        shape = h.shape;
-        linked = λ others table.
-            let before = h.linked others table in
-            AreLinkedBefore-more _ _ others _ _ _ table row number _ _ before
-            (IsNumberOf-same _ _ _ _ number (λ j. before.left row j (omega arith)) own)
-            (IsUnionSet-none (bits_of c.args.rows.now) (bits_of c.args.rows.now) others _ _ _ table
-            row number _ w.if-named-ne0.false);
-      })
-    ]
+    record {
+      shape = HaveShapeOf-trans _ _ _ h.shape c.add_union.ensures.shape;
+      linked = λ others table.
+          let before = h.linked others table in
+          AreLinkedBefore-more _ _ others _ _ _ table row number _ _ before
+          (IsNumberOf-same _ _ _ _ number (λ j. before.left row j (omega arith)) own)
+          (c.add_union.ensures.set (AreUnions-blank (bits_of c.args.rows.now) (bits_of c.args.rows.now) others _ _ _ table));
+    }
