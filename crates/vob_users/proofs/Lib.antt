@@ -2,6 +2,7 @@ mod CalendarLemmas
 mod FirstLemmas
 mod GrammarLemmas
 mod GrowthLemmas
+mod JoinLemmas
 mod MatrixLemmas
 mod PathLemmas
 mod ProductLemmas

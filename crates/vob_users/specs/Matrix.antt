@@ -41,6 +41,11 @@ pub record GetsRow (rows : List (List Bool)) (i k : ℕ) (after : List (List Boo
   pub there : (j : ℕ) → entry after i j ≡ (entry rows i j || entry rows k j)
   pub others : (l j : ℕ) → l ≢ i → entry after l j ≡ entry rows l j
 
+-- each row got the true entries of the same row of others
+pub record AreJoined (rows others after : List (List Bool)) : Type 0 where
+  pub shape : HaveShapeOf rows after
+  pub each : (i j : ℕ) → entry after i j ≡ (entry rows i j || entry others i j)
+
 -- an edge leads from node i to node j
 abbrev pub IsEdge : List (List Bool) → ℕ → ℕ → Type 0
 IsEdge rows i j = entry rows i j ≡ true

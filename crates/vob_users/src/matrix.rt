@@ -10,13 +10,13 @@ ghost use Rattle.std.specs.Ordering.{eq_of_both, on};
 ghost use Rattle.vob.specs.Same.{same_bits};
 ghost use Rattle.vob_block.specs.Pointwise.{differ};
 ghost use Rattle.vob.specs.Vobs.{AreOfLength, bits_of};
-ghost use Rattle.vob_users.specs.Matrix.{row_of, entry, GetsRow, HaveShapeOf, IsClosure, IsEntryWritten, IsTransposed, Matrix, same_matrix};
+ghost use Rattle.vob_users.specs.Matrix.{AreJoined, row_of, entry, GetsRow, HaveShapeOf, IsClosure, IsEntryWritten, IsTransposed, Matrix, same_matrix};
 ghost use Rattle.vob_users.specs.Products.{IsIdentity, IsPower, IsProduct};
 ghost use Rattle.vob_users.specs.MatrixRows.{AreColumnsMarked, IsColumnMarked};
 
 use crate::closing::close_rows;
 use crate::products::{copy_rows, mark_diagonal, product_rows};
-use crate::unions::{blank_rows, or_row};
+use crate::unions::{blank_rows, join_rows, or_row};
 use std::alloc::{AllocError, Global};
 use std::marker::Model;
 use vob::Vob;
@@ -133,6 +133,18 @@ impl BitMatrix {
         ensures more { GainsBits result (row_of self.old.rows into) (row_of self.new.rows into) }
     {
         or_row(&mut self.rows, into, from)
+    }
+
+    /// Adds the true entries of another matrix, which must have as many rows and columns, and returns
+    /// whether that added one.
+    pub fn or(&mut self, other: &BitMatrix) -> bool
+        requires rows { length self.old.rows ≡ length other.now.rows }
+        requires columns { self.old.columns ≡ other.now.columns }
+        ensures entries { AreJoined self.old.rows other.now.rows self.new.rows }
+        ensures columns { self.new.columns ≡ self.old.columns }
+        ensures changed { IsTrue result ↔ (self.new.rows ≢ self.old.rows) }
+    {
+        join_rows(&mut self.rows, &other.rows)
     }
 
     /// Makes entry (i, j) true if a path of one edge or more leads from node i to node j, and false

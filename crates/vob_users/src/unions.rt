@@ -1,8 +1,8 @@
 //! Unions of the rows of a matrix: one row added to another, and a table of all unions of some rows.
-ghost use Rattle.std.specs.Prelude.{◌≡◌, ℕ, ◌+◌, ◌-◌, ◌*◌, ◌^◌, ◌<◌, ◌≤◌, ◌||◌, List, Bool, [], false, length, replicate, IsOk, IfOk};
+ghost use Rattle.std.specs.Prelude.{◌≡◌, ◌≢◌, ◌↔◌, IsTrue, ℕ, ◌+◌, ◌-◌, ◌*◌, ◌^◌, ◌<◌, ◌≤◌, ◌||◌, List, Bool, [], false, length, replicate, IsOk, IfOk};
 ghost use Rattle.vob.specs.Bits.{AreCombined};
 ghost use Rattle.vob.specs.Vobs.{AreOfLength, bits_of};
-ghost use Rattle.vob_users.specs.Matrix.{row_of, entry, HaveShapeOf};
+ghost use Rattle.vob_users.specs.Matrix.{row_of, entry, AreJoined, HaveShapeOf};
 ghost use Rattle.vob_users.specs.MatrixRows.{IsRowCombined};
 ghost use Rattle.vob_users.specs.Unions.{AreDoubled, AreLinked, AreUnions, IsUnionSet};
 
@@ -40,6 +40,23 @@ pub(crate) fn or_row(rows: &mut [Vob], into: usize, from: usize) -> bool
     } else {
         false
     }
+}
+
+/// Adds to each row the same row of others, and returns whether that added a bit.
+pub(crate) fn join_rows(rows: &mut [Vob], others: &[Vob]) -> bool
+    requires count { length rows.old ≡ length others.now }
+    requires long { (i : ℕ) → length (row_of (bits_of rows.old) i)
+        ≡ length (row_of (bits_of others.now) i) }
+    ensures joined { AreJoined (bits_of rows.old) (bits_of others.now) (bits_of rows.new) }
+    ensures changed { IsTrue result ↔ (bits_of rows.new ≢ bits_of rows.old) }
+{
+    let mut changed = false;
+    for row in 0..others.len() {
+        if rows[row].or(&others[row]) {
+            changed = true;
+        }
+    }
+    changed
 }
 
 /// Makes a Vob the union of two others.
