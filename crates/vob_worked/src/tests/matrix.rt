@@ -330,3 +330,40 @@ fn entries_are_written_and_rows_added(rt: HostRuntime) {
     }
     check_rows(&rt, &matrix, 3, &["101", "111", "001"]);
 }
+
+/// `or`, with the shapes tested first.
+fn join(matrix: &mut BitMatrix, other: &BitMatrix) -> bool {
+    matrix.rows() == other.rows() && matrix.columns() == other.columns() && matrix.or(other)
+}
+
+#[test]
+fn matrices_are_compared_and_joined(rt: HostRuntime) {
+    let mut matrix = matrix_of(&rt, 3, &["100", "010"]);
+    let other = matrix_of(&rt, 3, &["001", "010"]);
+    let wanted = matrix_of(&rt, 3, &["101", "010"]);
+    same(&rt, "they are equal", 0, matrix == other, false);
+    same(&rt, "entries are added", 0, join(&mut matrix, &other), true);
+    same(&rt, "they are equal", 1, matrix == wanted, true);
+    same(
+        &rt,
+        "entries are added",
+        1,
+        join(&mut matrix, &other),
+        false,
+    );
+    // Without rows the columns count.
+    same(
+        &rt,
+        "they are equal",
+        2,
+        none(&rt, 0, 2) == none(&rt, 0, 2),
+        true,
+    );
+    same(
+        &rt,
+        "they are equal",
+        3,
+        none(&rt, 0, 2) == none(&rt, 0, 3),
+        false,
+    );
+}
