@@ -1,5 +1,5 @@
-//! A matrix of bits, its transitive closure and its transpose: a user of `or` and of the walk over
-//! set bits.
+//! A matrix of bits, its transitive closure, products, powers and transpose: a user of `or`, of
+//! `load` and of the walk over set bits.
 ghost use Rattle.std.specs.Prelude.{◌≡◌, ◌≢◌, ◌↔◌, ◌<◌, ◌≤◌, ℕ, [], false, length, map, replicate, slice_get, IsOk, IsTrue, IfOk};
 ghost use Rattle.vob.specs.Bits.{GainsBits, IsWritten};
 ghost use Rattle.std.proofs.Common.{rules};
