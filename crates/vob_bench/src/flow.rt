@@ -71,7 +71,7 @@ fn sets_at(
     numbers: &[usize],
     place: usize,
     len: usize,
-) -> Result<Vec<Vob>, Missing> {
+) -> Result<Vec<Vob>, AllocError> {
     let mut sets = Vec::new(alloc);
     for node in numbers.chunks(4) {
         let mut set = Vob::from_elem(alloc, false, len)?;
