@@ -65,8 +65,7 @@ fn unite(into: &mut Vob, first: &Vob, second: &Vob)
     requires second { length into.old.bits ≡ length second.now.bits }
     ensures { AreCombined ◌||◌ first.now.bits second.now.bits into.new.bits }
 {
-    into.set_all(false);
-    into.or(first);
+    into.copy_range(0, first, 0..first.len());
     into.or(second);
 }
 
