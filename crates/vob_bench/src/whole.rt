@@ -54,8 +54,8 @@ fn to_bytes(alloc: Global, vob: &mut Vob, round: usize) -> Result<u64, Missing> 
     Ok(byte.unwrap_or(0) as u64)
 }
 
-/// A change a round, with a look at a bit behind it.
-fn change<F: FnMut(&mut Vob)>(vob: Vob, rounds: usize, mut call: F) -> Result<u64, Missing>
+/// A change a round, and then a look at a bit.
+fn change<F: Fn(&mut Vob)>(vob: Vob, rounds: usize, call: F) -> Result<u64, Missing>
     requires { F.IsAlwaysCallable call }
 {
     each_round(vob, rounds, |vob, round| {
