@@ -8,4 +8,5 @@ mod PathLemmas
 mod ProductLemmas
 mod SameLemmas
 mod ShapeLemmas
+mod SlotsLemmas
 mod UnionLemmas

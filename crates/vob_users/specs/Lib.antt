@@ -7,4 +7,5 @@ pub mod MatrixPaths
 pub mod MatrixRows
 pub mod Products
 pub mod Rows
+pub mod Slots
 pub mod Unions

@@ -5,5 +5,6 @@ mod grammar;
 mod lengths;
 mod live;
 mod matrix;
+mod slots;
 mod support;
 mod users;

@@ -11,4 +11,4 @@ overflow_add-self c =
     let taken = sym (differ-false _) ∙ sym c.set.ensures.differs ∙ c.if-not-set.false in
     let more = rw taken at c.set.ensures.written.count false in
     let few = count_by-le-length (has_value false) c.set.new.self.bits in
-    omega (arith, more, few, c.set.ensures.written.len, c.self.invariant, c.len.ensures)
+    omega (arith, more, few, c.set.ensures.written.len, c.self.invariant.count, c.len.ensures)
