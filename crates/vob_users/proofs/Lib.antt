@@ -1,9 +1,11 @@
 mod CalendarLemmas
+mod ColumnLemmas
 mod FirstLemmas
 mod GrammarLemmas
 mod GrowthLemmas
 mod JoinLemmas
 mod MatrixLemmas
+mod PackedLemmas
 mod PathLemmas
 mod ProductLemmas
 mod SameLemmas

@@ -1,4 +1,7 @@
 pub mod Calendar
+pub mod Columns
+pub mod Comparisons
+pub mod Filter
 pub mod Grammar
 pub mod GrammarFaults
 pub mod GrammarPass

@@ -4,6 +4,9 @@
 
 pub mod calendar;
 mod closing;
+pub mod column;
+pub mod compare;
+pub mod filter;
 pub mod grammar;
 pub mod laws;
 pub mod loops;

@@ -1,5 +1,6 @@
 //! Users and runs of commands, by rows worked out by hand and against plain lists.
 mod commands;
+mod filter;
 mod flow;
 mod grammar;
 mod lengths;
