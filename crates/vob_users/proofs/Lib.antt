@@ -6,6 +6,7 @@ mod GrowthLemmas
 mod JoinLemmas
 mod MatrixLemmas
 mod PackedLemmas
+mod PageLemmas
 mod PathLemmas
 mod ProductLemmas
 mod SameLemmas

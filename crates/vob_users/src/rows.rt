@@ -48,7 +48,8 @@ pub fn count_between(filter: &Vob, start: usize, end: usize) -> usize
     count
 }
 
-/// The numbers of at most `count` kept rows, in order, after the first `skip` of them.
+/// The numbers of at most `count` kept rows, in order, after the first `skip` of them. Finds the first
+/// of them by its rank, and doesn't step over those before it.
 pub fn page(
     alloc: Global,
     filter: &Vob,
@@ -58,11 +59,10 @@ pub fn page(
     ensures { IfOk result (λ rows. rows.items
         ≡ take count (drop skip (matches filter.now.bits true Unbounded Unbounded))) }
 {
-    filter
-        .iter_set_bits(..)
-        .skip(skip)
-        .take(count)
-        .collect(alloc)
+    let Some(first) = filter.select(skip) else {
+        return Ok(Vec::new(alloc));
+    };
+    filter.iter_set_bits(first..).take(count).collect(alloc)
 }
 
 /// The same from the end: the last row first, before the last `skip` of them.
