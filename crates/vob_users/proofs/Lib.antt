@@ -1,5 +1,6 @@
 mod CalendarLemmas
 mod ColumnLemmas
+mod FilterLemmas
 mod FirstLemmas
 mod GrammarLemmas
 mod GrowthLemmas

@@ -1,5 +1,7 @@
 -- Conditions over columns of a table, and the rows of which they are true.
-use Rattle.std.specs.Prelude.{◌≡◌, ◌↔◌, ℕ, Bool, true, List, length, Option, Some, All, IsTrue}
+use Rattle.std.specs.Prelude.{◌≡◌, ◌↔◌, ℕ, Bool, true, false, List, length, Option, Some, All, IsTrue, count_by}
+use Rattle.std.specs.List.{range_with_len}
+use Rattle.std.specs.Option.{unwrap_or}
 use Rattle.vob_block.specs.Packing.{item}
 use Rattle.vob_users.specs.declared.filter.Expression.{Expression}
 use Rattle.vob_users.specs.declared.filter.Expression.TheVariants.{Column, And', Or', Not'}
@@ -27,3 +29,8 @@ pub record IsFilter (expression : Expression) (columns : List (List (Option Bool
     (kept : List Bool) : Type 0 where
   pub len : length kept ≡ rows
   pub each : (i : ℕ) → IsTrue (item kept i) ↔ (truth expression (row_at columns i) ≡ Some true)
+
+-- of how many rows it is true
+abbrev pub true_count : Expression → List (List (Option Bool)) → ℕ → ℕ
+true_count expression columns rows =
+    count_by (λ i. unwrap_or (truth expression (row_at columns i)) false) (range_with_len 0 rows)

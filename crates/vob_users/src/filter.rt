@@ -1,6 +1,6 @@
 //! The rows of a table that a condition is true of, by SQL's logic of three values.
 ghost use Rattle.std.specs.Prelude.{◌≡◌, ◌↔◌, IfOk, IsTrue};
-ghost use Rattle.vob_users.specs.Filter.{HasTruth, IsFilter, AreRows};
+ghost use Rattle.vob_users.specs.Filter.{AreRows, HasTruth, IsFilter, true_count};
 
 use crate::column::Column;
 use std::alloc::{AllocError, Global};
@@ -71,4 +71,18 @@ pub fn select(
 {
     let column = evaluate(alloc, expression, columns, rows)?;
     Ok(column.into_true())
+}
+
+/// Counts the rows of which a condition is true.
+pub fn count(
+    alloc: Global,
+    expression: &Expression,
+    columns: &[Column],
+    rows: usize,
+) -> Result<usize, AllocError>
+    requires { AreRows rows columns.now }
+    ensures { IfOk result (λ count. count ≡ true_count expression.now columns.now rows) }
+{
+    let kept = select(alloc, expression, columns, rows)?;
+    Ok(kept.count_ones())
 }

@@ -4,7 +4,7 @@ use super::support::{check_bits, same};
 use std::process::Abort;
 use vob_users::column::Column;
 use vob_users::compare::{Comparison, compare, compare_known};
-use vob_users::filter::{Expression, are_rows, evaluate, select};
+use vob_users::filter::{Expression, are_rows, count, evaluate, select};
 
 /// The value that a letter stands for: true, false, or missing.
 fn value_of(letter: u8) -> Option<bool> {
@@ -138,5 +138,16 @@ fn comparisons_are_packed_at_each_length(rt: HostRuntime) {
     for len in [0, 1, 7, 8, 9, 63, 64, 65, 127, 128, 129] {
         check_compared(&rt, len, Comparison::LessThan(0));
         check_compared(&rt, len, Comparison::EqualTo(-2));
+    }
+}
+
+#[test]
+fn rows_of_which_a_condition_is_true_are_counted(rt: HostRuntime) {
+    let mut columns = Vec::new(rt.alloc());
+    columns.push(column_of(&rt, "tfntf")).expect(&rt, "memory");
+    let condition = not(&rt, Expression::Column(0));
+    if are_rows(&columns, 5) {
+        let rows = count(rt.alloc(), &condition, &columns, 5).expect(&rt, "memory");
+        same(&rt, "rows", 0, rows, 2);
     }
 }
