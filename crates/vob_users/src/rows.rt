@@ -65,7 +65,8 @@ pub fn page(
     filter.iter_set_bits(first..).take(count).collect(alloc)
 }
 
-/// The same from the end: the last row first, before the last `skip` of them.
+/// The same from the end: the last row first, before the last `skip` of them. Finds that row by its
+/// rank too.
 pub fn page_back(
     alloc: Global,
     filter: &Vob,
@@ -75,10 +76,16 @@ pub fn page_back(
     ensures { IfOk result (λ rows. rows.items
         ≡ take count (drop skip (reverse (matches filter.now.bits true Unbounded Unbounded)))) }
 {
+    let kept = filter.count_ones();
+    if skip >= kept {
+        return Ok(Vec::new(alloc));
+    }
+    let Some(last) = filter.select(kept - 1 - skip) else {
+        return Ok(Vec::new(alloc));
+    };
     filter
-        .iter_set_bits(..)
+        .iter_set_bits(..=last)
         .rev()
-        .skip(skip)
         .take(count)
         .collect(alloc)
 }
