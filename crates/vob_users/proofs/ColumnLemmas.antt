@@ -82,14 +82,16 @@ and_value false false false false p q = refl
 
 -- ---- no value is there
 
-pub value_at-missing : (n i : ℕ) → value_at (values_of (replicate n false) (replicate n false)) i ≡ None
+pub value_at-missing : (n i : ℕ) → value_at (values_of (replicate n false) (replicate n false)) i
+    ≡ None
 value_at-missing zero i = refl
 value_at-missing (suc n) zero = refl
 value_at-missing (suc n) (suc i) = value_at-missing n i
 
 -- a column is as long as its bits
 pub column_len : (present value : List Bool) (column : List (Option Bool)) → AreColumn present value
-    → values_of present value ≡ column → (length present ≡ length column) × (length value ≡ length column)
+    → values_of present value ≡ column → (length present ≡ length column) ×
+    (length value ≡ length column)
 column_len present value column h is =
     let len = sym (length-values_of present value h.same) ∙ ap length is in
     (len, sym h.same ∙ len)
@@ -123,14 +125,16 @@ values_of-all p [] = refl
 values_of-all p (x ∷ xs) = ap (λ vs. Some (p x) ∷ vs) (values_of-all p xs)
 
 module _ (comparison : Comparison) where
-  value_known : (o : Option ℤ) → value_of (is_some o) (passes_known comparison o) ≡ compared comparison o
+  value_known : (o : Option ℤ) → value_of (is_some o) (passes_known comparison o)
+      ≡ compared comparison o
   value_known (Some v) = refl
   value_known None = refl
 
   pub values_of-known : (xs : List (Option ℤ))
       → values_of (map is_some xs) (map (passes_known comparison) xs) ≡ map (compared comparison) xs
   values_of-known [] = refl
-  values_of-known (x ∷ xs) = ap (λ v. v ∷ values_of (map is_some xs) (map (passes_known comparison) xs))
+  values_of-known (x ∷ xs) = ap (λ v. v ∷ values_of (map is_some xs)
+      (map (passes_known comparison) xs))
       (value_known x) ∙ ap (λ vs. compared comparison x ∷ vs) (values_of-known xs)
 
   known_only : (o : Option ℤ) → passes_known comparison o ≡ true → is_some o ≡ true
@@ -143,7 +147,8 @@ module _ (comparison : Comparison) where
     same = length-map xs is_some ∙ sym (length-map xs (passes_known comparison));
     only = λ i set. elim (cases_lt i (length xs)) [
       | inl less ↦ get_or-map is_some xs i None false less
-          ∙ known_only (get_or xs i None) (sym (get_or-map (passes_known comparison) xs i None false less) ∙ set)
+          ∙ known_only (get_or xs i None) (sym (get_or-map
+          (passes_known comparison) xs i None false less) ∙ set)
       | inr past ↦ absurd (false≢true (sym (get_or_past (map (passes_known comparison) xs) i false
           (omega (arith, past, length-map xs (passes_known comparison)))) ∙ set))
     ];
@@ -169,7 +174,8 @@ module _ (present value : List Bool) (h : AreColumn present value) where
         → length after ≡ length trues → length after ≡ length present
         → ((i : ℕ) → value_of (item after i) (item trues i) ≡ f (value_of (item present i)
         (item value i)) (value_of (item presents i) (item values i)))
-        → AreCombined f (values_of present value) (values_of presents values) (values_of after trues)
+        → AreCombined f (values_of present value) (values_of presents values)
+        (values_of after trues)
     combined f after trues same long each = record {
       len = length-values_of after trues same ∙ long ∙ sym (length-values_of present value h.same);
       each = λ i. value_at-values_of after trues same i ∙ each i
@@ -206,7 +212,8 @@ module _ (present value : List Bool) (h : AreColumn present value) where
       present_is i = c.each i ∙ ap (λ d. d || item (pointwise without presents values) i)
           (e.each i ∙ ap (λ d. d || item trues i) (a.each i)
           ∙ ap (λ d. differ (item present i) (item value i) || d) (t.each i))
-          ∙ ap (λ d. (differ (item present i) (item value i) || (item value i && item values i)) || d)
+          ∙ ap (λ d. (differ (item present i) (item value i) ||
+          (item value i && item values i)) || d)
           (item-pointwise without presents values o.same refl i)
 
       pub AreCombined-and : AreCombined sql_and (values_of present value)
@@ -216,6 +223,7 @@ module _ (present value : List Bool) (h : AreColumn present value) where
           (c.len ∙ e.len ∙ a.len)
           (λ i. ap (λ d. value_of d (item trues i)) (present_is i)
           ∙ ap (value_of ((differ (item present i) (item value i)
-          || (item value i && item values i)) || (item presents i && not (item values i)))) (t.each i)
+          || (item value i && item values i)) || (item presents i && not (item values i))))
+          (t.each i)
           ∙ and_value (item present i) (item value i) (item presents i) (item values i) (h.only i)
           (o.only i))

@@ -16,13 +16,18 @@ pub record HasRows (f : ℕ → Bool) (n word : ℕ) : Type 0 where
   pub above : (j : ℕ) → n ≤ j → j < 64 → place j word ≡ false
 
 pub no_rows : (f : ℕ → Bool) → HasRows f 0 0
-no_rows f = record { below = λ j less. absurd (omega (arith, less)); above = λ j past less. place-zero j }
+no_rows f = record {
+  below = λ j less. absurd (omega
+      (arith, less));
+  above = λ j past less. place-zero j;
+}
 
 place_mark : (b : Bool) (j : ℕ) → place j (cond b 1 0) ≡ (b && eqb j 0)
 place_mark true j = place-pow 0 j
 place_mark false j = place-zero j
 
-module _ (f : ℕ → Bool) (n word next moved mark : ℕ) (b : Bool) (h : HasRows f n word) (few : n < 64)
+module _ (f : ℕ → Bool) (n word next moved mark : ℕ) (b : Bool) (h : HasRows f n word)
+    (few : n < 64)
     (is : b ≡ f n) (one : mark ≡ cond b 1 0)
     (up : HasPlaces 64 moved (λ j. nat_le n j && place (j - n) mark))
     (both : HasPlaces 64 next (λ j. place j word || place j moved)) where
@@ -82,4 +87,5 @@ packed_more rows bits after start end count word few ends copied places below i 
 
 pub packed_all : (rows bits : List Bool) → length bits ≡ length rows
     → ((i : ℕ) → i < length rows → item bits i ≡ item rows i) → bits ≡ rows
-packed_all rows bits same each = ext_get_or false bits rows same (λ i less. each i (omega (arith, less, same)))
+packed_all rows bits same each = ext_get_or false bits rows same
+    (λ i less. each i (omega (arith, less, same)))

@@ -19,11 +19,14 @@ use Rattle.vob.proofs.SelectLemmas.{inside}
 -- a filter of numbers from `first` on leaves out those that pass below it
 module _ (f : ℕ → Bool) (first : ℕ) where
   all_from : (a n : ℕ) → first ≤ a
-      → filter (λ i. (nat_le first i && true) && f i) (range_with_len a n) ≡ filter f (range_with_len a n)
+      → filter (λ i. (nat_le first i && true) && f i) (range_with_len a n) ≡ filter f
+      (range_with_len a n)
   all_from a zero past = refl
   all_from a (suc n) past =
-      ap (λ b. cond ((b && true) && f a) (a ∷ filter (λ i. (nat_le first i && true) && f i) (range_with_len (a + 1) n))
-      (filter (λ i. (nat_le first i && true) && f i) (range_with_len (a + 1) n))) (le-leb first a past)
+      ap (λ b. cond ((b && true) && f a) (a ∷ filter (λ i. (nat_le first i && true) && f i)
+      (range_with_len (a + 1) n))
+      (filter (λ i. (nat_le first i && true) && f i) (range_with_len (a + 1) n)))
+      (le-leb first a past)
       ∙ ap (λ xs. cond (f a) (a ∷ xs) xs) (all_from (a + 1) n (omega arith))
 
   pub filter-from : (a n : ℕ) → filter (λ i. (nat_le first i && true) && f i) (range_with_len a n)
@@ -38,16 +41,19 @@ module _ (f : ℕ → Bool) (first : ℕ) where
         (filter (λ i. (nat_le first i && true) && f i) rest)) (lt-leb first a less)
         ∙ filter-from (a + 1) n
         ∙ drop_head (f a) count (filter f rest)
-        ∙ sym (ap (λ k. drop (count_by f (range_with_len a k)) (filter f (range_with_len a (suc n)))) more
+        ∙ sym (ap (λ k. drop (count_by f (range_with_len a k))
+        (filter f (range_with_len a (suc n)))) more
         ∙ ap (λ k. drop k (filter f (range_with_len a (suc n))))
         (sum_by-cons (λ i. cond (f i) 1 0) a (range_with_len (a + 1) (first - (a + 1)))))
     | inr past ↦
         let none : first - a ≡ 0 = omega arith in
         all_from a (suc n) past
-        ∙ sym (ap (λ k. drop (count_by f (range_with_len a k)) (filter f (range_with_len a (suc n)))) none)
+        ∙ sym (ap (λ k. drop (count_by f (range_with_len a k))
+        (filter f (range_with_len a (suc n)))) none)
   ]
     where
-      drop_head : (b : Bool) (k : ℕ) (xs : List ℕ) → drop k xs ≡ drop (cond b 1 0 + k) (cond b (a ∷ xs) xs)
+      drop_head : (b : Bool) (k : ℕ) (xs : List ℕ) → drop k xs ≡ drop (cond b 1 0 + k)
+          (cond b (a ∷ xs) xs)
       drop_head true k xs =
           let one : 1 + k ≡ suc k = omega arith in sym (ap (λ n. drop n (a ∷ xs)) one)
       drop_head false k xs =
@@ -65,7 +71,8 @@ matches-from bits k first rank =
     (λ i less. let same : 0 + i ≡ i = omega arith in
     ap (item bits) same ∙ sym (get_or-take first bits i false less)) in
     filter-from (item bits) first 0 (length bits)
-    ∙ ap (λ n. drop (count_by (item bits) (range_with_len 0 n)) (filter (item bits) (range_with_len 0 (length bits)))) from
+    ∙ ap (λ n. drop (count_by (item bits) (range_with_len 0 n))
+    (filter (item bits) (range_with_len 0 (length bits)))) from
     ∙ ap (λ n. drop n (filter (item bits) (range_with_len 0 (length bits)))) (below ∙ rank.below)
 
 -- and none where there are no more than k
@@ -92,7 +99,8 @@ module _ (f : ℕ → Bool) (last : ℕ) where
     | inl past ↦
         let none : last + 1 - a ≡ 0 = omega arith in
         none_past a (suc n) past
-        ∙ sym (ap (λ k. take (count_by f (range_with_len a k)) (filter f (range_with_len a (suc n)))) none)
+        ∙ sym (ap (λ k. take (count_by f (range_with_len a k))
+        (filter f (range_with_len a (suc n)))) none)
     | inr less ↦
         let rest = range_with_len (a + 1) n in
         let count = count_by f (range_with_len (a + 1) (last + 1 - (a + 1))) in
@@ -101,7 +109,8 @@ module _ (f : ℕ → Bool) (last : ℕ) where
         (filter (λ i. nat_le i last && f i) rest)) (le-leb a last less)
         ∙ ap (λ xs. cond (f a) (a ∷ xs) xs) (filter-up_to (a + 1) n)
         ∙ take_head (f a) count (filter f rest)
-        ∙ sym (ap (λ k. take (count_by f (range_with_len a k)) (filter f (range_with_len a (suc n)))) more
+        ∙ sym (ap (λ k. take (count_by f (range_with_len a k))
+        (filter f (range_with_len a (suc n)))) more
         ∙ ap (λ k. take k (filter f (range_with_len a (suc n))))
         (sum_by-cons (λ i. cond (f i) 1 0) a (range_with_len (a + 1) (last + 1 - (a + 1)))))
   ]
@@ -115,21 +124,26 @@ module _ (f : ℕ → Bool) (last : ℕ) where
 
 -- the set bits up to the k-th
 matches-up_to : (bits : List Bool) (k last : ℕ) → IsOfRank bits k last
-    → matches bits true Unbounded (Included last) ≡ take (k + 1) (matches bits true Unbounded Unbounded)
+    → matches bits true Unbounded (Included last) ≡ take (k + 1)
+    (matches bits true Unbounded Unbounded)
 unfolding matches
 matches-up_to bits k last rank =
     let low : last < length bits = inside bits last rank.there in
-    let long : length (take (last + 1) bits) ≡ last + 1 = length-take-le (last + 1) bits (omega arith) in
+    let long : length (take (last + 1) bits) ≡ last + 1 = length-take-le (last + 1) bits
+    (omega arith) in
     let from : last + 1 - 0 ≡ last + 1 = omega arith in
     let below = counted (item bits) 0 (take (last + 1) bits) (last + 1) (omega arith)
     (λ i less. let same : 0 + i ≡ i = omega arith in
     ap (item bits) same ∙ sym (get_or-take (last + 1) bits i false less)) in
     let one = count_by_more_yes (has_value true) bits last false low rank.there in
     filter-up_to (item bits) last 0 (length bits)
-    ∙ ap (λ n. take (count_by (item bits) (range_with_len 0 n)) (filter (item bits) (range_with_len 0 (length bits)))) from
-    ∙ ap (λ n. take n (filter (item bits) (range_with_len 0 (length bits)))) (below ∙ one ∙ ap (λ n. n + 1) rank.below)
+    ∙ ap (λ n. take (count_by (item bits) (range_with_len 0 n))
+    (filter (item bits) (range_with_len 0 (length bits)))) from
+    ∙ ap (λ n. take n (filter (item bits) (range_with_len 0 (length bits))))
+    (below ∙ one ∙ ap (λ n. n + 1) rank.below)
 
-reverse-take : (xs : List ℕ) (m n : ℕ) → m + n ≡ length xs → reverse (take m xs) ≡ drop n (reverse xs)
+reverse-take : (xs : List ℕ) (m n : ℕ) → m + n ≡ length xs → reverse (take m xs) ≡ drop n
+    (reverse xs)
 reverse-take xs m n parts =
     let behind : length (reverse (drop m xs)) ≡ n =
     omega (arith, length-reverse (drop m xs), length-drop m xs) in

@@ -40,7 +40,8 @@ count_parts : (value : Bool) (start n end : ℕ) (bits : List Bool)
 count_parts value start n end bits =
     let one = λ (b : Bool). cond (has_value false b) 1 0 in
     sum_by-append one (take start bits) (replicate n value ++ drop end bits)
-    ∙ ap (λ k. count_of false (take start bits) + k) (sum_by-append one (replicate n value) (drop end bits)
+    ∙ ap (λ k. count_of false (take start bits) + k) (sum_by-append one (replicate n value)
+    (drop end bits)
     ∙ ap (λ k. k + count_of false (drop end bits)) (sum_by-replicate one n value))
 
 -- taking a row of free slots makes so many fewer
@@ -59,8 +60,10 @@ count-taken_run bits after start count room is =
     let before = IsChangedWithin-value unset start (start + count)
     (is_range start (start + count) (length bits) (omega arith) room.inside) in
     let n : start + count - start ≡ count = omega arith in
-    let old = ap (count_of false) before ∙ count_parts false start (start + count - start) (start + count) bits in
-    let new = ap (count_of false) is ∙ count_parts true start (start + count - start) (start + count) bits in
+    let old = ap (count_of false) before ∙ count_parts false start (start + count - start)
+    (start + count) bits in
+    let new = ap (count_of false) is ∙ count_parts true start (start + count - start)
+    (start + count) bits in
     omega (arith, old, new, n)
 
 -- of tests, of which one passes where either of two others does
@@ -95,11 +98,13 @@ count-given_run bits after start end given changed is =
     let indices = range_with_len 0 (length bits) in
     let each : (i : ℕ) → cond (not (item after i)) 1 0
     ≡ cond (not (item bits i)) 1 0 + cond (inside i && item bits i) 1 0 =
-    λ i. one_more (inside i) (item bits i) (item after i) (λ there. elim (cases_lt i (length bits)) [
+    λ i. one_more (inside i) (item bits i) (item after i) (λ there. elim (cases_lt i
+    (length bits)) [
       | inl less ↦ changed.inside i less there
       | inr past ↦ get_or_past after i false (omega (arith, past, changed.len))
     ]) (changed.outside i) in
-    let all = count_more (λ i. not (item bits i)) (λ i. not (item after i)) (λ i. inside i && item bits i) each indices in
+    let all = count_more (λ i. not (item bits i)) (λ i. not (item after i))
+    (λ i. inside i && item bits i) each indices in
     let old = sym (length-filter (λ i. not (item bits i)) indices) ∙ matches-count bits false in
     let new = sym (length-filter (λ i. not (item after i)) (range_with_len 0 (length after)))
     ∙ matches-count after false in

@@ -1,5 +1,5 @@
-//! The rows of a table that a filter keeps, a bit each. A user of the calls on all bits, and of walks
-//! over set bits.
+//! The rows of a table that a filter keeps, a bit each. A user of the calls on all bits, of `select`,
+//! and of walks over set bits.
 ghost use Rattle.std.specs.Prelude.{◌≡◌, true, drop, length, reverse, take, IfOk};
 ghost use Rattle.std.specs.declared.ops.Bound.TheVariants.{Included, Excluded, Unbounded};
 ghost use Rattle.vob.specs.Bits.{count_of};
@@ -48,8 +48,8 @@ pub fn count_between(filter: &Vob, start: usize, end: usize) -> usize
     count
 }
 
-/// The numbers of at most `count` kept rows, in order, after the first `skip` of them. Finds the first
-/// of them by its rank, and doesn't step over those before it.
+/// The numbers of at most `count` kept rows, in order, after the first `skip` of them. Finds the
+/// first of them by its rank, and doesn't step over those before it.
 pub fn page(
     alloc: Global,
     filter: &Vob,

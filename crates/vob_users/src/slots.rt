@@ -1,5 +1,5 @@
-//! Slots that are free or taken: a user of `next_unset`, of `first_unset_run`, of ranges, and of the
-//! flag of `set`.
+//! Slots that are free or taken: a user of `next_unset`, of `first_unset_run`, of ranges, and of
+//! the flag of `set`.
 ghost use Rattle.std.specs.Prelude.{◌≡◌, ◌≢◌, ◌↔◌, ℕ, ◌+◌, ◌<◌, ◌≤◌, ◌++◌, true, false, length, replicate, slice_set, IsTrue, MatchOption, IsOk, IfOk, OnOk, OnErr, Err};
 ghost use Rattle.std.specs.Iterator.Runs.{YieldsInOrder, YieldsInReverse};
 ghost use Rattle.std.specs.declared.ops.Bound.TheVariants.{Unbounded};
@@ -128,7 +128,8 @@ impl Slots {
         Some(start)
     }
 
-    /// Takes `count` slots from `start` on back, whether or not they are taken. There must be so many.
+    /// Takes `count` slots from `start` on back, whether or not they are taken. So many must be
+    /// there.
     pub fn free_run(&mut self, start: usize, count: usize)
         requires { start + count ≤ length self.old }
         ensures { self.new ≡ replaced start (start + count) (replicate count false) self.old }

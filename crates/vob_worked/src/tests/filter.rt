@@ -1,5 +1,5 @@
-//! Conditions over columns whose values may be missing: SQL's tables whole, and comparisons at lengths
-//! around a byte and a word.
+//! Conditions over columns whose values may be missing: SQL's tables whole, and comparisons at
+//! lengths around a byte and a word.
 use super::support::{check_bits, same};
 use std::process::Abort;
 use vob_users::column::Column;

@@ -11,6 +11,7 @@ column_of-requires c = rw (c.in_ok-present.ensures, c.in_ok-value.ensures)
 
 pub returns : goal.returns
 returns c =
-    c.column_of.ensures ∙ ap (λ bits. values_of bits c.in_ok-value.value.bits) c.in_ok-present.ensures
+    c.column_of.ensures ∙ ap (λ bits. values_of bits c.in_ok-value.value.bits)
+    c.in_ok-present.ensures
     ∙ ap (values_of (map is_some c.args.values.now)) c.in_ok-value.ensures
     ∙ values_of-known c.args.comparison c.args.values.now

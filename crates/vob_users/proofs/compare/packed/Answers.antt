@@ -6,7 +6,8 @@ use Rattle.vob_users.proofs.compare.packed.Goals as goal
 pub loop-k-preserved : goal.loop-k-preserved
 loop-k-preserved g c =
     let start = 64 * c.loop-k.k in
-    let inside : start < c.len-len.result = omega (arith, c.loop-k-test.true, c.div_ceil-k-end.ensures) in
+    let inside : start < c.len-len.result = omega
+    (arith, c.loop-k-test.true, c.div_ceil-k-end.ensures) in
     record {
       len = c.store.ensures.each.len ∙ c.loop-k.invariant.len;
       below = λ i less within. packed_more (g.R.Rows.rows c.args.rows.now) c.loop-k.bits.bits

@@ -8,7 +8,8 @@ pub loop-row-preserved : goal.loop-row-preserved
 loop-row-preserved g c =
     HasRows-more (λ j. item (g.R.Rows.rows c.args.rows.now) (c.args.start + j)) c.loop-row.row
     c.loop-row.word c.bor-word.result c.up.result c.mark_of-mark.result c.bit.result
-    c.loop-row.invariant (omega (arith, c.loop-row-test.true, c.requires.few)) c.bit.ensures c.mark_of-mark.ensures
+    c.loop-row.invariant (omega (arith, c.loop-row-test.true, c.requires.few)) c.bit.ensures
+    c.mark_of-mark.ensures
     c.up.ensures.places c.bor-word.ensures.places
 
 pub returns : goal.returns

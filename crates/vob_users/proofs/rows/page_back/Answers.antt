@@ -11,11 +11,13 @@ use Rattle.vob_users.proofs.rows.page_back.Goals as goal
 pub returns : goal.returns
 returns c =
     let bits = c.args.filter.now.bits in
-    let back = matches-back bits c.args.skip (c.count_ones-kept.result - 1 - c.args.skip) c.in-Some.last
+    let back = matches-back bits c.args.skip
+    (c.count_ones-kept.result - 1 - c.args.skip) c.in-Some.last
     (omega (arith, c.if-skip-kept.false, c.count_ones-kept.ensures.count))
     ((c.in-Some.ensures.rank.some c.in-Some.last).0 refl) in
     let walk = YieldsList-from_rev_walk _
-    (ap (λ (w : Walk). w.rest) c.rev.ensures.source ∙ (c.iter_set_bits.ensures.fresh tt).whole.rest) in
+    (ap (λ (w : Walk). w.rest) c.rev.ensures.source
+    ∙ (c.iter_set_bits.ensures.fresh tt).whole.rest) in
     let some = YieldsList-from_take c.args.count (YieldsList-at c.take.ensures.source walk)
     c.take.ensures.count in
     rw (← back) (items_from_collect c.collect.result c.collect.ensures.ran some)

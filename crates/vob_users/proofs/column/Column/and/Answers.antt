@@ -7,7 +7,8 @@ pub and-requires : goal.and-requires
 and-requires c =
     let own = column_len c.self.inside.present.bits c.self.inside.value.bits _ c.self.invariant
     c.self.view_is in
-    let others = column_len c.other.inside.present.bits c.other.inside.value.bits _ c.other.invariant
+    let others = column_len c.other.inside.present.bits c.other.inside.value.bits _
+    c.other.invariant
     c.other.view_is in
     omega (arith, own.1, others.1, c.requires)
 
@@ -15,7 +16,8 @@ pub or_and_not-requires-clause-first : goal.or_and_not-requires-clause-first
 or_and_not-requires-clause-first c =
     let own = column_len c.self.inside.present.bits c.self.inside.value.bits _ c.self.invariant
     c.self.view_is in
-    let others = column_len c.other.inside.present.bits c.other.inside.value.bits _ c.other.invariant
+    let others = column_len c.other.inside.present.bits c.other.inside.value.bits _
+    c.other.invariant
     c.other.view_is in
     omega (arith, own.0, others.0, c.requires, c.xor.ensures.each.len, c.or.ensures.each.len)
 
@@ -23,7 +25,8 @@ pub or_and_not-requires-clause-second : goal.or_and_not-requires-clause-second
 or_and_not-requires-clause-second c =
     let own = column_len c.self.inside.present.bits c.self.inside.value.bits _ c.self.invariant
     c.self.view_is in
-    let others = column_len c.other.inside.present.bits c.other.inside.value.bits _ c.other.invariant
+    let others = column_len c.other.inside.present.bits c.other.inside.value.bits _
+    c.other.invariant
     c.other.view_is in
     omega (arith, own.0, others.1, c.requires, c.xor.ensures.each.len, c.or.ensures.each.len)
 

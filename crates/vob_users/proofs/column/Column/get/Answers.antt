@@ -24,4 +24,5 @@ returns-then-get_unchecked c =
 pub returns-else-get_unchecked : goal.returns-else-get_unchecked
 returns-else-get_unchecked c =
     value_read c.self.inside.present.bits c.self.inside.value.bits _ c.args.index false _
-    c.self.invariant c.self.view_is (sym c.if-get_unchecked.false ∙ c.get_unchecked.ensures.item) refl
+    c.self.invariant c.self.view_is (sym c.if-get_unchecked.false
+    ∙ c.get_unchecked.ensures.item) refl

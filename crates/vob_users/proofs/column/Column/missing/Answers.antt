@@ -12,4 +12,5 @@ returns-clause-len c =
 
 pub returns-clause-missing : goal.returns-clause-missing
 returns-clause-missing c =
-    rw (c.in_ok-present.ensures.bits, c.in_ok-value.ensures.bits) (λ i. value_at-missing c.args.len i)
+    rw (c.in_ok-present.ensures.bits, c.in_ok-value.ensures.bits)
+    (λ i. value_at-missing c.args.len i)

@@ -8,21 +8,26 @@ pub overflow_sub-self : goal.overflow_sub-self
 overflow_sub-self c =
     let start = c.in-Some.start in
     let room = c.in-Some.ensures.room.there in
-    let fewer = count-taken_run c.self.inside.taken.bits c.set_range.new.self.bits start c.args.count room
+    let fewer = count-taken_run c.self.inside.taken.bits c.set_range.new.self.bits start
+    c.args.count room
     (c.set_range.ensures.bits tt start (start + c.args.count)
-    (is_range start (start + c.args.count) (length c.self.inside.taken.bits) (omega arith) room.inside)) in
+    (is_range start (start + c.args.count) (length c.self.inside.taken.bits)
+    (omega arith) room.inside)) in
     omega (arith, fewer, c.self.invariant.count)
 
 pub invariant_of-self : goal.invariant_of-self
 invariant_of-self c =
     let start = c.in-Some.start in
     let room = c.in-Some.ensures.room.there in
-    let fewer = count-taken_run c.self.inside.taken.bits c.set_range.new.self.bits start c.args.count room
+    let fewer = count-taken_run c.self.inside.taken.bits c.set_range.new.self.bits start
+    c.args.count room
     (c.set_range.ensures.bits tt start (start + c.args.count)
-    (is_range start (start + c.args.count) (length c.self.inside.taken.bits) (omega arith) room.inside)) in
+    (is_range start (start + c.args.count) (length c.self.inside.taken.bits)
+    (omega arith) room.inside)) in
     record {
       count = omega (arith, fewer, c.self.invariant.count);
-      below = below_taken_run c.self.inside.taken.bits c.set_range.new.self.bits c.self.inside.first start
+      below = below_taken_run c.self.inside.taken.bits c.set_range.new.self.bits c.self.inside.first
+          start
           (start + c.args.count) c.self.invariant.below (c.set_range.ensures.each tt);
     }
 
@@ -32,8 +37,10 @@ returns-clause-taken c =
     let room = c.in-Some.ensures.room.there in
     row_is true c.self.inside.taken.bits c.set_range.new.self.bits start c.args.count
     (c.set_range.ensures.bits tt start (start + c.args.count)
-    (is_range start (start + c.args.count) (length c.self.inside.taken.bits) (omega arith) room.inside))
-    ∙ ap (λ bits. replaced start (start + c.args.count) (replicate c.args.count true) bits) c.self.view_is
+    (is_range start (start + c.args.count) (length c.self.inside.taken.bits)
+    (omega arith) room.inside))
+    ∙ ap (λ bits. replaced start (start + c.args.count)
+    (replicate c.args.count true) bits) c.self.view_is
 
 pub returns-in_default-clause-first : goal.returns-in_default-clause-first
 returns-in_default-clause-first c =

@@ -23,7 +23,8 @@ invariant_of-self c =
     record {
       count = omega (arith, more, c.self.invariant.count);
       below = below_given_run c.self.inside.taken.bits c.set_range.new.self.bits c.self.inside.first
-          c.args.start end c.min-self-inside.result c.self.invariant.below (c.set_range.ensures.each tt)
+          c.args.start end c.min-self-inside.result c.self.invariant.below
+          (c.set_range.ensures.each tt)
           (omega arith) (omega arith);
     }
 
