@@ -1,0 +1,3 @@
+mod EmptyLemmas
+mod FaultLemmas
+mod GrowthLemmas

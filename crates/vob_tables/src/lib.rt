@@ -1,0 +1,8 @@
+//! Sets over the symbols of a context-free grammar, from which tables of a parser are made.
+#![tactic(auto)]
+
+mod empty;
+mod grammar;
+
+pub use empty::nullable;
+pub use grammar::{Grammar, GrammarError, Rule, Symbol};
