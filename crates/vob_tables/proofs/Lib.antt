@@ -1,3 +1,6 @@
 mod EmptyLemmas
+mod EquationLemmas
 mod FaultLemmas
+mod FirstLemmas
 mod GrowthLemmas
+mod SolvedLemmas

@@ -1,3 +1,5 @@
+pub mod Equations
 pub mod Faults
 pub mod Grammar
+pub mod Heads
 pub mod Passes

@@ -2,7 +2,10 @@
 #![tactic(auto)]
 
 mod empty;
+mod equations;
+mod first;
 mod grammar;
 
 pub use empty::nullable;
+pub use first::first_sets;
 pub use grammar::{Grammar, GrammarError, Rule, Symbol};
