@@ -152,6 +152,50 @@ module _ (P : ℕ → Symbol → Type 0) (sets : List (List Bool)) (lists : List
       each = λ n x. rest_end (h.each n x) (none n x);
     }
 
+module _ (P Q Next : ℕ → Symbol → Type 0) (sets : List (List Bool)) (lists : List (List ℕ))
+    (mid : List (List Bool)) (draws : List (List ℕ)) (after : List (List Bool))
+    (others : List (List ℕ)) (g : GainEach Q mid draws after others) where
+  -- many sets at once
+  pub GainEachRest-many : (Rest : ℕ → Symbol → Type 0) → GainEachRest P Rest sets lists mid draws →
+      ((n : ℕ) (x : Symbol) → Rest n x ↔ (Q n x ⊎ Next n x)) →
+      GainEachRest P Next sets lists after others
+  GainEachRest-many Rest h r = record {
+    shape = record {
+      count = g.shape.count ∙ h.shape.count;
+      long = λ n. g.shape.long n ∙ h.shape.long n;
+    };
+    count = g.count ∙ h.count;
+    each = λ n x. rest_step (h.each n x) (g.each n x) (r n x);
+  }
+
+  -- what was gained before, and then more
+  pub GainEach-both : GainEach P sets lists mid draws →
+      ((n : ℕ) (x : Symbol) → Next n x ↔ (Q n x ⊎ P n x)) →
+      GainEach Next sets lists after others
+  GainEach-both h r = record {
+    shape = record {
+      count = g.shape.count ∙ h.shape.count;
+      long = λ n. g.shape.long n ∙ h.shape.long n;
+    };
+    count = g.count ∙ h.count;
+    each = λ n x. (
+      (λ a. elim ((g.each n x).0 a) [
+        | inl b ↦ elim ((h.each n x).0 b) [
+          | inl c ↦ inl c
+          | inr p ↦ inr ((r n x).1 (inr p))
+        ]
+        | inr q ↦ inr ((r n x).1 (inl q))
+      ]),
+      (λ a. elim a [
+        | inl c ↦ (g.each n x).1 (inl ((h.each n x).1 (inl c)))
+        | inr next ↦ elim ((r n x).0 next) [
+          | inl q ↦ (g.each n x).1 (inr q)
+          | inr p ↦ (g.each n x).1 (inl ((h.each n x).1 (inr p)))
+        ]
+      ]),
+    );
+  }
+
 -- the same of Vobs and vectors
 module _ (P Rest : ℕ → Symbol → Type 0) (sets : List (List Bool)) (lists : List (List ℕ))
     (mid : List BitVector) (vecs : List (Vec ℕ Global))
@@ -187,6 +231,63 @@ module _ (P Rest : ℕ → Symbol → Type 0) (sets : List (List Bool)) (lists :
 
   pub lists_count : length vecs ≡ length lists
   lists_count = sym (length-map vecs (λ (list : Vec ℕ Global). list.items)) ∙ h.count
+
+-- one set alone
+module _ (Q : Symbol → Type 0) (sets : List BitVector) (vecs : List (Vec ℕ Global)) (i : ℕ)
+    (d vob : BitVector) (e vec : Vec ℕ Global) (inside : i < length sets) (low : i < length vecs)
+    (g : GainsSymbols Q (get_or sets i d).bits (get_or vecs i e).items vob.bits vec.items) where
+  abbrev IsGained : ℕ → Symbol → Type 0
+  IsGained n x = (i ≡ n) × Q x
+
+  gained_row : GainEachRest IsGained (λ n x. ⊥) (bits_of sets) (lists_of vecs)
+      (bits_of (set sets i vob)) (lists_of (set vecs i vec))
+  gained_row = GainEachRest-row IsGained IsGained (bits_of sets) (lists_of vecs) sets vecs
+      (GainEachRest-start IsGained (bits_of sets) (lists_of vecs)) Q (λ n x. ⊥) i d vob e vec inside
+      low g
+      (λ n x. ((λ a. inl a), (λ b. elim b [ inl a ↦ a | inr none ↦ absurd none ])))
+
+  pub GainEach-row : (P : ℕ → Symbol → Type 0) →
+      ((n : ℕ) (x : Symbol) → P n x ↔ ((i ≡ n) × Q x)) →
+      GainEach P (bits_of sets) (lists_of vecs) (bits_of (set sets i vob))
+      (lists_of (set vecs i vec))
+  GainEach-row P same = record {
+    shape = gained_row.shape;
+    count = gained_row.count;
+    each = λ n x.
+        let is = rest_end (gained_row.each n x) (λ none. none) in (
+          (λ a. elim (is.0 a) [ inl old ↦ inl old | inr new ↦ inr ((same n x).1 new) ]),
+          (λ a. elim a [ inl old ↦ is.1 (inl old) | inr new ↦ is.1 (inr ((same n x).0 new)) ]),
+        );
+  }
+
+-- no set
+pub GainEach-none : (P : ℕ → Symbol → Type 0) (sets : List (List Bool)) (lists : List (List ℕ)) →
+    ((n : ℕ) (x : Symbol) → ¬ P n x) → GainEach P sets lists sets lists
+GainEach-none P sets lists none = record {
+  shape = record { count = refl; long = λ n. refl };
+  count = refl;
+  each = λ n x. (
+    (λ a. inl a),
+    (λ a. elim a [ inl old ↦ old | inr new ↦ absurd (none n x new) ]),
+  );
+}
+
+pub same_nonterminal : (Q : Symbol → Type 0) (i n : ℕ) (x : Symbol) →
+    ((Nonterminal i ≡ Nonterminal n) × Q x) ↔ ((i ≡ n) × Q x)
+same_nonterminal Q i n x = (
+  (λ both.
+      let named = both.0 in
+      let e : i ≡ n = cc in
+      (e, both.1)),
+  (λ both. (ap Nonterminal both.0, both.1)),
+)
+
+-- Vobs of one length
+pub vob_long : (places : ℕ) (sets : List BitVector) (k : ℕ) (d : BitVector) →
+    AreOfLength places (bits_of sets) → k < length sets → length (get_or sets k d).bits ≡ places
+vob_long places sets k d long inside =
+    ap length (sym (get_or-map (λ (v : BitVector). v.bits) sets k d [] inside))
+    ∙ long k [] (omega (arith, inside, length-map sets (λ v. v.bits)))
 
 -- sets with the shape of others are as long
 pub shape_long : (places : ℕ) (starts sets : List (List Bool)) → HaveShape starts sets →

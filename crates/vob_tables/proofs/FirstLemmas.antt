@@ -108,11 +108,11 @@ have_places terminals nonterminals places same xs all =
 -- ---- heads and derivations
 
 module _ (grammar : Grammar) (nullable : List Bool) (n : AreNullable grammar nullable) where
-  empty_symbol : (x : Symbol) → IsNull nullable x → BecomesEmpty grammar.rules.items (x ∷ [])
+  pub empty_symbol : (x : Symbol) → IsNull nullable x → BecomesEmpty grammar.rules.items (x ∷ [])
   empty_symbol (Terminal t) none = absurd none
   empty_symbol (Nonterminal a) there = (n.each a).0 there
 
-  null_symbol : (x : Symbol) → BecomesEmpty grammar.rules.items (x ∷ []) → IsNull nullable x
+  pub null_symbol : (x : Symbol) → BecomesEmpty grammar.rules.items (x ∷ []) → IsNull nullable x
   null_symbol (Terminal t) none = elim none [ ]
   null_symbol (Nonterminal a) empty = (n.each a).1 empty
 
@@ -187,7 +187,7 @@ module _ (grammar : Grammar) (nullable : List Bool) (n : AreNullable grammar nul
   }
 
 -- no nonterminals
-no_rule : (grammar : Grammar) → All (IsRuleOf grammar) grammar.rules.items →
+pub no_rule : (grammar : Grammar) → All (IsRuleOf grammar) grammar.rules.items →
     grammar.nonterminals ≡ 0 → (a : ℕ) (right : List Symbol) →
     HasRule grammar.rules.items a right → ⊥
 no_rule grammar all none a right (rule, within, left, items) =

@@ -2,5 +2,6 @@ mod EmptyLemmas
 mod EquationLemmas
 mod FaultLemmas
 mod FirstLemmas
+mod FollowLemmas
 mod GrowthLemmas
 mod SolvedLemmas

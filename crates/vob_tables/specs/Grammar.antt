@@ -1,5 +1,5 @@
 -- What the nonterminals of a grammar can become, and what can begin it.
-use Rattle.std.specs.Prelude.{◌≡◌, ◌↔◌, ℕ, Bool, true, List, [], ◌∷◌, length, Contains}
+use Rattle.std.specs.Prelude.{◌≡◌, ◌↔◌, ℕ, Bool, true, List, [], ◌∷◌, ◌++◌, length, Contains}
 use Rattle.vob_block.specs.Packing.{item}
 use Rattle.vob.specs.Vobs.{AreOfLength}
 use Rattle.vob_flow.specs.Draws.{IsIn}
@@ -29,6 +29,16 @@ pub data BeginsWith (rules : List Rule) (t : ℕ) : List Symbol → Type 0 where
   behind : {x : Symbol} {rest : List Symbol} → BecomesEmpty rules (x ∷ []) →
       BeginsWith rules t rest → BeginsWith rules t (x ∷ rest)
 
+-- terminal t can follow nonterminal a: on a right side it can begin what stands behind a, or that can
+-- become empty and t can follow the left side
+pub data Follows (rules : List Rule) (t : ℕ) : ℕ → Type 0 where
+  in_rule : {a b : ℕ} (before after : List Symbol) →
+      HasRule rules b (before ++ Nonterminal a ∷ after) → BeginsWith rules t after →
+      Follows rules t a
+  at_end : {a b : ℕ} (before after : List Symbol) →
+      HasRule rules b (before ++ Nonterminal a ∷ after) → BecomesEmpty rules after →
+      Follows rules t b → Follows rules t a
+
 -- a bit for each nonterminal: true exactly if it can become empty
 pub record AreNullable (grammar : Grammar) (nullable : List Bool) : Type 0 where
   pub count : length nullable ≡ grammar.nonterminals
@@ -46,3 +56,7 @@ pub record AreRows (grammar : Grammar) (Has : ℕ → ℕ → Type 0) (rows : Li
 abbrev pub AreFirst : Grammar → List (List Bool) → Type 0
 AreFirst grammar rows =
     AreRows grammar (λ a t. BeginsWith grammar.rules.items t (Nonterminal a ∷ [])) rows
+
+-- those that can follow each
+abbrev pub AreFollow : Grammar → List (List Bool) → Type 0
+AreFollow grammar rows = AreRows grammar (λ a t. Follows grammar.rules.items t a) rows

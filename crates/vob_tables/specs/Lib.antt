@@ -1,3 +1,4 @@
+pub mod Behind
 pub mod Equations
 pub mod Faults
 pub mod Grammar

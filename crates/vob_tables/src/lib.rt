@@ -4,8 +4,10 @@
 mod empty;
 mod equations;
 mod first;
+mod follow;
 mod grammar;
 
 pub use empty::nullable;
 pub use first::first_sets;
+pub use follow::follow_sets;
 pub use grammar::{Grammar, GrammarError, Rule, Symbol};
