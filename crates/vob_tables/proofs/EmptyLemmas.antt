@@ -65,8 +65,3 @@ module _ (rules : List Rule) (nullable : List Bool) where
         (BecomesEmpty-rule rule within (BecomesEmpty-null sound rule.right.items all))
     | inr other ↦ sound a (sym (w.others a other) ∙ there)
   ]
-
--- no bit is true
-pub AreEmptied-none : (rules : List Rule) (nullable : List Bool) →
-    ((i : ℕ) → item nullable i ≡ true → ⊥) → AreEmptied rules nullable
-AreEmptied-none rules nullable none a there = absurd (none a there)

@@ -10,7 +10,7 @@ use Rattle.vob.specs.Vob.{BitVector}
 use Rattle.vob.specs.Vobs.{AreOfLength, bits_of}
 use Rattle.vob.proofs.VobsLemmas.{of_length_replicate}
 use Rattle.vob_flow.specs.Draws.{HaveShape}
-use Rattle.vob_tables.specs.Equations.{AreEquations, GainEach, GainEachRest, GainsRest, GainsSymbols, HasAt, HasSymbol, lists_of}
+use Rattle.vob_tables.specs.Equations.{AreEquations, GainEach, GainEachRest, GainsSymbols, HasAt, HasSymbol, lists_of}
 use Rattle.vob_tables.specs.declared.grammar.Symbol.{Symbol}
 use Rattle.vob_tables.specs.declared.grammar.Symbol.TheVariants.{Terminal, Nonterminal}
 
@@ -43,23 +43,6 @@ rest_end h none = (
   (λ b. h.0 (inl b)),
   (λ a. elim (h.1 a) [ inl b ↦ b | inr rest ↦ absurd (none rest) ]),
 )
-
-module _ (P : Symbol → Type 0) (starts : List Bool) (from : List ℕ) where
-  pub GainsRest-start : GainsRest P P starts from starts from
-  GainsRest-start = record { len = refl; each = λ x. ((λ h. h), (λ h. h)) }
-
-  module _ (Rest : Symbol → Type 0) (mid : List Bool) (list : List ℕ)
-      (h : GainsRest P Rest starts from mid list) where
-    pub GainsRest-step : (Q Next : Symbol → Type 0) (after : List Bool) (others : List ℕ) →
-        GainsSymbols Q mid list after others → ((x : Symbol) → Rest x ↔ (Q x ⊎ Next x)) →
-        GainsRest P Next starts from after others
-    GainsRest-step Q Next after others g r = record {
-      len = g.len ∙ h.len;
-      each = λ x. rest_step (h.each x) (g.each x) (r x);
-    }
-
-    pub GainsSymbols-end : ((x : Symbol) → ¬ Rest x) → GainsSymbols P starts from mid list
-    GainsSymbols-end none = record { len = h.len; each = λ x. rest_end (h.each x) (none x) }
 
 -- ---- one of many sets
 
@@ -135,39 +118,9 @@ module _ (P : ℕ → Symbol → Type 0) (sets : List (List Bool)) (lists : List
           rest_step (h.each n x) (has_set mid draws i bits list inside low Q g n x) (r n x);
     }
 
-    -- what is left in other words
-    pub GainEachRest-as : (Next : ℕ → Symbol → Type 0) →
-        ((n : ℕ) (x : Symbol) → Rest n x ↔ Next n x) → GainEachRest P Next sets lists mid draws
-    GainEachRest-as Next r = record {
-      shape = h.shape;
-      count = h.count;
-      each = λ n x. rest_step (h.each n x) ((λ b. inl b), (λ b. elim b [ inl a ↦ a | inr f ↦ absurd f ]))
-          ((λ a. inr ((r n x).0 a)), (λ b. elim b [ inl f ↦ absurd f | inr a ↦ (r n x).1 a ]));
-    }
-
-    pub GainEach-end : ((n : ℕ) (x : Symbol) → ¬ Rest n x) → GainEach P sets lists mid draws
-    GainEach-end none = record {
-      shape = h.shape;
-      count = h.count;
-      each = λ n x. rest_end (h.each n x) (none n x);
-    }
-
 module _ (P Q Next : ℕ → Symbol → Type 0) (sets : List (List Bool)) (lists : List (List ℕ))
     (mid : List (List Bool)) (draws : List (List ℕ)) (after : List (List Bool))
     (others : List (List ℕ)) (g : GainEach Q mid draws after others) where
-  -- many sets at once
-  pub GainEachRest-many : (Rest : ℕ → Symbol → Type 0) → GainEachRest P Rest sets lists mid draws →
-      ((n : ℕ) (x : Symbol) → Rest n x ↔ (Q n x ⊎ Next n x)) →
-      GainEachRest P Next sets lists after others
-  GainEachRest-many Rest h r = record {
-    shape = record {
-      count = g.shape.count ∙ h.shape.count;
-      long = λ n. g.shape.long n ∙ h.shape.long n;
-    };
-    count = g.count ∙ h.count;
-    each = λ n x. rest_step (h.each n x) (g.each n x) (r n x);
-  }
-
   -- what was gained before, and then more
   pub GainEach-both : GainEach P sets lists mid draws →
       ((n : ℕ) (x : Symbol) → Next n x ↔ (Q n x ⊎ P n x)) →
@@ -225,12 +178,6 @@ module _ (P Rest : ℕ → Symbol → Type 0) (sets : List (List Bool)) (lists :
       ap length (sym (get_or-map (λ (v : BitVector). v.bits) mid i d [] inside))
       ∙ h.shape.long i
       ∙ long i [] (omega (arith, inside, h.shape.count, length-map mid (λ v. v.bits)))
-
-  pub sets_count : length mid ≡ length sets
-  sets_count = sym (length-map mid (λ v. v.bits)) ∙ h.shape.count
-
-  pub lists_count : length vecs ≡ length lists
-  lists_count = sym (length-map vecs (λ (list : Vec ℕ Global). list.items)) ∙ h.count
 
 -- one set alone
 module _ (Q : Symbol → Type 0) (sets : List BitVector) (vecs : List (Vec ℕ Global)) (i : ℕ)

@@ -1,15 +1,13 @@
 -- What stands first on right sides, and what can begin what the nonterminals become.
-use Rattle.std.proofs.Common.{◌≡◌, ◌↔◌, ℕ, zero, suc, ◌+◌, ◌<◌, ◌≤◌, ◌⊎◌, inl, inr, Bool, List, [], ◌∷◌, ◌++◌, length, get_or, drop, refl, sym, ap, ◌∙◌, subst, arith}
+use Rattle.std.proofs.Common.{◌≡◌, ◌↔◌, ℕ, zero, suc, ◌+◌, ◌<◌, ◌⊎◌, inl, inr, Bool, List, [], ◌∷◌, ◌++◌, length, get_or, drop, refl, sym, ap, ◌∙◌, subst, arith}
 use Rattle.std.specs.List.{All}
-use Rattle.std.proofs.lemmas.Bool.{false≢true}
-use Rattle.std.proofs.lemmas.List.{drop_all, drop_more}
-use Rattle.std.proofs.lemmas.List.Elements.{All-contains, All-weaker}
+use Rattle.std.proofs.lemmas.List.{drop_more}
+use Rattle.std.proofs.lemmas.List.Elements.{All-weaker}
 use Rattle.vob_flow.specs.Draws.{HaveShape, IsIn}
 use Rattle.vob_tables.specs.Equations.{AreEquations, AreSolved, HasAt, Reaches}
 use Rattle.vob_tables.specs.Equations.Reaches.{at_start, along}
 use Rattle.vob_tables.specs.Faults.{IsRuleOf, IsSymbol}
 use Rattle.vob_tables.specs.Grammar.{AreFirst, AreNullable, BecomesEmpty, BeginsWith, HasRule}
-use Rattle.vob_tables.specs.Grammar.BecomesEmpty.{by_rule as by_empty}
 use Rattle.vob_tables.specs.Grammar.BeginsWith.{here, by_rule, behind}
 use Rattle.vob_tables.specs.Heads.{HasHead, HasPlace, IsHead}
 use Rattle.vob_tables.specs.Passes.{IsNull}
@@ -50,28 +48,7 @@ has_head_of_rule nullable (first ∷ rules) (suc k) rule y less is head =
     inr (has_head_of_rule nullable rules k rule y (omega (arith, less)) is head)
 
 module _ (nullable : List Bool) where
-  -- a head is the first symbol, or one behind it where that is nullable
-  pub head_stops : (xs : List Symbol) (k : ℕ) (d : Symbol) → k < length xs →
-      ¬ IsNull nullable (get_or xs k d) → (y : Symbol) →
-      IsHead nullable (drop k xs) y ↔ ((get_or xs k d ≡ y) ⊎ ⊥)
-  head_stops xs k d less full y = rw (drop_more xs k d less) (
-    (λ h. elim h [ inl first ↦ inl first | inr later ↦ absurd (full later.0) ]),
-    (λ h. elim h [ inl first ↦ inl first | inr none ↦ absurd none ]),
-  )
-
-  pub head_goes_on : (xs : List Symbol) (k : ℕ) (d : Symbol) → k < length xs →
-      IsNull nullable (get_or xs k d) → (y : Symbol) →
-      IsHead nullable (drop k xs) y ↔ ((get_or xs k d ≡ y) ⊎ IsHead nullable (drop (k + 1) xs) y)
-  head_goes_on xs k d less null y = rw (drop_more xs k d less) (
-    (λ h. elim h [ inl first ↦ inl first | inr later ↦ inr later.1 ]),
-    (λ h. elim h [ inl first ↦ inl first | inr later ↦ inr (null, later) ]),
-  )
-
-  pub head_ends : (xs : List Symbol) (k : ℕ) → length xs ≤ k → (y : Symbol) →
-      ¬ IsHead nullable (drop k xs) y
-  head_ends xs k past y = rw (drop_all k xs past) (λ h. h)
-
-  -- the same of rules
+  -- heads of the first rule of some, or of the others
   pub rule_goes_on : (rules : List Rule) (k : ℕ) (rule : Rule) → k < length rules →
       rule ≡ get_or rules k rule → (a : ℕ) (y : Symbol) →
       HasHead nullable (drop k rules) a y ↔ (((rule.left ≡ a) × IsHead nullable rule.right.items y)
@@ -81,10 +58,6 @@ module _ (nullable : List Bool) where
       (subst (λ (r : Rule). HasHead nullable (r ∷ drop (k + 1) rules) a y
       ↔ (((rule.left ≡ a) × IsHead nullable rule.right.items y)
       ⊎ HasHead nullable (drop (k + 1) rules) a y)) is ((λ h. h), (λ h. h)))
-
-  pub rule_ends : (rules : List Rule) (k : ℕ) → length rules ≤ k → (a : ℕ) (y : Symbol) →
-      ¬ HasHead nullable (drop k rules) a y
-  rule_ends rules k past a y = rw (drop_all k rules past) (λ h. h)
 
 -- ---- rules that were read
 
@@ -185,31 +158,3 @@ module _ (grammar : Grammar) (nullable : List Bool) (n : AreNullable grammar nul
     each = first_each rows
         (AreSolved-as (HasAt sets lists) (HasHead nullable grammar.rules.items) e.each rows solved);
   }
-
--- no nonterminals
-pub no_rule : (grammar : Grammar) → All (IsRuleOf grammar) grammar.rules.items →
-    grammar.nonterminals ≡ 0 → (a : ℕ) (right : List Symbol) →
-    HasRule grammar.rules.items a right → ⊥
-no_rule grammar all none a right (rule, within, left, items) =
-    let sound = All-contains (IsRuleOf grammar) grammar.rules.items rule all within in
-    omega (arith, sound.0, none)
-
-begins_none : {rules : List Rule} {t : ℕ} {xs : List Symbol} →
-    ((a : ℕ) (right : List Symbol) → HasRule rules a right → ⊥) → BeginsWith rules t xs →
-    (rest : List Symbol) × (xs ≡ Terminal t ∷ rest)
-begins_none none (here {rest}) = (rest, refl)
-begins_none none (by_rule {a} {right} has begins) = absurd (none a right has)
-begins_none none (behind (by_empty {a} {right} has empty others) begins) = absurd (none a right has)
-
-pub AreFirst-none : (grammar : Grammar) → All (IsRuleOf grammar) grammar.rules.items →
-    grammar.nonterminals ≡ 0 → AreFirst grammar []
-AreFirst-none grammar all none = record {
-  count = sym none;
-  long = λ k e less. absurd (omega (arith, less));
-  each = λ a t. (
-    (λ there. absurd (false≢true there)),
-    (λ begins.
-        let found = begins_none (no_rule grammar all none) begins in
-        absurd (cc (found.1))),
-  );
-}

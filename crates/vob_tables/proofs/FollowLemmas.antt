@@ -1,6 +1,6 @@
 -- What stands behind nonterminals on right sides, and what can follow them.
 use Rattle.std.proofs.Common.{◌≡◌, ◌↔◌, ℕ, zero, suc, ◌+◌, ◌-◌, ◌<◌, ◌⊎◌, inl, inr, Bool, true, false, List, [], ◌∷◌, ◌++◌, length, get_or, drop, replicate, refl, sym, ap, ◌∙◌, subst, arith}
-use Rattle.std.specs.List.{All, Contains}
+use Rattle.std.specs.List.{Contains}
 use Rattle.std.proofs.lemmas.Bool.{cases_lt, false≢true}
 use Rattle.std.proofs.lemmas.List.{drop_more, get_or-replicate, get_or_past, length-replicate}
 use Rattle.vob_block.specs.Packing.{item}
@@ -8,7 +8,6 @@ use Rattle.vob_flow.specs.Draws.{HaveShape, IsIn}
 use Rattle.vob_tables.specs.Behind.{HasBehind, IsBehind, IsOfTrailer, IsStart, IsTrailer, StandsBehind}
 use Rattle.vob_tables.specs.Equations.{AreEquations, AreSolved, HasAt, Reaches}
 use Rattle.vob_tables.specs.Equations.Reaches.{at_start, along}
-use Rattle.vob_tables.specs.Faults.{IsRuleOf}
 use Rattle.vob_tables.specs.Grammar.{AreFirst, AreFollow, AreNullable, BecomesEmpty, BeginsWith, Follows, HasRule}
 use Rattle.vob_tables.specs.Grammar.BecomesEmpty.{nothing, by_rule as by_empty}
 use Rattle.vob_tables.specs.Grammar.BeginsWith.{here, by_rule, behind}
@@ -20,7 +19,7 @@ use Rattle.vob_tables.specs.declared.grammar.Symbol.{Symbol}
 use Rattle.vob_tables.specs.declared.grammar.Symbol.TheVariants.{Terminal, Nonterminal}
 use Rattle.vob_tables.proofs.EmptyLemmas.{BecomesEmpty-append}
 use Rattle.vob_tables.proofs.EquationLemmas.{shape_long}
-use Rattle.vob_tables.proofs.FirstLemmas.{BeginsWith-append, empty_symbol, no_rule, null_symbol}
+use Rattle.vob_tables.proofs.FirstLemmas.{BeginsWith-append, empty_symbol, null_symbol}
 use Rattle.vob_tables.proofs.SolvedLemmas.{AreSolved-as}
 
 -- ---- what can begin symbols, from the last one to the first
@@ -155,16 +154,6 @@ module _ (rules : List Rule) where
   rule_behind (first ∷ more) (suc k) rule a y less is stands =
       inr (rule_behind more k rule a y (omega (arith, less)) is stands)
 
-  pub behind_goes_on : (more : List Rule) (k : ℕ) (rule : Rule) → k < length more →
-      rule ≡ get_or more k rule → (a : ℕ) (y : Symbol) →
-      HasBehind rules (drop k more) a y ↔ (IsBehind rules rule.left rule.right.items a y
-      ⊎ HasBehind rules (drop (k + 1) more) a y)
-  behind_goes_on more k rule less is a y =
-      rw (drop_more more k rule less)
-      (subst (λ (r : Rule). HasBehind rules (r ∷ drop (k + 1) more) a y
-      ↔ (IsBehind rules rule.left rule.right.items a y ⊎ HasBehind rules (drop (k + 1) more) a y)) is
-      ((λ h. h), (λ h. h)))
-
   -- a rule where this stands behind a
   has_behind : (a b : ℕ) (before after : List Symbol) (y : Symbol) →
       HasRule rules b (before ++ Nonterminal a ∷ after) → StandsBehind rules b after y →
@@ -213,22 +202,4 @@ AreFollow-solved grammar sets lists rows e shape solved = record {
   each = follow_each grammar.rules.items rows
       (AreSolved-as (HasAt sets lists) (HasBehind grammar.rules.items grammar.rules.items) e.each
       rows solved);
-}
-
-no_follow : {rules : List Rule} {t a : ℕ} →
-    ((a : ℕ) (right : List Symbol) → HasRule rules a right → ⊥) → Follows rules t a → ⊥
-no_follow none (in_rule {a} {b} before after has begins) =
-    none b (before ++ Nonterminal a ∷ after) has
-no_follow none (at_end {a} {b} before after has empty f) =
-    none b (before ++ Nonterminal a ∷ after) has
-
-pub AreFollow-none : (grammar : Grammar) → All (IsRuleOf grammar) grammar.rules.items →
-    grammar.nonterminals ≡ 0 → AreFollow grammar []
-AreFollow-none grammar all none = record {
-  count = sym none;
-  long = λ k e less. absurd (omega (arith, less));
-  each = λ a t. (
-    (λ there. absurd (false≢true there)),
-    (λ f. absurd (no_follow (no_rule grammar all none) f)),
-  );
 }

@@ -1,3 +1,4 @@
+mod DerivationLemmas
 mod EmptyLemmas
 mod EquationLemmas
 mod FaultLemmas

@@ -1,4 +1,5 @@
 pub mod Behind
+pub mod Derivations
 pub mod Equations
 pub mod Faults
 pub mod Grammar

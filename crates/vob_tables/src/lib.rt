@@ -6,6 +6,7 @@ mod equations;
 mod first;
 mod follow;
 mod grammar;
+pub mod laws;
 
 pub use empty::nullable;
 pub use first::first_sets;

@@ -1,7 +1,7 @@
 -- One rule more adds its heads to the set of its left side.
 use Rattle.std.proofs.Common.{◌<◌, length, arith}
 use Rattle.vob_tables.specs.Heads.{IsHead}
-use Rattle.vob_tables.proofs.EquationLemmas.{GainEachRest-row, row_places, sets_count}
+use Rattle.vob_tables.proofs.EquationLemmas.{GainEachRest-row, row_places}
 use Rattle.vob_tables.proofs.FirstLemmas.{have_places, rule_goes_on, rule_read}
 use Rattle.vob_tables.proofs.first.add_rules.Goals as goal
 
@@ -11,7 +11,6 @@ add_heads-requires c =
     let is = rw c.deref-rule-items.ensures.value at c.rule-item.is in
     let less = rw c.deref-rule-items.ensures.value at c.loop-rule-test.true in
     let sound = rule_read c.args.grammar.now c.requires.rules c.loop-rule.rule-index rule less is in
-    let count = sets_count _ _ _ _ _ _ c.loop-rule.invariant in
     let inside : rule.left < length c.loop-rule.sets =
     omega (arith, sound.0, c.loop-rule.auto.sets, c.requires.sets) in
     rw c.deref.ensures.value
