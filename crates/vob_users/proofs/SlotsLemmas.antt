@@ -12,7 +12,7 @@ use Rattle.vob_walk.specs.Matches.{within, has_value, matches, IsRangeOf}
 use Rattle.vob_walk.proofs.IndexLemmas.{matches-count}
 use Rattle.vob.specs.Bits.{count_of}
 use Rattle.vob.specs.Ranges.{replaced, IsChangedWithin}
-use Rattle.vob.specs.Runs.{IsRoom}
+use Rattle.vob.specs.Room.{IsRoom}
 use Rattle.vob.proofs.RangeLemmas.{IsChangedWithin-value}
 use Rattle.vob.proofs.SelectLemmas.{inside as set_inside}
 

@@ -5,7 +5,7 @@ ghost use Rattle.std.specs.Iterator.Runs.{YieldsInOrder, YieldsInReverse};
 ghost use Rattle.std.specs.declared.ops.Bound.TheVariants.{Unbounded};
 ghost use Rattle.vob.specs.Bits.{count_of};
 ghost use Rattle.vob.specs.Ranges.{replaced};
-ghost use Rattle.vob.specs.Runs.{HasNoRoom, IsFirstRoom};
+ghost use Rattle.vob.specs.Room.{HasNoRoom, IsFirstRoom};
 ghost use Rattle.vob.specs.Sets.{IsBit, IsNext};
 ghost use Rattle.vob_block.specs.Packing.{item};
 ghost use Rattle.vob_walk.specs.Matches.{matches};
