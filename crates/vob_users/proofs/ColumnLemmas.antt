@@ -11,7 +11,7 @@ use Rattle.std.specs.Option.{is_some, unwrap_or}
 use Rattle.std.proofs.lemmas.List.{length-map, get_or-map, get_or_past}
 use Rattle.vob_users.specs.Comparisons.{compared, passes_known}
 use Rattle.vob_users.specs.declared.compare.Comparison.{Comparison}
-use Rattle.vob_users.specs.Columns.{value_of, values_of, AreColumn, value_at, sql_and, sql_or, sql_not, AreChanged, AreCombined}
+use Rattle.vob_users.specs.Columns.{value_of, values_of, AreColumn, value_at, sql_and, sql_or, sql_not, AreValuesChanged, AreValuesCombined}
 
 pub length-values_of : (present value : List Bool) → length present ≡ length value
     → length (values_of present value) ≡ length present
@@ -158,8 +158,8 @@ module _ (comparison : Comparison) where
 
 module _ (present value : List Bool) (h : AreColumn present value) where
   module _ (after : List Bool) (d : Bits.AreCombined differ value present after) where
-    pub AreChanged-not : AreChanged sql_not (values_of present value) (values_of present after)
-    AreChanged-not =
+    pub AreValuesChanged-not : AreValuesChanged sql_not (values_of present value) (values_of present after)
+    AreValuesChanged-not =
         let same : length present ≡ length after = h.same ∙ sym d.len in
         record {
           len = length-values_of present after same ∙ sym (length-values_of present value h.same);
@@ -174,7 +174,7 @@ module _ (present value : List Bool) (h : AreColumn present value) where
         → length after ≡ length trues → length after ≡ length present
         → ((i : ℕ) → value_of (item after i) (item trues i) ≡ f (value_of (item present i)
         (item value i)) (value_of (item presents i) (item values i)))
-        → AreCombined f (values_of present value) (values_of presents values)
+        → AreValuesCombined f (values_of present value) (values_of presents values)
         (values_of after trues)
     combined f after trues same long each = record {
       len = length-values_of after trues same ∙ long ∙ sym (length-values_of present value h.same);
@@ -189,9 +189,9 @@ module _ (present value : List Bool) (h : AreColumn present value) where
         (a : Bits.AreCombined ◌&&◌ present presents both)
         (b : Bits.AreCombined ◌||◌ value values trues)
         (c : Bits.AreCombined ◌||◌ both trues after) where
-      pub AreCombined-or : AreCombined sql_or (values_of present value) (values_of presents values)
+      pub AreValuesCombined-or : AreValuesCombined sql_or (values_of present value) (values_of presents values)
           (values_of after trues)
-      AreCombined-or =
+      AreValuesCombined-or =
           combined sql_or after trues (omega (arith, a.len, b.len, c.len, h.same)) (c.len ∙ a.len)
           (λ i.
           let v = c.each i ∙ ap (λ e. e || item trues i) (a.each i)
@@ -216,9 +216,9 @@ module _ (present value : List Bool) (h : AreColumn present value) where
           (item value i && item values i)) || d)
           (item-pointwise without presents values o.same refl i)
 
-      pub AreCombined-and : AreCombined sql_and (values_of present value)
+      pub AreValuesCombined-and : AreValuesCombined sql_and (values_of present value)
           (values_of presents values) (values_of after trues)
-      AreCombined-and =
+      AreValuesCombined-and =
           combined sql_and after trues (omega (arith, a.len, t.len, c.len, e.len, h.same))
           (c.len ∙ e.len ∙ a.len)
           (λ i. ap (λ d. value_of d (item trues i)) (present_is i)

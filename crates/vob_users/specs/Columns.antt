@@ -48,13 +48,13 @@ sql_not (Some b) = Some (not b)
 sql_not None = None
 
 -- each value of a column changed by f
-pub record AreChanged (f : Option Bool → Option Bool) (column after : List (Option Bool))
+pub record AreValuesChanged (f : Option Bool → Option Bool) (column after : List (Option Bool))
     : Type 0 where
   pub len : length after ≡ length column
   pub each : (i : ℕ) → value_at after i ≡ f (value_at column i)
 
 -- the values of two columns combined by f
-pub record AreCombined (f : Option Bool → Option Bool → Option Bool)
+pub record AreValuesCombined (f : Option Bool → Option Bool → Option Bool)
     (column other after : List (Option Bool)) : Type 0 where
   pub len : length after ≡ length column
   pub each : (i : ℕ) → value_at after i ≡ f (value_at column i) (value_at other i)

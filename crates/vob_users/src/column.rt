@@ -1,7 +1,7 @@
 //! A column of truth values that may be missing, and SQL's logic of three values on it.
 ghost use Rattle.std.specs.Prelude.{◌≡◌, ◌↔◌, ℕ, ◌<◌, [], None, Some, IsTrue, true, length, slice_set, IfOk, IsOk};
 ghost use Rattle.vob_block.specs.Packing.{item};
-ghost use Rattle.vob_users.specs.Columns.{AreChanged, AreColumn, AreCombined, sql_and, sql_not, sql_or, value_at, values_of};
+ghost use Rattle.vob_users.specs.Columns.{AreValuesChanged, AreColumn, AreValuesCombined, sql_and, sql_not, sql_or, value_at, values_of};
 
 use std::alloc::{AllocError, Global};
 use std::marker::Model;
@@ -85,7 +85,7 @@ impl Column {
 
     /// Negates each value that isn't missing. Takes no memory.
     pub fn not(&mut self)
-        ensures { AreChanged sql_not self.old self.new }
+        ensures { AreValuesChanged sql_not self.old self.new }
     {
         self.value.xor(&self.present);
     }
@@ -94,7 +94,7 @@ impl Column {
     /// must be equal. Takes no memory.
     pub fn and(&mut self, other: &Column)
         requires { length self.old ≡ length other.now }
-        ensures { AreCombined sql_and self.old other.now self.new }
+        ensures { AreValuesCombined sql_and self.old other.now self.new }
     {
         // Present is what was false, what is true in both, and what is false in the other.
         self.present.xor(&self.value);
@@ -107,7 +107,7 @@ impl Column {
     /// must be equal. Takes no memory.
     pub fn or(&mut self, other: &Column)
         requires { length self.old ≡ length other.now }
-        ensures { AreCombined sql_or self.old other.now self.new }
+        ensures { AreValuesCombined sql_or self.old other.now self.new }
     {
         self.present.and(&other.present);
         self.value.or(&other.value);

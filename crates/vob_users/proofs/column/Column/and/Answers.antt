@@ -1,6 +1,6 @@
 -- By index, of the bits that both columns have.
 use Rattle.std.proofs.Common.{arith}
-use Rattle.vob_users.proofs.ColumnLemmas.{column_len, AreCombined-and}
+use Rattle.vob_users.proofs.ColumnLemmas.{column_len, AreValuesCombined-and}
 use Rattle.vob_users.proofs.column.Column.and.Goals as goal
 
 pub and-requires : goal.and-requires
@@ -33,7 +33,7 @@ or_and_not-requires-clause-second c =
 pub returns : goal.returns
 returns c =
     rw (← c.self.view_is, ← c.other.view_is)
-    (AreCombined-and c.self.inside.present.bits c.self.inside.value.bits c.self.invariant
+    (AreValuesCombined-and c.self.inside.present.bits c.self.inside.value.bits c.self.invariant
     c.other.inside.present.bits c.other.inside.value.bits c.other.invariant c.xor.new.self.bits
     c.and.new.self.bits c.or.new.self.bits c.or_and_not.new.self.bits c.xor.ensures.each
     c.and.ensures.each c.or.ensures.each c.or_and_not.ensures.each)

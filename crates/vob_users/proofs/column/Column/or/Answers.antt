@@ -1,6 +1,6 @@
 -- By index, of the bits that both columns have.
 use Rattle.std.proofs.Common.{arith}
-use Rattle.vob_users.proofs.ColumnLemmas.{column_len, AreCombined-or}
+use Rattle.vob_users.proofs.ColumnLemmas.{column_len, AreValuesCombined-or}
 use Rattle.vob_users.proofs.column.Column.or.Goals as goal
 
 pub and-requires : goal.and-requires
@@ -24,7 +24,7 @@ or-requires c =
 pub returns : goal.returns
 returns c =
     rw (← c.self.view_is, ← c.other.view_is)
-    (AreCombined-or c.self.inside.present.bits c.self.inside.value.bits c.self.invariant
+    (AreValuesCombined-or c.self.inside.present.bits c.self.inside.value.bits c.self.invariant
     c.other.inside.present.bits c.other.inside.value.bits c.other.invariant c.and.new.self.bits
     c.or.new.self.bits c.or-2.new.self.bits c.and.ensures.each c.or.ensures.each
     c.or-2.ensures.each)
