@@ -9,7 +9,7 @@ use Rattle.vob.specs.Bits as Bits
 use Rattle.std.specs.Prelude.{ℤ}
 use Rattle.std.specs.Option.{is_some, unwrap_or}
 use Rattle.std.proofs.lemmas.List.{length-map, get_or-map, get_or_past}
-use Rattle.vob_users.specs.Comparisons.{compared, passes_known}
+use Rattle.vob_users.specs.Comparisons.{compared, holds_known}
 use Rattle.vob_users.specs.declared.compare.Comparison.{Comparison}
 use Rattle.vob_users.specs.Columns.{value_of, values_of, AreColumn, value_at, sql_and, sql_or, sql_not, AreValuesChanged, AreValuesCombined}
 
@@ -125,32 +125,32 @@ values_of-all p [] = refl
 values_of-all p (x ∷ xs) = ap (λ vs. Some (p x) ∷ vs) (values_of-all p xs)
 
 module _ (comparison : Comparison) where
-  value_known : (o : Option ℤ) → value_of (is_some o) (passes_known comparison o)
+  value_known : (o : Option ℤ) → value_of (is_some o) (holds_known comparison o)
       ≡ compared comparison o
   value_known (Some v) = refl
   value_known None = refl
 
   pub values_of-known : (xs : List (Option ℤ))
-      → values_of (map is_some xs) (map (passes_known comparison) xs) ≡ map (compared comparison) xs
+      → values_of (map is_some xs) (map (holds_known comparison) xs) ≡ map (compared comparison) xs
   values_of-known [] = refl
   values_of-known (x ∷ xs) = ap (λ v. v ∷ values_of (map is_some xs)
-      (map (passes_known comparison) xs))
+      (map (holds_known comparison) xs))
       (value_known x) ∙ ap (λ vs. compared comparison x ∷ vs) (values_of-known xs)
 
-  known_only : (o : Option ℤ) → passes_known comparison o ≡ true → is_some o ≡ true
+  known_only : (o : Option ℤ) → holds_known comparison o ≡ true → is_some o ≡ true
   known_only (Some v) h = refl
   known_only None h = absurd (false≢true h)
 
   pub AreColumn-known : (xs : List (Option ℤ))
-      → AreColumn (map is_some xs) (map (passes_known comparison) xs)
+      → AreColumn (map is_some xs) (map (holds_known comparison) xs)
   AreColumn-known xs = record {
-    same = length-map xs is_some ∙ sym (length-map xs (passes_known comparison));
+    same = length-map xs is_some ∙ sym (length-map xs (holds_known comparison));
     only = λ i set. elim (cases_lt i (length xs)) [
       | inl less ↦ get_or-map is_some xs i None false less
           ∙ known_only (get_or xs i None) (sym (get_or-map
-          (passes_known comparison) xs i None false less) ∙ set)
-      | inr past ↦ absurd (false≢true (sym (get_or_past (map (passes_known comparison) xs) i false
-          (omega (arith, past, length-map xs (passes_known comparison)))) ∙ set))
+          (holds_known comparison) xs i None false less) ∙ set)
+      | inr past ↦ absurd (false≢true (sym (get_or_past (map (holds_known comparison) xs) i false
+          (omega (arith, past, length-map xs (holds_known comparison)))) ∙ set))
     ];
   }
 

@@ -4,7 +4,7 @@ ghost use Rattle.std.specs.Option.{is_some};
 ghost use Rattle.std.specs.Ordering.{int_eq};
 ghost use Rattle.vob_block.specs.Packing.{item};
 ghost use Rattle.vob_block.specs.Places.{place};
-ghost use Rattle.vob_users.specs.Comparisons.{compared, passes, passes_known};
+ghost use Rattle.vob_users.specs.Comparisons.{compared, holds, holds_known};
 
 use crate::column::{Column, column_of};
 use std::alloc::{AllocError, Global};
@@ -19,10 +19,10 @@ pub enum Comparison {
 }
 
 impl Comparison {
-    /// Returns whether a number passes.
+    /// Returns whether it holds of a number.
     #[inline]
-    pub fn passes(self, value: i64) -> bool
-        ensures { result ≡ passes self value }
+    pub fn holds(self, value: i64) -> bool
+        ensures { result ≡ holds self value }
     {
         match self {
             Comparison::LessThan(limit) => value < limit,
@@ -45,7 +45,7 @@ trait Rows {
         ensures { result ≡ item (rows self.now) row };
 }
 
-/// Whether each of some numbers passes a comparison.
+/// Whether a comparison holds of each of some numbers.
 #[derive(Drop)]
 struct Passing<'a> {
     values: &'a [i64],
@@ -53,7 +53,7 @@ struct Passing<'a> {
 }
 
 impl Rows for Passing<'_> {
-    ghost rows = { λ r. map (passes r.comparison) r.values.now };
+    ghost rows = { λ r. map (holds r.comparison) r.values.now };
 
     fn len(&self) -> usize {
         self.values.len()
@@ -61,7 +61,7 @@ impl Rows for Passing<'_> {
 
     #[inline]
     fn bit(&self, row: usize) -> bool {
-        self.comparison.passes(self.values[row])
+        self.comparison.holds(self.values[row])
     }
 }
 
@@ -84,7 +84,7 @@ impl Rows for Present<'_> {
     }
 }
 
-/// Whether each of some numbers is there and passes a comparison.
+/// Whether each of some numbers is there and a comparison holds of it.
 #[derive(Drop)]
 struct PassingKnown<'a> {
     values: &'a [Option<i64>],
@@ -92,7 +92,7 @@ struct PassingKnown<'a> {
 }
 
 impl Rows for PassingKnown<'_> {
-    ghost rows = { λ r. map (passes_known r.comparison) r.values.now };
+    ghost rows = { λ r. map (holds_known r.comparison) r.values.now };
 
     fn len(&self) -> usize {
         self.values.len()
@@ -101,7 +101,7 @@ impl Rows for PassingKnown<'_> {
     #[inline]
     fn bit(&self, row: usize) -> bool {
         match self.values[row] {
-            Some(value) => self.comparison.passes(value),
+            Some(value) => self.comparison.holds(value),
             None => false,
         }
     }
@@ -146,16 +146,16 @@ fn packed<R: Rows>(alloc: Global, rows: &R) -> Result<Vob, AllocError>
     Ok(bits)
 }
 
-/// Makes the column of whether each number passes a comparison. None is missing.
+/// Makes the column of whether a comparison holds of each number. None is missing.
 pub fn compare(alloc: Global, values: &[i64], comparison: Comparison) -> Result<Column, AllocError>
-    ensures { IfOk result (λ column. column ≡ map (λ v. Some (passes comparison v)) values.now) }
+    ensures { IfOk result (λ column. column ≡ map (λ v. Some (holds comparison v)) values.now) }
 {
     let present = Vob::from_elem(alloc, true, values.len())?;
     let value = packed(alloc, &Passing { values, comparison })?;
     Ok(column_of(present, value))
 }
 
-/// Makes the column of whether each number passes a comparison, missing where it is missing.
+/// Makes the column of whether a comparison holds of each number, missing where that is missing.
 pub fn compare_known(
     alloc: Global,
     values: &[Option<i64>],

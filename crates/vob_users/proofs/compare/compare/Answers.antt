@@ -1,7 +1,7 @@
 -- None is missing.
 use Rattle.std.proofs.Common.{length, replicate, true, ap, ◌∙◌}
 use Rattle.vob_users.specs.Columns.{values_of}
-use Rattle.vob_users.specs.Comparisons.{passes}
+use Rattle.vob_users.specs.Comparisons.{holds}
 use Rattle.vob_users.proofs.ColumnLemmas.{values_of-all}
 use Rattle.vob_users.proofs.compare.compare.Goals as goal
 
@@ -11,4 +11,4 @@ returns c =
     ∙ ap (λ bits. values_of bits c.in_ok-value.value.bits)
     c.in_ok-present.ensures.bits
     ∙ ap (values_of (replicate (length c.args.values.now) true)) c.in_ok-value.ensures
-    ∙ values_of-all (passes c.args.comparison) c.args.values.now
+    ∙ values_of-all (holds c.args.comparison) c.args.values.now
