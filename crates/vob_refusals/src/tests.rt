@@ -3,6 +3,7 @@
 //! test prints `answered`.
 mod blocks;
 mod flow;
+mod grammar;
 mod growth;
 mod lines;
 mod live;

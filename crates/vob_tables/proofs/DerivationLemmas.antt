@@ -54,9 +54,11 @@ module _ {rules : List Rule} where
       DerivesInOne rules (l ++ (xs ++ r)) (l ++ (ys ++ r))
   step_between l r {xs} {ys} (replaced {a} {right} before after has is becomes) =
       replaced (l ++ before) (after ++ r) has
-      (ap (λ zs. l ++ (zs ++ r)) is ∙ ap (λ zs. l ++ zs) (append_assoc before (Nonterminal a ∷ after) r)
+      (ap (λ zs. l ++ (zs ++ r)) is
+      ∙ ap (λ zs. l ++ zs) (append_assoc before (Nonterminal a ∷ after) r)
       ∙ sym (append_assoc l before (Nonterminal a ∷ (after ++ r))))
-      (ap (λ zs. l ++ (zs ++ r)) becomes ∙ ap (λ zs. l ++ zs) (append_assoc before (right ++ after) r)
+      (ap (λ zs. l ++ (zs ++ r)) becomes
+      ∙ ap (λ zs. l ++ zs) (append_assoc before (right ++ after) r)
       ∙ ap (λ zs. l ++ (before ++ zs)) (append_assoc right after r)
       ∙ sym (append_assoc l before (right ++ (after ++ r))))
 
@@ -165,7 +167,8 @@ module _ {rules : List Rule} where
 
   beyond : (before : List Symbol) (a : ℕ) {xs ys : List Symbol} → Derives rules xs ys →
       Derives rules (before ++ Nonterminal a ∷ xs) (before ++ Nonterminal a ∷ ys)
-  beyond before a d = simp (append_assoc, append-nil) at (between (before ++ Nonterminal a ∷ []) [] d)
+  beyond before a d =
+      simp (append_assoc, append-nil) at (between (before ++ Nonterminal a ∷ []) [] d)
 
   follow_derives : {t a : ℕ} → Follows rules t a →
       (b : ℕ) × (before : List Symbol) × (after : List Symbol)

@@ -20,8 +20,8 @@ pub data BecomesEmpty (rules : List Rule) : List Symbol → Type 0 where
   by_rule : {a : ℕ} {right rest : List Symbol} → HasRule rules a right →
       BecomesEmpty rules right → BecomesEmpty rules rest → BecomesEmpty rules (Nonterminal a ∷ rest)
 
--- terminal t can begin what symbols become: it is the first, or can begin a right side of the first,
--- or what stands behind the first where that can become empty
+-- terminal t can begin what symbols become: it is the first of them, or can begin a right side of
+-- the first, or what stands behind the first where that can become empty
 pub data BeginsWith (rules : List Rule) (t : ℕ) : List Symbol → Type 0 where
   here : {rest : List Symbol} → BeginsWith rules t (Terminal t ∷ rest)
   by_rule : {a : ℕ} {right rest : List Symbol} → HasRule rules a right →
@@ -29,8 +29,8 @@ pub data BeginsWith (rules : List Rule) (t : ℕ) : List Symbol → Type 0 where
   behind : {x : Symbol} {rest : List Symbol} → BecomesEmpty rules (x ∷ []) →
       BeginsWith rules t rest → BeginsWith rules t (x ∷ rest)
 
--- terminal t can follow nonterminal a: on a right side it can begin what stands behind a, or that can
--- become empty and t can follow the left side
+-- terminal t can follow nonterminal a: on a right side it can begin what stands behind a, or that
+-- can become empty and t can follow the left side
 pub data Follows (rules : List Rule) (t : ℕ) : ℕ → Type 0 where
   in_rule : {a b : ℕ} (before after : List Symbol) →
       HasRule rules b (before ++ Nonterminal a ∷ after) → BeginsWith rules t after →

@@ -1,4 +1,4 @@
-//! Sets of terminals, each with some to start with and others to draw from, and the least such sets.
+//! Sets of terminals, each with some to start with and others to draw from: the least such sets.
 ghost use Rattle.std.specs.Prelude.{◌≡◌, [], false, length, replicate, IfOk, OnOk};
 ghost use Rattle.vob.specs.Vobs.{bits_of};
 ghost use Rattle.vob_flow.specs.Draws.{HaveShape};

@@ -12,8 +12,8 @@ use crate::grammar::{Grammar, GrammarError, Symbol, check_rules};
 use std::alloc::{AllocError, Global};
 use vob::Vob;
 
-/// Lets a set start with the terminals that stand on a right side behind nullable symbols alone, and
-/// draw from the nonterminals that do.
+/// Lets a set start with the terminals that stand on a right side behind nullable symbols alone,
+/// and draw from the nonterminals that do.
 fn add_heads(
     nullable: &Vob,
     right: &[Symbol],

@@ -53,8 +53,8 @@ fn put_before(nullable: &Vob, first: &[Vob], symbol: &Symbol, begins: &mut Vob, 
     vanishes && empty
 }
 
-/// Lets a set start with what can begin the symbols behind a nonterminal, and draw from the left side
-/// where they can become empty.
+/// Lets a set start with what can begin the symbols behind a nonterminal, and draw from the left
+/// side where they can become empty.
 fn add_trailer(
     left: usize,
     begins: &Vob,

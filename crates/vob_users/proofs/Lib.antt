@@ -1,9 +1,6 @@
 mod CalendarLemmas
 mod ColumnLemmas
 mod FilterLemmas
-mod FirstLemmas
-mod GrammarLemmas
-mod GrowthLemmas
 mod JoinLemmas
 mod MatrixLemmas
 mod PackedLemmas

@@ -2,9 +2,6 @@ pub mod Calendar
 pub mod Columns
 pub mod Comparisons
 pub mod Filter
-pub mod Grammar
-pub mod GrammarFaults
-pub mod GrammarPass
 pub mod Matrix
 pub mod MatrixPaths
 pub mod MatrixRows

@@ -7,7 +7,6 @@ mod closing;
 pub mod column;
 pub mod compare;
 pub mod filter;
-pub mod grammar;
 pub mod laws;
 pub mod loops;
 pub mod matrix;

@@ -1,30 +1,15 @@
--- What can be empty and what can come first in a grammar of three rules, worked out by hand and then
--- from the definitions. The nonterminal 0 becomes the nonterminal 1 and then the terminal 1, and the
+-- What can be empty, begin and follow in a grammar of three rules, worked out by hand and then from
+-- the definitions. The nonterminal 0 becomes the nonterminal 1 and then the terminal 1, and the
 -- nonterminal 1 becomes the terminal 0 or nothing.
-use Rattle.std.specs.Prelude.{codes, slice_index_or, All}
-use Rattle.std.proofs.Common.{◌≡◌, ℕ, zero, suc, ◌<◌, Bool, true, List, [], ◌∷◌, length, refl}
-use Rattle.std.proofs.Common.{sym, subst, arith, lit<}
-use Rattle.std.proofs.lemmas.List.Elements.{All-from_get_or}
-use Rattle.vob_block.specs.Packing.{item}
-use Rattle.vob_flow.specs.Draws.{IsWithin, AreWithin}
-use Rattle.vob.specs.Vobs.{AreOfLength}
-use Rattle.vob_users.specs.Matrix.{Matrix, entry}
-use Rattle.vob_users.specs.declared.grammar.Grammar.{Grammar}
-use Rattle.vob_users.specs.declared.grammar.Rule.{Rule}
-use Rattle.vob_users.specs.declared.grammar.Symbol.{Symbol}
-use Rattle.vob_users.specs.declared.grammar.Symbol.TheVariants.{Terminal, Nonterminal}
-use Rattle.vob_users.specs.Grammar.{IsNull, HasNull, IsNullClosed, AreNullable, IsHead}
-use Rattle.vob_users.specs.Grammar.{MayBegin, HasFirst, IsFirstClosed, AreFirst}
-use Rattle.vob_worked.proofs.WorkedBits.{bits}
-
-abbrev nullable : List Bool
-nullable = bits (codes "01")
-
-abbrev rows : List (List Bool)
-rows = bits (codes "11") ∷ bits (codes "10") ∷ []
-
-abbrev first : Matrix
-first = record { rows = rows; columns = 2 }
+use Rattle.std.proofs.Common.{◌≡◌, ◌≢◌, ℕ, zero, suc, ◌<◌, ◌⊎◌, inl, inr, List, [], ◌∷◌, ◌++◌, refl, sym, ◌∙◌, ap, subst, arith, lit<}
+use Rattle.std.specs.List.{Contains}
+use Rattle.vob_tables.specs.Grammar.{BecomesEmpty, BeginsWith, Follows, HasRule}
+use Rattle.vob_tables.specs.Grammar.BecomesEmpty.{nothing, by_rule as by_empty}
+use Rattle.vob_tables.specs.Grammar.BeginsWith.{here, by_rule, behind}
+use Rattle.vob_tables.specs.Grammar.Follows.{in_rule, at_end}
+use Rattle.vob_tables.specs.declared.grammar.Rule.{Rule}
+use Rattle.vob_tables.specs.declared.grammar.Symbol.{Symbol}
+use Rattle.vob_tables.specs.declared.grammar.Symbol.TheVariants.{Terminal, Nonterminal}
 
 abbrev right_0 : List Symbol
 right_0 = Nonterminal 1 ∷ Terminal 1 ∷ []
@@ -32,158 +17,117 @@ right_0 = Nonterminal 1 ∷ Terminal 1 ∷ []
 abbrev right_1 : List Symbol
 right_1 = Terminal 0 ∷ []
 
--- ---- each rule by itself
-
-null-0 : All (IsNull nullable) right_0 → item nullable 0 ≡ true
-null-0 all = absurd (all 1 (Terminal 1) (lit< tt))
-
-no_nonterminal : (t : ℕ) → IsHead rows (Nonterminal 1) (suc (suc t)) → ⊥
-no_nonterminal t head = cc
-
-no_terminal : (t : ℕ) → IsHead rows (Terminal 1) (suc (suc t)) → ⊥
-no_terminal t head = omega arith
-
-begins-0 : (t : ℕ) → MayBegin nullable rows right_0 t → entry rows 0 t ≡ true
-begins-0 zero begin = refl
-begins-0 (suc zero) begin = refl
-begins-0 (suc (suc t)) (zero, x, is, before, head) =
-    let here : Nonterminal 1 ≡ x = cc in
-    absurd (no_nonterminal t (subst (λ y. IsHead rows y (suc (suc t))) (sym here) head))
-begins-0 (suc (suc t)) (suc zero, x, is, before, head) =
-    let here : Terminal 1 ≡ x = cc in
-    absurd (no_terminal t (subst (λ y. IsHead rows y (suc (suc t))) (sym here) head))
-begins-0 (suc (suc t)) (suc (suc k), x, is, before, head) = absurd (cc)
-
-begins-1 : (t : ℕ) → MayBegin nullable rows right_1 t → entry rows 1 t ≡ true
-begins-1 zero begin = refl
-begins-1 (suc t) (zero, x, is, before, head) =
-    let here : Terminal 0 ≡ x = cc in
-    let same : 0 ≡ suc t = subst (λ y. IsHead rows y (suc t)) (sym here) head in
-    absurd (omega (arith, same))
-begins-1 (suc t) (suc k, x, is, before, head) = absurd (cc)
-
-begins-2 : (t : ℕ) → MayBegin nullable rows [] t → entry rows 1 t ≡ true
-begins-2 t (zero, x, is, before, head) = absurd (cc)
-begins-2 t (suc k, x, is, before, head) = absurd (cc)
-
 -- a rule with these sides
 record HasSides (rule : Rule) (left : ℕ) (right : List Symbol) : Type 0 where
   on_left : rule.left ≡ left
   on_right : rule.right.items ≡ right
 
-module _ {rule : Rule} {left : ℕ} {right : List Symbol} (sides : HasSides rule left right)
-  where
-    null-of : (set : List Bool) → (All (IsNull set) right → item set left ≡ true) → HasNull rule set
-    null-of set h = λ all. subst (λ (l : ℕ). item set l ≡ true) (sym sides.on_left)
-        (h (subst (λ (xs : List Symbol). All (IsNull set) xs) sides.on_right all))
+-- what comes after or begins a terminal, by any rules
+module _ {rules : List Rule} where
+  terminal_stays : (t : ℕ) (rest : List Symbol) → BecomesEmpty rules (Terminal t ∷ rest) → ⊥
+  terminal_stays t rest empty = elim empty [ ]
 
-    of-null : (set : List Bool) → HasNull rule set → All (IsNull set) right → item set left ≡ true
-    of-null set h all = subst (λ (l : ℕ). item set l ≡ true) sides.on_left
-        (h (subst (λ (xs : List Symbol). All (IsNull set) xs) (sym sides.on_right) all))
+  begins_terminal : {t u : ℕ} {rest : List Symbol} → BeginsWith rules t (Terminal u ∷ rest) → t ≡ u
+  begins_terminal here = refl
+  begins_terminal {t} {u} (behind empty begins) = absurd (terminal_stays u [] empty)
 
-    first-of : (rs : List (List Bool))
-        → ((t : ℕ) → MayBegin nullable rs right t → entry rs left t ≡ true) → HasFirst nullable rule rs
-    first-of rs h = λ t begin. subst (λ (l : ℕ). entry rs l t ≡ true) (sym sides.on_left)
-        (h t (subst (λ (xs : List Symbol). MayBegin nullable rs xs t) sides.on_right begin))
+  begins_nothing : {t : ℕ} → BeginsWith rules t [] → ⊥
+  begins_nothing begins = elim begins [ ]
 
-    of-first : (rs : List (List Bool)) → HasFirst nullable rule rs → (t : ℕ)
-        → MayBegin nullable rs right t → entry rs left t ≡ true
-    of-first rs h t begin = subst (λ (l : ℕ). entry rs l t ≡ true) sides.on_left
-        (h t (subst (λ (xs : List Symbol). MayBegin nullable rs xs t) (sym sides.on_right) begin))
+-- only the first symbol of the first right side is the nonterminal 1
+behind_one : (before after : List Symbol) (a : ℕ) → before ++ Nonterminal a ∷ after ≡ right_0 →
+    after ≡ Terminal 1 ∷ []
+behind_one [] after a is = cc
+behind_one (x ∷ []) after a is = absurd (cc)
+behind_one (x ∷ y ∷ []) after a is = absurd (cc)
+behind_one (x ∷ y ∷ z ∷ before) after a is = absurd (cc)
 
-all_three : {A : Type 0} (P : A → Type 0) (a b c : A) → P a → P b → P c
-    → All P (a ∷ b ∷ c ∷ [])
-all_three P a b c first second third zero d below = first
-all_three P a b c first second third (suc zero) d below = second
-all_three P a b c first second third (suc (suc zero)) d below = third
-all_three P a b c first second third (suc (suc (suc k))) d below = absurd (omega (arith, below))
+behind_none : (before after : List Symbol) (a : ℕ) → before ++ Nonterminal a ∷ after ≡ right_1 → ⊥
+behind_none [] after a is = cc
+behind_none (x ∷ []) after a is = cc
+behind_none (x ∷ y ∷ before) after a is = cc
 
-none_null : (set : List Bool) → All (IsNull set) []
-none_null set k d below = absurd (omega (arith, below))
+behind_empty : (before after : List Symbol) (a : ℕ) → before ++ Nonterminal a ∷ after ≡ [] → ⊥
+behind_empty [] after a is = cc
+behind_empty (x ∷ before) after a is = cc
 
-one_null : All (IsNull nullable) (Nonterminal 1 ∷ [])
-one_null zero d below = refl
-one_null (suc k) d below = absurd (omega (arith, below))
+module _ (a b c : Rule) (a_is : HasSides a 0 right_0) (b_is : HasSides b 1 right_1)
+    (c_is : HasSides c 1 []) where
+  abbrev rules : List Rule
+  rules = a ∷ b ∷ c ∷ []
 
-row_long : (i : ℕ) → i < 2 → length (slice_index_or rows i []) ≡ 2
-row_long zero below = refl
-row_long (suc zero) below = refl
-row_long (suc (suc i)) below = absurd (omega (arith, below))
+  has_0 : HasRule rules 0 right_0
+  has_0 = (a, (0, lit< tt, refl), a_is.on_left, a_is.on_right)
 
-rows_long : AreOfLength 2 rows
-rows_long = All-from_get_or (λ row. length row ≡ 2) rows [] row_long
+  has_1 : HasRule rules 1 right_1
+  has_1 = (b, (1, lit< tt, refl), b_is.on_left, b_is.on_right)
 
-within_rows : (others : List (List Bool)) → entry others 0 0 ≡ true → entry others 0 1 ≡ true
-    → entry others 1 0 ≡ true → AreWithin rows others
-within_rows others zero_0 zero_1 one_0 zero zero here = zero_0
-within_rows others zero_0 zero_1 one_0 zero (suc zero) here = zero_1
-within_rows others zero_0 zero_1 one_0 zero (suc (suc t)) here = absurd (cc)
-within_rows others zero_0 zero_1 one_0 (suc zero) zero here = one_0
-within_rows others zero_0 zero_1 one_0 (suc zero) (suc zero) here = absurd (cc)
-within_rows others zero_0 zero_1 one_0 (suc zero) (suc (suc t)) here = absurd (cc)
-within_rows others zero_0 zero_1 one_0 (suc (suc n)) t here = absurd (cc)
+  has_none : HasRule rules 1 []
+  has_none = (c, (2, lit< tt, refl), c_is.on_left, c_is.on_right)
 
--- ---- the grammar
+  -- each rule is one of the three
+  which_rule : (n : ℕ) (right : List Symbol) → HasRule rules n right →
+      (right ≡ right_0) ⊎ ((right ≡ right_1) ⊎ ((n ≡ 1) × (right ≡ [])))
+  which_rule n right (rule, (zero, less, is), left, items) =
+      inl (sym items ∙ ap (λ (r : Rule). r.right.items) (sym is) ∙ a_is.on_right)
+  which_rule n right (rule, (suc zero, less, is), left, items) =
+      inr (inl (sym items ∙ ap (λ (r : Rule). r.right.items) (sym is) ∙ b_is.on_right))
+  which_rule n right (rule, (suc (suc zero), less, is), left, items) =
+      inr (inr (
+        sym left ∙ ap (λ (r : Rule). r.left) (sym is) ∙ c_is.on_left,
+        sym items ∙ ap (λ (r : Rule). r.right.items) (sym is) ∙ c_is.on_right,
+      ))
+  which_rule n right (rule, (suc (suc (suc k)), less, is), left, items) =
+      absurd (omega (arith, less))
 
-module _ (grammar : Grammar) (a b c : Rule) (rules : grammar.rules.items ≡ a ∷ b ∷ c ∷ [])
-    (nonterminals : grammar.nonterminals ≡ 2) (terminals : grammar.terminals ≡ 2)
-    (a_is : HasSides a 0 right_0) (b_is : HasSides b 1 right_1) (c_is : HasSides c 1 []) where
-  of_rules : (P : Rule → Type 0) → P a → P b → P c → All P grammar.rules.items
-  of_rules P first second third =
-      subst (λ (rs : List Rule). All P rs) (sym rules) (all_three P a b c first second third)
+  -- ---- the nonterminal 1 can be empty, and 0 can't
 
-  at_rules : (P : Rule → Type 0) → All P grammar.rules.items → (P a) × (P b) × (P c)
-  at_rules P all =
-      let three = subst (λ (rs : List Rule). All P rs) rules all in
-      (three 0 a (lit< tt), three 1 a (lit< tt), three 2 a (lit< tt))
+  empty-1 : BecomesEmpty rules (Nonterminal 1 ∷ [])
+  empty-1 = by_empty has_none nothing nothing
 
-  null-within : (others : List Bool) → IsNullClosed grammar.rules.items others
-      → IsWithin nullable others
-  null-within others closed zero here = absurd (cc)
-  null-within others closed (suc zero) here =
-      of-null c_is others (at_rules (λ rule. HasNull rule others) closed).2 (none_null others)
-  null-within others closed (suc (suc i)) here = absurd (cc)
+  right_stays : BecomesEmpty rules right_0 → ⊥
+  right_stays (by_empty has empty others) = terminal_stays 1 [] others
 
-  nullable-1 : AreNullable grammar nullable
-  nullable-1 = record {
-    count = sym nonterminals;
-    closed = of_rules (λ rule. HasNull rule nullable) (null-of a_is nullable null-0)
-        (null-of b_is nullable (λ all. refl)) (null-of c_is nullable (λ all. refl));
-    least = null-within;
-  }
+  not_empty : (n : ℕ) → n ≢ 1 → BecomesEmpty rules (Nonterminal n ∷ []) → ⊥
+  not_empty n other (by_empty {right = right} has empty others) = elim (which_rule n right has) [
+    | inl first ↦ right_stays (subst (λ (xs : List Symbol). BecomesEmpty rules xs) first empty)
+    | inr more ↦ elim more [
+      | inl second ↦
+          terminal_stays 0 [] (subst (λ (xs : List Symbol). BecomesEmpty rules xs) second empty)
+      | inr third ↦ other third.0
+    ]
+  ]
 
-  -- the nonterminal 1 can be empty, so a set without it isn't closed
-  not_nullable-none : AreNullable grammar (bits (codes "00")) → ⊥
-  not_nullable-none are =
-      let none = bits (codes "00") in
-      let here = of-null c_is none (at_rules (λ rule. HasNull rule none) are.closed).2
-      (none_null none) in
-      cc
+  -- ---- both terminals begin the nonterminal 0, and 0 alone begins 1
 
-  -- and the nonterminal 0 can't, so a set with it isn't the least
-  not_nullable-both : AreNullable grammar (bits (codes "11")) → ⊥
-  not_nullable-both are =
-      let here = are.least nullable nullable-1.closed 0 refl in
-      cc
+  begins-0-0 : BeginsWith rules 0 (Nonterminal 0 ∷ [])
+  begins-0-0 = by_rule has_0 (by_rule has_1 here)
 
-  first-within : (others : List (List Bool))
-      → IsFirstClosed nullable grammar.rules.items others → AreWithin rows others
-  first-within others closed =
-      let each = at_rules (λ rule. HasFirst nullable rule others) closed in
-      let one_0 : entry others 1 0 ≡ true =
-      of-first b_is others each.1 0 (0, Terminal 0, refl, none_null nullable, refl) in
-      let zero_0 : entry others 0 0 ≡ true =
-      of-first a_is others each.0 0 (0, Nonterminal 1, refl, none_null nullable, one_0) in
-      let zero_1 : entry others 0 1 ≡ true =
-      of-first a_is others each.0 1 (1, Terminal 1, refl, one_null, refl) in
-      within_rows others zero_0 zero_1 one_0
+  begins-1-0 : BeginsWith rules 1 (Nonterminal 0 ∷ [])
+  begins-1-0 = by_rule has_0 (behind empty-1 here)
 
-  first-rows : AreFirst grammar nullable first
-  first-rows = record {
-    count = sym nonterminals;
-    columns = sym terminals;
-    long = subst (λ (n : ℕ). AreOfLength n rows) (sym terminals) rows_long;
-    closed = of_rules (λ rule. HasFirst nullable rule rows) (first-of a_is rows begins-0)
-        (first-of b_is rows begins-1) (first-of c_is rows begins-2);
-    least = first-within;
-  }
+  begins-0-1 : BeginsWith rules 0 (Nonterminal 1 ∷ [])
+  begins-0-1 = by_rule has_1 here
+
+  -- ---- the terminal 1 alone follows the nonterminal 1
+
+  follows-1-1 : Follows rules 1 1
+  follows-1-1 = in_rule [] (Terminal 1 ∷ []) has_0 here
+
+  which_behind : (n m : ℕ) (before after : List Symbol) →
+      HasRule rules n (before ++ Nonterminal m ∷ after) → after ≡ Terminal 1 ∷ []
+  which_behind n m before after has = elim (which_rule n (before ++ Nonterminal m ∷ after) has) [
+    | inl first ↦ behind_one before after m first
+    | inr more ↦ elim more [
+      | inl second ↦ absurd (behind_none before after m second)
+      | inr third ↦ absurd (behind_empty before after m third.1)
+    ]
+  ]
+
+  follows_alone : (t n : ℕ) → Follows rules t n → t ≡ 1
+  follows_alone t n (in_rule {b = m} before after has begins) =
+      begins_terminal (subst (λ (xs : List Symbol). BeginsWith rules t xs)
+      (which_behind m n before after has) begins)
+  follows_alone t n (at_end {b = m} before after has empty follows) =
+      absurd (terminal_stays 1 [] (subst (λ (xs : List Symbol). BecomesEmpty rules xs)
+      (which_behind m n before after has) empty))

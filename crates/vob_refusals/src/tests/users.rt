@@ -6,7 +6,6 @@ use vob::{Vob, VobError};
 use vob_users::column::Column;
 use vob_users::compare::{Comparison, compare_known};
 use vob_users::filter::{Expression, are_rows, select as select_by};
-use vob_users::grammar::{Grammar, GrammarError, Rule, Symbol, first_sets, nullable};
 use vob_users::matrix::BitMatrix;
 use vob_users::rows::{kept_rows, page, page_back, select};
 use vob_users::slots::Slots;
@@ -49,55 +48,17 @@ fn column(alloc: Global) -> Result<BitMatrix, AllocError> {
     Ok(matrix)
 }
 
-/// One nonterminal that becomes nothing, or terminal 1 of two and itself.
-fn grammar(alloc: Global) -> Result<Grammar, AllocError> {
-    let mut rules = Vec::new(alloc);
-    rules.push(Rule {
-        left: 0,
-        right: [Symbol::Terminal(1), Symbol::Nonterminal(0)].to_vec(alloc)?,
-    })?;
-    rules.push(Rule {
-        left: 0,
-        right: Vec::new(alloc),
-    })?;
-    Ok(Grammar {
-        terminals: 2,
-        nonterminals: 1,
-        rules,
-    })
-}
-
 #[test]
-fn transposes_and_nullables_are_made_or_refused(rt: HostRuntime) {
-    request(&rt, FIRST - 5);
+fn transposes_are_made_or_refused(rt: HostRuntime) {
+    request(&rt, FIRST - 3);
     let matrix = column(rt.alloc()).expect(&rt, "memory");
-    let grammar = grammar(rt.alloc()).expect(&rt, "memory");
     let row = given(&rt, matrix.transpose(rt.alloc()), AllocError);
     let transposed = row.is_some();
     if let Some(row) = row {
         same(&rt, "an entry", row.get(0, 0), Some(false));
         same(&rt, "an entry", row.get(0, 1), Some(true));
     }
-    let set = given(&rt, nullable(rt.alloc(), &grammar), GrammarError::Memory);
-    let found = set.is_some();
-    if let Some(set) = set {
-        same(&rt, "nullable", set.get(0), Some(true));
-    }
-    tell(&rt, transposed && found);
-}
-
-#[test]
-fn first_sets_are_found_or_refused(rt: HostRuntime) {
-    request(&rt, FIRST - 2);
-    let grammar = grammar(rt.alloc()).expect(&rt, "memory");
-    let sets = given(&rt, first_sets(rt.alloc(), &grammar), GrammarError::Memory);
-    let found = sets.is_some();
-    if let Some(sets) = sets {
-        same(&rt, "nullable", sets.nullable.get(0), Some(true));
-        same(&rt, "first", sets.first.get(0, 0), Some(false));
-        same(&rt, "first", sets.first.get(0, 1), Some(true));
-    }
-    tell(&rt, found);
+    tell(&rt, transposed);
 }
 
 /// Whether a matrix was given, whose shape and first entry then are these.

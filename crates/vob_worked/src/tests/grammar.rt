@@ -1,9 +1,10 @@
-//! Which nonterminals of grammars can become empty, and which terminals can begin what they stand
-//! for. Grammars worked by hand, a long chain, and rules with symbols that aren't there.
-use super::matrix::check_rows;
+//! Which nonterminals of grammars can become empty, which terminals can begin what they become, and
+//! which can follow them. Grammars worked by hand, a long chain, and rules with symbols that aren't
+//! there.
 use super::support::{check_bits, same};
 use std::process::Abort;
-use vob_users::grammar::{Grammar, GrammarError, Rule, Symbol, first_sets, nullable};
+use vob::Vob;
+use vob_tables::{Grammar, GrammarError, Rule, Symbol, first_sets, follow_sets, nullable};
 
 /// A grammar of these numbers of symbols, without a rule.
 fn empty(rt: &impl AllocGlobal, nonterminals: usize, terminals: usize) -> Grammar {
@@ -59,72 +60,101 @@ fn add_text(
     add(rt, grammar, left, &right);
 }
 
-/// Compares both sets with digits: one for each nonterminal, and for each of these a row with one
-/// for each terminal.
-fn check_sets(rt: &(impl Abort + AllocGlobal), grammar: &Grammar, null: &str, rows: &[&str]) {
-    check_bits(rt, &nullable(rt.alloc(), grammar).expect(rt, "a set"), null);
-    let sets = first_sets(rt.alloc(), grammar).expect(rt, "sets");
-    check_bits(rt, &sets.nullable, null);
-    check_rows(rt, &sets.first, grammar.terminals, rows);
+/// Compares sets with digits, one for each terminal.
+fn check_rows(rt: &impl Abort, sets: &[Vob], rows: &[&str]) {
+    same(rt, "the sets", 0, sets.len(), rows.len());
+    for (set, digits) in sets.iter().zip(rows) {
+        check_bits(rt, set, digits);
+    }
 }
 
-/// Compares both sets of the grammar of some texts.
-fn check_texts(
+/// Compares all sets of a grammar with digits: one for each nonterminal that can become empty, and
+/// for each nonterminal a row of what can begin it, and one of what can follow it.
+fn check_sets(
     rt: &(impl Abort + AllocGlobal),
-    (nonterminals, terminals): (&str, &str),
-    rules: &[&str],
+    grammar: &Grammar,
     null: &str,
-    rows: &[&str],
+    first: &[&str],
+    follow: &[&str],
 ) {
+    check_bits(rt, &nullable(rt.alloc(), grammar).expect(rt, "a set"), null);
+    check_rows(
+        rt,
+        &first_sets(rt.alloc(), grammar).expect(rt, "sets"),
+        first,
+    );
+    check_rows(
+        rt,
+        &follow_sets(rt.alloc(), grammar).expect(rt, "sets"),
+        follow,
+    );
+}
+
+/// Compares all sets of the grammar of some texts.
+fn check_texts(rt: &(impl Abort + AllocGlobal), row: &Row) {
+    let (nonterminals, terminals) = row.names;
     let mut grammar = empty(rt, nonterminals.len(), terminals.len());
-    for text in rules {
+    for text in row.rules {
         add_text(rt, &mut grammar, nonterminals, terminals, text);
     }
-    check_sets(rt, &grammar, null, rows);
+    check_sets(rt, &grammar, row.null, row.first, row.follow);
 }
 
-/// The names of nonterminals and of terminals, rules, which nonterminals can become empty, and which
-/// terminals can begin each.
-type Row = (
-    (&'static str, &'static str),
-    &'static [&'static str],
-    &'static str,
-    &'static [&'static str],
-);
+/// The names of nonterminals and of terminals, rules, which nonterminals can become empty, which
+/// terminals can begin each, and which can follow it.
+struct Row {
+    names: (&'static str, &'static str),
+    rules: &'static [&'static str],
+    null: &'static str,
+    first: &'static [&'static str],
+    follow: &'static [&'static str],
+}
 
 #[rattlefmt::skip]
-const GRAMMARS: [Row; 10] = [
-    // e stands for E', t for T', and i for id. Only e and t have an empty right side, and each
-    // other right side has a terminal or a nonterminal that isn't nullable. F begins with ( or id,
-    // and so does T, and so E; e begins with +, t with *.
-    (("EeTtF", "+*()i"), &["E=Te", "e=+Te", "e=", "T=Ft", "t=*Ft", "t=", "F=(E)", "F=i"],
-        "01010", &["00101", "10000", "00101", "01000", "00101"]),
+const GRAMMARS: [Row; 11] = [
+    // The grammar of the textbooks: e stands for E', t for T', i for id. Only e and t have an empty
+    // right side. F begins with ( or id, and so does T, and so E and S; e begins with +, t with *.
+    // Behind E stand $ and ), and so behind e at its end. Behind T stands e, which begins with + or
+    // is empty, and so what stands behind E. Behind F stands t, which begins with * or is empty.
+    Row { names: ("SEeTtF", "+*()i$"), null: "001010",
+        rules: &["S=E$", "E=Te", "e=+Te", "e=", "T=Ft", "t=*Ft", "t=", "F=(E)", "F=i"],
+        first: &["001010", "001010", "100000", "001010", "010000", "001010"],
+        follow: &["000000", "000101", "000101", "100101", "100101", "110101"] },
     // B, C and D can each be empty, so A can, and begins with what any of them begins with. A's
-    // rule comes first, so that one pass doesn't find it.
-    (("ABCD", "bcd"), &["A=BCD", "B=b", "B=", "C=c", "C=", "D=d", "D="],
-        "1111", &["111", "100", "010", "001"]),
+    // rule comes first, so that one pass doesn't find it. Behind B stands c, or d where C is empty.
+    Row { names: ("ABCD", "bcd"), null: "1111",
+        rules: &["A=BCD", "B=b", "B=", "C=c", "C=", "D=d", "D="],
+        first: &["111", "100", "010", "001"], follow: &["000", "011", "001", "000"] },
     // C can't be empty here, so that D comes too late, and A isn't nullable.
-    (("ABCD", "bcd"), &["A=BCD", "B=b", "B=", "C=c", "D=d", "D="],
-        "0101", &["110", "100", "010", "001"]),
-    // After a terminal nothing counts.
-    (("AB", "xyb"), &["A=BxBy", "B=", "B=b"], "01", &["101", "001"]),
+    Row { names: ("ABCD", "bcd"), null: "0101",
+        rules: &["A=BCD", "B=b", "B=", "C=c", "D=d", "D="],
+        first: &["110", "100", "010", "001"], follow: &["000", "010", "001", "000"] },
+    // After a terminal nothing counts. B stands before x and before y.
+    Row { names: ("AB", "xyb"), null: "01", rules: &["A=BxBy", "B=", "B=b"],
+        first: &["101", "001"], follow: &["000", "110"] },
     // A b, A b b, .. : A can be empty, so that b begins it.
-    (("A", "ab"), &["A=Ab", "A="], "1", &["01"]),
+    Row { names: ("A", "ab"), null: "1", rules: &["A=Ab", "A="], first: &["01"], follow: &["01"] },
     // Here A begins with a alone.
-    (("A", "ab"), &["A=Ab", "A=a"], "0", &["10"]),
+    Row { names: ("A", "ab"), null: "0", rules: &["A=Ab", "A=a"], first: &["10"], follow: &["01"] },
+    // A becomes B and B becomes A, each can be empty, and b or $ stands behind A, and so behind B.
+    Row { names: ("SAB", "b$"), null: "011", rules: &["S=A$", "A=B", "A=", "B=A", "B=Ab"],
+        first: &["11", "10", "10"], follow: &["00", "11", "11"] },
     // Nothing comes to an end here, and the least sets have nothing.
-    (("AB", "a"), &["A=B", "B=A", "A=AA"], "00", &["0", "0"]),
+    Row { names: ("AB", "a"), null: "00", rules: &["A=B", "B=A", "A=AA"],
+        first: &["0", "0"], follow: &["0", "0"] },
     // Without rules all sets are empty.
-    (("", ""), &[], "", &[]),
-    (("AB", "abc"), &[], "00", &["000", "000"]),
-    // B has no rule, and so nothing after it counts.
-    (("AB", "a"), &["A=Ba"], "00", &["0", "0"]),
+    Row { names: ("", ""), null: "", rules: &[], first: &[], follow: &[] },
+    Row { names: ("AB", "abc"), null: "00", rules: &[],
+        first: &["000", "000"], follow: &["000", "000"] },
+    // B has no rule, and so nothing after it counts. It stands before a.
+    Row { names: ("AB", "a"), null: "00", rules: &["A=Ba"],
+        first: &["0", "0"], follow: &["0", "1"] },
 ];
 
 #[test]
-fn what_can_be_empty_or_begin_is_found(rt: HostRuntime) {
-    for (names, rules, null, rows) in &GRAMMARS {
-        check_texts(&rt, *names, rules, null, rows);
+fn what_can_be_empty_or_begin_or_follow_is_found(rt: HostRuntime) {
+    for row in &GRAMMARS {
+        check_texts(&rt, row);
     }
 }
 
@@ -140,22 +170,26 @@ fn a_chain_longer_than_a_block_is_gone_up(rt: HostRuntime) {
         }
     }
     add(&rt, &mut grammar, 69, &[]);
+    let null = nullable(rt.alloc(), &grammar).expect(&rt, "a set");
+    same(&rt, "nullable", 70, null.count_ones(), 70);
     let sets = first_sets(rt.alloc(), &grammar).expect(&rt, "sets");
-    for n in 0..70 {
-        same(&rt, "nullable", n, sets.nullable.get(n), Some(true));
+    same(&rt, "the sets", 70, sets.len(), 70);
+    for (n, set) in sets.iter().enumerate() {
         for t in 0..70 {
-            same(&rt, "terminal", t, sets.first.get(n, t), Some(n <= t));
+            same(&rt, "terminal", t, set.get(t), Some(n <= t));
         }
     }
 }
 
-/// Compares that both calls name the first rule that isn't one.
+/// Compares that all calls name the first rule that isn't one.
 fn check_bad(rt: &(impl Abort + AllocGlobal), grammar: &Grammar, rule: usize) {
     let refusal = GrammarError::BadSymbol { rule };
     let refused = nullable(rt.alloc(), grammar).err();
     same(rt, "nullable", rule, refused, Some(refusal));
     let refused = first_sets(rt.alloc(), grammar).err();
     same(rt, "first sets", rule, refused, Some(refusal));
+    let refused = follow_sets(rt.alloc(), grammar).err();
+    same(rt, "follow sets", rule, refused, Some(refusal));
 }
 
 #[test]
@@ -163,7 +197,7 @@ fn the_first_rule_with_a_bad_symbol_is_named(rt: HostRuntime) {
     let mut grammar = empty(&rt, 2, 3);
     let right = [Symbol::Terminal(2), Symbol::Nonterminal(1)];
     add(&rt, &mut grammar, 1, &right);
-    check_sets(&rt, &grammar, "00", &["000", "001"]);
+    check_sets(&rt, &grammar, "00", &["000", "001"], &["000", "000"]);
     let right = [Symbol::Terminal(0), Symbol::Terminal(3)];
     add(&rt, &mut grammar, 0, &right);
     check_bad(&rt, &grammar, 1);

@@ -3,8 +3,8 @@
 use super::support::{check_bits, check_error, same, vob_of};
 use std::process::Abort;
 use vob::Vob;
+use vob_tables::GrammarError;
 use vob_users::calendar::{Calendar, common_stretches};
-use vob_users::grammar::GrammarError;
 use vob_users::live::LiveError;
 use vob_users::loops::clear_those;
 use vob_users::rows::{count_between, count_rows, kept_rows, page, page_back, select};

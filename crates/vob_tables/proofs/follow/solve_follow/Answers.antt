@@ -1,4 +1,5 @@
--- The least sets that have what stands behind are the follow sets, and there are none without nonterminals.
+-- The least sets that have what stands behind are the follow sets, and there are none without
+-- nonterminals.
 use Rattle.std.proofs.Common.{◌∙◌, ap, length, sym}
 use Rattle.std.proofs.lemmas.List.{with_items_is}
 use Rattle.vob_tables.proofs.FollowLemmas.{AreFollow-solved}
