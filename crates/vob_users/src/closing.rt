@@ -28,7 +28,7 @@ fn lead_through(rows: &mut [Vob], through: usize, first: usize, last: usize)
 }
 
 /// Makes the rows from `first` to below `last` hold what paths through these nodes lead to, by
-/// Warshall's algorithm: behind turn k it is what paths through those up to k lead to.
+/// Warshall's algorithm. After turn k they hold what paths through those up to k lead to.
 fn close_within(rows: &mut [Vob], first: usize, last: usize)
     requires order { first ≤ last }
     requires inside { last ≤ length rows.old }
@@ -58,8 +58,8 @@ fn close_group(rows: &mut [Vob], unions: &mut [Vob], first: usize, last: usize)
     link_rows(rows, unions, first, last);
 }
 
-/// Makes each row hold all nodes that its node leads to, eight nodes after another. Behind a group
-/// it is what paths through nodes up to that group lead to.
+/// Makes each row hold all nodes that its node leads to, eight nodes after another. After a group it
+/// holds what paths through nodes up to that group lead to.
 fn close_by_table(rows: &mut [Vob], unions: &mut [Vob], columns: usize)
     requires table { length unions.old ≡ 256 }
     requires long { AreOfLength columns (bits_of unions.old) }

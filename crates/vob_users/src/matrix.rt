@@ -151,9 +151,9 @@ impl BitMatrix {
     /// otherwise. A true entry (i, j) is an edge from i to j. A node without a row leads nowhere.
     /// It is never refused.
     ///
-    /// From 256 rows on it takes eight nodes at once, by a table of 256 rows that it asks for: about
-    /// an eighth as many row operations as one node at a time. It takes one node at a time if that
-    /// memory is refused, or if there are fewer rows.
+    /// From 256 rows on it takes eight nodes at once, by a table of 256 rows that it asks for. That
+    /// takes about an eighth of the row operations. It takes one node at a time if that memory is
+    /// refused, or if there are fewer rows.
     pub fn close(&mut self, alloc: Global)
         ensures closure { IsClosure self.old.rows self.new.rows }
         ensures columns { self.new.columns ≡ self.old.columns }
@@ -180,8 +180,8 @@ impl BitMatrix {
     }
 
     /// Makes entry (i, j) of a new matrix true if a path of exactly `n` edges leads from node i to node
-    /// j: the product of `n` matrices that are this one, and the identity if `n` is 0. The rows must be
-    /// as many as the columns. Fails if memory runs out.
+    /// j. That is the product of `n` such matrices, and the identity if `n` is 0. The rows must be as
+    /// many as the columns. Fails if memory runs out.
     ///
     /// It takes at most two products for each binary digit of `n` but the first.
     pub fn power(&self, alloc: Global, n: usize) -> Result<BitMatrix, AllocError>
