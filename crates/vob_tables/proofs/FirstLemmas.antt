@@ -4,6 +4,7 @@ use Rattle.std.specs.List.{All}
 use Rattle.std.proofs.lemmas.List.{drop_more}
 use Rattle.std.proofs.lemmas.List.Elements.{All-weaker}
 use Rattle.vob_flow.specs.Draws.{HaveShape, IsIn}
+use Rattle.vob_tables.specs.Behind.{IsStart}
 use Rattle.vob_tables.specs.Equations.{AreEquations, AreSolved, HasAt, Reaches}
 use Rattle.vob_tables.specs.Equations.Reaches.{at_start, along}
 use Rattle.vob_tables.specs.Faults.{IsRuleOf, IsSymbol}
@@ -27,7 +28,8 @@ BeginsWith-append ys (behind empty begins) = behind empty (BeginsWith-append ys 
 -- ---- rules that have a head, by their places
 
 pub head_of_rule : (nullable : List Bool) (rules : List Rule) (a : ℕ) (y : Symbol) →
-    HasHead nullable rules a y → (right : List Symbol) × HasRule rules a right × IsHead nullable right y
+    HasHead nullable rules a y →
+    (right : List Symbol) × HasRule rules a right × IsHead nullable right y
 head_of_rule nullable [] a y h = absurd h
 head_of_rule nullable (rule ∷ rules) a y (inl first) =
     (rule.right.items, (rule, (0, omega arith, refl), first.0, refl), first.1)
@@ -35,8 +37,8 @@ head_of_rule nullable (rule ∷ rules) a y (inr later) =
     let (right, (r, (k, less, is), left, items), head) = head_of_rule nullable rules a y later in
     (right, (r, (suc k, omega (arith, less), is), left, items), head)
 
-pub has_head_of_rule : (nullable : List Bool) (rules : List Rule) (k : ℕ) (rule : Rule) (y : Symbol) →
-    k < length rules → get_or rules k rule ≡ rule → IsHead nullable rule.right.items y →
+pub has_head_of_rule : (nullable : List Bool) (rules : List Rule) (k : ℕ) (rule : Rule)
+    (y : Symbol) → k < length rules → get_or rules k rule ≡ rule → IsHead nullable rule.right.items y →
     HasHead nullable rules rule.left y
 has_head_of_rule nullable [] k rule y less is head = absurd (omega (arith, less))
 has_head_of_rule nullable (first ∷ rules) zero rule y less is head =
@@ -110,19 +112,14 @@ module _ (grammar : Grammar) (nullable : List Bool) (n : AreNullable grammar nul
         let found = head_of_rule nullable grammar.rules.items a (Nonterminal m) has in
         by_rule found.1 (head_begins t found.0 (Nonterminal m) found.2 (first_sound r))
 
-    -- what begins a symbol is in its row
-    abbrev IsStart : ℕ → Symbol → Type 0
-    IsStart t (Terminal u) = u ≡ t
-    IsStart t (Nonterminal a) = IsIn rows a t
-
-    in_row : (t a : ℕ) (y : Symbol) → HasHead nullable grammar.rules.items a y → IsStart t y →
+    in_row : (t a : ℕ) (y : Symbol) → HasHead nullable grammar.rules.items a y → IsStart rows y t →
         IsIn rows a t
     in_row t a (Terminal u) has start =
         h.starts a t (subst (λ v. HasHead nullable grammar.rules.items a (Terminal v)) start has)
     in_row t a (Nonterminal m) has start = h.draws a m t has start
 
     pub begins_head : {t : ℕ} {xs : List Symbol} → BeginsWith grammar.rules.items t xs →
-        (y : Symbol) × IsHead nullable xs y × IsStart t y
+        (y : Symbol) × IsHead nullable xs y × IsStart rows y t
     begins_head {t} here = (Terminal t, inl refl, refl)
     begins_head {t} (by_rule {a} (rule, (k, less, is), left, items) begins) =
         let found = begins_head begins in
@@ -136,8 +133,8 @@ module _ (grammar : Grammar) (nullable : List Bool) (n : AreNullable grammar nul
         (found.0, inr (null_symbol x empty, found.1), found.2)
 
     only_head : (a t : ℕ) →
-        (y : Symbol) × IsHead nullable (Nonterminal a ∷ []) y × IsStart t y → IsIn rows a t
-    only_head a t (y, inl first, start) = subst (λ z. IsStart t z) (sym first) start
+        (y : Symbol) × IsHead nullable (Nonterminal a ∷ []) y × IsStart rows y t → IsIn rows a t
+    only_head a t (y, inl first, start) = subst (λ z. IsStart rows z t) (sym first) start
     only_head a t (y, inr later, start) = absurd later.1
 
     -- and what is in its row begins it
@@ -149,9 +146,9 @@ module _ (grammar : Grammar) (nullable : List Bool) (n : AreNullable grammar nul
     )
 
   -- the least sets of the heads
-  pub AreFirst-solved : (sets : List (List Bool)) (lists : List (List ℕ)) (rows : List (List Bool)) →
-      AreEquations grammar.nonterminals grammar.terminals (HasHead nullable grammar.rules.items) sets
-      lists → HaveShape sets rows → AreSolved (HasAt sets lists) rows → AreFirst grammar rows
+  pub AreFirst-solved : (sets : List (List Bool)) (lists : List (List ℕ))
+      (rows : List (List Bool)) → AreEquations grammar.nonterminals grammar.terminals
+      (HasHead nullable grammar.rules.items) sets lists → HaveShape sets rows → AreSolved (HasAt sets lists) rows → AreFirst grammar rows
   AreFirst-solved sets lists rows e shape solved = record {
     count = shape.count ∙ e.count;
     long = shape_long grammar.terminals sets rows shape e.long;

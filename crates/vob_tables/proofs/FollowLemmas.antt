@@ -179,7 +179,8 @@ module _ (rules : List Rule) where
         in_rule before after rule stands
     follow_sound {t} {a} (along {m = m} has r) =
         let (b, before, after, rule, stands) = of_rule a (Nonterminal m) has in
-        at_end before after rule stands.1 (subst (λ k. Follows rules t k) (sym stands.0) (follow_sound r))
+        at_end before after rule stands.1
+        (subst (λ k. Follows rules t k) (sym stands.0) (follow_sound r))
 
     follow_complete : {t a : ℕ} → Follows rules t a → IsIn rows a t
     follow_complete {t} {a} (in_rule {b = b} before after has begins) =
