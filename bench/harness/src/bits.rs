@@ -222,9 +222,40 @@ pub trait Bits: Sized {
         unimplemented!()
     }
 
-    /// Whether this one comes before another in the order of lists.
-    fn before(&self, _other: &Self) -> bool {
-        unimplemented!()
+    /// Whether this one comes before another of its length in the order of lists.
+    fn before(&self, other: &Self) -> bool {
+        let differs = (0..self.len()).find(|index| self.get(*index) != other.get(*index));
+        differs.is_some_and(|index| other.get(index))
+    }
+    fn shift_up(&mut self, n: usize) {
+        for index in (0..self.len()).rev() {
+            self.set(index, index >= n && self.get(index - n));
+        }
+    }
+    fn reverse(&mut self) {
+        for index in 0..self.len() / 2 {
+            let other = self.len() - 1 - index;
+            let (low, high) = (self.get(index), self.get(other));
+            self.set(index, high);
+            self.set(other, low);
+        }
+    }
+    fn rotate_left(&mut self, n: usize) {
+        let first: Vec<bool> = (0..n).map(|index| self.get(index)).collect();
+        let rest = self.len() - n;
+        for index in 0..self.len() {
+            let bit = if index < rest { self.get(index + n) } else { first[index - rest] };
+            self.set(index, bit);
+        }
+    }
+
+    /// A bit put in at the middle, and then one taken out at index `at`, which is below that.
+    fn insert_and_remove(&mut self, at: usize, value: bool) {
+        let middle = self.len() / 2;
+        for index in at..middle - 1 {
+            self.set(index, self.get(index + 1));
+        }
+        self.set(middle - 1, value);
     }
 
     /// The sum of the indices that both have.

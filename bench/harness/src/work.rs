@@ -399,8 +399,12 @@ pub fn run<B: Bits>(call: Call, input: &Input, rounds: usize) -> u64 {
             }
         }),
         Call::GrowAndSet => made(rounds, || B::grown(&input.indices)),
-        // No peer in Rust has these.
-        Call::ShiftUp | Call::Reverse | Call::Rotate | Call::InsertRemove => unimplemented!(),
+        Call::ShiftUp => changed(input, rounds, |bits: &mut B, _| bits.shift_up(13)),
+        Call::Reverse => changed(input, rounds, |bits: &mut B, _| bits.reverse()),
+        Call::Rotate => changed(input, rounds, |bits: &mut B, _| bits.rotate_left(13)),
+        Call::InsertRemove => changed(input, rounds, |bits: &mut B, round| {
+            bits.insert_and_remove(13, round % 2 == 1)
+        }),
         Call::ExtendAligned => joined::<B>(input, 64, rounds),
         Call::ExtendShifted => joined::<B>(input, 64 + 13, rounds),
         Call::Closure => closure::<B>(input, rounds),

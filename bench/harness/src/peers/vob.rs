@@ -38,7 +38,9 @@ impl Bits for Vob {
             Call::Slice => Offer::Other("two cuts of a copy"),
             Call::Flip => Offer::Other("set of what get reads"),
             Call::GrowAndSet => Offer::Other("resize, then set"),
-            Call::Order | Call::ShiftUp | Call::Reverse | Call::Rotate | Call::InsertRemove => Offer::None,
+            Call::Order | Call::ShiftUp | Call::Reverse | Call::Rotate | Call::InsertRemove => {
+                Offer::Other("bit by bit")
+            }
             _ => Offer::Same,
         }
     }
