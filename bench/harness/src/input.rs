@@ -13,8 +13,8 @@ pub enum Shape {
     FreeAtTheEnd,
     /// A flow graph over as many variables as bits.
     Flow,
-    /// Two steps from each of as many nodes as bits: from which node, and to which.
-    Steps,
+    /// So many steps from each of as many nodes as bits: from which node, and to which.
+    Steps(usize),
 }
 
 pub struct Input {
@@ -98,8 +98,8 @@ impl Input {
         let indices = match shape {
             Shape::Indices(count) => (0..count).map(|_| numbers.below(bits)).collect(),
             Shape::Flow => flow(&mut numbers, bits),
-            Shape::Steps => (0..2 * bits)
-                .flat_map(|step| [step / 2, numbers.below(bits)])
+            Shape::Steps(each) => (0..each * bits)
+                .flat_map(|step| [step / each, numbers.below(bits)])
                 .collect(),
             _ => Vec::new(),
         };

@@ -118,7 +118,7 @@ impl Row {
             }
             Call::FirstFree => Shape::FreeAtTheEnd,
             Call::Live | Call::Available => Shape::Flow,
-            Call::Matrix | Call::Lists => Shape::Steps,
+            Call::Matrix | Call::Lists => Shape::Steps(2),
             _ => Shape::Plain,
         };
         Row {
@@ -129,6 +129,14 @@ impl Row {
             units,
             most,
             shape,
+        }
+    }
+
+    /// The closure of a graph with so many edges from each node.
+    fn graph(name: &str, call: Call, nodes: usize, edges: usize) -> Row {
+        Row {
+            shape: Shape::Steps(edges),
+            ..Row::over(name, call, nodes, Unit::Round)
         }
     }
 
@@ -287,6 +295,9 @@ pub fn all() -> Vec<Row> {
         Row::over("filter over three columns", Call::Filter, MILLION, Word),
         Row::over("closure 1000 x 1000", Call::Closure, 1_000_000, Round),
         Row::over("matrix closure, 1000 nodes", Call::Matrix, 1000, Round),
+        Row::graph("matrix closure, 1000 nodes, 20 edges", Call::Matrix, 1000, 20),
+        Row::graph("matrix closure, 1000 nodes, 300 edges", Call::Matrix, 1000, 300),
+        Row::graph("matrix closure, 4000 nodes", Call::Matrix, 4000, 2),
         Row::over("closure of lists, 1000 nodes", Call::Lists, 1000, Round),
         Row::over("closure of lists, 4000 nodes", Call::Lists, 4000, Round),
         Row::over("liveness, 10000 nodes", Call::Live, 1000, Round),
