@@ -3,8 +3,8 @@
 
 report.py merge FILE .. prints one results file of several readings of one CPU: a row a line and a library a column, with
 the median time in ns, the spread, which is the greatest reading over the least, whether the library does the same, and
-how. report.py table prints the table of README.md, and report.py plot its
-picture, both from bench/results. A ratio is our time over another's: below 1 ours is faster. Ratios within a
+how. report.py table prints the table of README.md, report.py counts its table of instructions, and report.py plot
+its picture, all from bench/results. A ratio is ours over another's: below 1 ours is faster. Ratios within a
 tenth of 1 count as equal."""
 
 import pathlib
@@ -42,8 +42,28 @@ ROWS = [
     ("`next_set`, 1 in 64 set", "next_set, 1 in 64 set", None),
     ("`next_set`, half set", "next_set, half set", None),
     ("count of set bits", "count of set bits", None),
-    ("closure of 1000 nodes", "matrix closure, 1000 nodes", None),
-    ("liveness of 10,000 nodes", "liveness, 10000 nodes", None),
+]
+
+# The rows of the page that instructions are counted for, by their titles.
+COUNTED = [
+    ("closure of a matrix, 1000 nodes, 2 edges each", "matrix closure, 1000 nodes at 1000 bits"),
+    ("the same with 20 edges each", "matrix closure, 1000 nodes, 20 edges at 1000 bits"),
+    ("with 300 edges each", "matrix closure, 1000 nodes, 300 edges at 1000 bits"),
+    ("4000 nodes, 2 edges each", "matrix closure, 4000 nodes at 4000 bits"),
+    ("closure of lists, 1000 nodes, 2 edges each", "closure of lists, 1000 nodes at 1000 bits"),
+    ("4000 nodes", "closure of lists, 4000 nodes at 4000 bits"),
+    ("liveness, 10,000 nodes", "liveness, 10000 nodes at 1000 bits"),
+    ("available expressions, 10,000 nodes", "available, 10000 nodes at 1000 bits"),
+    ("`intersection`, half set", "intersection at 1048576 bits"),
+    ("`&a - &b`", "difference in a new one at 1048576 bits"),
+    ("`slice`", "slice at 1048576 bits"),
+    ("`shl`", "shl at 1048576 bits"),
+    ("`rotate_left`", "rotate_left at 1048576 bits"),
+    ("`reverse`", "reverse at 1048576 bits"),
+    ("`insert_bit`, then `remove`", "insert_bit and remove at 1048576 bits"),
+    ("`<` of equal ones", "order of equal ones at 1048576 bits"),
+    ("`flip` at random", "flip at random at 1048576 bits"),
+    ("`grow_and_set`", "grow_and_set at 1048576 bits"),
 ]
 
 
@@ -120,6 +140,17 @@ def table():
         print(f"| {' | '.join(cells)} |")
 
 
+def counts():
+    of = {}
+    for title, library, kind, count, _ in lines_of(RESULTS / "instructions.tsv")[1]:
+        of.setdefault(title, {})[library] = (kind, "", float(count))
+    print("| Instructions at v3 | of vob 4.0.1 | of the best peer |")
+    print("|---|---|---|")
+    for label, title in COUNTED:
+        original, best, peer = ratios({(title, 0, ""): of[title]}, title, None)
+        print(f"| {label} | {shown(original)} | {f'{shown(best)} {peer}'.strip()} |")
+
+
 def plot():
     rows = read_merged(RESULTS / "x86-64-v3.tsv")
     left, wide, high, most = 250, 360, 22, 2.0
@@ -148,6 +179,8 @@ def main(arguments):
         merge([pathlib.Path(path) for path in arguments[1:]])
     elif arguments == ["table"]:
         table()
+    elif arguments == ["counts"]:
+        counts()
     elif arguments == ["plot"]:
         plot()
     else:

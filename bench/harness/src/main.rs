@@ -4,7 +4,7 @@
 //! drop out.
 //!
 //! `harness [--check] [--turns N] [FILTER]` writes lines of tab-separated values. `harness --names FILTER`
-//! prints the rows and the libraries that have a call for each, and `harness --alone LIBRARY ROUNDS ROW`
+//! prints the rows, the libraries that have a call for each, and whether they do the same, and `harness --alone LIBRARY ROUNDS ROW`
 //! has one library do one row, and prints nothing: for whatever counts instructions.
 
 mod bits;
@@ -317,11 +317,12 @@ fn main() -> ExitCode {
         for row in &rows {
             for library in offered(row) {
                 println!(
-                    "{}\t{}\t{}\t{}",
+                    "{}\t{}\t{}\t{}\t{}",
                     row.title(),
                     row.unit,
                     row.units,
-                    library.name
+                    library.name,
+                    mark_of((library.offer)(row.call)).0
                 );
             }
         }
