@@ -194,7 +194,7 @@ const NO_TEST: Offer = Offer::Less("no test of the index");
 
 pub fn twin_offer(library: Twin, call: Call) -> Offer {
     match (library, call) {
-        (_, Call::Get) => NO_TEST,
+        (_, Call::Get | Call::Flip) => NO_TEST,
         (Twin::Boost, Call::Set) => Offer::Less("no test of the index"),
         (Twin::VectorBool, Call::Set) => Offer::Less("no flag, no test of the index"),
         (Twin::Boost, Call::Iterate) => Offer::Less("by index, no test of it"),
@@ -228,7 +228,6 @@ pub fn twin_offer(library: Twin, call: Call) -> Offer {
             | Call::SetBits
             | Call::Minus
             | Call::ShiftUp
-            | Call::Flip
             | Call::Count,
         ) => Offer::Same,
         (Twin::VectorBool, Call::ExtendFromSlice | Call::ExtendAligned | Call::ExtendShifted) => {
@@ -253,8 +252,7 @@ pub fn twin_offer(library: Twin, call: Call) -> Offer {
             | Call::Clone
             | Call::Equal
             | Call::Order
-            | Call::InsertRemove
-            | Call::Flip,
+            | Call::InsertRemove,
         ) => Offer::Same,
         (Twin::VectorBool, Call::Hash) => Offer::Less("another hash function"),
         _ => Offer::None,
