@@ -24,8 +24,6 @@ ROWS = [
     ("`set` at random", "set at random", None),
     ("a walk over all bits", "iterate", None),
     ("`from_bytes`", "from_bytes", None),
-    ("`from_slice`", "from_slice", None),
-    ("`set_all`", "set_all", None),
     ("`set_range`", "set_range", None),
     ("`and`, 64 bits", "and", 64),
     ("`and`, 64K bits", "and", 1 << 16),
@@ -55,15 +53,12 @@ COUNTED = [
     ("liveness, 10,000 nodes", "liveness, 10000 nodes at 1000 bits"),
     ("available expressions, 10,000 nodes", "available, 10000 nodes at 1000 bits"),
     ("`intersection`, half set", "intersection at 1048576 bits"),
-    ("`&a - &b`", "difference in a new one at 1048576 bits"),
-    ("`slice`", "slice at 1048576 bits"),
     ("`shl`", "shl at 1048576 bits"),
     ("`rotate_left`", "rotate_left at 1048576 bits"),
     ("`reverse`", "reverse at 1048576 bits"),
     ("`insert_bit`, then `remove`", "insert_bit and remove at 1048576 bits"),
     ("`<` of equal ones", "order of equal ones at 1048576 bits"),
     ("`flip` at random", "flip at random at 1048576 bits"),
-    ("`grow_and_set`", "grow_and_set at 1048576 bits"),
 ]
 
 
