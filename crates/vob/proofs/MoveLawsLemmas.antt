@@ -10,6 +10,7 @@ use Rattle.std.proofs.lemmas.List.{get_or-set_other, get_or-set_same, get_or-app
 use Rattle.std.proofs.lemmas.List.{length-drop, length-replicate, length-set, length-take-le}
 use Rattle.std.proofs.lemmas.List.{take-append-drop, take-append-le, take-replicate, take_all}
 use Rattle.vob_block.specs.Packing.{item}
+use Rattle.vob_store.proofs.WriteLemmas.{not-not}
 use Rattle.vob.specs.Moves.{rotated, rotated_back}
 use Rattle.vob.specs.MoveLaws.{flipped, inserted, moved_down, moved_up, DownAfterUp, FlipTwice}
 use Rattle.vob.specs.MoveLaws.{InsertUndoesRemove, RemoveUndoesInsert, RotateBack, RotateByLengths}
@@ -17,10 +18,6 @@ use Rattle.vob.specs.MoveLaws.{RotationsAdd, UpAfterDown}
 use Rattle.vob.proofs.TurnsLemmas.{IsRotated-list}
 
 -- ---- a bit
-
-not-not : (b : Bool) → not (not b) ≡ b
-not-not true = refl
-not-not false = refl
 
 pub flipped-flipped : FlipTwice
 flipped-flipped bits index inside =

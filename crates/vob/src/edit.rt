@@ -8,6 +8,7 @@ ghost use Rattle.vob.specs.Moves.{AreSwapped, IsInserted};
 use crate::error::VobError;
 use crate::vob::Vob;
 use vob_block::Block;
+use vob_store::single::flip_bit;
 
 impl<T: Block> Vob<T> {
     /// Negates bit `index`, and returns its new value. The index must be below the length.
@@ -24,9 +25,7 @@ impl<T: Block> Vob<T> {
         ensures written { IsWritten self.old.bits index (not (item self.old.bits index)) self.new.bits }
         ensures capacity { self.new.capacity ≡ self.old.capacity }
     {
-        let value = !self.get_unchecked(index);
-        self.set(index, value);
-        value
+        flip_bit(&mut self.vec, self.len, index)
     }
 
     /// Exchanges two bits. Both indices must be below the length.

@@ -1,10 +1,10 @@
 -- Bits of some blocks written over those of others, at a plain width.
 use Rattle.std.proofs.Common.{◌≡◌, ◌⊎◌, ℕ, ◌+◌, ◌-◌, ◌*◌, ◌/◌, ◌%◌, ◌<◌, ◌≤◌, min, ◌&&◌, cond, List, [], ◌∷◌, refl}
-use Rattle.std.proofs.Common.{length, get_or, map, set, leb, ltb, sym, ap, ◌∙◌, subst, arith, inl}
+use Rattle.std.proofs.Common.{length, get_or, map, set, take, drop, leb, ltb, sym, ap, ◌∙◌, subst, arith, inl}
 use Rattle.std.proofs.Common.{inr, mod-lt, div-add-mod', add-mul, one-mul, zero-add, zero-mul}
 use Rattle.std.proofs.lemmas.Bool.{cases_lt, cases_eq, lt-ltb, le-ltb, le-leb, cond-true, cond-false}
 use Rattle.std.proofs.Math.Nat.{div-lt_iff_lt-mul}
-use Rattle.std.proofs.lemmas.List.{get_or-map, get_or-set_same, get_or_past, length-map}
+use Rattle.std.proofs.lemmas.List.{get_or-map, get_or-set_same, get_or-take, get_or-drop, get_or_past, length-map}
 use Rattle.std.proofs.lemmas.Nat.{mul-le, le-div, div-mul-add, mod-mul-add}
 use Rattle.vob_block.specs.Places.{place, HasPlaces}
 use Rattle.vob_block.specs.Packing.{bit_at}
@@ -413,6 +413,39 @@ module _ (w : ℕ) (wide : 0 < w) (olds xs : List ℕ) (first from places k y a 
       subst (λ (m : ℕ). AreCopied w ((first + k) * w) (from * w + places + k * w) m olds olds ys) all
       (AreCopied-first (rw (at, source) at h)
       (AreCopied-block w wide xs olds (first + k) y room (from * w + places + k * w) moved_places))
+
+-- one of the blocks that stand in a row from block k on
+pub number_in_row : {X : Type 0} (number : X → ℕ) (items row : List X) (k n j : ℕ) (d : X)
+    → row ≡ take n (drop k items) → j < n → k + j < length items
+    → number (get_or row j d) ≡ get_or (map number items) (k + j) 0
+number_in_row number items row k n j d is below inside =
+    ap (λ xs. number (get_or xs j d)) is
+    ∙ ap number (get_or-take n (drop k items) j d below ∙ get_or-drop k items j d)
+    ∙ sym (get_or-map number items (k + j) d 0 inside)
+
+-- some blocks, and then others beside them that are still as they were
+module _ (w first from places n m : ℕ) where
+  sums : ((first + n) * w ≡ first * w + n * w)
+      × ((from + n) * w + places ≡ from * w + places + n * w) × ((n + m) * w ≡ n * w + m * w)
+  sums = (add-mul first n w, omega (arith, add-mul from n w), add-mul n m w)
+
+  pub AreCopied-blocks_down : {olds mid after : List ℕ} → first ≤ from
+      → AreCopied w (first * w) (from * w + places) (n * w) olds olds mid
+      → AreCopied w ((first + n) * w) ((from + n) * w + places) (m * w) mid mid after
+      → AreCopied w (first * w) (from * w + places) ((n + m) * w) olds olds after
+  AreCopied-blocks_down order p q =
+      let row = mul-le first w from w order (omega arith) in
+      rw sums.2 (AreCopied-down (omega (arith, row)) p (rw (sums.0, sums.1) at q))
+
+  pub AreCopied-blocks_up : {olds mid after : List ℕ} → from < first → places < w
+      → AreCopied w ((first + n) * w) ((from + n) * w + places) (m * w) olds olds mid
+      → AreCopied w (first * w) (from * w + places) (n * w) mid mid after
+      → AreCopied w (first * w) (from * w + places) ((n + m) * w) olds olds after
+  AreCopied-blocks_up order below p q =
+      let row = mul-le (from + 1) w first w (omega (arith, order)) (omega arith) in
+      let start : from * w + places ≤ first * w =
+      omega (arith, row, below, add-mul from 1 w, one-mul w) in
+      rw sums.2 (AreCopied-up start (rw (sums.0, sums.1) at p) q)
 
 -- whole blocks as they are, of items with a number each
 module _ {X : Type 0} (number : X → ℕ) (w : ℕ) (wide : 0 < w) (first from n : ℕ)

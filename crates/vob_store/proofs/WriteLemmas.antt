@@ -11,7 +11,8 @@ use Rattle.std.proofs.lemmas.List.{map-set, length-map, length-set, get_or-set_s
 use Rattle.std.proofs.lemmas.List.Elements.{All-set}
 use Rattle.vob_block.specs.Places.{place, HasPlaces}
 use Rattle.vob_block.specs.Packing.{item, bit_at, unpacking, IsCanonical, Stores}
-use Rattle.vob_block.proofs.BoolLemmas.{or-test, and-test}
+use Rattle.vob_block.specs.Pointwise.{differ}
+use Rattle.vob_block.proofs.BoolLemmas.{or-test, and-test, differ-test}
 use Rattle.vob_block.proofs.NeedLemmas.{div-lt-need}
 use Rattle.vob_block.proofs.PackingLemmas.{bit_at-is_place, bit_at-set_same, bit_at-set_other, length-unpacking, bit_at-is_item, stores_from_items}
 use Rattle.vob_block.proofs.PlaceLemmas.{place-pow}
@@ -41,6 +42,33 @@ HasPlaces-unmarked w x y z m j v is alone negated h = record {
       ∙ ap not (place-pow j i)) ∙ and-test (place i x) (eqb i j)
       ∙ ap (λ b. cond (eqb i j) b (place i x)) (sym is);
 }
+
+-- `x ^ m`, where v is what place j becomes
+pub not-not : (b : Bool) → not (not b) ≡ b
+not-not true = refl
+not-not false = refl
+
+module _ (w x y m j : ℕ) (v : Bool) (inside : j < w) (alone : m ≡ 2 ^ j) (new : v ≡ place j y)
+    (h : HasPlaces w y (λ i. differ (place i x) (place i m))) where
+  negated : (i : ℕ) → i < w → place i y ≡ cond (eqb i j) (not (place i x)) (place i x)
+  negated i k =
+      h.each i k ∙ ap (λ n. differ (place i x) (place i n)) alone
+      ∙ ap (differ (place i x)) (place-pow j i) ∙ differ-test (place i x) (eqb i j)
+
+  pub place-flipped : not v ≡ place j x
+  place-flipped = ap not (new ∙ negated j inside
+      ∙ cond-true (eqb j j) (not (place j x)) (place j x) (eq-eqb j j refl)) ∙ not-not (place j x)
+
+  pub HasPlaces-flipped : HasPlaces w y (λ i. cond (eqb i j) v (place i x))
+  HasPlaces-flipped = record {
+    each = λ i k. elim (cases_eq i j) [
+      | inl same ↦ ap (λ n. place n y) same ∙ sym new
+          ∙ sym (cond-true (eqb i j) v (place i x) (eq-eqb i j same))
+      | inr other ↦ negated i k
+          ∙ cond-false (eqb i j) (not (place i x)) (place i x) (ne_eqb i j other)
+          ∙ sym (cond-false (eqb i j) v (place i x) (ne_eqb i j other))
+    ];
+  }
 
 -- ---- blocks with another value at one bit
 

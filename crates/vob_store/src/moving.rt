@@ -1,6 +1,6 @@
 //! Bits moved within some blocks: those of a stretch written over those from another index on, as if
 //! all of them were read first.
-ghost use Rattle.std.specs.Prelude.{◌+◌, ◌*◌, ◌%◌, ◌^◌, ◌<◌, ◌≤◌, All, map, length};
+ghost use Rattle.std.specs.Prelude.{◌+◌, ◌*◌, ◌%◌, ◌^◌, ◌<◌, ◌≤◌, ◌≡◌, All, drop, length, map, take};
 ghost use Rattle.vob_store.specs.Copying.{AreCopied};
 
 use crate::copy::{Stretch, bits_at, write_part};
@@ -19,7 +19,13 @@ fn move_part<T: BitBlock>(own: &mut [T], at: usize, cut: Stretch)
 
 /// Stores the blocks of the bits from place `places` of block `from` on, from block `first` on, the
 /// first one first.
-fn move_down<T: BitBlock>(own: &mut [T], first: usize, from: usize, places: usize, count: usize)
+fn move_each_down<T: BitBlock>(
+    own: &mut [T],
+    first: usize,
+    from: usize,
+    places: usize,
+    count: usize,
+)
     requires positive { 0 < places }
     requires below { places < T.BITS }
     requires order { first ≤ from }
@@ -33,7 +39,7 @@ fn move_down<T: BitBlock>(own: &mut [T], first: usize, from: usize, places: usiz
 }
 
 /// The same, the last one first.
-fn move_up<T: BitBlock>(own: &mut [T], first: usize, from: usize, places: usize, count: usize)
+fn move_each_up<T: BitBlock>(own: &mut [T], first: usize, from: usize, places: usize, count: usize)
     requires positive { 0 < places }
     requires below { places < T.BITS }
     requires order { from < first }
@@ -45,6 +51,105 @@ fn move_up<T: BitBlock>(own: &mut [T], first: usize, from: usize, places: usize,
         let k = count - 1 - done;
         own[first + k] = own[from + k].funnel_down(own[from + k + 1], places);
     }
+}
+
+/// Returns the eight blocks from `k` on.
+#[inline(always)]
+fn eight_blocks<T: BitBlock>(own: &[T], k: usize) -> [T; 8]
+    requires { k + 8 ≤ length own.now }
+    ensures { result ≡ take 8 (drop k own.now) }
+{
+    Blocks::new(own).chunk(k)
+}
+
+/// Stores eight blocks of the bits from place `places` of block `from` on, from block `first` on. All
+/// are read before one is written, so a compiler makes several at once.
+#[inline(always)]
+fn move_eight<T: BitBlock>(own: &mut [T], first: usize, from: usize, places: usize)
+    requires positive { 0 < places }
+    requires below { places < T.BITS }
+    requires room { first + 8 ≤ length own.old }
+    requires inside { from + 8 < length own.old }
+    ensures { AreCopied T.BITS (first * T.BITS) (from * T.BITS + places) (8 * T.BITS)
+        (map T.number own.old) (map T.number own.old) (map T.number own.new) }
+{
+    let low = eight_blocks(own, from);
+    let high = eight_blocks(own, from + 1);
+    for j in 0..8 {
+        own[first + j] = low[j].funnel_down(high[j], places);
+    }
+}
+
+/// Stores so many times eight blocks, the first ones first.
+fn move_eights_down<T: BitBlock>(
+    own: &mut [T],
+    first: usize,
+    from: usize,
+    places: usize,
+    turns: usize,
+)
+    requires positive { 0 < places }
+    requires below { places < T.BITS }
+    requires order { first ≤ from }
+    requires inside { from + turns * 8 < length own.old }
+    ensures { AreCopied T.BITS (first * T.BITS) (from * T.BITS + places) (turns * 8 * T.BITS)
+        (map T.number own.old) (map T.number own.old) (map T.number own.new) }
+{
+    for turn in 0..turns {
+        move_eight(own, first + turn * 8, from + turn * 8, places);
+    }
+}
+
+/// The same, the last ones first.
+fn move_eights_up<T: BitBlock>(
+    own: &mut [T],
+    first: usize,
+    from: usize,
+    places: usize,
+    turns: usize,
+)
+    requires positive { 0 < places }
+    requires below { places < T.BITS }
+    requires order { from < first }
+    requires inside { first + turns * 8 ≤ length own.old }
+    ensures { AreCopied T.BITS (first * T.BITS) (from * T.BITS + places) (turns * 8 * T.BITS)
+        (map T.number own.old) (map T.number own.old) (map T.number own.new) }
+{
+    for done in 0..turns {
+        let turn = turns - 1 - done;
+        move_eight(own, first + turn * 8, from + turn * 8, places);
+    }
+}
+
+/// Stores the blocks of the bits from place `places` of block `from` on, from block `first` on: eight
+/// at a time, and then the rest.
+fn move_down<T: BitBlock>(own: &mut [T], first: usize, from: usize, places: usize, count: usize)
+    requires positive { 0 < places }
+    requires below { places < T.BITS }
+    requires order { first ≤ from }
+    requires inside { from + count < length own.old }
+    ensures { AreCopied T.BITS (first * T.BITS) (from * T.BITS + places) (count * T.BITS)
+        (map T.number own.old) (map T.number own.old) (map T.number own.new) }
+{
+    let turns = count / 8;
+    let done = turns * 8;
+    move_eights_down(own, first, from, places, turns);
+    move_each_down(own, first + done, from + done, places, count - done);
+}
+
+/// The same, the last ones first.
+fn move_up<T: BitBlock>(own: &mut [T], first: usize, from: usize, places: usize, count: usize)
+    requires positive { 0 < places }
+    requires below { places < T.BITS }
+    requires order { from < first }
+    requires inside { first + count ≤ length own.old }
+    ensures { AreCopied T.BITS (first * T.BITS) (from * T.BITS + places) (count * T.BITS)
+        (map T.number own.old) (map T.number own.old) (map T.number own.new) }
+{
+    let turns = count / 8;
+    let done = turns * 8;
+    move_each_up(own, first + done, from + done, places, count - done);
+    move_eights_up(own, first, from, places, turns);
 }
 
 /// Stores the blocks of a stretch, from block `first` on.

@@ -1,7 +1,7 @@
 //! Single bits of the blocks that store some bits: read, written, and added at the end.
 ghost use Rattle.std.specs.Prelude.{◌≡◌, if◌then◌else◌, ◌+◌, ◌*◌, ◌<◌, ◌≤◌, [], ◌∷◌, ◌++◌, map};
 ghost use Rattle.std.specs.Prelude.{length, slice_get, Some, OnOk, OnErr, vec_capacity, ◌≢◌, ◌==◌};
-ghost use Rattle.std.specs.Prelude.{◌↔◌, ◌^◌, slice_set, IsTrue};
+ghost use Rattle.std.specs.Prelude.{◌↔◌, ◌^◌, not, slice_set, IsTrue};
 ghost use Rattle.vob_block.specs.Packing.{need, bit_at, unpacking, IsCanonical, Stores};
 ghost use Rattle.vob_block.specs.Places.{place, HasPlaces};
 
@@ -89,4 +89,21 @@ pub fn write_bit<T: BitBlock>(blocks: &mut [T], len: usize, index: usize, value:
     let block = blocks[k];
     blocks[k] = with_place(block, place, value);
     block.bit(place) != value
+}
+
+/// Negates bit `index`, and returns its new value.
+pub fn flip_bit<T: BitBlock>(blocks: &mut [T], len: usize, index: usize) -> bool
+    requires canonical { IsCanonical len (map T.number blocks.old) T.BITS }
+    requires in_range { index < len }
+    ensures stores { Stores T.BITS len (map T.number blocks.new)
+        (slice_set (unpacking len (map T.number blocks.old) T.BITS) index result) }
+    ensures was { slice_get (unpacking len (map T.number blocks.old) T.BITS) index
+        ≡ Some (not result) }
+{
+    let width = T::BITS;
+    let k = index / width;
+    let place = index % width;
+    let block = blocks[k].bxor(T::ONE.up(place));
+    blocks[k] = block;
+    block.bit(place)
 }

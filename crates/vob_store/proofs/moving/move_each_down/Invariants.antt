@@ -1,7 +1,7 @@
 -- The blocks so far are moved, and those behind them are as they were.
 use Rattle.std.proofs.Common.{◌≡◌, ℕ, ◌+◌, ◌*◌, ◌≤◌, map, get_or}
 use Rattle.vob_store.specs.Copying.{AreCopied}
-use Rattle.vob_store.proofs.moving.move_down.Given as goal
+use Rattle.vob_store.proofs.moving.move_each_down.Given as goal
 
 abbrev pub invariant-loop-k : goal.invariant-loop-k
 invariant-loop-k g l = record {

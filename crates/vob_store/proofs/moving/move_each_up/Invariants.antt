@@ -1,7 +1,7 @@
 -- The blocks so far are moved, and those before them are as they were.
 use Rattle.std.proofs.Common.{◌≡◌, ℕ, ◌+◌, ◌-◌, ◌*◌, ◌<◌, map, get_or}
 use Rattle.vob_store.specs.Copying.{AreCopied}
-use Rattle.vob_store.proofs.moving.move_up.Given as goal
+use Rattle.vob_store.proofs.moving.move_each_up.Given as goal
 
 abbrev pub invariant-loop-done : goal.invariant-loop-done
 invariant-loop-done g l = record {
