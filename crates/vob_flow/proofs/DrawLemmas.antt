@@ -11,8 +11,8 @@ use Rattle.vob.specs.Vobs.{AreOfLength, bits_of, total_count}
 use Rattle.vob.proofs.BitsLemmas.{AreCombined-pointwise, and_true, or_true, without_true}
 use Rattle.vob.proofs.VobsLemmas.{any_next, of_length_at, total_count_set}
 use Rattle.vob_flow.specs.declared.draw.Mask.{Mask}
-use Rattle.vob_flow.specs.Draws.{IsIn, IsInSome, IsKept}
-use Rattle.vob_flow.specs.Passes.{HasGained, IsAdded, IsLetThrough}
+use Rattle.vob_flow.specs.Draws.{IsIn, IsKept}
+use Rattle.vob_flow.specs.Gains.{HasGained, HasNews, IsAdded, IsLetThrough, IsNews, IsSomeNews}
 use Rattle.vob_flow.proofs.UnderwayLemmas.{HaveShape-refl, HaveShape-trans}
 
 -- the length of one of some Vobs
@@ -108,28 +108,30 @@ HasGained-added items after n m mask row other new grew inside first second is a
 -- ---- places that a set gets one after another
 
 -- none yet
-pub HasGained-none : (sets : List (List Bool)) (n : ℕ) (P : ℕ → Type 0) → ((v : ℕ) → P v → ⊥)
+pub HasGained-none : (sets : List (List Bool)) (n : ℕ) (P : ℕ → Type 0) → ((v : ℕ) → P v → IsIn sets n v)
     → HasGained sets n P sets false
-HasGained-none sets n P none = record {
+HasGained-none sets n P has = record {
   shape = HaveShape-refl sets;
-  here = λ v. ((λ e. inl e), (λ either. elim either [ inl old ↦ old | inr new ↦ absurd (none v new) ]));
+  here = λ v. ((λ e. inl e), (λ either. elim either [ inl old ↦ old | inr new ↦ has v new ]));
   others = λ k other. refl;
   same = λ e. refl;
   more = λ e. absurd (false≢true e);
 }
 
--- those that it has
-pub HasGained-own : (sets : List (List Bool)) (n m : ℕ) (mask : Mask) → m ≡ n
-    → HasGained sets n (IsLetThrough sets mask m) sets false
-HasGained-own sets n m mask own = record {
-  shape = HaveShape-refl sets;
+-- those of a set that has news
+pub HasGained-news : {sets after : List (List Bool)} {n : ℕ} (first : Bool) (grown : List Bool)
+    (mask : Mask) (m : ℕ) {grew : Bool} → HasNews first grown m
+    → HasGained sets n (IsLetThrough sets mask m) after grew
+    → HasGained sets n (IsNews sets first grown mask m) after grew
+HasGained-news first grown mask m news h = record {
+  shape = h.shape;
   here = λ v. (
-    (λ e. inl e),
-    (λ either. elim either [ inl old ↦ old | inr new ↦ subst (λ k. IsIn sets k v) own new.1 ]),
+    (λ e. elim ((h.here v).0 e) [ inl old ↦ inl old | inr new ↦ inr (news, new) ]),
+    (λ either. (h.here v).1 (elim either [ inl old ↦ inl old | inr new ↦ inr new.1 ])),
   );
-  others = λ k other. refl;
-  same = λ e. refl;
-  more = λ e. absurd (false≢true e);
+  others = h.others;
+  same = h.same;
+  more = h.more;
 }
 
 grew_either : (a b : Bool) {sets mid after : List (List Bool)}
@@ -147,46 +149,52 @@ grew_neither true b same still e = absurd (false≢true (sym e))
 grew_neither false b same still e = still e ∙ same refl
 
 -- and those of one set more
-module _ {sets mid after : List (List Bool)} (n : ℕ) (mask : Mask) (from : List ℕ) (k m : ℕ)
-    {a b : Bool} (less : k < length from) (is : m ≡ get_or from k m)
-    (h : HasGained sets n (λ v. IsKept mask v × IsInSome sets (take k from) v) mid a)
-    (d : HasGained mid n (IsLetThrough mid mask m) after b) where
+module _ {sets mid after : List (List Bool)} (n : ℕ) (first : Bool) (grown : List Bool)
+    (mask : Mask) (from : List ℕ) (k m : ℕ) {a b : Bool} (less : k < length from)
+    (is : m ≡ get_or from k m)
+    (h : HasGained sets n (IsSomeNews sets first grown mask (take k from)) mid a)
+    (d : HasGained mid n (IsNews mid first grown mask m) after b) where
+  next : (v : ℕ) → IsSomeNews sets first grown mask (take (k + 1) from) v
+      ↔ (IsSomeNews sets first grown mask (take k from) v ⊎ IsNews sets first grown mask m v)
+  next v = any_next (λ j. IsNews sets first grown mask j v) from k m less is
+
   had : (v : ℕ) → IsIn mid n v
-      → IsIn sets n v ⊎ (IsKept mask v × IsInSome sets (take (k + 1) from) v)
+      → IsIn sets n v ⊎ IsSomeNews sets first grown mask (take (k + 1) from) v
   had v e = elim ((h.here v).0 e) [
-    | inl first ↦ inl first
-    | inr drawn ↦ inr (drawn.0, (any_next (λ j. IsIn sets j v) from k m less is).1 (inl drawn.1))
+    | inl start ↦ inl start
+    | inr drawn ↦ inr ((next v).1 (inl drawn))
   ]
 
   has : (v : ℕ) → IsIn after n v
-      → IsIn sets n v ⊎ (IsKept mask v × IsInSome sets (take (k + 1) from) v)
+      → IsIn sets n v ⊎ IsSomeNews sets first grown mask (take (k + 1) from) v
   has v e = elim ((d.here v).0 e) [
     | inl old ↦ had v old
     | inr new ↦ elim (cases_eq m n) [
-      | inl own ↦ had v (subst (λ j. IsIn mid j v) own new.1)
-      | inr other ↦ inr (
-        new.0,
-        (any_next (λ j. IsIn sets j v) from k m less is).1
-            (inr (sym (ap (λ bs. item bs v) (h.others m other)) ∙ new.1)),
-      )
+      | inl own ↦ had v (subst (λ j. IsIn mid j v) own new.1.1)
+      | inr other ↦ inr ((next v).1
+          (inr (new.0, (new.1.0, sym (ap (λ bs. item bs v) (h.others m other)) ∙ new.1.1))))
     ]
   ]
 
-  gets : (v : ℕ) → IsIn sets n v ⊎ (IsKept mask v × IsInSome sets (take (k + 1) from) v)
+  stays : (v : ℕ) → IsIn sets n v → IsIn after n v
+  stays v e = (d.here v).1 (inl ((h.here v).1 (inl e)))
+
+  gets : (v : ℕ) → IsIn sets n v ⊎ IsSomeNews sets first grown mask (take (k + 1) from) v
       → IsIn after n v
   gets v either = elim either [
-    | inl first ↦ (d.here v).1 (inl ((h.here v).1 (inl first)))
-    | inr drawn ↦ elim ((any_next (λ j. IsIn sets j v) from k m less is).0 drawn.1) [
-      | inl old ↦ (d.here v).1 (inl ((h.here v).1 (inr (drawn.0, old))))
+    | inl start ↦ stays v start
+    | inr drawn ↦ elim ((next v).0 drawn) [
+      | inl old ↦ (d.here v).1 (inl ((h.here v).1 (inr old)))
       | inr new ↦ elim (cases_eq m n) [
-        | inl own ↦ (d.here v).1 (inl ((h.here v).1 (inl (subst (λ j. IsIn sets j v) own new))))
-        | inr other ↦ (d.here v).1 (inr (drawn.0, ap (λ bs. item bs v) (h.others m other) ∙ new))
+        | inl own ↦ stays v (subst (λ j. IsIn sets j v) own new.1.1)
+        | inr other ↦ (d.here v).1
+            (inr (new.0, (new.1.0, ap (λ bs. item bs v) (h.others m other) ∙ new.1.1)))
       ]
     ]
   ]
 
   pub HasGained-more : HasGained sets n
-      (λ v. IsKept mask v × IsInSome sets (take (k + 1) from) v) after (a || b)
+      (IsSomeNews sets first grown mask (take (k + 1) from)) after (a || b)
   HasGained-more = record {
     shape = HaveShape-trans h.shape d.shape;
     here = λ v. (has v, gets v);

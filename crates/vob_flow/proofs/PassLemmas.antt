@@ -1,11 +1,10 @@
 -- The turns of a pass, one after another.
-use Rattle.std.proofs.Common.{◌≡◌, ◌≢◌, ◌↔◌, ℕ, ◌+◌, ◌*◌, ◌^◌, ◌-◌, ◌<◌, ◌≤◌, ◌⊎◌, Bool, true, false, inl, inr}
-use Rattle.std.proofs.Common.{List, [], length, get_or, Some, slice_get, refl, sym, ap, ◌∙◌, subst, arith}
+use Rattle.std.proofs.Common.{◌≡◌, ◌≢◌, ◌↔◌, ℕ, ◌+◌, ◌*◌, ◌^◌, ◌-◌, ◌<◌, ◌≤◌, Bool, true, false, inl, inr}
+use Rattle.std.proofs.Common.{List, [], length, get_or, Some, slice_get, refl, sym, ap, ◌∙◌, arith}
 use Rattle.std.proofs.Common.{mul-le-mul_left}
 use Rattle.std.proofs.lemmas.Bool.{cases_eq, false≢true, false_from_ne_true}
 use Rattle.std.proofs.lemmas.List.{length-map, get_or_default}
 use Rattle.vob_block.specs.Packing.{item}
-use Rattle.vob.specs.Bits.{IsWritten}
 use Rattle.vob.specs.Sets.{HasBit}
 use Rattle.vob.specs.Vob.{BitVector}
 use Rattle.vob.specs.Vobs.{AreOfLength, bits_of, total_count}
@@ -14,8 +13,8 @@ use Rattle.vob.proofs.VobsLemmas.{of_length_at, total_count_at_most}
 use Rattle.vob_flow.specs.declared.draw.Draw.{Draw}
 use Rattle.vob_flow.specs.Draws.{HaveShape}
 use Rattle.vob_flow.specs.Order.{IsOrder}
-use Rattle.vob_flow.specs.Passes.{HasDrawn, HasGained, IsDone, IsSince, IsWaiting, AreUnderway, HadTurn, AreMore, HadTurns, HadPass, HasGrown}
-use Rattle.vob_flow.proofs.AnyLemmas.{Any-map}
+use Rattle.vob_flow.specs.Gains.{HadTurn, HasGained}
+use Rattle.vob_flow.specs.Passes.{AreMore, HadPass, HadTurns}
 use Rattle.vob_flow.proofs.UnderwayLemmas.{HaveShape-refl, HaveShape-trans, AreUnderway-turn, AreUnderway-again, place_inside, place_other}
 
 -- ---- as many sets, as long as before
@@ -35,9 +34,9 @@ total_le : (grew : Bool) (sets after : List (List Bool)) → (grew ≡ false →
 total_le true sets after same more = omega (arith, more refl)
 total_le false sets after same more = omega (arith, ap total_count (same refl))
 
-AreMore-drawn : {sets after : List (List Bool)} {n : ℕ} {P : ℕ → Type 0} {grew : Bool} →
+AreMore-gained : {sets after : List (List Bool)} {n : ℕ} {P : ℕ → Type 0} {grew : Bool} →
     HasGained sets n P after grew → AreMore sets after
-AreMore-drawn {sets} {after} {n} {P} {grew} d = record {
+AreMore-gained {sets} {after} {n} {P} {grew} d = record {
   shape = d.shape;
   total = total_le grew sets after d.same d.more;
 }
@@ -69,34 +68,6 @@ product_fits n places few small =
     omega (arith, mul-le-mul_left places at_most)
 
 -- ---- a turn
-
--- a set that has all that it draws is as if it had been looked at
-HasDrawn-done : (sets : List (List Bool)) (n : ℕ) (draw : Draw) → IsDone sets n draw →
-    HasDrawn sets n draw sets false
-HasDrawn-done sets n draw done = record {
-  shape = HaveShape-refl sets;
-  here = λ v. (
-    (λ e. inl e),
-    (λ either. elim either [ inl old ↦ old | inr new ↦ done v new ]),
-  );
-  others = λ k other. refl;
-  same = λ e. refl;
-  more = λ e. absurd (false≢true e);
-}
-
--- a set that waits for nothing is done
-waits_for_nothing : {place : ℕ → ℕ} (sets : List (List Bool)) (first : Bool) (grown : List Bool)
-    (i k : ℕ) (draw : Draw) → first ≡ false → ¬ HasGrown grown draw.from.now →
-    IsDone sets k draw ⊎ IsWaiting place first grown i (place k) draw → IsDone sets k draw
-waits_for_nothing {place} sets first grown i k draw quiet none which = elim which [
-  | inl done ↦ done
-  | inr waiting ↦ elim waiting [
-    | inl f ↦ absurd (false≢true (sym quiet ∙ f.0))
-    | inr any ↦ absurd (none (Any-map
-        (λ m. IsSince i (place k) (place m) × (item grown m ≡ true))
-        (λ m. item grown m ≡ true) draw.from.now (λ m p. p.1) any))
-  ]
-]
 
 module _ {count : ℕ} {order : List ℕ} (one : IsOrder count order) {draws : List Draw} {first : Bool}
     {sets : List (List Bool)} {grown : List Bool} {mid : List (List Bool)} {grown_mid : List Bool}
@@ -134,40 +105,15 @@ module _ {count : ℕ} {order : List ℕ} (one : IsOrder count order) {draws : L
       ∙ h.same (λ m low. sym (t.written.others m (λ e. omega (arith, ap one.place e, here, low)))
       ∙ none m (omega (arith, low)))
 
-  turns_drawn : HasDrawn mid n draw after t.grew →
-      HadTurns one.place draws first sets grown after grown' (i + 1)
-  turns_drawn d = record {
-    sets_more = AreMore-trans h.sets_more (AreMore-drawn d);
+  pub HadTurns-more : HadTurns one.place draws first sets grown after grown' (i + 1)
+  HadTurns-more = record {
+    sets_more = AreMore-trans h.sets_more (AreMore-gained t.drawn);
     len = t.written.len ∙ h.len;
     underway = λ starts u. AreUnderway-turn draw (h.underway starts u) at here
-        (λ k inside. apart k (omega (arith, inside, few))) d t.written;
-    more = turns_more (AreMore-drawn d) d.more;
-    same = turns_same d.same;
+        (λ k inside. apart k (omega (arith, inside, few))) t.drawn t.written;
+    more = turns_more (AreMore-gained t.drawn) t.drawn.more;
+    same = turns_same t.drawn.same;
   }
-
-  turns_left : after ≡ mid → t.grew ≡ false → first ≡ false → ¬ HasGrown grown_mid draw.from.now →
-      HadTurns one.place draws first sets grown after grown' (i + 1)
-  turns_left same quiet second none = record {
-    sets_more = subst (λ (xs : List (List Bool)). AreMore sets xs) (sym same) h.sets_more;
-    len = t.written.len ∙ h.len;
-    underway = λ starts u.
-        let now = h.underway starts u in
-        let done = waits_for_nothing mid first grown_mid i n draw second none (now.waits n draw at) in
-        subst (λ (xs : List (List Bool)).
-        AreUnderway one.place draws starts xs first grown' (i + 1)) (sym same)
-        (AreUnderway-turn draw now at here (λ k inside. apart k (omega (arith, inside, few)))
-        (HasDrawn-done mid n draw done)
-        (subst (λ (b : Bool). IsWritten grown_mid n b grown') quiet t.written));
-    more = turns_more (subst (λ (xs : List (List Bool)). AreMore mid xs) (sym same)
-        (AreMore-refl mid)) (λ up. absurd (false≢true (sym quiet ∙ up)));
-    same = turns_same (λ _. same);
-  }
-
-  pub HadTurns-more : HadTurns one.place draws first sets grown after grown' (i + 1)
-  HadTurns-more = elim t.drawn [
-    | inl d ↦ turns_drawn d
-    | inr left ↦ turns_left left.0 left.1 left.2 left.3
-  ]
 
 pub HadTurns-start : (place : ℕ → ℕ) (draws : List Draw) (first : Bool) (sets : List (List Bool))
     (grown : List Bool) → HadTurns place draws first sets grown sets grown 0

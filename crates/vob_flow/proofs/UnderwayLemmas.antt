@@ -11,8 +11,9 @@ use Rattle.vob_flow.specs.declared.draw.Draw.{Draw}
 use Rattle.vob_flow.specs.Draws.{IsIn, IsDrawn, Comes, HaveShape, AreLeast}
 use Rattle.vob_flow.specs.Draws.Comes.{starts_in, drawn}
 use Rattle.vob_flow.specs.Order.{IsOrder}
-use Rattle.vob_flow.specs.Passes.{HasDrawn, IsDone, IsSince, IsWaiting, AreUnderway}
-use Rattle.vob_flow.proofs.AnyLemmas.{Any-map, Any-here_or, Any-contained, contained_or}
+use Rattle.vob_flow.specs.Gains.{HasGained, HasNews, IsNews, IsSomeNews}
+use Rattle.vob_flow.specs.Passes.{HasAllOf, IsSince, IsWaiting, AreUnderway}
+use Rattle.vob_flow.proofs.AnyLemmas.{Any-contained}
 
 -- an element is one element
 pub same_at : {X : Type 0} (xs : List X) (n k : ℕ) (a b : X) → n ≡ k → slice_get xs n ≡ Some a →
@@ -56,7 +57,8 @@ module _ {place : ℕ → ℕ} {draws : List Draw} {starts sets after : List (Li
     {grown grown' : List Bool} {i n : ℕ} (draw : Draw) {grew : Bool}
     (h : AreUnderway place draws starts sets first grown i) (at : slice_get draws n ≡ Some draw)
     (here : place n ≡ i) (apart : (k : ℕ) → k < length draws → k ≢ n → place k ≢ i)
-    (d : HasDrawn sets n draw after grew) (w : IsWritten grown n grew grown') where
+    (d : HasGained sets n (IsSomeNews sets first grown draw.mask draw.from.now) after grew)
+    (w : IsWritten grown n grew grown') where
   -- v in set k, which isn't set n
   other_in : (k v : ℕ) → k ≢ n → IsIn after k v → IsIn sets k v
   other_in k v other e = sym (ap (λ row. item row v) (d.others k other)) ∙ e
@@ -68,14 +70,12 @@ module _ {place : ℕ → ℕ} {draws : List Draw} {starts sets after : List (Li
     | inr other ↦ ap (λ row. item row v) (d.others k other) ∙ e
   ]
 
-  comes_drawn : (v : ℕ) → IsDrawn sets draw v → Comes draws starts n v
-  comes_drawn v (keeps, (k, m, less, is, e)) =
-      drawn draw at keeps (k, less, is) (h.comes m v e)
-
   comes_here : (v : ℕ) → IsIn after n v → Comes draws starts n v
   comes_here v e = elim ((d.here v).0 e) [
     | inl old ↦ h.comes n v old
-    | inr new ↦ comes_drawn v new
+    | inr new ↦
+        let of = new.4 in
+        drawn draw at of.1.0 (new.0, new.2, new.3) (h.comes new.1 v of.1.1)
   ]
 
   comes_after : (k v : ℕ) → IsIn after k v → Comes draws starts k v
@@ -85,22 +85,30 @@ module _ {place : ℕ → ℕ} {draws : List Draw} {starts sets after : List (Li
     | inr other ↦ h.comes k v (other_in k v other e)
   ]
 
-  -- the set whose turn it was is done
-  done_here : IsDone after n draw
-  done_here v (keeps, any) =
-      elim (Any-here_or (λ m. IsIn after m v) (λ m. IsIn sets m v) n draw.from.now
-      (λ m other e. other_in m v other e) any) [
-        | inl old ↦ (d.here v).1 (inr (keeps, old))
-        | inr this ↦ this.1
-      ]
+  -- a set that it waits for has news
+  news_of : (m : ℕ) → IsWaiting place first grown i (place n) m → HasNews first grown m
+  news_of m which = elim which [ inl f ↦ inl f.0 | inr since ↦ inr since.1 ]
 
-  -- another one that was done is so still, or draws from it
-  module _ (k : ℕ) (there : Draw) (is : slice_get draws k ≡ Some there) (other : k ≢ n) where
+  -- the set whose turn it was has all that it draws
+  done_here : (m : ℕ) → Contains draw.from.now m → HasAllOf after n draw.mask m
+  done_here m within v through = elim (cases_eq m n) [
+    | inl own ↦ subst (λ j. IsIn after j v) own through.1
+    | inr other ↦
+        elim (h.waits n m draw at within) [
+          | inl done ↦ (d.here v).1 (inl (done v (through.0, other_in m v other through.1)))
+          | inr waiting ↦ (d.here v).1 (inr (Any-contained
+              (λ j. IsNews sets first grown draw.mask j v) draw.from.now m within
+              (news_of m waiting, (through.0, other_in m v other through.1))))
+        ]
+  ]
+
+  -- another one that had all of set m has so still, or is to draw from it
+  module _ (k m : ℕ) (there : Draw) (is : slice_get draws k ≡ Some there) (other : k ≢ n) where
     away : place k ≢ i
     away = apart k (slice_get_within draws k there is) other
 
-    since_other : (m : ℕ) → IsSince i (place k) (place m) → m ≢ n
-    since_other m s e =
+    since_other : IsSince i (place k) (place m) → m ≢ n
+    since_other s e =
         let same : place m ≡ i = ap place e ∙ here in
         elim (cases_lt (place k) i) [
           | inl less ↦ absurd (omega (arith, (s.early less).1, same))
@@ -110,8 +118,8 @@ module _ {place : ℕ → ℕ} {draws : List Draw} {starts sets after : List (Li
           ]
         ]
 
-    since_next : (m : ℕ) → IsSince i (place k) (place m) → IsSince (i + 1) (place k) (place m)
-    since_next m s = record {
+    since_next : IsSince i (place k) (place m) → IsSince (i + 1) (place k) (place m)
+    since_next s = record {
       early = λ less.
           let below : place k < i = elim (cases_lt (place k) i) [
             | inl low ↦ low
@@ -124,8 +132,8 @@ module _ {place : ℕ → ℕ} {draws : List Draw} {starts sets after : List (Li
       ];
     }
 
-    still_waiting : IsWaiting place first grown i (place k) there →
-        IsWaiting place first grown' (i + 1) (place k) there
+    still_waiting : IsWaiting place first grown i (place k) m →
+        IsWaiting place first grown' (i + 1) (place k) m
     still_waiting which = elim which [
       | inl f ↦ inl (
         f.0,
@@ -134,52 +142,47 @@ module _ {place : ℕ → ℕ} {draws : List Draw} {starts sets after : List (Li
           | inr past ↦ absurd (away (omega (arith, past, f.1)))
         ],
       )
-      | inr any ↦ inr (Any-map (λ m. IsSince i (place k) (place m) × (item grown m ≡ true))
-          (λ m. IsSince (i + 1) (place k) (place m) × (item grown' m ≡ true)) there.from.now
-          (λ m p. (since_next m p.0, w.others m (since_other m p.0) ∙ p.1)) any)
+      | inr since ↦ inr (since_next since.0, w.others m (since_other since.0) ∙ since.1)
     ]
 
-    since_here : IsSince (i + 1) (place k) (place n)
-    since_here = record {
-      early = λ less. (omega (arith, less, here), omega (arith, here));
-      late = λ past. inl (omega (arith, here));
-    }
+    since_here : m ≡ n → IsSince (i + 1) (place k) (place m)
+    since_here same =
+        let at_i : place m ≡ i = ap place same ∙ here in
+        record {
+          early = λ less. (omega (arith, less, at_i), omega (arith, at_i));
+          late = λ past. inl (omega (arith, at_i));
+        }
 
-    -- set n grew: set k has none of it, or is to be looked at
-    done_or : grew ≡ true → IsDone sets k there →
-        Contains there.from.now n ⊎ (¬ Contains there.from.now n) →
-        IsDone after k there ⊎ IsWaiting place first grown' (i + 1) (place k) there
-    done_or up done cases = elim cases [
-      | inl within ↦ inr (inr (Any-contained
-          (λ m. IsSince (i + 1) (place k) (place m) × (item grown' m ≡ true))
-          there.from.now n within (since_here, w.there ∙ up)))
-      | inr without ↦ inl (λ v draws_it.
-          elim (Any-here_or (λ m. IsIn after m v) (λ m. IsIn sets m v) n there.from.now
-          (λ m o e. other_in m v o e) draws_it.1) [
-            | inl old ↦ kept_in k v (done v (draws_it.0, old))
-            | inr this ↦ absurd (without this.0)
-          ])
-    ]
-
-    pub waits_other : IsDone sets k there ⊎ IsWaiting place first grown i (place k) there →
-        IsDone after k there ⊎ IsWaiting place first grown' (i + 1) (place k) there
-    waits_other which = elim which [
-      | inl done ↦ elim (cases_Bool grew) [
-        | inl up ↦ done_or up done (contained_or n there.from.now)
-        | inr quiet ↦ inl (subst (λ (xs : List (List Bool)). IsDone xs k there)
+    -- set n is set m, or it isn't
+    done_or : HasAllOf sets k there.mask m →
+        HasAllOf after k there.mask m ⊎ IsWaiting place first grown' (i + 1) (place k) m
+    done_or done = elim (cases_eq m n) [
+      | inl same ↦ elim (cases_Bool grew) [
+        | inl up ↦ inr (inr (since_here same, ap (item grown') same ∙ w.there ∙ up))
+        | inr quiet ↦ inl (subst (λ (xs : List (List Bool)). HasAllOf xs k there.mask m)
             (sym (d.same quiet)) done)
       ]
+      | inr apart_m ↦ inl (λ v through.
+          kept_in k v (done v (through.0, other_in m v apart_m through.1)))
+    ]
+
+    pub waits_other : HasAllOf sets k there.mask m ⊎ IsWaiting place first grown i (place k) m →
+        HasAllOf after k there.mask m ⊎ IsWaiting place first grown' (i + 1) (place k) m
+    waits_other which = elim which [
+      | inl done ↦ done_or done
       | inr waiting ↦ inr (still_waiting waiting)
     ]
 
-  waits_after : (k : ℕ) (there : Draw) → slice_get draws k ≡ Some there →
-      IsDone after k there ⊎ IsWaiting place first grown' (i + 1) (place k) there
-  waits_after k there is = elim (cases_eq k n) [
+  waits_after : (k m : ℕ) (there : Draw) → slice_get draws k ≡ Some there →
+      Contains there.from.now m →
+      HasAllOf after k there.mask m ⊎ IsWaiting place first grown' (i + 1) (place k) m
+  waits_after k m there is within = elim (cases_eq k n) [
     | inl same ↦
-        let this = same_at draws n k draw there (sym same) at is in
-        inl (subst (λ (x : Draw). IsDone after k x) this
-        (subst (λ j. IsDone after j draw) (sym same) done_here))
-    | inr other ↦ waits_other k there is other (h.waits k there is)
+        let this = same_at draws k n there draw same is at in
+        let done = done_here m (subst (λ (x : Draw). Contains x.from.now m) this within) in
+        inl (subst (λ (x : Draw). HasAllOf after k x.mask m) (sym this)
+        (subst (λ j. HasAllOf after j draw.mask m) (sym same) done))
+    | inr other ↦ waits_other k m there is other (h.waits k m there is within)
   ]
 
   pub AreUnderway-turn : AreUnderway place draws starts after first grown' (i + 1)
@@ -198,7 +201,7 @@ AreUnderway-start place draws starts grown = record {
   shape = HaveShape-refl starts;
   kept = λ n v e. e;
   comes = λ n v e. starts_in e;
-  waits = λ k draw is. inr (inl (refl, omega arith));
+  waits = λ k m draw is within. inr (inl (refl, omega arith));
 }
 
 -- after the last turn of a pass, another one begins
@@ -211,22 +214,19 @@ AreUnderway-again {place} {draws} {starts} {sets} {first} {grown} {i} h past = r
   shape = h.shape;
   kept = h.kept;
   comes = h.comes;
-  waits = λ k draw is.
+  waits = λ k m draw is within.
       let inside = past k (slice_get_within draws k draw is) in
-      elim (h.waits k draw is) [
+      elim (h.waits k m draw is within) [
         | inl done ↦ inl done
         | inr waiting ↦ elim waiting [
           | inl f ↦ absurd (omega (arith, f.1, inside))
-          | inr any ↦ inr (inr (Any-map
-              (λ m. IsSince i (place k) (place m) × (item grown m ≡ true))
-              (λ m. IsSince 0 (place k) (place m) × (item grown m ≡ true)) draw.from.now
-              (λ m p. (
-                record {
-                  early = λ less. absurd (omega (arith, less));
-                  late = λ _. inr (p.0.early inside).0;
-                },
-                p.1,
-              )) any))
+          | inr since ↦ inr (inr (
+            record {
+              early = λ less. absurd (omega (arith, less));
+              late = λ _. inr (since.0.early inside).0;
+            },
+            since.1,
+          ))
         ]
       ];
 }
@@ -235,22 +235,23 @@ AreUnderway-again {place} {draws} {starts} {sets} {first} {grown} {i} h past = r
 pub AreUnderway-done : {place : ℕ → ℕ} {draws : List Draw} {starts sets : List (List Bool)}
     {grown : List Bool} → AreUnderway place draws starts sets false grown 0 →
     ((m : ℕ) → item grown m ≡ false) →
-    (k : ℕ) (draw : Draw) → slice_get draws k ≡ Some draw → IsDone sets k draw
-AreUnderway-done {grown = grown} h none k draw is = elim (h.waits k draw is) [
+    (k m : ℕ) (draw : Draw) → slice_get draws k ≡ Some draw → Contains draw.from.now m →
+    HasAllOf sets k draw.mask m
+AreUnderway-done {grown = grown} h none k m draw is within = elim (h.waits k m draw is within) [
   | inl done ↦ done
   | inr waiting ↦ elim waiting [
     | inl f ↦ absurd (false≢true f.0)
-    | inr any ↦ absurd (false≢true (sym (none any.1) ∙ any.4.1))
+    | inr since ↦ absurd (false≢true (sym (none m) ∙ since.1))
   ]
 ]
 
 module _ {place : ℕ → ℕ} {draws : List Draw} {starts sets : List (List Bool)} {first : Bool}
     {grown : List Bool} {i : ℕ} (h : AreUnderway place draws starts sets first grown i)
-    (done : (k : ℕ) (draw : Draw) → slice_get draws k ≡ Some draw → IsDone sets k draw) where
+    (done : (k m : ℕ) (draw : Draw) → slice_get draws k ≡ Some draw → Contains draw.from.now m →
+    HasAllOf sets k draw.mask m) where
   all_in : {n v : ℕ} → Comes draws starts n v → IsIn sets n v
   all_in (starts_in e) = h.kept _ _ e
-  all_in (drawn draw is keeps (k, less, e) c) =
-      done _ draw is _ (keeps, (k, _, less, e, all_in c))
+  all_in (drawn draw is keeps within c) = done _ _ draw is within _ (keeps, all_in c)
 
   drawn_in : (n v : ℕ) (draw : Draw) → slice_get draws n ≡ Some draw → Comes draws starts n v →
       IsIn starts n v ⊎ IsDrawn sets draw v
@@ -266,8 +267,10 @@ module _ {place : ℕ → ℕ} {draws : List Draw} {starts sets : List (List Boo
       meets = λ n v draw is. (
         (λ e. drawn_in n v draw is (h.comes n v e)),
         (λ either. elim either [
-          | inl first ↦ h.kept n v first
-          | inr new ↦ done n draw is v new
+          | inl start ↦ h.kept n v start
+          | inr new ↦
+              let of = new.1 in
+              done n of.1 draw is (of.0, of.2, of.3) v (new.0, of.4)
         ]),
       );
     };

@@ -5,6 +5,7 @@ pub mod Dominators
 pub mod Draws
 pub mod EntryDraws
 pub mod FlowFaults
+pub mod Gains
 pub mod Gathered
 pub mod Greatest
 pub mod Laws

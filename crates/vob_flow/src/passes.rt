@@ -1,15 +1,17 @@
-//! Passes over sets that draw from one another. A pass looks again only at those sets that draw
-//! from one that grew since they were looked at.
-ghost use Rattle.std.specs.Prelude.{◌≡◌, ◌↔◌, ◌⊎◌, ◌<◌, length, All, IsTrue};
+//! Passes over sets that draw from one another. A pass looks again only at those sets that grew since
+//! they were looked at.
+ghost use Rattle.std.specs.Prelude.{◌≡◌, ◌↔◌, ◌<◌, length, All, IsTrue};
 ghost use Rattle.vob.specs.Vobs.{AreOfLength, bits_of};
 ghost use Rattle.vob_flow.specs.Draws.{AreLeast, DrawsInside, FitsMask, TakePasses};
+ghost use Rattle.vob_flow.specs.Gains.{HadTurn, HasGained, HasNews, IsAdded, IsLetThrough, IsNews, IsSomeNews};
 ghost use Rattle.vob_flow.specs.Order.{IsOrder};
-ghost use Rattle.vob_flow.specs.Passes.{HadPass, HadTurn, HasDrawn, HasGained, HasGrown, IsAdded, IsLetThrough};
+ghost use Rattle.vob_flow.specs.Passes.{HadPass};
 
 use crate::draw::{Draw, Mask};
 use vob::Vob;
 
 /// Adds to a set what a mask lets through of another, and returns whether that was more.
+#[inline(always)]
 fn add(set: &mut Vob, source: &Vob, mask: &Mask<'_>) -> bool
     requires source { length source.now.bits ≡ length set.old.bits }
     requires mask { FitsMask (length set.old.bits) mask.now }
@@ -23,8 +25,19 @@ fn add(set: &mut Vob, source: &Vob, mask: &Mask<'_>) -> bool
 }
 
 /// Adds to a set what a mask lets through of another of them, and returns whether that was more. From
-/// itself it gets nothing.
-fn add_from(sets: &mut [Vob], set: usize, source: usize, mask: &Mask<'_>, _places: usize) -> bool
+/// itself it gets nothing. `_grown` and `_first` say by `news` alone that no set is looked at for
+/// nothing.
+#[inline(always)]
+fn add_from(
+    sets: &mut [Vob],
+    set: usize,
+    source: usize,
+    mask: &Mask<'_>,
+    _places: usize,
+    _grown: &Vob,
+    _first: bool,
+) -> bool
+    requires news { HasNews _first _grown.now.bits source }
     requires set { set < length sets.old }
     requires source { source < length sets.old }
     requires mask { FitsMask _places mask.now }
@@ -43,40 +56,69 @@ fn add_from(sets: &mut [Vob], set: usize, source: usize, mask: &Mask<'_>, _place
     }
 }
 
-/// Adds to a set what it draws, and returns whether that was more. `_grown` and `_first` say by
-/// `waits` alone that no set is looked at for nothing.
+/// Whether a set has news for those that draw from it: in the first pass, or as it grew.
+#[inline(always)]
+fn has_news(source: usize, grown: &Vob, first: bool) -> bool
+    requires { source < length grown.now.bits }
+    ensures { IsTrue result ↔ HasNews first grown.now.bits source }
+{
+    first || grown.get_unchecked(source)
+}
+
+/// Adds to a set what a mask lets through of another of them, if that has news, and returns whether
+/// that was more.
+#[inline(always)]
+fn add_news(
+    sets: &mut [Vob],
+    set: usize,
+    source: usize,
+    mask: &Mask<'_>,
+    places: usize,
+    grown: &Vob,
+    first: bool,
+) -> bool
+    requires set { set < length sets.old }
+    requires source { source < length sets.old }
+    requires mask { FitsMask places mask.now }
+    requires long { AreOfLength places (bits_of sets.old) }
+    requires grown { length grown.now.bits ≡ length sets.old }
+    ensures { HasGained (bits_of sets.old) set
+        (IsNews (bits_of sets.old) first grown.now.bits mask.now source) (bits_of sets.new) result }
+{
+    if has_news(source, grown, first) {
+        add_from(sets, set, source, mask, places, grown, first)
+    } else {
+        false
+    }
+}
+
+/// Adds to a set what it draws from the sets that have news, and returns whether that was more.
 fn draw_set(
     sets: &mut [Vob],
     set: usize,
     draw: &Draw<'_>,
     places: usize,
-    _grown: &Vob,
-    _first: bool,
+    grown: &Vob,
+    first: bool,
 ) -> bool
-    requires waits { IsTrue _first ⊎ HasGrown _grown.now.bits draw.now.from.now }
     requires set { set < length sets.old }
     requires mask { FitsMask places draw.now.mask }
     requires from { DrawsInside (length sets.old) draw.now }
     requires long { AreOfLength places (bits_of sets.old) }
-    ensures { HasDrawn (bits_of sets.old) set draw.now (bits_of sets.new) result }
+    requires grown { length grown.now.bits ≡ length sets.old }
+    ensures { HasGained (bits_of sets.old) set (IsSomeNews (bits_of sets.old) first grown.now.bits
+        draw.now.mask draw.now.from.now) (bits_of sets.new) result }
 {
     let mut grew = false;
     for source in draw.from {
-        grew |= add_from(sets, set, *source, &draw.mask, places);
+        grew |= add_news(sets, set, *source, &draw.mask, places, grown, first);
     }
     grew
 }
 
-/// Whether one of the sets with these numbers grew.
-fn any_grown(from: &[usize], grown: &Vob) -> bool
-    requires { All (λ m. m < length grown.now.bits) from.now }
-    ensures { IsTrue result ↔ HasGrown grown.now.bits from.now }
-{
-    from.iter().any(|set| grown.get_unchecked(*set))
-}
-
-/// Gives a set its turn: in the first pass, and where one that it draws from grew since its last
-/// turn, it gets what it draws. `grown` has a bit for each set: whether it grew at its latest turn.
+/// Gives a set its turn: it gets what it draws from the sets that have news. `grown` has a bit for each
+/// set: whether it grew at its latest turn.
+#[inline(always)]
 fn turn(sets: &mut [Vob], set: usize, draw: &Draw<'_>, places: usize, grown: &mut Vob, first: bool)
     requires set { set < length sets.old }
     requires mask { FitsMask places draw.now.mask }
@@ -86,8 +128,7 @@ fn turn(sets: &mut [Vob], set: usize, draw: &Draw<'_>, places: usize, grown: &mu
     ensures { HadTurn (bits_of sets.old) grown.old.bits set draw.now first
         (bits_of sets.new) grown.new.bits }
 {
-    let looks = first || any_grown(draw.from, grown);
-    let grew = looks && draw_set(sets, set, draw, places, grown, first);
+    let grew = draw_set(sets, set, draw, places, grown, first);
     grown.set(set, grew);
 }
 

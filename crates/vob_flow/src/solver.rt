@@ -36,9 +36,9 @@ pub(crate) fn solve(
 }
 
 /// Adds to each set what its mask lets through of the sets that it draws from, until none grows.
-/// Returns the number of passes over all sets. A pass looks again only at sets that draw from one
-/// that grew since their last turn. There is one draw for each set, and each set and mask must have a
-/// bit for each of the places.
+/// Returns the number of passes over all sets. A pass draws again only from sets that grew since they
+/// were drawn from. There is one draw for each set, and each set and mask must have a bit for each of
+/// the places.
 ///
 /// Fails with the first set that doesn't, or whose mask doesn't, or that draws from a set that isn't
 /// there. Fails if memory runs out. A failed call changes nothing.

@@ -4,7 +4,7 @@ use Rattle.vob_block.specs.Pointwise.{pointwise, without}
 use Rattle.vob_flow.specs.declared.draw.Mask.{Mask}
 use Rattle.vob_flow.specs.declared.draw.Mask.TheVariants.{Keep, Without}
 use Rattle.vob_flow.specs.Draws.{FitsMask}
-use Rattle.vob_flow.specs.Passes.{IsAdded}
+use Rattle.vob_flow.specs.Gains.{IsAdded}
 use Rattle.vob_flow.proofs.DrawLemmas.{IsAdded-by, kept_of, left_of}
 use Rattle.vob_flow.proofs.passes.add.Goals as goal
 

@@ -1,7 +1,9 @@
 -- The sets are cut in two parts, one set in either; or the set is the same one.
-use Rattle.std.proofs.Common.{◌∙◌, sym, subst, arith}
-use Rattle.vob_flow.specs.Draws.{FitsMask}
-use Rattle.vob_flow.proofs.DrawLemmas.{HasGained-added, HasGained-own}
+use Rattle.std.proofs.Common.{◌∙◌, ◌≡◌, sym, subst, arith}
+use Rattle.vob.specs.Vobs.{bits_of}
+use Rattle.vob_flow.specs.Draws.{FitsMask, IsIn}
+use Rattle.vob_flow.specs.Gains.{IsLetThrough}
+use Rattle.vob_flow.proofs.DrawLemmas.{HasGained-added, HasGained-none}
 use Rattle.vob_flow.proofs.HalvesLemmas.{bits-low, bits-high, long-low, long-high, set-low, set-high}
 use Rattle.vob_flow.proofs.passes.add_from.Goals as goal
 
@@ -47,4 +49,7 @@ returns-then-source-set c =
 
 pub returns-else-source-set : goal.returns-else-source-set
 returns-else-source-set c =
-    HasGained-own _ c.args.set c.args.source c.args.mask.now (omega arith)
+    let own : c.args.source ≡ c.args.set = omega arith in
+    let sets = bits_of c.args.sets.now in
+    HasGained-none sets c.args.set (IsLetThrough sets c.args.mask.now c.args.source)
+    (λ v p. subst (λ k. IsIn sets k v) own p.1)
