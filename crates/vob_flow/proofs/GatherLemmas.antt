@@ -22,3 +22,17 @@ module _ (places n : ℕ) (sums : List BitVector)
       All (λ sum. AreOfLength (length sum.bits) sets) sums
   empty_beside sets long k d less i e low =
       long i e low ∙ sym (vob_long places sums k d empty_long less)
+
+-- copies of some Vobs
+pub copies_count : (copies sets : List BitVector) → bits_of copies ≡ bits_of sets →
+    length copies ≡ length sets
+copies_count copies sets same =
+    sym (length-map copies (λ v. v.bits)) ∙ ap length same ∙ length-map sets (λ v. v.bits)
+
+-- each is as long as others
+pub copies_beside : (places : ℕ) (copies sets : List BitVector) → bits_of copies ≡ bits_of sets →
+    AreOfLength places (bits_of sets) → (others : List (List Bool)) →
+    AreOfLength places others → All (λ copy. AreOfLength (length copy.bits) others) copies
+copies_beside places copies sets same long others other_long k d less i e low =
+    let copies_long = subst (λ (lists : List (List Bool)). AreOfLength places lists) (sym same) long in
+    other_long i e low ∙ sym (vob_long places copies k d copies_long less)

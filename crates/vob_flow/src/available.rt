@@ -4,14 +4,15 @@ ghost use Rattle.vob.specs.Vobs.{bits_of};
 ghost use Rattle.vob_flow.specs.Available.{AreAvailable, AreVeryBusy, HoldOnAll};
 ghost use Rattle.vob_flow.specs.SolveFaults.{IsBadLength, IsBadSet};
 
-use crate::complement::solve_greatest;
+use crate::complement::{copies, solve_beside};
 use crate::draw::Draw;
 use crate::faults::{SolveError, check_sets};
-use crate::gather::{empty_sets, intersect_each};
+use crate::gather::intersect_each;
 use std::alloc::Global;
 use vob::Vob;
 
-/// Makes the far side of each node what the equations ask for, and returns the near sides.
+/// Makes the far side of each node what the equations ask for, and returns the near sides. These hold
+/// what the far sides start with until it isn't needed.
 fn flow_on_all(
     alloc: Global,
     places: usize,
@@ -29,8 +30,8 @@ fn flow_on_all(
     ensures memory { result ≡ Err SolveError.Memory → far.old ≢ [] }
 {
     check_sets(places, far, flows)?;
-    let mut near = empty_sets(alloc, places, far.len())?;
-    solve_greatest(alloc, places, far, flows)?;
+    let mut near = copies(alloc, far)?;
+    solve_beside(alloc, places, far, flows, &near)?;
     intersect_each(&mut near, flows, far);
     Ok(near)
 }

@@ -52,9 +52,10 @@ fn negate_each(sets: &mut [Vob])
     }
 }
 
-/// Returns a copy of each set.
-fn copies(alloc: Global, sets: &[Vob]) -> Result<Vec<Vob>, AllocError>
-    ensures { IfOk result (λ made. bits_of made.items ≡ bits_of sets.now) }
+/// Returns a copy of each set. No sets take no memory.
+pub(crate) fn copies(alloc: Global, sets: &[Vob]) -> Result<Vec<Vob>, AllocError>
+    ensures copies { IfOk result (λ made. bits_of made.items ≡ bits_of sets.now) }
+    ensures nothing { sets.now ≡ [] → IsOk result }
 {
     let mut made = Vec::with_capacity(alloc, sets.len())?;
     for set in sets {
@@ -90,8 +91,40 @@ fn solve_turned(
     Ok(passes)
 }
 
-/// Makes some sets the greatest that meet their equations. A set draws of what it lacks from the
-/// same sets, and not what it starts with. No sets take no memory.
+/// Makes some sets the greatest that meet their equations, beside copies of what they start with. A
+/// set draws of what it lacks from the same sets, and not what it starts with. No sets take no memory.
+pub(crate) fn solve_beside(
+    alloc: Global,
+    places: usize,
+    sets: &mut [Vob],
+    draws: &[Draw<'_>],
+    starts: &[Vob],
+) -> Result<u128, AllocError>
+    requires count { length draws.now ≡ length sets.old }
+    requires masks { All (λ draw. FitsMask places draw.mask) draws.now }
+    requires from { All (DrawsInside (length sets.old)) draws.now }
+    requires long { AreOfLength places (bits_of sets.old) }
+    requires starts { bits_of starts.now ≡ bits_of sets.old }
+    ensures greatest { OnOk result
+        (AreGreatest places draws.now (bits_of sets.old) (bits_of sets.new)) }
+    ensures passes { IfOk result (IsPassCount places (bits_of sets.old)) }
+    ensures err { OnErr result (sets.new ≡ sets.old) }
+    ensures nothing { sets.old ≡ [] → IsOk result }
+{
+    if sets.is_empty() {
+        return Ok(0);
+    }
+    let mut turned = Vec::with_capacity(alloc, draws.len())?;
+    for set in 0..draws.len() {
+        turned.push(Draw {
+            mask: Mask::Without(&starts[set]),
+            from: draws[set].from,
+        })?;
+    }
+    solve_turned(alloc, places, sets, draws, &turned)
+}
+
+/// Makes some sets the greatest that meet their equations. No sets take no memory.
 pub(crate) fn solve_greatest(
     alloc: Global,
     places: usize,
@@ -108,18 +141,8 @@ pub(crate) fn solve_greatest(
     ensures err { OnErr result (sets.new ≡ sets.old) }
     ensures nothing { sets.old ≡ [] → IsOk result }
 {
-    if sets.is_empty() {
-        return Ok(0);
-    }
     let starts = copies(alloc, sets)?;
-    let mut turned = Vec::with_capacity(alloc, draws.len())?;
-    for set in 0..draws.len() {
-        turned.push(Draw {
-            mask: Mask::Without(&starts[set]),
-            from: draws[set].from,
-        })?;
-    }
-    solve_turned(alloc, places, sets, draws, &turned)
+    solve_beside(alloc, places, sets, draws, &starts)
 }
 
 /// Makes each set the greatest that has what it starts with, and of its mask the places that all sets
