@@ -10,7 +10,7 @@ use Rattle.vob_block.specs.Packing.{item}
 use Rattle.vob.specs.Bits.{IsWritten, count_of, one_of}
 use Rattle.vob.proofs.BitsLemmas.{item_false, true_inside}
 use Rattle.vob_flow.specs.declared.order.Visit.{Visit}
-use Rattle.vob_flow.specs.Order.{IsOrder, IsVisited, sets_of}
+use Rattle.vob_flow.specs.Order.{IsOrder, IsVisited, root_of, sets_of}
 
 -- a place for x
 abbrev moved : (ℕ → ℕ) → ℕ → ℕ → ℕ → ℕ
@@ -154,3 +154,13 @@ waiting_inside {n} {seen} waiting {order} x h =
     let parts = All-pop (λ k. item seen k ≡ true) (waiting ++ x ∷ []) waiting (Some x) refl
     h.seen_waiting in
     omega (arith, true_inside seen x parts.1, h.len)
+
+-- each set is one of those at which an order begins
+pub root_of-root_of : (from_last : Bool) (n k : ℕ) → k < n →
+    root_of from_last n (root_of from_last n k) ≡ k
+root_of-root_of true n k less = omega (arith, less)
+root_of-root_of false n k less = refl
+
+pub root_inside : (from_last : Bool) (n k : ℕ) → k < n → root_of from_last n k < n
+root_inside true n k less = omega (arith, less)
+root_inside false n k less = less

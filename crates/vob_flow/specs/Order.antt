@@ -1,5 +1,5 @@
 -- The order in which sets have their turns. No public clause cites this page.
-use Rattle.std.specs.Prelude.{◌≡◌, ◌⊎◌, ℕ, ◌+◌, ◌*◌, ◌^◌, ◌<◌, Bool, true, false, List, length, map, slice_index_or, All, Contains}
+use Rattle.std.specs.Prelude.{◌≡◌, ◌⊎◌, ℕ, ◌+◌, ◌-◌, ◌*◌, ◌^◌, ◌<◌, Bool, true, false, List, length, map, slice_index_or, All, Contains}
 use Rattle.vob_block.specs.Packing.{item}
 use Rattle.vob.specs.Bits.{count_of}
 use Rattle.vob_flow.specs.declared.order.Visit.{Visit}
@@ -15,6 +15,11 @@ steps_left seen waiting = 2 * count_of false seen + length waiting
 -- what was seen is still seen
 abbrev pub SeesMore : List Bool → List Bool → Type 0
 SeesMore seen after = (k : ℕ) → item seen k ≡ true → item after k ≡ true
+
+-- the set at which an order begins after k others: from the last of n down, or from the first up
+abbrev pub root_of : Bool → ℕ → ℕ → ℕ
+root_of true n k = n - (k + 1)
+root_of false n k = k
 
 -- each of the first n numbers once, and the place of each
 pub record IsOrder (n : ℕ) (order : List ℕ) : Type 0 where

@@ -4,7 +4,7 @@ ghost use Rattle.std.specs.Prelude.{◌≡◌, ◌+◌, ◌<◌, [], ◌∷◌, 
 ghost use Rattle.vob.specs.Bits.{IsWritten};
 ghost use Rattle.vob_block.specs.Packing.{item};
 ghost use Rattle.vob_flow.specs.Draws.{DrawsInside};
-ghost use Rattle.vob_flow.specs.Order.{IsOrder, IsVisited, SeesMore, sets_of, steps_left};
+ghost use Rattle.vob_flow.specs.Order.{IsOrder, IsVisited, SeesMore, root_of, sets_of, steps_left};
 
 use crate::draw::Draw;
 use std::alloc::{AllocError, Global};
@@ -103,6 +103,34 @@ fn order_from(
     Ok(())
 }
 
+/// How many of some numbers are below `end`.
+fn count_below(numbers: &[usize], end: usize) -> usize {
+    numbers.iter().filter(|number| **number < end).count()
+}
+
+/// Whether most draws are from sets with lower numbers, so that what is drawn flows up. An order then
+/// begins at the last set, and else at the first: each set is right, but one that no path leads on from
+/// lets a pass carry on furthest.
+fn flows_up(draws: &[Draw<'_>]) -> bool {
+    let mut below: usize = 0;
+    let mut all: usize = 0;
+    for set in 0..draws.len() {
+        below = below.saturating_add(count_below(draws[set].from, set));
+        all = all.saturating_add(draws[set].from.len());
+    }
+    below > all / 2
+}
+
+/// Returns the set from which the order goes on after `step` others: from the last one down, or from
+/// the first one up.
+fn root_at(from_last: bool, count: usize, step: usize) -> usize
+    requires { step < count }
+    ensures root { result ≡ root_of from_last count step }
+    ensures inside { result < count }
+{
+    if from_last { count - 1 - step } else { step }
+}
+
 /// Returns an order that names each set once: those that a set draws from before it, where no cycle
 /// leads back to it. Fails if memory runs out.
 pub(crate) fn postorder(alloc: Global, draws: &[Draw<'_>]) -> Result<Vec<usize>, AllocError>
@@ -112,7 +140,9 @@ pub(crate) fn postorder(alloc: Global, draws: &[Draw<'_>]) -> Result<Vec<usize>,
     let mut seen = Vob::from_elem(alloc, false, draws.len())?;
     let mut stack = Vec::with_capacity(alloc, draws.len())?;
     let mut order = Vec::with_capacity(alloc, draws.len())?;
-    for root in 0..draws.len() {
+    let from_last = flows_up(draws);
+    for step in 0..draws.len() {
+        let root = root_at(from_last, draws.len(), step);
         order_from(root, draws, &mut seen, &mut stack, &mut order)?;
     }
     Ok(order)
