@@ -5,4 +5,5 @@ mod FaultLemmas
 mod FirstLemmas
 mod FollowLemmas
 mod GrowthLemmas
+mod ItemLemmas
 mod SolvedLemmas

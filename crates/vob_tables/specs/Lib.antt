@@ -4,4 +4,6 @@ pub mod Equations
 pub mod Faults
 pub mod Grammar
 pub mod Heads
+pub mod ItemTables
+pub mod Items
 pub mod Passes

@@ -6,9 +6,11 @@ mod equations;
 mod first;
 mod follow;
 mod grammar;
+mod items;
 pub mod laws;
 
 pub use empty::nullable;
 pub use first::first_sets;
 pub use follow::follow_sets;
 pub use grammar::{Grammar, GrammarError, Rule, Symbol};
+pub use items::{Item, Items};
