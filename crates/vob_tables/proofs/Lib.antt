@@ -1,3 +1,4 @@
+mod ClosureLemmas
 mod DerivationLemmas
 mod EmptyLemmas
 mod EquationLemmas

@@ -1,9 +1,11 @@
 pub mod Behind
 pub mod Derivations
 pub mod Equations
+pub mod Expansions
 pub mod Faults
 pub mod Grammar
 pub mod Heads
+pub mod ItemSets
 pub mod ItemTables
 pub mod Items
 pub mod Passes

@@ -1,6 +1,7 @@
 //! Sets over the symbols of a context-free grammar, from which tables of a parser are made.
 #![tactic(auto)]
 
+mod closure;
 mod empty;
 mod equations;
 mod first;
@@ -9,6 +10,7 @@ mod grammar;
 mod items;
 pub mod laws;
 
+pub use closure::Closures;
 pub use empty::nullable;
 pub use first::first_sets;
 pub use follow::follow_sets;
