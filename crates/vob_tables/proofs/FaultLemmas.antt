@@ -2,7 +2,7 @@
 use Rattle.std.proofs.Common.{◌≡◌, ◌↔◌, ℕ, Result, Err, All, ap, subst}
 use Rattle.vob_tables.specs.declared.grammar.Grammar.{Grammar}
 use Rattle.vob_tables.specs.declared.grammar.GrammarError.{GrammarError}
-use Rattle.vob_tables.specs.declared.grammar.GrammarError.TheVariants.{Memory, BadSymbol}
+use Rattle.vob_tables.specs.declared.grammar.GrammarError.TheVariants.{Memory, BadSymbol, NoRule}
 use Rattle.vob_tables.specs.Faults.{IsRuleOf, IsBadRule, IsFault}
 use Rattle.vob_flow.proofs.FirstLemmas.{all_at, one_first}
 
@@ -19,3 +19,4 @@ module _ (grammar : Grammar) where
     (λ h. ap (λ k. Err (BadSymbol k)) (one_first (IsRuleOf grammar) grammar.rules.items m n is.rule
         h.rule is.lower h.lower is.is h.is is.bad h.bad)),
   )
+  refuses_rule NoRule is n = absurd is

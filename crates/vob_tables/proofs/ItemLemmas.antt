@@ -3,7 +3,7 @@ use Rattle.std.proofs.Common.{◌≡◌, ◌↔◌, ℕ, ◌+◌, ◌<◌, ◌�
 use Rattle.std.specs.List.{sum_by}
 use Rattle.std.proofs.lemmas.Bool.{cases_lt}
 use Rattle.std.proofs.lemmas.List.{get_or_append_left, get_or_push, length_push, take_all, take-take}
-use Rattle.std.proofs.lemmas.List.Sums.{sum_by_more, sum_by-take-le}
+use Rattle.std.proofs.lemmas.List.Sums.{sum_by-cons, sum_by_more, sum_by-take-le}
 use Rattle.std.proofs.lemmas.Option.{get_or_from_slice_get, none-some, same_Some, slice_get_within}
 use Rattle.vob_tables.specs.declared.items.Item.{Item}
 use Rattle.vob_tables.specs.declared.grammar.Rule.{Rule}
@@ -64,6 +64,11 @@ next_inside rules i x ahead =
       dot = omega arith;
       number = omega (arith, ahead.is.number);
     }
+
+-- where there is a rule there is an item
+pub item_first : (rules : List Rule) → 0 < length rules → 0 < item_total rules
+item_first [] less = absurd (omega (arith, less))
+item_first (rule ∷ rules) less = omega (arith, sum_by-cons item_count rule rules)
 
 one_rule : (rules : List Rule) (i : ℕ) (x y : Item) → IsItem rules i x → IsItem rules i y →
     x.rule ≡ y.rule

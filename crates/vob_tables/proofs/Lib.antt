@@ -8,3 +8,4 @@ mod FollowLemmas
 mod GrowthLemmas
 mod ItemLemmas
 mod SolvedLemmas
+mod StateLemmas

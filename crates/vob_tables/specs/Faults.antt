@@ -3,7 +3,7 @@ use Rattle.std.specs.Prelude.{◌≡◌, ℕ, ◌<◌, List, ◌++◌, slice_get
 use Rattle.std.specs.Fmt.{decimal}
 use Rattle.vob_tables.specs.declared.grammar.Grammar.{Grammar}
 use Rattle.vob_tables.specs.declared.grammar.GrammarError.{GrammarError}
-use Rattle.vob_tables.specs.declared.grammar.GrammarError.TheVariants.{Memory, BadSymbol}
+use Rattle.vob_tables.specs.declared.grammar.GrammarError.TheVariants.{Memory, BadSymbol, NoRule}
 use Rattle.vob_tables.specs.declared.grammar.Rule.{Rule}
 use Rattle.vob_tables.specs.declared.grammar.Symbol.{Symbol}
 use Rattle.vob_tables.specs.declared.grammar.Symbol.TheVariants.{Terminal, Nonterminal}
@@ -30,18 +30,21 @@ pub record IsBadRule (grammar : Grammar) (n : ℕ) : Type 0 where
   pub is : slice_get grammar.rules.items n ≡ Some rule
   pub bad : ¬ IsRuleOf grammar rule
 
--- what is wrong with a grammar
+-- what is wrong with the rules of a grammar
 abbrev pub IsFault : Grammar → GrammarError → Type 0
 IsFault grammar Memory = ⊥
 IsFault grammar (BadSymbol n) = IsBadRule grammar n
+IsFault grammar NoRule = ⊥
 
 -- the number of a refusal
 abbrev pub grammar_error_number : GrammarError → ℕ
 grammar_error_number Memory = 2
 grammar_error_number (BadSymbol rule) = 7
+grammar_error_number NoRule = 8
 
 -- the text of a refusal
 abbrev pub grammar_error_text : GrammarError → List ℕ
 grammar_error_text Memory = codes "out of memory"
 grammar_error_text (BadSymbol rule) =
     codes "rule " ++ decimal rule ++ codes " names a symbol that isn't there"
+grammar_error_text NoRule = codes "there is no rule"

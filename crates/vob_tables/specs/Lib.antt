@@ -9,3 +9,5 @@ pub mod ItemSets
 pub mod ItemTables
 pub mod Items
 pub mod Passes
+pub mod Rounds
+pub mod States

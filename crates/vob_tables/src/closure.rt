@@ -1,12 +1,15 @@
 //! Sets of items: their closures, and what is left of them when the dot passes a symbol.
-ghost use Rattle.std.specs.Prelude.{◌≡◌, ◌↔◌, ℕ, ◌<◌, length, All, Err, IfOk, IsTrue, OnOk, Some};
+ghost use Rattle.std.specs.Prelude.{◌≡◌, ◌≢◌, ◌↔◌, ℕ, ◌<◌, length, All, Err, IfOk, IsTrue, OnOk, Some};
 ghost use Rattle.vob.specs.Vobs.{AreOfLength, bits_of};
 ghost use Rattle.vob_tables.specs.Equations.{AreEquations, GainEach, GainsSymbols, lists_of};
 ghost use Rattle.vob_tables.specs.Expansions.{Advances, AreExpansions, Brings, Expands, Gains, HasOpening, HasRow, IsBrought, IsOpening};
 ghost use Rattle.vob_tables.specs.Faults.{IsBadRule, IsRuleOf};
 ghost use Rattle.vob_tables.specs.ItemSets.{IsAdvanced, IsClosure, IsGoto, IsItemSet};
 ghost use Rattle.vob_tables.specs.Items.{item_total};
+ghost use Rattle.vob_tables.specs.Rounds.{AreAhead};
+ghost use Rattle.vob_tables.specs.States.{IsStart};
 
+use crate::ahead::ahead_of;
 use crate::equations::{empty_lists, empty_sets, solve};
 use crate::grammar::{Grammar, GrammarError, Symbol, check_rules};
 use crate::items::Items;
@@ -159,6 +162,7 @@ impl<'a> Closures<'a> {
         // The rules are checked first.
         ensures bad_symbol { (rule : ℕ)
             → (result ≡ Err (GrammarError.BadSymbol rule)) ↔ IsBadRule grammar.now rule }
+        ensures no_rule { result ≢ Err GrammarError.NoRule }
     {
         check_rules(grammar)?;
         let items = Items::new(alloc, grammar)?;
@@ -232,5 +236,23 @@ impl<'a> Closures<'a> {
     {
         let made = self.advanced(alloc, set, symbol)?;
         self.closure(&made)
+    }
+
+    /// Returns the numbers of the symbols behind the dots of a set of items.
+    pub(crate) fn ahead(&self, alloc: Global, set: &Vob) -> Result<Vob, AllocError>
+        requires { length set.now.bits ≡ item_total self.now.rules.items }
+        ensures { IfOk result (λ ahead. AreAhead self.now set.now.bits ahead.bits) }
+    {
+        ahead_of(alloc, &self.items, set)
+    }
+
+    /// Returns the closure of item 0.
+    pub(crate) fn start(&self, alloc: Global) -> Result<Vob, AllocError>
+        requires { 0 < length self.now.rules.items }
+        ensures { IfOk result (λ set. IsStart self.now.rules.items set.bits) }
+    {
+        let mut first = Vob::from_elem(alloc, false, self.items.len())?;
+        first.set(0, true);
+        self.closure(&first)
     }
 }

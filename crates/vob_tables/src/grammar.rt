@@ -34,19 +34,22 @@ pub enum GrammarError {
     Memory,
     /// A rule names a terminal or a nonterminal that isn't there.
     BadSymbol { rule: usize },
+    /// There is no rule.
+    NoRule,
 }
 
 impl GrammarError {
     ghost use Rattle.std.specs.Prelude.{◌≡◌};
     ghost use Rattle.vob_tables.specs.Faults.{grammar_error_number};
 
-    /// The number of the refusal: 2 for `Memory`, 7 for `BadSymbol`.
+    /// The number of the refusal: 2 for `Memory`, 7 for `BadSymbol`, 8 for `NoRule`.
     pub fn number(&self) -> u8
         ensures { result ≡ grammar_error_number self.now }
     {
         match self {
             GrammarError::Memory => 2,
             GrammarError::BadSymbol { rule: _ } => 7,
+            GrammarError::NoRule => 8,
         }
     }
 }
@@ -63,6 +66,7 @@ impl fmt::Display for GrammarError {
             GrammarError::BadSymbol { rule } => {
                 write!(f, "rule {rule} names a symbol that isn't there")
             }
+            GrammarError::NoRule => f.write_str("there is no rule"),
         }
     }
 }

@@ -50,6 +50,13 @@ impl<'a> Items<'a> {
         })
     }
 
+    /// Returns the grammar.
+    pub fn grammar(&self) -> &'a Grammar
+        ensures { result.now ≡ self.now }
+    {
+        self.grammar
+    }
+
     /// Returns how many items there are.
     pub fn len(&self) -> usize
         ensures { result ≡ item_total self.now.rules.items }

@@ -1,6 +1,7 @@
 //! Sets over the symbols of a context-free grammar, from which tables of a parser are made.
 #![tactic(auto)]
 
+mod ahead;
 mod closure;
 mod empty;
 mod equations;
@@ -9,6 +10,7 @@ mod follow;
 mod grammar;
 mod items;
 pub mod laws;
+mod state;
 
 pub use closure::Closures;
 pub use empty::nullable;
@@ -16,3 +18,4 @@ pub use first::first_sets;
 pub use follow::follow_sets;
 pub use grammar::{Grammar, GrammarError, Rule, Symbol};
 pub use items::{Item, Items};
+pub use state::{Automaton, Move, states};
