@@ -10,4 +10,6 @@ mod ProductLemmas
 mod SameLemmas
 mod ShapeLemmas
 mod SlotsLemmas
+mod TileLemmas
+mod TurnLemmas
 mod UnionLemmas

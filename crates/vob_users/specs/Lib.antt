@@ -8,4 +8,6 @@ pub mod MatrixRows
 pub mod Products
 pub mod Rows
 pub mod Slots
+pub mod TileRows
+pub mod Tiles
 pub mod Unions

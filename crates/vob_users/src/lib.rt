@@ -15,6 +15,7 @@ pub mod raises;
 pub mod rows;
 pub mod slots;
 pub mod take_slot;
+mod tiles;
 mod unions;
 
 pub use vob_flow::live;

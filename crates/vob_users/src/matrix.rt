@@ -16,6 +16,7 @@ ghost use Rattle.vob_users.specs.MatrixRows.{AreColumnsMarked, IsColumnMarked};
 
 use crate::closing::close_rows;
 use crate::products::{copy_rows, mark_diagonal, product_rows};
+use crate::tiles::{are_dense, turn_rows};
 use crate::unions::{blank_rows, join_rows, or_row};
 use std::alloc::{AllocError, Global};
 use std::marker::Model;
@@ -204,12 +205,14 @@ impl BitMatrix {
     }
 
     /// Returns the matrix with rows and columns exchanged. No columns take no memory.
+    ///
+    /// It takes tiles of 64 rows by 64 columns at once, or walks over the set bits if there are few.
     pub fn transpose(&self, alloc: Global) -> Result<BitMatrix, AllocError>
         ensures transposed { IfOk result (λ made. IsTransposed self.now made) }
         ensures nothing { self.now.columns ≡ 0 → IsOk result }
     {
         let mut made = BitMatrix::new(alloc, self.columns, self.rows.len())?;
-        mark_columns(&mut made.rows, &self.rows);
+        fill_columns(&mut made.rows, &self.rows);
         Ok(made)
     }
 }
@@ -250,5 +253,20 @@ fn mark_columns(rows: &mut [Vob], from: &[Vob])
 {
     for column in 0..from.len() {
         mark_column(rows, column, &from[column]);
+    }
+}
+
+/// Makes column i of blank rows the row i of others, for each of these: by tiles if they have many
+/// bits, and otherwise by a walk over their set bits.
+fn fill_columns(rows: &mut [Vob], from: &[Vob])
+    requires rows { AreOfLength (length rows.old) (bits_of from.now) }
+    requires long { AreOfLength (length from.now) (bits_of rows.old) }
+    requires blank { (i j : ℕ) → entry (bits_of rows.old) i j ≡ false }
+    ensures { AreColumnsMarked (bits_of rows.old) (bits_of from.now) (bits_of rows.new) }
+{
+    if are_dense(from, rows.len()) {
+        turn_rows(rows, from);
+    } else {
+        mark_columns(rows, from);
     }
 }

@@ -8,8 +8,8 @@ use Rattle.vob_users.proofs.ShapeLemmas.{AreOfLength-kept}
 use Rattle.vob_users.proofs.MatrixLemmas.{IsTransposed-marked}
 use Rattle.vob_users.proofs.matrix.BitMatrix.transpose.Goals as goal
 
-pub mark_columns-requires-clause-rows : goal.mark_columns-requires-clause-rows
-mark_columns-requires-clause-rows c =
+pub fill_columns-requires-clause-rows : goal.fill_columns-requires-clause-rows
+fill_columns-requires-clause-rows c =
     let columns = c.self.inside.columns in
     let count = sym (length-map c.made.inside.rows.items (λ v. v.bits))
     ∙ ap (λ m. length m.rows) c.made.view_is ∙ ap length c.in_ok-made.ensures.entries
@@ -24,9 +24,9 @@ invariant_of-made c =
     let columns = c.made.inside.columns in
     let start = subst (λ (items : List BitVector). AreOfLength columns (bits_of items))
     (sym c.deref_mut.ensures.value) c.made.invariant in
-    let after = with_items_is c.made.inside.rows c.mark_columns.new.rows (omega arith) in
+    let after = with_items_is c.made.inside.rows c.fill_columns.new.rows (omega arith) in
     subst (λ (items : List BitVector). AreOfLength columns (bits_of items)) (sym after)
-    (AreOfLength-kept columns _ _ start c.mark_columns.ensures.shape)
+    (AreOfLength-kept columns _ _ start c.fill_columns.ensures.shape)
 
 pub returns-clause-transposed : goal.returns-clause-transposed
 returns-clause-transposed c =
@@ -40,9 +40,9 @@ returns-clause-transposed c =
     ∙ c.in_ok-made.ensures.entries
     ∙ ap (λ n. replicate n (replicate c.len.result false)) (ap (λ m. m.columns) c.self.view_is)
     ∙ ap (λ n. replicate matrix.columns (replicate n false)) rows in
-    let after = with_items_is c.made.inside.rows c.mark_columns.new.rows (omega arith) in
-    IsTransposed-marked matrix _ (bits_of c.deref_mut.result.now) (bits_of c.mark_columns.new.rows)
+    let after = with_items_is c.made.inside.rows c.fill_columns.new.rows (omega arith) in
+    IsTransposed-marked matrix _ (bits_of c.deref_mut.result.now) (bits_of c.fill_columns.new.rows)
     empty (ap bits_of after)
     (ap (λ m. m.columns) c.made.view_is ∙ c.in_ok-made.ensures.columns ∙ rows)
     (subst (λ (from : List (List Bool)). AreColumnsMarked (bits_of c.deref_mut.result.now) from
-    (bits_of c.mark_columns.new.rows)) own c.mark_columns.ensures)
+    (bits_of c.fill_columns.new.rows)) own c.fill_columns.ensures)
