@@ -1,6 +1,7 @@
 -- Rows that are led through a node one after another, and columns that are marked.
 use Rattle.std.specs.declared.ops.Bound.TheVariants.{Unbounded}
 use Rattle.std.specs.List.{Contains}
+use Rattle.std.specs.Prelude.{◌↔◌, IsTrue, not}
 use Rattle.std.proofs.Common.{◌≡◌, ◌≢◌, ℕ, ◌+◌, ◌<◌, ◌≤◌, Bool, true, false, ◌||◌, List, []}
 use Rattle.std.proofs.Common.{◌∷◌, length, replicate, refl, sym, ap, ◌∙◌, subst, arith, inl, inr}
 use Rattle.std.proofs.lemmas.Bool.{cases_eq, cases_lt, false≢true}
@@ -9,9 +10,11 @@ use Rattle.std.proofs.lemmas.List.Elements.{Contains-append_right, Contains-appe
 use Rattle.vob_block.specs.Packing.{item}
 use Rattle.vob_walk.specs.Matches.{matches}
 use Rattle.vob_walk.proofs.IndexLemmas.{matches-exactly}
+use Rattle.vob.specs.Bits.{IsWritten}
+use Rattle.vob.specs.Sets.{AreDisjoint, HasShared}
 use Rattle.vob.specs.Vob.{BitVector}
 use Rattle.vob.specs.Vobs.{AreOfLength, bits_of}
-use Rattle.vob_users.specs.Matrix.{Matrix, row_of, entry, HaveShapeOf, IsEntryWritten, IsTransposed}
+use Rattle.vob_users.specs.Matrix.{Matrix, row_of, entry, HaveShapeOf, IsColumnUnion, IsEntryWritten, IsTransposed}
 use Rattle.vob_users.specs.MatrixRows.{IsColumnMarked, AreColumnsMarked}
 use Rattle.vob_block.proofs.BoolLemmas.{or-false}
 use Rattle.vob.proofs.BitsLemmas.{true_inside, item_false}
@@ -150,3 +153,56 @@ IsTransposed-marked matrix made empty after none rows columns marked =
           ∙ entry-empty matrix.columns (length matrix.rows) j i)
           ∙ or-false (entry matrix.rows i j);
     }
+
+-- ---- bits of rows that meet a set
+
+-- the bits before bit n are those of the rows that have a bit of a set
+pub record AreUnitedBefore (rows : List (List Bool)) (columns : List Bool) (n : ℕ)
+    (before after : List Bool) : Type 0 where
+  pub len : length after ≡ length before
+  pub done : (i : ℕ) → i < n → (item after i ≡ true) ↔ HasShared (row_of rows i) columns
+
+-- two sets share an index exactly if it isn't so that they share none
+shared-from_apart : (bits others : List Bool) (apart bit : Bool) → bit ≡ not apart →
+    (IsTrue apart ↔ AreDisjoint bits others) → (apart ≡ false → HasShared bits others) →
+    (bit ≡ true) ↔ HasShared bits others
+shared-from_apart bits others true bit is answer shared = (
+  λ on. absurd (false≢true (sym is ∙ on)),
+  λ found. absurd (false≢true (sym (answer.0 refl found.0 found.2) ∙ found.3)),
+)
+shared-from_apart bits others false bit is answer shared = (λ on. shared refl, λ found. is)
+
+module _ (rows : List (List Bool)) (columns : List Bool) (n : ℕ) (first : List Bool) where
+  pub AreUnitedBefore-more : (before after row : List Bool) (apart value : Bool) →
+      row ≡ row_of rows n → value ≡ not apart →
+      (IsTrue apart ↔ AreDisjoint row columns) → (apart ≡ false → HasShared row columns) →
+      AreUnitedBefore rows columns n first before → IsWritten before n value after →
+      AreUnitedBefore rows columns (n + 1) first after
+  AreUnitedBefore-more before after row apart value is turned answer shared h written = record {
+    len = written.len ∙ h.len;
+    done = λ i less. elim (cases_eq i n) [
+      | inl here ↦
+          subst (λ k. (item after k ≡ true) ↔ HasShared (row_of rows k) columns) (sym here)
+          (subst (λ r. (item after n ≡ true) ↔ HasShared r columns) is
+          (shared-from_apart row columns apart (item after n) (written.there ∙ turned) answer
+          shared))
+      | inr other ↦
+          subst (λ b. (b ≡ true) ↔ HasShared (row_of rows i) columns) (sym (written.others i other))
+          (h.done i (omega (arith, less, other)))
+    ];
+  }
+
+-- all rows were looked at, and past them is no bit
+pub IsColumnUnion-all : (rows : List (List Bool)) (columns : List Bool) (n : ℕ)
+    (before after : List Bool) → n ≡ length rows → length before ≡ length rows →
+    AreUnitedBefore rows columns n before after → IsColumnUnion rows columns after
+IsColumnUnion-all rows columns n before after all count h = record {
+  len = h.len ∙ count;
+  each = λ i. elim (cases_lt i n) [
+    | inl less ↦ h.done i less
+    | inr past ↦ (
+      λ on. absurd (false≢true (sym (get_or_past after i false (omega (arith, past, all, count, h.len))) ∙ on)),
+      λ found. absurd (omega (arith, found.1, ap length (get_or_past rows i [] (omega (arith, past, all))))),
+    )
+  ];
+}

@@ -3,6 +3,7 @@ use Rattle.std.specs.Prelude.{◌≡◌, ◌==◌, ◌&&◌, ◌≢◌, ◌↔�
 use Rattle.vob_block.specs.Packing.{item}
 use Rattle.std.specs.Cmp.Lexicographic.{pointwise}
 use Rattle.vob.specs.Same.{same_bits}
+use Rattle.vob.specs.Sets.{HasShared}
 use Rattle.vob.specs.Vobs.{AreOfLength}
 
 -- the rows, row 0 first, and how many columns there are, also where there is no row
@@ -63,6 +64,11 @@ HasPath rows i j = (through : List ℕ) × IsPath rows i through j
 pub record IsClosure (rows after : List (List Bool)) : Type 0 where
   pub shape : HaveShapeOf rows after
   pub each : (i j : ℕ) → IsEdge after i j ↔ HasPath rows i j
+
+-- a bit for each row, true exactly if the row has a true entry in one of some columns
+pub record IsColumnUnion (rows : List (List Bool)) (columns after : List Bool) : Type 0 where
+  pub len : length after ≡ length rows
+  pub each : (i : ℕ) → (item after i ≡ true) ↔ HasShared (row_of rows i) columns
 
 -- rows and columns exchanged
 pub record IsTransposed (matrix after : Matrix) : Type 0 where

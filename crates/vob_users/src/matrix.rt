@@ -10,7 +10,7 @@ ghost use Rattle.std.specs.Ordering.{eq_of_both, on};
 ghost use Rattle.vob.specs.Same.{same_bits};
 ghost use Rattle.vob_block.specs.Pointwise.{differ};
 ghost use Rattle.vob.specs.Vobs.{AreOfLength, bits_of};
-ghost use Rattle.vob_users.specs.Matrix.{AreJoined, row_of, entry, GetsRow, HaveShapeOf, IsClosure, IsEntryWritten, IsTransposed, Matrix, same_matrix};
+ghost use Rattle.vob_users.specs.Matrix.{AreJoined, row_of, entry, GetsRow, HaveShapeOf, IsClosure, IsColumnUnion, IsEntryWritten, IsTransposed, Matrix, same_matrix};
 ghost use Rattle.vob_users.specs.Products.{IsIdentity, IsPower, IsProduct};
 ghost use Rattle.vob_users.specs.MatrixRows.{AreColumnsMarked, IsColumnMarked};
 
@@ -204,6 +204,18 @@ impl BitMatrix {
         Ok(made)
     }
 
+    /// Returns the union of some columns, a bit a row: bit i is set if row i has a true entry in one of
+    /// them. Bit j of `columns` says whether column j is one. Fails if memory runs out; no rows take none.
+    pub fn column_or(&self, alloc: Global, columns: &Vob) -> Result<Vob, AllocError>
+        requires { length columns.now.bits ≡ self.now.columns }
+        ensures union { IfOk result (λ made. IsColumnUnion self.now.rows columns.now.bits made.bits) }
+        ensures nothing { self.now.rows ≡ [] → IsOk result }
+    {
+        let mut made = Vob::from_elem(alloc, false, self.rows.len())?;
+        mark_rows(&mut made, &self.rows, columns);
+        Ok(made)
+    }
+
     /// Returns the matrix with rows and columns exchanged. No columns take no memory.
     ///
     /// It takes tiles of 64 rows by 64 columns at once, or walks over the set bits if there are few.
@@ -229,6 +241,18 @@ impl PartialEq for BitMatrix {
         ensures same { IsTrue result ↔ (self.now ≡ other.now) }
     {
         self.columns == other.columns && self.rows == other.rows
+    }
+}
+
+/// Makes bit i of a Vob whether row i has a bit that a set has.
+fn mark_rows(made: &mut Vob, rows: &[Vob], columns: &Vob)
+    requires count { length made.old.bits ≡ length rows.now }
+    requires long { AreOfLength (length columns.now.bits) (bits_of rows.now) }
+    ensures { IsColumnUnion (bits_of rows.now) columns.now.bits made.new.bits }
+{
+    for row in 0..rows.len() {
+        let apart = rows[row].is_disjoint(columns);
+        made.set(row, !apart);
     }
 }
 
