@@ -10,7 +10,11 @@ mod follow;
 mod grammar;
 mod items;
 pub mod laws;
+mod scan;
 mod state;
+mod symbols;
+mod text;
+mod text_error;
 
 pub use closure::Closures;
 pub use empty::nullable;
@@ -19,3 +23,6 @@ pub use follow::follow_sets;
 pub use grammar::{Grammar, GrammarError, Rule, Symbol};
 pub use items::{Item, Items};
 pub use state::{Automaton, Move, states};
+pub use symbols::{Associativity, Precedence};
+pub use text::{GrammarText, grammar_of};
+pub use text_error::{TextError, TextFault};

@@ -8,4 +8,5 @@ mod live;
 mod matrix;
 mod slots;
 mod support;
+mod text;
 mod users;

@@ -1,0 +1,106 @@
+//! What is wrong with a grammar file, and where.
+
+use std::alloc::{AllocError, AllocFailed};
+use std::{error, fmt};
+
+/// What is wrong with a grammar file.
+#[derive(Clone, Copy, Debug, PartialEq, Eq)]
+pub enum TextFault {
+    /// There was no memory.
+    Memory,
+    /// A character begins no word.
+    BadCharacter,
+    /// A quote, a comment, a brace, a bracket or a prologue isn't closed.
+    Unclosed,
+    /// A directive that this reader doesn't know.
+    UnknownDirective,
+    /// A word that can't stand where it does.
+    Unexpected,
+    /// There are no rules.
+    NoRules,
+    /// A name that is neither a token nor the left side of a rule.
+    Undefined,
+    /// A token that is the left side of a rule too, or a name of `%start` that has no rules.
+    NotANonterminal,
+}
+
+/// What is wrong with a grammar file, with the line and the column where, counted from 1. A column is
+/// a byte of its line.
+#[derive(Clone, Copy, Debug, PartialEq, Eq)]
+pub struct TextError {
+    pub line: usize,
+    pub column: usize,
+    pub fault: TextFault,
+}
+
+/// What is wrong, and before which byte.
+#[derive(Clone, Copy, Debug)]
+pub(crate) struct Stop {
+    pub at: usize,
+    pub fault: TextFault,
+}
+
+impl Stop {
+    /// The same by line and column.
+    pub(crate) fn in_lines(self, text: &[u8]) -> TextError {
+        let mut line = 1usize;
+        let mut column = 1usize;
+        for byte in text.iter().take(self.at) {
+            if *byte == b'\n' {
+                line = line.saturating_add(1);
+                column = 1;
+            } else {
+                column = column.saturating_add(1);
+            }
+        }
+        TextError {
+            line,
+            column,
+            fault: self.fault,
+        }
+    }
+}
+
+impl From<AllocError> for Stop {
+    fn from(_: AllocError) -> Stop {
+        Stop {
+            at: 0,
+            fault: TextFault::Memory,
+        }
+    }
+}
+
+impl<T: Drop> From<AllocFailed<T>> for Stop {
+    fn from(_: AllocFailed<T>) -> Stop {
+        Stop {
+            at: 0,
+            fault: TextFault::Memory,
+        }
+    }
+}
+
+impl fmt::Display for TextFault {
+    fn fmt<W: fmt::Write>(&self, f: &mut fmt::Formatter<W>) -> fmt::Result {
+        f.write_str(match self {
+            TextFault::Memory => "out of memory",
+            TextFault::BadCharacter => "a character that begins no word",
+            TextFault::Unclosed => "this isn't closed",
+            TextFault::UnknownDirective => "an unknown directive",
+            TextFault::Unexpected => "this word can't stand here",
+            TextFault::NoRules => "there are no rules",
+            TextFault::Undefined => "neither a token nor a name with rules",
+            TextFault::NotANonterminal => "a name that has no rules of its own",
+        })
+    }
+}
+
+impl fmt::Display for TextError {
+    fn fmt<W: fmt::Write>(&self, f: &mut fmt::Formatter<W>) -> fmt::Result {
+        let line = self.line;
+        let column = self.column;
+        let fault = self.fault;
+        write!(f, "line {line}, column {column}: {fault}")
+    }
+}
+
+impl error::Error for TextError {}
