@@ -3,7 +3,7 @@ use Rattle.std.proofs.Common.{◌≡◌, ℕ, Bool, inl, inr}
 use Rattle.std.proofs.Common.{List, length, arith}
 use Rattle.vob.proofs.BitsLemmas.{row_inside}
 use Rattle.vob_flow.specs.declared.draw.Draw.{Draw}
-use Rattle.vob_flow.specs.Draws.{AreLeast, AreWithin, Comes, IsIn}
+use Rattle.vob_flow.specs.Draws.{AreLeast, AreWithin, Comes, HaveShape, IsIn}
 use Rattle.vob_flow.specs.Draws.Comes.{starts_in, drawn}
 use Rattle.vob_flow.specs.Gathered.{AreGathered}
 use Rattle.vob_flow.specs.Reaching.{AreFlowing, AreReaching}
@@ -11,8 +11,8 @@ use Rattle.vob_flow.proofs.AnyLemmas.{Any-map}
 use Rattle.vob_flow.proofs.LawLemmas.{element_at}
 
 module _ {flows : List Draw} {gens starts ends : List (List Bool)}
-    (fit : length flows ≡ length gens) (h : AreLeast flows gens ends)
-    (g : AreGathered flows ends starts) where
+    (fit : length flows ≡ length gens) (shape : HaveShape gens starts)
+    (h : AreLeast flows gens ends) (g : AreGathered flows ends starts) where
   flowing : AreFlowing flows gens starts ends
   flowing = record {
     starts_are = g;
@@ -50,6 +50,8 @@ module _ {flows : List Draw} {gens starts ends : List (List Bool)}
 
   pub AreReaching-least : AreReaching flows gens starts ends
   AreReaching-least = record {
+    starts_shape = shape;
+    ends_shape = h.solution.shape;
     flowing = flowing;
     least = λ others other_ends s. (
       starts_within others other_ends s,
