@@ -1,5 +1,5 @@
 -- Greatest sets from the least ones of what they lack.
-use Rattle.std.proofs.Common.{◌≡◌, ◌↔◌, ℕ, ◌+◌, ◌*◌, ◌<◌, ◌≤◌, ◌⊎◌, Bool, not, inl, inr}
+use Rattle.std.proofs.Common.{◌≡◌, ◌↔◌, ℕ, ◌+◌, ◌*◌, ◌<◌, ◌⊎◌, Bool, not, inl, inr}
 use Rattle.std.proofs.Common.{List, [], ◌∷◌, ◌++◌, length, get_or, Some, slice_get, sym, ap, ◌∙◌, subst, arith}
 use Rattle.std.specs.List.{All, Contains}
 use Rattle.std.proofs.lemmas.Bool.{cases_Bool, cases_eq, cases_lt, false≢true, false_from_ne_true, not_from_false}
@@ -8,7 +8,7 @@ use Rattle.std.proofs.lemmas.Option.{slice_get_within, slice_get-get_or, get_or_
 use Rattle.vob_block.specs.Packing.{item}
 use Rattle.vob.specs.Vobs.{AreOfLength, total_count}
 use Rattle.vob.proofs.BitsLemmas.{row_inside}
-use Rattle.vob.proofs.VobsLemmas.{of_length_at, total_count_at_most}
+use Rattle.vob.proofs.VobsLemmas.{of_length_at}
 use Rattle.vob_flow.specs.declared.draw.Draw.{Draw}
 use Rattle.vob_flow.specs.declared.draw.Mask.{Mask}
 use Rattle.vob_flow.specs.declared.draw.Mask.TheVariants.{All as Everything, Keep, Without}
@@ -17,6 +17,7 @@ use Rattle.vob_flow.specs.Draws.Comes.{starts_in, drawn}
 use Rattle.vob_flow.specs.Greatest.{IsInAll, Misses, AreGreatest, IsPassCount}
 use Rattle.vob_flow.specs.Greatest.Misses.{dropped, missed}
 use Rattle.vob_flow.specs.Turned.{AreLacking, AreNegated, AreTurned, HaveMasks, IsTurnedDraw}
+use Rattle.vob_flow.proofs.CountLemmas.{total-negated}
 use Rattle.vob_flow.proofs.LawLemmas.{element_at}
 use Rattle.vob_flow.proofs.UnderwayLemmas.{same_at}
 use Rattle.vob_flow.proofs.PassLemmas.{shape_long}
@@ -116,13 +117,15 @@ module _ (places : ℕ) (draws : List Draw) (starts lacking : List (List Bool))
       let inside : k < length starts = omega (arith, less, first.count) in
       ap length (get_or_default lacking k d [] less) ∙ lacking_long k inside
 
-  -- as many passes as there are places, and one more
-  pub IsPassCount-lacking : (lacks : List (List Bool)) (passes : ℕ) → HaveShape lacking lacks →
-      TakePasses lacking lacks passes → IsPassCount places starts passes
-  IsPassCount-lacking lacks passes shape takes =
-      let most = total_count_at_most places lacks (shape_long places lacking lacks shape lacking_all) in
+  -- as many passes as places are lacked, and one more
+  pub IsPassCount-lacking : (lacks sets : List (List Bool)) (passes : ℕ) →
+      HaveShape lacking lacks → TakePasses lacking lacks passes →
+      AreNegated lacks sets (length lacks) → IsPassCount places starts sets passes
+  IsPassCount-lacking lacks sets passes shape takes last =
+      let all = total-negated places lacks sets last.count (λ n less. last.below n less less)
+      (shape_long places lacking lacks shape lacking_all) in
       let same = shape.count ∙ first.count in
-      let fit = subst (λ n. total_count lacks ≤ n * places) same most in
+      let fit = subst (λ n. total_count lacks + total_count sets ≡ n * places) same all in
       record {
         most = omega (arith, takes.most, fit);
         no_pass = λ none. nil_from_length starts

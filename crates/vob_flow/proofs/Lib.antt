@@ -2,6 +2,7 @@ mod AnyLemmas
 mod AvailableLemmas
 mod ChangesLemmas
 mod ClosureLemmas
+mod CountLemmas
 mod DominatorLemmas
 mod DrawLemmas
 mod FaultLemmas

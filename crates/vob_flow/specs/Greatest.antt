@@ -1,5 +1,6 @@
 -- Sets that have what all of others have, and the greatest such sets.
 use Rattle.std.specs.Prelude.{◌≡◌, ◌↔◌, ◌⊎◌, ℕ, ◌+◌, ◌*◌, ◌<◌, ◌≤◌, Bool, List, [], length, slice_get, Some, All, Contains}
+use Rattle.vob.specs.Vobs.{total_count}
 use Rattle.vob_flow.specs.declared.draw.Draw.{Draw}
 use Rattle.vob_flow.specs.Draws.{IsIn, IsKept, HaveShape}
 
@@ -31,8 +32,8 @@ pub record AreGreatest (places : ℕ) (draws : List Draw) (starts sets : List (L
   pub greatest : (n v : ℕ) → n < length sets → v < places → ¬ IsIn sets n v →
       Misses draws starts n v
 
--- how many passes over all sets: none only if there are no sets, and at most one more than there are
--- places to take off
-pub record IsPassCount (places : ℕ) (starts : List (List Bool)) (passes : ℕ) : Type 0 where
-  pub most : passes ≤ 1 + length starts * places
+-- how many passes over all sets: none only if there are no sets, and each but the last one found a
+-- place that the sets lack
+pub record IsPassCount (places : ℕ) (starts sets : List (List Bool)) (passes : ℕ) : Type 0 where
+  pub most : passes + total_count sets ≤ 1 + length starts * places
   pub no_pass : passes ≡ 0 → starts ≡ []

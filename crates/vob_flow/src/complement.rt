@@ -80,7 +80,8 @@ fn solve_turned(
         (length (bits_of sets.old)) }
     ensures greatest { OnOk result
         (AreGreatest places draws.now (bits_of sets.old) (bits_of sets.new)) }
-    ensures passes { IfOk result (IsPassCount places (bits_of sets.old)) }
+    ensures passes { IfOk result
+        (IsPassCount places (bits_of sets.old) (bits_of sets.new)) }
     ensures err { OnErr result (sets.new ≡ sets.old) }
 {
     let order = postorder(alloc, turned)?;
@@ -107,7 +108,8 @@ pub(crate) fn solve_beside(
     requires starts { bits_of starts.now ≡ bits_of sets.old }
     ensures greatest { OnOk result
         (AreGreatest places draws.now (bits_of sets.old) (bits_of sets.new)) }
-    ensures passes { IfOk result (IsPassCount places (bits_of sets.old)) }
+    ensures passes { IfOk result
+        (IsPassCount places (bits_of sets.old) (bits_of sets.new)) }
     ensures err { OnErr result (sets.new ≡ sets.old) }
     ensures nothing { sets.old ≡ [] → IsOk result }
 {
@@ -137,7 +139,8 @@ pub(crate) fn solve_greatest(
     requires long { AreOfLength places (bits_of sets.old) }
     ensures greatest { OnOk result
         (AreGreatest places draws.now (bits_of sets.old) (bits_of sets.new)) }
-    ensures passes { IfOk result (IsPassCount places (bits_of sets.old)) }
+    ensures passes { IfOk result
+        (IsPassCount places (bits_of sets.old) (bits_of sets.new)) }
     ensures err { OnErr result (sets.new ≡ sets.old) }
     ensures nothing { sets.old ≡ [] → IsOk result }
 {
@@ -159,7 +162,8 @@ pub fn greatest(
     requires { length draws.now ≡ length sets.old }
     ensures greatest { OnOk result
         (AreGreatest places draws.now (bits_of sets.old) (bits_of sets.new)) }
-    ensures passes { IfOk result (IsPassCount places (bits_of sets.old)) }
+    ensures passes { IfOk result
+        (IsPassCount places (bits_of sets.old) (bits_of sets.new)) }
     ensures err { OnErr result (sets.new ≡ sets.old) }
 
     // The sets are checked first, and memory is asked for only if there are sets.

@@ -41,5 +41,5 @@ returns-clause-greatest c =
 
 pub returns-clause-passes : goal.returns-clause-passes
 returns-clause-passes c = IsPassCount-lacking _ _ _ _ (c.requires.count ∙ sym (length-map _ _))
-    c.requires.long c.turn_starts.ensures _ _ c.settle-passes.ensures.least.solution.shape
-    c.settle-passes.ensures.passes
+    c.requires.long c.turn_starts.ensures _ _ _ c.settle-passes.ensures.least.solution.shape
+    c.settle-passes.ensures.passes c.negate_each.ensures
