@@ -1,19 +1,19 @@
 -- The states that were found, and the symbols and moves of each.
-use Rattle.std.proofs.Common.{◌≡◌, ◌≢◌, ◌↔◌, ℕ, ◌+◌, ◌-◌, ◌<◌, ◌≤◌, ◌⊎◌, inl, inr, Bool, true, false, nat_lt, ltb-true, cond, None, Option, Some, List, [], ◌∷◌, ◌++◌, length, get_or, replicate, slice_get, refl, sym, ap, ◌∙◌, subst, arith}
-use Rattle.std.specs.List.{All, AllPairs, Any, Contains}
+use Rattle.std.proofs.Common.{◌≡◌, ◌≢◌, ◌↔◌, ℕ, ◌+◌, ◌-◌, ◌<◌, ◌≤◌, inl, inr, Bool, true, false, nat_lt, ltb-true, cond, Some, List, [], ◌∷◌, ◌++◌, length, get_or, replicate, refl, sym, ap, ◌∙◌, subst, arith}
+use Rattle.std.specs.List.{All, Any, Contains}
 use Rattle.std.specs.declared.ops.Bound.TheVariants.{Unbounded}
 use Rattle.std.proofs.lemmas.Bool.{cases_eq, cases_lt, false≢true, false_from_ne_true, lt-ltb}
 use Rattle.std.proofs.lemmas.List.{append-nil, append_assoc, ext_get_or, get_or-map, get_or_append_left, get_or_push, length-append, length-map, length_push, map-append}
-use Rattle.std.proofs.lemmas.List.Elements.{All-get_or, All-nil, All-push}
+use Rattle.std.proofs.lemmas.List.Elements.{All-nil, All-push}
 use Rattle.std.proofs.lemmas.List.Quantifiers.{all_pairs_push}
-use Rattle.std.proofs.lemmas.Option.{get_or_from_slice_get, none-some, same_Some, slice_get-get_or}
+use Rattle.std.proofs.lemmas.Option.{get_or_from_slice_get, same_Some, slice_get-get_or}
 use Rattle.vob_block.specs.Packing.{item}
 use Rattle.vob.specs.Bits.{IsWritten}
 use Rattle.vob.specs.Vob.{BitVector}
 use Rattle.vob.specs.Vobs.{bits_of}
 use Rattle.vob.proofs.BitsLemmas.{true_inside}
 use Rattle.vob_flow.proofs.FirstLemmas.{all_at}
-use Rattle.vob_tables.specs.Expansions.{Gains, IsGathered}
+use Rattle.vob_tables.specs.Expansions.{IsGathered}
 use Rattle.vob_tables.specs.Faults.{IsRuleOf, IsSymbol}
 use Rattle.vob_tables.specs.ItemSets.{Has, InClosure, IsClosure, IsGoto, IsItemSet}
 use Rattle.vob_tables.specs.Items.{HasNext, item_total}
@@ -28,7 +28,7 @@ use Rattle.vob_tables.specs.declared.state.Move.{Move}
 use Rattle.vob_tables.proofs.ClosureLemmas.{closure_as, gathered_each, none_true}
 use Rattle.vob_walk.specs.Left.{AreMatches, is_left}
 use Rattle.vob_walk.specs.Matches.{matches}
-use Rattle.vob_walk.proofs.IndexLemmas.{first_inside, first_value, left_all, left_none, left_other, matches_after, matches_all}
+use Rattle.vob_walk.proofs.IndexLemmas.{first_value, left_all, left_none, left_other, matches_after, matches_all}
 
 -- ---- symbols by number
 
@@ -128,7 +128,7 @@ same_sets rules P set other h g =
     (λ i less. same_bit (item set i) (item other i)
     (λ there. (g.each i).1 ((h.each i).0 there)) (λ there. (h.each i).1 ((g.each i).0 there)))
 
-pub state_long : (rules : List Rule) {set : List Bool} → IsState rules set →
+state_long : (rules : List Rule) {set : List Bool} → IsState rules set →
     length set ≡ item_total rules
 state_long rules (start h) = h.len
 state_long rules (after x state ahead h) = h.len
@@ -153,7 +153,7 @@ module _ (rules : List Rule) where
   pub Extends-itself : (sets : List (List Bool)) → Extends sets sets
   Extends-itself sets = ([], sym (append-nil sets))
 
-  pub Extends-both : (sets mid after : List (List Bool)) → Extends sets mid → Extends mid after →
+  Extends-both : (sets mid after : List (List Bool)) → Extends sets mid → Extends mid after →
       Extends sets after
   Extends-both sets mid more (xs, one) (ys, two) =
       (xs ++ ys, two ∙ ap (λ zs. zs ++ ys) one ∙ append_assoc sets xs ys)
@@ -184,13 +184,13 @@ module _ (rules : List Rule) where
   -- a set that was entered
   module _ (sets : List (List Bool)) (set : List Bool) (more : List (List Bool)) (p : ℕ)
       (h : HasEntered sets set more p) where
-    pub Extends-entered : Extends sets more
+    Extends-entered : Extends sets more
     Extends-entered = elim h.added [
       | inl same ↦ ([], same ∙ sym (append-nil sets))
       | inr new ↦ (set ∷ [], new.0)
     ]
 
-    pub AreSome-entered : AreSome rules sets → IsState rules set → AreSome rules more
+    AreSome-entered : AreSome rules sets → IsState rules set → AreSome rules more
     AreSome-entered some state = elim h.added [
       | inl same ↦ subst (λ (xs : List (List Bool)). AreSome rules xs) (sym same) some
       | inr new ↦ subst (λ (xs : List (List Bool)). AreSome rules xs) (sym new.0) record {
@@ -234,18 +234,21 @@ still_there before sets (more, is) p less =
     )
 
 -- a set that is read is a state, as it was before there were more
-pub state_read : (rules : List Rule) (before : List (List Bool)) (sets : List BitVector) →
-    AreSome rules (bits_of sets) → Extends before (bits_of sets) → (p : ℕ) → p < length before →
-    (set : BitVector) → set ≡ get_or sets p set →
-    (set.bits ≡ get_or before p []) × IsState rules set.bits
+pub state_read : (rules : List Rule) (before sets : List BitVector) →
+    AreSome rules (bits_of sets) → Extends (bits_of before) (bits_of sets) → (p : ℕ) →
+    p < length before → (set : BitVector) → set ≡ get_or sets p set →
+    (set.bits ≡ get_or (bits_of before) p []) × IsState rules (get_or (bits_of before) p [])
+    × (length set.bits ≡ item_total rules)
 state_read rules before sets some more p less set read =
-    let at = extended_at rules before (bits_of sets) more p less in
+    let at = extended_at rules (bits_of before) (bits_of sets) more p
+    (omega (arith, less, length-map before (λ v. v.bits))) in
     let low : p < length sets = omega (arith, at.0, length-map sets (λ v. v.bits)) in
     let own = ap (λ (v : BitVector). v.bits) read
-    ∙ sym (get_or-map (λ (v : BitVector). v.bits) sets p set [] low) in (
+    ∙ sym (get_or-map (λ (v : BitVector). v.bits) sets p set [] low) in
+    let state = some.each p [] at.0 in (
       own ∙ at.1,
-      subst (λ (bits : List Bool). IsState rules bits) (sym own)
-          (some.each p [] at.0),
+      subst (λ (bits : List Bool). IsState rules bits) at.1 state,
+      state_long rules (subst (λ (bits : List Bool). IsState rules bits) (sym own) state),
     )
 
 -- ---- the moves of a state
@@ -290,16 +293,16 @@ module _ (grammar : Grammar) (set ahead : List Bool) (is : AreAhead grammar set 
     now = subst (λ (xs : List ℕ). AreMovesBut grammar sets set ahead xs moves) e h
 
     -- the next symbol is ahead
-    pub next_ahead : IsAhead grammar.rules.items set (symbol_with grammar.terminals k)
+    next_ahead : IsAhead grammar.rules.items set (symbol_with grammar.terminals k)
     next_ahead = is.only k (first_value ahead true Unbounded Unbounded k left now.matches)
 
-    pub next_state : IsState grammar.rules.items set → (next : List Bool) →
+    next_state : IsState grammar.rules.items set → (next : List Bool) →
         IsGoto grammar.rules.items set (symbol_with grammar.terminals k) next →
         IsState grammar.rules.items next
     next_state state next goto = after (symbol_with grammar.terminals k) state next_ahead goto
 
     -- its move is one more
-    pub AreMovesBut-step : (next : List Bool) →
+    AreMovesBut-step : (next : List Bool) →
         IsGoto grammar.rules.items set (symbol_with grammar.terminals k) next →
         (more : List (List Bool)) (p : ℕ) → HasEntered sets next more p → (move : Move) →
         move.symbol ≡ symbol_with grammar.terminals k → move.state ≡ p →
@@ -328,6 +331,25 @@ module _ (grammar : Grammar) (set ahead : List Bool) (is : AreAhead grammar set 
                 (now.done j there (left_other k left j other ∙ gone))
           ];
         }
+
+  -- and what was found so far grows with it
+  module _ (before : List (List Bool)) (state : IsState grammar.rules.items set) where
+    pub moves_go_on : (sets : List (List Bool)) (given : List ℕ) (k : ℕ) (left : List ℕ) →
+        given ≡ k ∷ left → (moves : List Move) → AreSome grammar.rules.items sets →
+        Extends before sets → AreMovesBut grammar sets set ahead given moves →
+        (next : List Bool) →
+        IsGoto grammar.rules.items set (symbol_with grammar.terminals k) next →
+        (more : List (List Bool)) (p : ℕ) → HasEntered sets next more p → (move : Move) →
+        move.symbol ≡ symbol_with grammar.terminals k → move.state ≡ p →
+        AreSome grammar.rules.items more × Extends before more
+        × AreMovesBut grammar more set ahead left (moves ++ move ∷ [])
+    moves_go_on sets given k left e moves some grown h next goto more p entered move symbol at = (
+      AreSome-entered grammar.rules.items sets next more p entered some
+          (next_state sets given k left e moves h state next goto),
+      Extends-both grammar.rules.items before sets more grown
+          (Extends-entered grammar.rules.items sets next more p entered),
+      AreMovesBut-step sets given k left e moves h next goto more p entered move symbol at,
+    )
 
   pub AreMoves-whole : (sets : List (List Bool)) (left : List ℕ) → left ≡ [] →
       (moves : List Move) → AreMovesBut grammar sets set ahead left moves →

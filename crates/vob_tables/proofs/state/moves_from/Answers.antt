@@ -1,26 +1,22 @@
 -- The set of the state is one with a bit for each item.
-use Rattle.std.proofs.Common.{◌<◌, Bool, List, arith, length, subst}
-use Rattle.std.proofs.lemmas.List.{length-map}
+use Rattle.std.proofs.Common.{Bool, List, subst}
 use Rattle.vob.specs.Vobs.{bits_of}
 use Rattle.vob_tables.specs.Rounds.{AreAhead}
-use Rattle.vob_tables.proofs.StateLemmas.{Extends-itself, state_long, state_read}
+use Rattle.vob_tables.proofs.StateLemmas.{Extends-itself, state_read}
 use Rattle.vob_tables.proofs.state.moves_from.Goals as goal
 
 pub ahead-requires : goal.ahead-requires
 ahead-requires c =
-    let rules = c.args.closures.now.rules.items in
     let sets = c.args.sets.now.items in
-    let less : c.args.from < length (bits_of sets) =
-    omega (arith, c.requires.from, length-map sets (λ v. v.bits)) in
-    state_long rules (state_read rules (bits_of sets) sets c.requires.some
-    (Extends-itself rules (bits_of sets)) c.args.from less c.index.result.now c.index.ensures).1
+    (state_read c.args.closures.now.rules.items sets sets c.requires.some
+    (Extends-itself c.args.closures.now.rules.items (bits_of sets)) c.args.from c.requires.from
+    c.index.result.now c.index.ensures).2
 
 pub moves_by-requires-clause-ahead : goal.moves_by-requires-clause-ahead
 moves_by-requires-clause-ahead c =
-    let rules = c.args.closures.now.rules.items in
     let sets = c.args.sets.now.items in
-    let less : c.args.from < length (bits_of sets) =
-    omega (arith, c.requires.from, length-map sets (λ v. v.bits)) in
+    let read = state_read c.args.closures.now.rules.items sets sets c.requires.some
+    (Extends-itself c.args.closures.now.rules.items (bits_of sets)) c.args.from c.requires.from
+    c.index.result.now c.index.ensures in
     subst (λ (bits : List Bool). AreAhead c.args.closures.now bits c.in_ok-ahead.ahead.bits)
-    (state_read rules (bits_of sets) sets c.requires.some (Extends-itself rules (bits_of sets))
-    c.args.from less c.index.result.now c.index.ensures).0 c.in_ok-ahead.ensures
+    read.0 c.in_ok-ahead.ensures

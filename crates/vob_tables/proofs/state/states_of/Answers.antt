@@ -1,5 +1,5 @@
 -- One state more has its moves.
-use Rattle.std.proofs.Common.{◌≡◌, ◌<◌, ◌≤◌, ◌∙◌, ◌∷◌, [], ℕ, Vec, Global, arith, length, map, subst, sym}
+use Rattle.std.proofs.Common.{◌≡◌, ◌<◌, ◌∷◌, [], ℕ, Vec, Global, arith, length, subst}
 use Rattle.std.proofs.lemmas.List.{length-map, map-append}
 use Rattle.vob.specs.Vobs.{bits_of}
 use Rattle.vob_tables.specs.Rounds.{AreMovesFrom, rows_of}
