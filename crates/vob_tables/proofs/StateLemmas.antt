@@ -1,10 +1,10 @@
 -- The states that were found, and the symbols and moves of each.
-use Rattle.std.proofs.Common.{◌≡◌, ◌≢◌, ◌↔◌, ℕ, ◌+◌, ◌-◌, ◌<◌, ◌≤◌, inl, inr, Bool, true, false, nat_lt, ltb-true, cond, Some, List, [], ◌∷◌, ◌++◌, length, get_or, replicate, refl, sym, ap, ◌∙◌, subst, arith}
-use Rattle.std.specs.List.{All, Any, Contains}
+use Rattle.std.proofs.Common.{◌≡◌, ◌≢◌, ◌↔◌, ℕ, suc, ◌+◌, ◌-◌, ◌<◌, ◌≤◌, inl, inr, Bool, true, false, nat_lt, ltb-true, cond, Some, List, [], ◌∷◌, ◌++◌, length, get_or, replicate, refl, sym, ap, ◌∙◌, subst, arith}
+use Rattle.std.specs.List.{All, AllPairs, Any, Contains}
 use Rattle.std.specs.declared.ops.Bound.TheVariants.{Unbounded}
 use Rattle.std.proofs.lemmas.Bool.{cases_eq, cases_lt, false≢true, false_from_ne_true, lt-ltb}
 use Rattle.std.proofs.lemmas.List.{append-nil, append_assoc, ext_get_or, get_or-map, get_or_append_left, get_or_push, length-append, length-map, length_push, map-append}
-use Rattle.std.proofs.lemmas.List.Elements.{All-nil, All-push}
+use Rattle.std.proofs.lemmas.List.Elements.{All-head, All-nil, All-push, All-tail}
 use Rattle.std.proofs.lemmas.List.Quantifiers.{all_pairs_push}
 use Rattle.std.proofs.lemmas.Option.{get_or_from_slice_get, same_Some, slice_get-get_or}
 use Rattle.vob_block.specs.Packing.{item}
@@ -18,7 +18,7 @@ use Rattle.vob_tables.specs.Faults.{IsRuleOf, IsSymbol}
 use Rattle.vob_tables.specs.ItemSets.{Has, InClosure, IsClosure, IsGoto, IsItemSet}
 use Rattle.vob_tables.specs.Items.{HasNext, item_total}
 use Rattle.vob_tables.specs.Rounds.{AreAhead, AreMovesBut, AreMovesFrom, AreRounds, AreSome, Extends, HasAhead, HasEntered, number_of, symbol_with}
-use Rattle.vob_tables.specs.States.{AreMoves, AreStates, IsAhead, IsMove, IsStart, IsState}
+use Rattle.vob_tables.specs.States.{AreMoves, AreStates, IsAhead, IsMove, IsStart, IsState, Precedes}
 use Rattle.vob_tables.specs.States.IsState.{start, after}
 use Rattle.vob_tables.specs.declared.grammar.Grammar.{Grammar}
 use Rattle.vob_tables.specs.declared.grammar.Rule.{Rule}
@@ -28,7 +28,7 @@ use Rattle.vob_tables.specs.declared.state.Move.{Move}
 use Rattle.vob_tables.proofs.ClosureLemmas.{closure_as, gathered_each, none_true}
 use Rattle.vob_walk.specs.Left.{AreMatches, is_left}
 use Rattle.vob_walk.specs.Matches.{matches}
-use Rattle.vob_walk.proofs.IndexLemmas.{first_value, left_all, left_none, left_other, matches_after, matches_all}
+use Rattle.vob_walk.proofs.IndexLemmas.{first_value, left_all, left_none, left_other, matches_after, matches_all, matches_rise}
 
 -- ---- symbols by number
 
@@ -43,6 +43,36 @@ module _ (terminals : ℕ) where
         false_from_ne_true (nat_lt k terminals) (λ on. omega (arith, past, ltb-true k terminals on)) in
         let sum : terminals + (k - terminals) ≡ k = omega (arith, past) in
         ap (λ b. number_of terminals (cond b (Terminal k) (Nonterminal (k - terminals)))) off ∙ sum
+  ]
+
+  symbol_low : (k : ℕ) → k < terminals → symbol_with terminals k ≡ Terminal k
+  symbol_low k less =
+      ap (λ b. cond b (Terminal k) (Nonterminal (k - terminals))) (lt-ltb k terminals less)
+
+  symbol_high : (k : ℕ) → terminals ≤ k → symbol_with terminals k ≡ Nonterminal (k - terminals)
+  symbol_high k past =
+      let off : nat_lt k terminals ≡ false =
+      false_from_ne_true (nat_lt k terminals) (λ on. omega (arith, past, ltb-true k terminals on)) in
+      ap (λ b. cond b (Terminal k) (Nonterminal (k - terminals))) off
+
+  -- symbols are in the order of their numbers
+  number_precedes : (k j : ℕ) → k < j →
+      Precedes (symbol_with terminals k) (symbol_with terminals j)
+  number_precedes k j less = elim (cases_lt j terminals) [
+    | inl low ↦
+        let own : k < terminals = omega (arith, less, low) in
+        subst (λ (x : Symbol). Precedes x (symbol_with terminals j)) (sym (symbol_low k own))
+        (subst (λ (y : Symbol). Precedes (Terminal k) y) (sym (symbol_low j low)) less)
+    | inr past ↦ elim (cases_lt k terminals) [
+      | inl own ↦
+          subst (λ (x : Symbol). Precedes x (symbol_with terminals j)) (sym (symbol_low k own))
+          (subst (λ (y : Symbol). Precedes (Terminal k) y) (sym (symbol_high j past)) tt)
+      | inr own ↦
+          let apart : k - terminals < j - terminals = omega (arith, less, own, past) in
+          subst (λ (x : Symbol). Precedes x (symbol_with terminals j)) (sym (symbol_high k own))
+          (subst (λ (y : Symbol). Precedes (Nonterminal (k - terminals)) y)
+          (sym (symbol_high j past)) apart)
+    ]
   ]
 
   pub symbol_back : (nonterminals : ℕ) (x : Symbol) → IsSymbol terminals nonterminals x →
@@ -179,6 +209,7 @@ module _ (rules : List Rule) where
   AreMoves-extended sets more e set moves h = record {
     each = λ k d less. IsMove-extended sets more e set _ (h.each k d less);
     all = h.all;
+    rise = h.rise;
   }
 
   -- a set that was entered
@@ -280,7 +311,12 @@ module _ (grammar : Grammar) (set ahead : List Bool) (is : AreAhead grammar set 
   AreMovesBut-start sets left all = record {
     matches = subst (λ (xs : List ℕ). AreMatches ahead true Unbounded Unbounded xs) (sym all)
         (matches_all ahead true Unbounded Unbounded);
+    left_rises = subst (λ (xs : List ℕ). AllPairs (λ i j. i < j) xs) (sym all)
+        (matches_rise ahead true Unbounded Unbounded);
     each = All-nil (IsMove grammar.rules.items sets set);
+    rise = λ i j d less low. absurd (omega (arith, less, low));
+    before = All-nil (λ (m : Move).
+        All (λ k. Precedes m.symbol (symbol_with grammar.terminals k)) left);
     done = λ k there gone.
         let here = left_all ahead true Unbounded Unbounded k (true_inside ahead k there) refl there in
         absurd (false≢true (sym gone ∙ ap (λ (xs : List ℕ). is_left xs k) all ∙ here));
@@ -319,6 +355,23 @@ module _ (grammar : Grammar) (set ahead : List Bool) (is : AreAhead grammar set 
               (sym (ap (λ n. get_or more n []) state ∙ entered.there)) goto);
         } in record {
           matches = matches_after ahead true Unbounded Unbounded k left now.matches;
+          left_rises = λ i j d less low.
+              now.left_rises (suc i) (suc j) d (omega (arith, less)) (omega (arith, low));
+          rise = all_pairs_push (λ (m n : Move). Precedes m.symbol n.symbol) moves move now.rise
+              (λ i d low. subst (λ (x : Symbol). Precedes (get_or moves i d).symbol x) (sym symbol)
+              (All-head (λ j. Precedes (get_or moves i d).symbol (symbol_with grammar.terminals j)) k
+              left (now.before i d low)));
+          before = All-push
+              (λ (m : Move). All (λ j. Precedes m.symbol (symbol_with grammar.terminals j)) left)
+              moves move
+              (λ i d low.
+              All-tail (λ j. Precedes (get_or moves i d).symbol (symbol_with grammar.terminals j)) k
+              left (now.before i d low))
+              (λ i d low.
+              subst (λ (x : Symbol). Precedes x (symbol_with grammar.terminals (get_or left i d)))
+              (sym symbol)
+              (number_precedes grammar.terminals k (get_or left i d)
+              (now.left_rises 0 (suc i) d (omega arith) (omega (arith, low)))));
           each = All-push (IsMove grammar.rules.items more set) moves move
               (λ i d less.
               IsMove-extended grammar.rules.items sets more extends set _ (now.each i d less)) own;
@@ -356,6 +409,7 @@ module _ (grammar : Grammar) (set ahead : List Bool) (is : AreAhead grammar set 
       AreMoves grammar.rules.items sets set moves
   AreMoves-whole sets left none moves h = record {
     each = h.each;
+    rise = h.rise;
     all = λ x found.
         let (k, there, named) = is.each x found in
         let gone = ap (λ (xs : List ℕ). is_left xs k) none ∙ left_none k in

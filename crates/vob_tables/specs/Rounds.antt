@@ -4,7 +4,7 @@ use Rattle.std.specs.declared.alloc.Global.{Global}
 use Rattle.std.specs.declared.ops.Bound.TheVariants.{Unbounded}
 use Rattle.vob_tables.specs.ItemSets.{Has}
 use Rattle.vob_tables.specs.Items.{HasNext}
-use Rattle.vob_tables.specs.States.{AreMoves, IsAhead, IsMove, IsStart, IsState}
+use Rattle.vob_tables.specs.States.{AreMoves, IsAhead, IsMove, IsStart, IsState, Precedes}
 use Rattle.vob_tables.specs.declared.grammar.Grammar.{Grammar}
 use Rattle.vob_tables.specs.declared.grammar.Rule.{Rule}
 use Rattle.vob_tables.specs.declared.grammar.Symbol.{Symbol}
@@ -56,7 +56,11 @@ pub record HasEntered (sets : List (List Bool)) (set : List Bool) (after : List 
 pub record AreMovesBut (grammar : Grammar) (sets : List (List Bool)) (set ahead : List Bool)
     (left : List ℕ) (moves : List Move) : Type 0 where
   pub matches : AreMatches ahead true Unbounded Unbounded left
+  pub left_rises : AllPairs (λ i j. i < j) left
   pub each : All (IsMove grammar.rules.items sets set) moves
+  pub rise : AllPairs (λ one other. Precedes one.symbol other.symbol) moves
+  pub before : All (λ move.
+      All (λ k. Precedes move.symbol (symbol_with grammar.terminals k)) left) moves
   pub done : (k : ℕ) → Has ahead k → is_left left k ≡ false →
       Any (λ move. move.symbol ≡ symbol_with grammar.terminals k) moves
 

@@ -4,6 +4,7 @@ use Rattle.vob_tables.specs.ItemSets.{Has, InClosure, IsGoto, IsItemSet}
 use Rattle.vob_tables.specs.Items.{HasNext}
 use Rattle.vob_tables.specs.declared.grammar.Rule.{Rule}
 use Rattle.vob_tables.specs.declared.grammar.Symbol.{Symbol}
+use Rattle.vob_tables.specs.declared.grammar.Symbol.TheVariants.{Terminal, Nonterminal}
 use Rattle.vob_tables.specs.declared.state.Move.{Move}
 
 -- symbol x stands behind the dot of an item of a set
@@ -27,11 +28,19 @@ pub record IsMove (rules : List Rule) (sets : List (List Bool)) (set : List Bool
   pub inside : move.state < length sets
   pub goto : IsGoto rules set move.symbol (slice_index_or sets move.state [])
 
--- one by each such symbol
+-- terminals come before nonterminals, and of a kind the lower number first
+abbrev pub Precedes : Symbol → Symbol → Type 0
+Precedes (Terminal t) (Terminal u) = t < u
+Precedes (Terminal t) (Nonterminal b) = Unit {0}
+Precedes (Nonterminal a) (Terminal u) = ⊥
+Precedes (Nonterminal a) (Nonterminal b) = a < b
+
+-- one by each such symbol, in the order of the symbols
 pub record AreMoves (rules : List Rule) (sets : List (List Bool)) (set : List Bool)
     (moves : List Move) : Type 0 where
   pub each : All (IsMove rules sets set) moves
   pub all : (x : Symbol) → IsAhead rules set x → Any (λ move. move.symbol ≡ x) moves
+  pub rise : AllPairs (λ one other. Precedes one.symbol other.symbol) moves
 
 -- all states, each once and the start first, and the moves of each
 pub record AreStates (rules : List Rule) (sets : List (List Bool)) (moves : List (List Move))

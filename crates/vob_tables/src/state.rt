@@ -124,7 +124,8 @@ fn states_of(alloc: Global, closures: &Closures<'_>) -> Result<Automaton, AllocE
     Ok(Automaton { sets, moves })
 }
 
-/// Returns the states of a grammar's automaton, and the moves of each. State 0 is the start: the
+/// Returns the states of a grammar's automaton, and the moves of each, by terminals first and rising
+/// numbers. State 0 is the start: the
 /// closure of rule 0 with the dot before all. As in bison, rule 0 should be that of a nonterminal of
 /// its own: the start symbol, and the terminal for the end.
 ///
