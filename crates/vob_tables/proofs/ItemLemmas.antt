@@ -9,7 +9,7 @@ use Rattle.vob_tables.specs.declared.items.Item.{Item}
 use Rattle.vob_tables.specs.declared.grammar.Rule.{Rule}
 use Rattle.vob_tables.specs.declared.grammar.Symbol.{Symbol}
 use Rattle.vob_tables.specs.ItemTables.{AreFirsts, AreItems}
-use Rattle.vob_tables.specs.Items.{HasNext, IsItem, first_item, item_count, item_total}
+use Rattle.vob_tables.specs.Items.{HasNext, IsItem, NextItemIsBehind, first_item, item_count, item_total}
 
 -- the items of one rule more
 pub first_item-more : (rules : List Rule) (r : ℕ) (rule : Rule) → slice_get rules r ≡ Some rule →
@@ -54,16 +54,18 @@ first_below rules r rule is =
     record { rule = rule; is = is; dot = omega arith; number = omega arith }
 
 -- and the item behind one with a symbol behind its dot is there
-pub next_inside : (rules : List Rule) (i : ℕ) (x : Symbol) → HasNext rules i x →
-    i + 1 < item_total rules
-next_inside rules i x ahead =
-    let less = slice_get_within ahead.is.rule.right.items ahead.item.dot x ahead.next in
-    item_inside rules (i + 1) record { rule = ahead.item.rule; dot = ahead.item.dot + 1 } record {
+pub next_item : NextItemIsBehind
+next_item rules i x ahead =
+    let less = slice_get_within ahead.is.rule.right.items ahead.item.dot x ahead.next in record {
       rule = ahead.is.rule;
       is = ahead.is.is;
       dot = omega arith;
       number = omega (arith, ahead.is.number);
     }
+
+pub next_inside : (rules : List Rule) (i : ℕ) (x : Symbol) → HasNext rules i x →
+    i + 1 < item_total rules
+next_inside rules i x ahead = item_inside rules (i + 1) _ (next_item rules i x ahead)
 
 -- where there is a rule there is an item
 pub item_first : (rules : List Rule) → 0 < length rules → 0 < item_total rules

@@ -28,3 +28,8 @@ pub record HasNext (rules : List Rule) (i : ℕ) (x : Symbol) : Type 0 where
   pub item : Item
   pub is : IsItem rules i item
   pub next : slice_get is.rule.right.items item.dot ≡ Some x
+
+-- the item with the next number has the dot behind that symbol
+abbrev pub NextItemIsBehind : Type 0
+NextItemIsBehind = (rules : List Rule) (i : ℕ) (x : Symbol) (h : HasNext rules i x) →
+    IsItem rules (i + 1) (record { rule = h.item.rule; dot = h.item.dot + 1 })
