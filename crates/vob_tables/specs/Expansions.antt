@@ -1,4 +1,5 @@
--- What each nonterminal brings into a closure, and sets under way. No public clause cites this page.
+-- What each nonterminal brings into a closure, and sets under way. No public clause cites this
+-- page.
 use Rattle.std.specs.Prelude.{◌≡◌, ◌↔◌, ◌⊎◌, ℕ, ◌+◌, ◌<◌, Bool, true, false, Option, None, Some, List, length, All, slice_get}
 use Rattle.std.specs.declared.ops.Bound.TheVariants.{Unbounded}
 use Rattle.vob.specs.Vobs.{AreOfLength}
@@ -13,7 +14,7 @@ use Rattle.vob_tables.specs.declared.grammar.Symbol.{Symbol}
 use Rattle.vob_tables.specs.declared.grammar.Symbol.TheVariants.{Terminal, Nonterminal}
 use Rattle.vob_walk.specs.Left.{AreMatches, is_left}
 
--- nonterminal a brings the first items of its rules, and what a nonterminal behind their dots brings
+-- nonterminal a brings the first items of its rules, and what a nonterminal behind their dots does
 abbrev pub Expands : List Rule → ℕ → Symbol → Type 0
 Expands rules a (Terminal i) = Opens rules a i
 Expands rules a (Nonterminal b) = (k : ℕ) × Opens rules a k × HasNext rules k (Nonterminal b)

@@ -186,7 +186,8 @@ impl<'a> Closures<'a> {
         bring(self.items.next(number), &self.expansions, made);
     }
 
-    /// Returns the closure of a set of items, which must have a bit for each. Fails if memory runs out.
+    /// Returns the closure of a set of items, which must have a bit for each. Fails if memory runs
+    /// out.
     pub fn closure(&self, set: &Vob) -> Result<Vob, AllocError>
         requires { length set.now.bits ≡ item_total self.now.rules.items }
         ensures { IfOk result (λ closure.
@@ -227,8 +228,8 @@ impl<'a> Closures<'a> {
         Ok(made)
     }
 
-    /// Returns the closure of the items of a set after their dots passed a symbol: no item if it stands
-    /// behind no dot. The set must have a bit for each item. Fails if memory runs out.
+    /// Returns the closure of the items of a set after their dots passed a symbol: no item if it
+    /// stands behind no dot. The set must have a bit for each item. Fails if memory runs out.
     pub fn goto(&self, alloc: Global, set: &Vob, symbol: Symbol) -> Result<Vob, AllocError>
         requires { length set.now.bits ≡ item_total self.now.rules.items }
         ensures { IfOk result (λ next.

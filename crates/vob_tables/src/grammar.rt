@@ -34,7 +34,7 @@ pub enum GrammarError {
     Memory,
     /// A rule names a terminal or a nonterminal that isn't there.
     BadSymbol { rule: usize },
-    /// There is no rule.
+    /// There is no rule to start from.
     NoRule,
 }
 

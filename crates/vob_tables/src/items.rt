@@ -72,8 +72,8 @@ impl<'a> Items<'a> {
         self.firsts[rule]
     }
 
-    /// Returns the number of an item, or `None` if the grammar has no such rule or its right side no
-    /// such dot.
+    /// Returns the number of an item, or `None` if the grammar has no such rule or its right side
+    /// no such dot.
     pub fn number(&self, item: Item) -> Option<usize>
         ensures { (i : ℕ) → (result ≡ Some i) ↔ IsItem self.now.rules.items i item }
     {
@@ -94,8 +94,8 @@ impl<'a> Items<'a> {
         self.items[number]
     }
 
-    /// Returns the symbol behind the dot of an item, whose number must be one, or `None` if the dot is
-    /// behind all.
+    /// Returns the symbol behind the dot of an item, whose number must be one, or `None` if the dot
+    /// is behind all.
     pub fn next(&self, number: usize) -> Option<Symbol>
         requires { number < item_total self.now.rules.items }
         ensures { (x : Symbol) → (result ≡ Some x) ↔ HasNext self.now.rules.items number x }

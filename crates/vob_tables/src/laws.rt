@@ -1,5 +1,5 @@
-//! What the sets of a grammar mean by derivations, and which item stands behind another. Each function
-//! does nothing: its contract is the law.
+//! What the sets of a grammar mean by derivations, and which item stands behind another. Each
+//! function does nothing: its contract is the law.
 ghost use Rattle.vob_tables.specs.Derivations.{BeginningIsDerived, EmptyIsDerived, FollowingIsDerived};
 ghost use Rattle.vob_tables.specs.Items.{NextItemIsBehind};
 
@@ -21,8 +21,8 @@ pub fn following_is_derived()
     ensures { FollowingIsDerived }
 {}
 
-/// The item with the number after another's has its dot behind the symbol that stands behind the dot of
-/// that one. So `goto` passes the dot.
+/// The item with the number after another's has its dot behind the symbol that stands behind the
+/// dot of that one. So `goto` passes the dot.
 pub fn next_item_is_behind()
     ensures { NextItemIsBehind }
 {}

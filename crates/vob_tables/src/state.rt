@@ -65,7 +65,7 @@ fn enter(sets: &mut Vec<Vob>, set: Vob) -> Result<usize, AllocError>
     }
 }
 
-/// Returns the moves of a state by the symbols with some numbers, and adds the states that follow to
+/// Returns the moves of a state by the symbols with some numbers. Adds the states that follow to
 /// those that were found.
 fn moves_by(
     alloc: Global,
@@ -124,13 +124,13 @@ fn states_of(alloc: Global, closures: &Closures<'_>) -> Result<Automaton, AllocE
     Ok(Automaton { sets, moves })
 }
 
-/// Returns the states of a grammar's automaton, and the moves of each, by terminals first and rising
-/// numbers. State 0 is the start: the
-/// closure of rule 0 with the dot before all. As in bison, rule 0 should be that of a nonterminal of
-/// its own: the start symbol, and the terminal for the end.
+/// Returns the states of a grammar's automaton, and the moves of each: terminals first, and lower
+/// numbers first. State 0 is the start: the closure of rule 0 with the dot before all. As in bison,
+/// rule 0 should be that of a nonterminal of its own: the start symbol, and the terminal for the
+/// end. States are numbered as a breadth-first walk finds them.
 ///
-/// Fails if there is no rule, with the first rule that names a symbol that isn't there, or if memory
-/// runs out.
+/// Fails if there is no rule, with the first rule that names a symbol that isn't there, or if
+/// memory runs out.
 pub fn states(alloc: Global, grammar: &Grammar) -> Result<Automaton, GrammarError>
     ensures states { IfOk result (λ made. AreStates grammar.now.rules.items
         (bits_of made.sets.items) (rows_of made.moves.items)) }
