@@ -120,18 +120,31 @@ impl<'a> Symbols<'a> {
         self.actions.contains(&nonterminal)
     }
 
-    /// Lets another name stand for a terminal.
-    pub(crate) fn rename(&mut self, name: &'a [u8], terminal: usize) -> Result<(), Stop> {
+    /// Gives a terminal another name, by which it is shown. It keeps those that it has.
+    pub(crate) fn rename(
+        &mut self,
+        alloc: Global,
+        name: &'a [u8],
+        terminal: usize,
+    ) -> Result<(), Stop> {
+        if let Some(own) = self.terminals.get_mut(terminal) {
+            *own = name.to_vec(alloc)?;
+        }
         self.by_name.insert(name, Symbol::Terminal(terminal))?;
         Ok(())
     }
 
     /// Makes a terminal the end, if it is the newest.
-    pub(crate) fn make_end(&mut self, name: &'a [u8], terminal: usize) -> Result<(), Stop> {
+    pub(crate) fn make_end(
+        &mut self,
+        alloc: Global,
+        name: &'a [u8],
+        terminal: usize,
+    ) -> Result<(), Stop> {
         if terminal > 1 && self.terminals.len().checked_sub(1) == Some(terminal) {
             self.terminals.pop();
             self.precedences.pop();
-            self.rename(name, 0)?;
+            self.rename(alloc, name, 0)?;
         }
         Ok(())
     }

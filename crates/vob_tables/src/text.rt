@@ -12,7 +12,7 @@ use std::alloc::Global;
 #[derive(Drop)]
 pub struct GrammarText {
     pub grammar: Grammar,
-    /// The name of each terminal, with its quotes if it has some.
+    /// The name of each terminal: the last that the file gives it, with its quotes if it has some.
     pub terminals: Vec<Vec<u8>>,
     /// The name of each nonterminal. That of an action within a rule is `$@`.
     pub nonterminals: Vec<Vec<u8>>,
@@ -134,13 +134,15 @@ impl<'a> Reader<'a> {
         let is_symbol = token.kind == Kind::Name || token.kind == Kind::Character;
         match self.declares {
             Declares::Passed => {}
-            Declares::Tokens if token.kind == Kind::Text => self.symbols.rename(name, self.last)?,
+            Declares::Tokens if token.kind == Kind::Text => self
+                .symbols
+                .rename(alloc, name, self.last)?,
             Declares::Tokens if is_symbol => {
                 self.last = self.symbols.terminal(alloc, name, token.start)?;
                 self.last_name = name;
             }
             Declares::Tokens if token.kind == Kind::Number && number_of(name) == 0 => {
-                self.symbols.make_end(self.last_name, self.last)?;
+                self.symbols.make_end(alloc, self.last_name, self.last)?;
                 self.last = 0;
             }
             Declares::Operators(precedence) if is_symbol || token.kind == Kind::Text => {

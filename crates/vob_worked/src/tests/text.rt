@@ -89,12 +89,12 @@ fn files_say_their_rules(rt: HostRuntime) {
         "%{\n int x; /* %% */\n%}\n%union { int number; char *text; }\n%token <number> NUM 300 \"number\" ID\n\
          %type <text> list\n%start list // the start\n%define api.pure {full}\n%%\nother: ID\n\
          list: %empty | list[l] \"number\"[n] { puts(\"}\"); char c = '\\''; /* } */ } ; %% int main() { } '",
-        " $accept : list $end\n other : ID\n list :\n list : list NUM\n",
+        " $accept : list $end\n other : ID\n list :\n list : list \"number\"\n",
     );
     check_rules(
         &rt,
         "%token END 0 \"end\" A\n%%\ns: A { one(); } A { two(); } { three(); };",
-        " $accept : s $end\n $@ :\n $@ :\n s : A $@ A $@\n",
+        " $accept : s \"end\"\n $@ :\n $@ :\n s : A $@ A $@\n",
     );
 }
 
