@@ -7,6 +7,7 @@ mod lengths;
 mod live;
 mod matrix;
 mod slots;
+mod small_matrices;
 mod support;
 mod text;
 mod users;

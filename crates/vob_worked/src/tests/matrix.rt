@@ -1,17 +1,18 @@
 //! Bit matrices: closures worked by hand, chains, rings, and every graph of three nodes;
 //! transposes; entries and rows.
-use super::support::{check_bits, same};
+use super::support::{check_bits, push, same, vob_of};
 use std::process::Abort;
+use vob::Vob;
 use vob_flow::closure;
 use vob_users::matrix::BitMatrix;
 
 /// A matrix whose entries are all false.
-fn none(rt: &(impl Abort + AllocGlobal), rows: usize, columns: usize) -> BitMatrix {
+pub fn none(rt: &(impl Abort + AllocGlobal), rows: usize, columns: usize) -> BitMatrix {
     BitMatrix::new(rt.alloc(), rows, columns).expect(rt, "memory")
 }
 
 /// `set` to true, with the ends tested first.
-fn mark(matrix: &mut BitMatrix, row: usize, column: usize) -> bool {
+pub fn mark(matrix: &mut BitMatrix, row: usize, column: usize) -> bool {
     row < matrix.rows() && column < matrix.columns() && matrix.set(row, column, true)
 }
 
@@ -78,7 +79,7 @@ fn small_graphs_are_closed(rt: HostRuntime) {
 }
 
 /// Compares each entry with whether it is wanted.
-fn check_entry(rt: &impl Abort, matrix: &BitMatrix, row: usize, column: usize, wanted: bool) {
+pub fn check_entry(rt: &impl Abort, matrix: &BitMatrix, row: usize, column: usize, wanted: bool) {
     let found = matrix.get(row, column);
     same(rt, "entry of a row", row, found, Some(wanted));
 }
@@ -110,7 +111,7 @@ fn chains_and_a_ring_longer_than_a_block_are_closed(rt: HostRuntime) {
 }
 
 /// The next of some numbers that look random, below a bound.
-fn draw(state: &mut u64, bound: usize) -> usize {
+pub fn draw(state: &mut u64, bound: usize) -> usize {
     *state = state
         .wrapping_mul(6364136223846793005)
         .wrapping_add(1442695040888963407);
@@ -188,13 +189,13 @@ fn check_same(rt: &impl Abort, found: &BitMatrix, wanted: &BitMatrix) {
 }
 
 /// The product, with the ends tested first.
-fn times(rt: &(impl Abort + AllocGlobal), first: &BitMatrix, second: &BitMatrix) -> BitMatrix {
+pub fn times(rt: &(impl Abort + AllocGlobal), first: &BitMatrix, second: &BitMatrix) -> BitMatrix {
     assert_eq!(rt; first.columns(), second.rows());
     first.product(rt.alloc(), second).expect(rt, "memory")
 }
 
 /// The power, with the ends tested first.
-fn power(rt: &(impl Abort + AllocGlobal), matrix: &BitMatrix, n: usize) -> BitMatrix {
+pub fn power(rt: &(impl Abort + AllocGlobal), matrix: &BitMatrix, n: usize) -> BitMatrix {
     assert_eq!(rt; matrix.columns(), matrix.rows());
     matrix.power(rt.alloc(), n).expect(rt, "memory")
 }
@@ -280,7 +281,7 @@ fn every_graph_of_three_nodes_is_closed(rt: HostRuntime) {
 }
 
 /// The matrix with rows and columns exchanged.
-fn turned(rt: &(impl Abort + AllocGlobal), matrix: &BitMatrix) -> BitMatrix {
+pub fn turned(rt: &(impl Abort + AllocGlobal), matrix: &BitMatrix) -> BitMatrix {
     matrix.transpose(rt.alloc()).expect(rt, "memory")
 }
 
@@ -306,6 +307,76 @@ fn rows_and_columns_are_exchanged(rt: HostRuntime) {
             check_entry(&rt, &once, column, row, column % 3 == row);
         }
     }
+}
+
+// Of half-full ones each tile of 64 by 64 is transposed at once; the others have few set bits.
+#[test]
+fn tiles_are_exchanged(rt: HostRuntime) {
+    let shapes = [
+        (1, 64),
+        (8, 7),
+        (9, 65),
+        (63, 64),
+        (64, 64),
+        (65, 63),
+        (65, 129),
+        (130, 64),
+    ];
+    for (rows, columns) in shapes {
+        for entries in [rows + columns, rows * columns] {
+            let matrix = random(&rt, rows, columns, entries);
+            let once = turned(&rt, &matrix);
+            same(&rt, "rows", rows, once.rows(), columns);
+            same(&rt, "columns", columns, once.columns(), rows);
+            for row in 0..rows {
+                for column in 0..columns {
+                    same(
+                        &rt,
+                        "row",
+                        row,
+                        once.get(column, row),
+                        matrix.get(row, column),
+                    );
+                }
+            }
+        }
+    }
+}
+
+/// The union of some columns, with the ends tested first.
+fn united(rt: &(impl Abort + AllocGlobal), matrix: &BitMatrix, columns: &Vob) -> Vob {
+    assert_eq!(rt; columns.len(), matrix.columns());
+    matrix.column_or(rt.alloc(), columns).expect(rt, "memory")
+}
+
+#[test]
+fn columns_are_united(rt: HostRuntime) {
+    let matrix = matrix_of(&rt, 4, &["1010", "0111", "0000", "0001"]);
+    for (columns, wanted) in [
+        ("1000", "1000"),
+        ("0010", "1100"),
+        ("0101", "0101"),
+        ("0000", "0000"),
+    ] {
+        check_bits(&rt, &united(&rt, &matrix, &vob_of(&rt, columns)), wanted);
+    }
+    // Without columns no row has one, and without rows there is no bit.
+    check_bits(&rt, &united(&rt, &none(&rt, 2, 0), &vob_of(&rt, "")), "00");
+    check_bits(&rt, &united(&rt, &none(&rt, 0, 2), &vob_of(&rt, "11")), "");
+    // A matrix wider than a block: row i has column i alone.
+    let mut matrix = none(&rt, 70, 70);
+    let mut even = vob_of(&rt, "");
+    for node in 0..70 {
+        mark(&mut matrix, node, node);
+        push(&rt, &mut even, node % 2 == 0);
+    }
+    same(
+        &rt,
+        "each second row",
+        0,
+        &united(&rt, &matrix, &even),
+        &even,
+    );
 }
 
 /// `or_rows`, with the end tested first.
