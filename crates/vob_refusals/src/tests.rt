@@ -11,6 +11,7 @@ mod made;
 mod runs;
 mod sets;
 mod support;
+mod tables;
 mod unhinted;
 mod users;
 mod walks;

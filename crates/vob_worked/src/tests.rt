@@ -9,5 +9,6 @@ mod matrix;
 mod slots;
 mod small_matrices;
 mod support;
+mod tables;
 mod text;
 mod users;

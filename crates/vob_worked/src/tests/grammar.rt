@@ -7,7 +7,7 @@ use vob::Vob;
 use vob_tables::{Grammar, GrammarError, Rule, Symbol, first_sets, follow_sets, nullable};
 
 /// A grammar of these numbers of symbols, without a rule.
-fn empty(rt: &impl AllocGlobal, nonterminals: usize, terminals: usize) -> Grammar {
+pub fn empty(rt: &impl AllocGlobal, nonterminals: usize, terminals: usize) -> Grammar {
     Grammar {
         terminals,
         nonterminals,
@@ -36,7 +36,7 @@ fn place(names: &str, name: u8) -> usize {
 /// Appends the rule of a text: a name for the left side, and after `=` one for each symbol of the
 /// right side. `nonterminals` has the names of the first nonterminals, `terminals` those of the
 /// first terminals.
-fn add_text(
+pub fn add_text(
     rt: &(impl Abort + AllocGlobal),
     grammar: &mut Grammar,
     nonterminals: &str,

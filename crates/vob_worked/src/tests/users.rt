@@ -105,6 +105,7 @@ fn errors_say_which_rule_or_node_is_wrong(rt: HostRuntime) {
     let symbol = GrammarError::BadSymbol { rule: 12 };
     check_error(&rt, symbol, "rule 12 names a symbol that isn't there");
     check_error(&rt, GrammarError::Memory, "out of memory");
+    check_error(&rt, GrammarError::NoRule, "there is no rule");
     let variable = LiveError::BadVariable { node: 7 };
     check_error(&rt, variable, "node 7 names no variable");
     let next = LiveError::BadNext { node: 10 };
