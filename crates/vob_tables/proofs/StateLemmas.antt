@@ -1,9 +1,11 @@
 -- The states that were found, and the symbols and moves of each.
-use Rattle.std.proofs.Common.{◌≡◌, ◌≢◌, ◌↔◌, ℕ, suc, ◌+◌, ◌-◌, ◌<◌, ◌≤◌, inl, inr, Bool, true, false, nat_lt, ltb-true, cond, Some, List, [], ◌∷◌, ◌++◌, length, get_or, replicate, refl, sym, ap, ◌∙◌, subst, arith}
+use Rattle.std.proofs.Common.{◌≡◌, ◌≢◌, ◌↔◌, ℕ, suc, ◌+◌, ◌-◌, ◌<◌, ◌≤◌, inl, inr, Bool, true, false, nat_lt, ltb-true, cond, Some, List, [], ◌∷◌, ◌++◌, length, get_or, map, replicate, refl, sym, ap, ◌∙◌, subst, arith}
 use Rattle.std.specs.List.{All, AllPairs, Any, Contains}
 use Rattle.std.specs.declared.ops.Bound.TheVariants.{Unbounded}
 use Rattle.std.proofs.lemmas.Bool.{cases_eq, cases_lt, false≢true, false_from_ne_true, lt-ltb}
 use Rattle.std.proofs.lemmas.List.{append-nil, append_assoc, ext_get_or, get_or-map, get_or_append_left, get_or_push, length-append, length-map, length_push, map-append}
+use Rattle.std.proofs.lemmas.Grind.{flat_map-append}
+use Rattle.std.proofs.lemmas.List.Concat.{flat_map-cons}
 use Rattle.std.proofs.lemmas.List.Elements.{All-head, All-nil, All-push, All-tail}
 use Rattle.std.proofs.lemmas.List.Quantifiers.{all_pairs_push}
 use Rattle.std.proofs.lemmas.Option.{get_or_from_slice_get, same_Some, slice_get-get_or}
@@ -18,7 +20,7 @@ use Rattle.vob_tables.specs.Faults.{IsRuleOf, IsSymbol}
 use Rattle.vob_tables.specs.ItemSets.{Has, InClosure, IsClosure, IsGoto, IsItemSet}
 use Rattle.vob_tables.specs.Items.{HasNext, item_total}
 use Rattle.vob_tables.specs.Rounds.{AreAhead, AreMovesBut, AreMovesFrom, AreRounds, AreSome, Extends, HasAhead, HasEntered, number_of, symbol_with}
-use Rattle.vob_tables.specs.States.{AreMoves, AreStates, IsAhead, IsMove, IsStart, IsState, Precedes}
+use Rattle.vob_tables.specs.States.{AreGiven, AreMoves, AreStates, IsAhead, IsMove, IsStart, IsState, Precedes, targets_of}
 use Rattle.vob_tables.specs.States.IsState.{start, after}
 use Rattle.vob_tables.specs.declared.grammar.Grammar.{Grammar}
 use Rattle.vob_tables.specs.declared.grammar.Rule.{Rule}
@@ -231,6 +233,50 @@ module _ (rules : List Rule) where
       }
     ]
 
+-- ---- numbers given one after another
+
+given_append : (n : ℕ) (ps : List ℕ) (m : ℕ) (qs : List ℕ) (k : ℕ) → AreGiven n ps m →
+    AreGiven m qs k → AreGiven n (ps ++ qs) k
+given_append n [] m qs k h g = subst (λ (j : ℕ). AreGiven j qs k) (sym h) g
+given_append n (p ∷ ps) m qs k h g = elim h [
+  | inl low ↦ inl (low.0, given_append n ps m qs k low.1 g)
+  | inr next ↦ inr (next.0, given_append (n + 1) ps m qs k next.1 g)
+]
+
+module _ (rules : List Rule) (sets : List (List Bool)) (set : List Bool) (more : List (List Bool))
+    (p : ℕ) (h : HasEntered sets set more p) where
+  entered_given : AreGiven (length sets) (p ∷ []) (length more)
+  entered_given = elim h.added [
+    | inl same ↦ inl (omega (arith, h.inside, ap length same), sym (ap length same))
+    | inr new ↦
+        let long = ap length new.0 ∙ length_push sets set in
+        let past : length sets ≤ p = elim (cases_lt p (length sets)) [
+          | inl low ↦
+              absurd (new.1 p [] low (sym (get_or_append_left sets (set ∷ []) [] p low)
+              ∙ (sym (ap (λ zs. get_or zs p []) new.0) ∙ h.there)))
+          | inr past ↦ past
+        ] in
+        inr (omega (arith, past, h.inside, long), sym long)
+  ]
+
+  -- the state that a move leads to is given
+  pub one_given : (n : ℕ) (moves : List Move) →
+      AreGiven n (map (λ move. move.state) moves) (length sets) → (move : Move) → move.state ≡ p →
+      AreGiven n (map (λ move. move.state) (moves ++ move ∷ [])) (length more)
+  one_given n moves given move is =
+      let whole = map-append (λ (m : Move). m.state) moves (move ∷ []) in
+      rw whole
+      (given_append n (map (λ (m : Move). m.state) moves) (length sets) (move.state ∷ []) (length more)
+      given (subst (λ (k : ℕ). AreGiven (length sets) (k ∷ []) (length more)) (sym is) entered_given))
+
+targets_more : (moves : List (List Move)) (row : List Move) →
+    targets_of (moves ++ row ∷ []) ≡ targets_of moves ++ map (λ move. move.state) row
+targets_more moves row =
+    flat_map-append (λ (ms : List Move). map (λ m. m.state) ms) moves (row ∷ [])
+    ∙ ap (λ zs. targets_of moves ++ zs)
+    (flat_map-cons (λ (ms : List Move). map (λ m. m.state) ms) row []
+    ∙ append-nil (map (λ (m : Move). m.state) row))
+
 -- the same of Vobs
 pub HasEntered-found : (sets : List BitVector) (bits : List Bool) (p : ℕ) → p < length sets →
     get_or (bits_of sets) p [] ≡ bits → HasEntered (bits_of sets) bits (bits_of sets) p
@@ -428,6 +474,7 @@ module _ (rules : List Rule) where
     inside = omega arith;
     first = h;
     count = omega arith;
+    given = refl;
     moves_of = λ q less. absurd (omega (arith, less));
   }
 
@@ -444,6 +491,9 @@ module _ (grammar : Grammar) (sets : List (List Bool)) (moves : List (List Move)
         inside = first.0;
         first = subst (λ (bits : List Bool). IsStart rules bits) (sym first.1) h.first;
         count = omega (arith, last.0, length_push moves row);
+        given = rw (targets_more moves row)
+            (given_append 1 (targets_of moves) (length sets) (map (λ (n : Move). n.state) row)
+            (length more) h.given m.given);
         moves_of = λ q less. elim (cases_lt q (length moves)) [
           | inl before ↦
               let at = extended_at rules sets more m.more q (omega (arith, before, low)) in
@@ -497,6 +547,7 @@ module _ (rules : List Rule) (sets : List (List Bool)) (moves : List (List Move)
     each = h.some.each;
     all = λ set state. state_found state;
     once = h.some.once;
+    order = h.given;
     count = omega (arith, h.count, all);
     moves_of = λ q less. h.moves_of q (omega (arith, less, all));
   }

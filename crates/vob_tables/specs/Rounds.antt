@@ -4,7 +4,7 @@ use Rattle.std.specs.declared.alloc.Global.{Global}
 use Rattle.std.specs.declared.ops.Bound.TheVariants.{Unbounded}
 use Rattle.vob_tables.specs.ItemSets.{Has}
 use Rattle.vob_tables.specs.Items.{HasNext}
-use Rattle.vob_tables.specs.States.{AreMoves, IsAhead, IsMove, IsStart, IsState, Precedes}
+use Rattle.vob_tables.specs.States.{AreGiven, AreMoves, IsAhead, IsMove, IsStart, IsState, Precedes, targets_of}
 use Rattle.vob_tables.specs.declared.grammar.Grammar.{Grammar}
 use Rattle.vob_tables.specs.declared.grammar.Rule.{Rule}
 use Rattle.vob_tables.specs.declared.grammar.Symbol.{Symbol}
@@ -69,6 +69,7 @@ pub record AreMovesFrom (grammar : Grammar) (before : List (List Bool)) (state :
     (sets : List (List Bool)) (moves : List Move) : Type 0 where
   pub some : AreSome grammar.rules.items sets
   pub more : Extends before sets
+  pub given : AreGiven (length before) (map (λ move. move.state) moves) (length sets)
   pub moves_of : AreMoves grammar.rules.items sets (slice_index_or before state []) moves
 
 -- the start and other states, and the moves of the first of them
@@ -78,5 +79,6 @@ pub record AreRounds (rules : List Rule) (sets : List (List Bool)) (moves : List
   pub inside : 0 < length sets
   pub first : IsStart rules (slice_index_or sets 0 [])
   pub count : length moves ≤ length sets
+  pub given : AreGiven 1 (targets_of moves) (length sets)
   pub moves_of : (q : ℕ) → q < length moves →
       AreMoves rules sets (slice_index_or sets q []) (slice_index_or moves q [])

@@ -1,5 +1,6 @@
 -- The states of a grammar's automaton: sets of items, and the moves between them.
-use Rattle.std.specs.Prelude.{◌≡◌, ◌≢◌, ℕ, ◌<◌, Bool, List, [], length, slice_index_or, All, AllPairs, Any, Contains}
+use Rattle.std.specs.Prelude.{◌≡◌, ◌≢◌, ◌⊎◌, ℕ, ◌+◌, ◌<◌, Bool, List, [], ◌∷◌, length, map, slice_index_or, All, AllPairs, Any, Contains}
+use Rattle.std.specs.List.{flat_map}
 use Rattle.vob_tables.specs.ItemSets.{Has, InClosure, IsGoto, IsItemSet}
 use Rattle.vob_tables.specs.Items.{HasNext}
 use Rattle.vob_tables.specs.declared.grammar.Rule.{Rule}
@@ -42,13 +43,23 @@ pub record AreMoves (rules : List Rule) (sets : List (List Bool)) (set : List Bo
   pub all : (x : Symbol) → IsAhead rules set x → Any (λ move. move.symbol ≡ x) moves
   pub rise : AllPairs (λ one other. Precedes one.symbol other.symbol) moves
 
--- all states, each once and the start first, and the moves of each
+-- the states that moves lead to, one after another
+abbrev pub targets_of : List (List Move) → List ℕ
+targets_of moves = flat_map (λ row. map (λ move. move.state) row) moves
+
+-- numbers given from n up to m: each is one given before, or the next
+abbrev pub AreGiven : ℕ → List ℕ → ℕ → Type 0
+AreGiven n [] m = n ≡ m
+AreGiven n (p ∷ ps) m = ((p < n) × AreGiven n ps m) ⊎ ((p ≡ n) × AreGiven (n + 1) ps m)
+
+-- all states, each once and the start first, as a breadth-first walk finds them, and their moves
 pub record AreStates (rules : List Rule) (sets : List (List Bool)) (moves : List (List Move))
     : Type 0 where
   pub first : IsStart rules (slice_index_or sets 0 [])
   pub each : All (IsState rules) sets
   pub all : (set : List Bool) → IsState rules set → Contains sets set
   pub once : AllPairs (λ one other. one ≢ other) sets
+  pub order : AreGiven 1 (targets_of moves) (length sets)
   pub count : length moves ≡ length sets
   pub moves_of : (q : ℕ) → q < length sets →
       AreMoves rules sets (slice_index_or sets q []) (slice_index_or moves q [])

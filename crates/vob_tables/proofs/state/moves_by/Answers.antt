@@ -4,7 +4,8 @@ use Rattle.vob_tables.specs.ItemSets.{IsGoto}
 use Rattle.vob_tables.specs.Rounds.{symbol_with}
 use Rattle.vob_tables.specs.declared.grammar.Grammar.{Grammar}
 use Rattle.vob_tables.specs.declared.grammar.Symbol.{Symbol}
-use Rattle.vob_tables.proofs.StateLemmas.{AreMoves-whole, AreMovesBut-start, Extends-itself, moves_go_on, state_read, still_there}
+use Rattle.vob_tables.specs.declared.state.Move.{Move}
+use Rattle.vob_tables.proofs.StateLemmas.{AreMoves-whole, AreMovesBut-start, Extends-itself, moves_go_on, one_given, state_read, still_there}
 use Rattle.vob_tables.proofs.state.moves_by.Goals as goal
 
 pub loop-number-init : goal.loop-number-init
@@ -13,6 +14,7 @@ loop-number-init c = record {
   is_finite = tt;
   some = c.requires.some;
   more = Extends-itself c.args.closures.now.rules.items _;
+  given = rw c.new-moves.ensures.items refl;
   moves = rw c.new-moves.ensures.items
       (AreMovesBut-start _ _ _ c.requires.ahead _ _ (ap (λ walk. walk.rest)
       c.into_iter-number-iterator.ensures.into_iter_gives
@@ -45,14 +47,17 @@ loop-number-preserved c =
     IsGoto grammar.rules.items bits (symbol_with grammar.terminals k) next) read.0
     (subst (λ (x : Symbol). IsGoto grammar.rules.items c.index.result.now.bits x next) symbol
     c.in_ok-next.ensures) in
+    let move : Move = record { symbol = c.symbol_at-symbol.result; state = c.in_ok-state.state } in
     let on = moves_go_on grammar _ _ c.requires.ahead _ read.1 _ _ k _
-    c.in-Some.ensures.steps.gives _ h.some h.more h.moves next goto _ _ c.in_ok-state.ensures
-    record { symbol = c.symbol_at-symbol.result; state = c.in_ok-state.state } symbol refl in
+    c.in-Some.ensures.steps.gives _ h.some h.more h.moves next goto _ _ c.in_ok-state.ensures move
+    symbol refl in
     record {
       can_next = tt;
       is_finite = tt;
       some = on.0;
       more = on.1;
+      given = rw c.in_ok-push.ensures.items
+          (one_given grammar.rules.items _ _ _ _ c.in_ok-state.ensures _ _ h.given move refl);
       moves = rw c.in_ok-push.ensures.items on.2;
     }
 
@@ -60,6 +65,7 @@ pub returns : goal.returns
 returns c = record {
   some = c.loop-number.invariant.some;
   more = c.loop-number.invariant.more;
+  given = c.loop-number.invariant.given;
   moves_of = AreMoves-whole _ _ _ c.requires.ahead _ _ c.in-None.ensures.steps.gives.0 _
       c.loop-number.invariant.moves;
 }
