@@ -1,3 +1,4 @@
+mod AheadLemmas
 mod ClosureLemmas
 mod DerivationLemmas
 mod EmptyLemmas

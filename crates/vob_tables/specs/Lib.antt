@@ -1,3 +1,4 @@
+pub mod Ahead
 pub mod Behind
 pub mod Derivations
 pub mod Equations

@@ -1,40 +1,18 @@
 -- The states that were found so far. No public clause cites this page.
-use Rattle.std.specs.Prelude.{◌≡◌, ◌≢◌, ℕ, ◌+◌, ◌-◌, ◌<◌, ◌≤◌, ◌⊎◌, Bool, true, false, if◌then◌else◌, nat_lt, List, [], ◌∷◌, ◌++◌, length, map, slice_index_or, All, AllPairs, Any, Vec}
+use Rattle.std.specs.Prelude.{◌≡◌, ◌≢◌, ℕ, ◌<◌, ◌≤◌, ◌⊎◌, Bool, true, false, List, [], ◌∷◌, ◌++◌, length, map, slice_index_or, All, AllPairs, Any, Vec}
 use Rattle.std.specs.declared.alloc.Global.{Global}
 use Rattle.std.specs.declared.ops.Bound.TheVariants.{Unbounded}
 use Rattle.vob_tables.specs.ItemSets.{Has}
-use Rattle.vob_tables.specs.Items.{HasNext}
-use Rattle.vob_tables.specs.States.{AreGiven, AreMoves, IsAhead, IsMove, IsStart, IsState, Precedes, targets_of}
+use Rattle.vob_tables.specs.Ahead.{symbol_with}
+use Rattle.vob_tables.specs.States.{AreGiven, AreMoves, IsMove, IsStart, IsState, Precedes, targets_of}
 use Rattle.vob_tables.specs.declared.grammar.Grammar.{Grammar}
 use Rattle.vob_tables.specs.declared.grammar.Rule.{Rule}
-use Rattle.vob_tables.specs.declared.grammar.Symbol.{Symbol}
-use Rattle.vob_tables.specs.declared.grammar.Symbol.TheVariants.{Terminal, Nonterminal}
 use Rattle.vob_tables.specs.declared.state.Move.{Move}
 use Rattle.vob_walk.specs.Left.{AreMatches, is_left}
 
 -- the moves in some lists
 abbrev pub rows_of : List (Vec Move Global) → List (List Move)
 rows_of lists = map (λ list. list.items) lists
-
--- the symbol with a number: the terminals come first
-abbrev pub symbol_with : ℕ → ℕ → Symbol
-symbol_with terminals k = if nat_lt k terminals then Terminal k else Nonterminal (k - terminals)
-
--- and the number of a symbol
-abbrev pub number_of : ℕ → Symbol → ℕ
-number_of terminals (Terminal t) = t
-number_of terminals (Nonterminal a) = terminals + a
-
--- item j has the symbol with number k behind its dot
-abbrev pub HasAhead : Grammar → ℕ → ℕ → Type 0
-HasAhead grammar j k = HasNext grammar.rules.items j (symbol_with grammar.terminals k)
-
--- the numbers of the symbols behind the dots of a set
-pub record AreAhead (grammar : Grammar) (set ahead : List Bool) : Type 0 where
-  pub each : (x : Symbol) → IsAhead grammar.rules.items set x →
-      (k : ℕ) × Has ahead k × (symbol_with grammar.terminals k ≡ x)
-  pub only : (k : ℕ) → Has ahead k →
-      IsAhead grammar.rules.items set (symbol_with grammar.terminals k)
 
 -- some states, each once
 pub record AreSome (rules : List Rule) (sets : List (List Bool)) : Type 0 where

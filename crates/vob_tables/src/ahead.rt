@@ -3,7 +3,7 @@ ghost use Rattle.std.specs.Prelude.{◌≡◌, ◌+◌, ◌<◌, ◌≤◌, leng
 ghost use Rattle.vob_tables.specs.Expansions.{Gains};
 ghost use Rattle.vob_tables.specs.Faults.{IsRuleOf};
 ghost use Rattle.vob_tables.specs.Items.{item_total};
-ghost use Rattle.vob_tables.specs.Rounds.{AreAhead, HasAhead, number_of};
+ghost use Rattle.vob_tables.specs.Ahead.{AreAhead, HasAhead, number_of};
 
 use crate::grammar::Symbol;
 use crate::items::Items;

@@ -6,7 +6,7 @@ ghost use Rattle.vob_tables.specs.Expansions.{Advances, AreExpansions, Brings, E
 ghost use Rattle.vob_tables.specs.Faults.{IsBadRule, IsRuleOf};
 ghost use Rattle.vob_tables.specs.ItemSets.{IsAdvanced, IsClosure, IsGoto, IsItemSet};
 ghost use Rattle.vob_tables.specs.Items.{item_total};
-ghost use Rattle.vob_tables.specs.Rounds.{AreAhead};
+ghost use Rattle.vob_tables.specs.Ahead.{AreAhead};
 ghost use Rattle.vob_tables.specs.States.{IsStart};
 
 use crate::ahead::ahead_of;

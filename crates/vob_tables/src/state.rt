@@ -2,7 +2,8 @@
 ghost use Rattle.std.specs.Prelude.{◌≡◌, ◌≢◌, ◌↔◌, ℕ, ◌<◌, [], length, slice_index_or, All, Err, IfNone, IfOk, IfSome};
 ghost use Rattle.vob.specs.Vobs.{bits_of};
 ghost use Rattle.vob_tables.specs.Faults.{IsBadRule};
-ghost use Rattle.vob_tables.specs.Rounds.{AreAhead, AreMovesFrom, AreSome, HasEntered, rows_of, symbol_with};
+ghost use Rattle.vob_tables.specs.Ahead.{AreAhead, symbol_with};
+ghost use Rattle.vob_tables.specs.Rounds.{AreMovesFrom, AreSome, HasEntered, rows_of};
 ghost use Rattle.vob_tables.specs.States.{AreStates};
 
 use crate::closure::Closures;

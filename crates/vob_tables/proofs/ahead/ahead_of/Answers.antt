@@ -1,9 +1,9 @@
 -- The walk gives the next item, and the symbol behind its dot is added.
 use Rattle.std.proofs.Common.{◌+◌, ◌∙◌, ap, arith, false, replicate}
 use Rattle.std.proofs.lemmas.List.{length-replicate}
-use Rattle.vob_tables.specs.Rounds.{HasAhead}
+use Rattle.vob_tables.specs.Ahead.{HasAhead}
 use Rattle.vob_tables.proofs.ClosureLemmas.{IsGathered-start, IsGathered-step, gathered_inside, none_true}
-use Rattle.vob_tables.proofs.StateLemmas.{AreAhead-gathered}
+use Rattle.vob_tables.proofs.AheadLemmas.{AreAhead-gathered}
 use Rattle.vob_tables.proofs.ahead.ahead_of.Goals as goal
 
 pub loop-number-init : goal.loop-number-init

@@ -1,7 +1,7 @@
 -- The symbols behind the dots of the items so far.
 use Rattle.std.proofs.Common.{◌+◌, false, replicate}
 use Rattle.vob_tables.specs.Expansions.{IsGathered}
-use Rattle.vob_tables.specs.Rounds.{HasAhead}
+use Rattle.vob_tables.specs.Ahead.{HasAhead}
 use Rattle.vob_tables.proofs.ahead.ahead_of.Given as goal
 
 abbrev pub invariant-loop-number : goal.invariant-loop-number

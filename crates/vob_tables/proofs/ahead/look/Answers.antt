@@ -1,10 +1,10 @@
 -- The number of the symbol is added, if there is one.
 use Rattle.std.proofs.Common.{◌≡◌, ◌∙◌, ap, arith, refl}
 use Rattle.std.proofs.lemmas.Option.{none-some}
-use Rattle.vob_tables.specs.Rounds.{HasAhead, number_of}
+use Rattle.vob_tables.specs.Ahead.{HasAhead, number_of}
 use Rattle.vob_tables.specs.declared.grammar.Grammar.{Grammar}
 use Rattle.vob_tables.proofs.ClosureLemmas.{Gains-as, Gains-none, Gains-set}
-use Rattle.vob_tables.proofs.StateLemmas.{look_is, next_sound, number_below}
+use Rattle.vob_tables.proofs.AheadLemmas.{look_is, next_sound, number_below}
 use Rattle.vob_tables.proofs.ahead.look.Goals as goal
 
 pub symbol_number-requires : goal.symbol_number-requires

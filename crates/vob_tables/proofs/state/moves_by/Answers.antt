@@ -1,9 +1,7 @@
 -- The walk gives the next symbol, and its move is one more.
-use Rattle.std.proofs.Common.{◌∙◌, List, Bool, ap, arith, refl, subst}
-use Rattle.vob_tables.specs.ItemSets.{IsGoto}
-use Rattle.vob_tables.specs.Rounds.{symbol_with}
+use Rattle.std.proofs.Common.{◌∙◌, ap, arith, refl}
+use Rattle.vob_tables.specs.Ahead.{symbol_with}
 use Rattle.vob_tables.specs.declared.grammar.Grammar.{Grammar}
-use Rattle.vob_tables.specs.declared.grammar.Symbol.{Symbol}
 use Rattle.vob_tables.specs.declared.state.Move.{Move}
 use Rattle.vob_tables.proofs.StateLemmas.{AreMoves-whole, AreMovesBut-start, Extends-itself, moves_go_on, one_given, state_read, still_there}
 use Rattle.vob_tables.proofs.state.moves_by.Goals as goal
@@ -23,9 +21,11 @@ loop-number-init c = record {
 
 pub index-requires : goal.index-requires
 index-requires c =
-    let low = still_there c.args.sets.now.items c.loop-number.sets.items
-    c.loop-number.invariant.more c.args.from c.requires.from in
-    omega (arith, low)
+    omega (
+      arith,
+      still_there c.args.sets.now.items c.loop-number.sets.items
+          c.loop-number.invariant.more c.args.from c.requires.from,
+    )
 
 pub goto-requires : goal.goto-requires
 goto-requires c =
@@ -36,22 +36,15 @@ goto-requires c =
 pub loop-number-preserved : goal.loop-number-preserved
 loop-number-preserved c =
     let grammar = c.args.closures.now in
-    let k = c.in-Some.number in
-    let next = c.in_ok-next.next.bits in
     let h = c.loop-number.invariant in
     let read = state_read grammar.rules.items c.args.sets.now.items c.loop-number.sets.items h.some
     h.more c.args.from c.requires.from c.index.result.now c.index.ensures in
-    let symbol = c.symbol_at-symbol.ensures
-    ∙ ap (λ (g : Grammar). symbol_with g.terminals k) (c.grammar.ensures ∙ c.items.ensures) in
-    let goto = subst (λ (bits : List Bool).
-    IsGoto grammar.rules.items bits (symbol_with grammar.terminals k) next) read.0
-    (subst (λ (x : Symbol). IsGoto grammar.rules.items c.index.result.now.bits x next) symbol
-    c.in_ok-next.ensures) in
+    let symbol = c.symbol_at-symbol.ensures ∙ ap (λ (g : Grammar).
+    symbol_with g.terminals c.in-Some.number) (c.grammar.ensures ∙ c.items.ensures) in
     let move : Move = record { symbol = c.symbol_at-symbol.result; state = c.in_ok-state.state } in
-    let on = moves_go_on grammar _ _ c.requires.ahead _ read.1 _ _ k _
-    c.in-Some.ensures.steps.gives _ h.some h.more h.moves next goto _ _ c.in_ok-state.ensures move
-    symbol refl in
-    record {
+    let on = moves_go_on grammar _ _ c.requires.ahead _ read.1 _ _ c.in-Some.number _
+    c.in-Some.ensures.steps.gives _ h.some h.more h.moves _ read.0 _ move c.in_ok-next.ensures _ _
+    c.in_ok-state.ensures symbol refl in record {
       can_next = tt;
       is_finite = tt;
       some = on.0;

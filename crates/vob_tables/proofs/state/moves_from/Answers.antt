@@ -1,7 +1,7 @@
 -- The set of the state is one with a bit for each item.
 use Rattle.std.proofs.Common.{Bool, List, subst}
 use Rattle.vob.specs.Vobs.{bits_of}
-use Rattle.vob_tables.specs.Rounds.{AreAhead}
+use Rattle.vob_tables.specs.Ahead.{AreAhead}
 use Rattle.vob_tables.proofs.StateLemmas.{Extends-itself, state_read}
 use Rattle.vob_tables.proofs.state.moves_from.Goals as goal
 
