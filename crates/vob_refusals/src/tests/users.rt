@@ -61,6 +61,23 @@ fn transposes_are_made_or_refused(rt: HostRuntime) {
     tell(&rt, transposed);
 }
 
+#[test]
+fn unions_of_columns_are_made_or_refused(rt: HostRuntime) {
+    request(&rt, FIRST - 4);
+    let matrix = column(rt.alloc()).expect(&rt, "memory");
+    let all = Vob::from_elem(rt.alloc(), true, 1).expect(&rt, "memory");
+    if all.len() == matrix.columns() {
+        let union = given(&rt, matrix.column_or(rt.alloc(), &all), AllocError);
+        let united = union.is_some();
+        if let Some(union) = union {
+            same(&rt, "the rows", union.len(), 2);
+            same(&rt, "the first row", union.get(0), Some(false));
+            same(&rt, "the second row", union.get(1), Some(true));
+        }
+        tell(&rt, united);
+    }
+}
+
 /// Whether a matrix was given, whose shape and first entry then are these.
 fn is_given(
     rt: &impl Abort,
