@@ -67,6 +67,11 @@ pub trait Bits: Sized {
     fn deal(&self, _pulls: &[End], _answers: &mut Vec<Option<usize>>) {
         unimplemented!()
     }
+
+    /// Calls with the index of each set bit.
+    fn each_set_bit(&self, _call: impl FnMut(usize)) {
+        unimplemented!()
+    }
     fn counted(&self) -> u64 {
         unimplemented!()
     }

@@ -43,6 +43,15 @@ extern "C" {
     fn vob_bench_lists(steps: *const usize, count: usize, nodes: usize, rounds: usize) -> u64;
     fn vob_bench_live(numbers: *const usize, count: usize, vars: usize, rounds: usize) -> u64;
     fn vob_bench_available(numbers: *const usize, count: usize, vars: usize, rounds: usize) -> u64;
+    fn vob_bench_transpose(bytes: *const u8, len: usize, row_bytes: usize, rounds: usize) -> u64;
+    fn vob_bench_slots(steps: *const usize, count: usize, slots: usize, rounds: usize) -> u64;
+    fn vob_bench_columns(
+        bytes: *const u8,
+        len: usize,
+        others: *const u8,
+        other_len: usize,
+        rounds: usize,
+    ) -> u64;
 }
 
 /// Runs the workload of `vob_bench` that has the call's name. Its exports require nothing but what slices
@@ -111,6 +120,9 @@ pub fn conthiral(call: Call, input: &Input, rounds: usize) -> u64 {
         Call::Lists => unsafe { vob_bench_lists(indices, count, bit_count, rounds) },
         Call::Live => unsafe { vob_bench_live(indices, count, bit_count, rounds) },
         Call::Available => unsafe { vob_bench_available(indices, count, bit_count, rounds) },
+        Call::Transpose => unsafe { vob_bench_transpose(bytes, len, input.row_bytes, rounds) },
+        Call::Slots => unsafe { vob_bench_slots(indices, count, bit_count, rounds) },
+        Call::Columns => unsafe { vob_bench_columns(bytes, len, others, other_len, rounds) },
         _ => unsafe { vob_bench_walk(name, name_len, bytes, len, rounds) },
     }
 }

@@ -59,6 +59,17 @@ fn libraries() -> Vec<Library> {
             run: foreign::plain,
             most: 1 << 20,
         },
+        // What a program does without vectors of bits.
+        Library {
+            name: "plain Rust",
+            offer: |call| match call {
+                Call::Slots => Offer::Less("no test of the slot"),
+                Call::Columns => Offer::Same,
+                _ => Offer::None,
+            },
+            run: work::run::<vob::Vob>,
+            most: usize::MAX,
+        },
         rust::<vob::Vob>("vob 4.0.1"),
         rust::<fixedbitset::FixedBitSet>("fixedbitset"),
         rust::<bit_vec::BitVec>("bit-vec"),

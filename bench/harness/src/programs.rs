@@ -1,4 +1,5 @@
-//! The workloads that are programs: a closure by rows, a filter, a bit matrix, liveness.
+//! The workloads that are programs: a closure by rows, a filter, a bit matrix, liveness; a list of free
+//! slots, and a condition on three columns, which work on no vectors of bits.
 
 use crate::bits::Bits;
 use crate::input::Input;
@@ -205,4 +206,90 @@ pub fn available<B: Bits>(input: &Input, rounds: usize) -> u64 {
         last = ends;
     }
     checksum_all(&last, times)
+}
+
+/// The transposes of a matrix, by a walk over the set bits of each row.
+pub fn transpose<B: Bits>(input: &Input, rounds: usize) -> u64 {
+    let rows: Vec<B> = input
+        .bytes
+        .chunks(input.row_bytes)
+        .map(B::from_bytes)
+        .collect();
+    let blank = B::from_bytes(&vec![0; rows.len() / 8]);
+    let mut times = 0;
+    let mut last = Vec::new();
+    for round in 0..rounds {
+        let mut turned: Vec<B> = (0..8 * input.row_bytes).map(|_| blank.copied()).collect();
+        for (row, bits) in rows.iter().enumerate() {
+            bits.each_set_bit(|column| {
+                turned[column].set(row, true);
+            });
+        }
+        times += turned[0].get(round) as u64;
+        last = turned;
+    }
+    checksum_all(&last, times)
+}
+
+/// Slots that are taken from a list of free ones and given back, as `vob_bench::slots` does it.
+pub fn free_list(input: &Input, rounds: usize) -> u64 {
+    let mut times = 0u64;
+    let mut held = Vec::new();
+    for _ in 0..rounds {
+        let mut free: Vec<usize> = (0..input.bits.len()).rev().collect();
+        held.clear();
+        for number in &input.indices {
+            if number % 8 < 5 {
+                if let Some(slot) = free.pop() {
+                    held.push(slot);
+                    times += 1;
+                }
+            } else if !held.is_empty() {
+                let slot = held.swap_remove(number / 8 % held.len());
+                free.push(slot);
+            }
+        }
+    }
+    (times << 32).wrapping_add(held.len() as u64)
+}
+
+fn and(first: Option<bool>, second: Option<bool>) -> Option<bool> {
+    match (first, second) {
+        (Some(false), _) | (_, Some(false)) => Some(false),
+        (Some(true), Some(true)) => Some(true),
+        _ => None,
+    }
+}
+
+fn or(first: Option<bool>, second: Option<bool>) -> Option<bool> {
+    match (first, second) {
+        (Some(true), _) | (_, Some(true)) => Some(true),
+        (Some(false), Some(false)) => Some(false),
+        _ => None,
+    }
+}
+
+/// How many rows meet a condition on three columns, as `vob_bench::columns` counts them.
+pub fn condition(input: &Input, rounds: usize) -> u64 {
+    let others = input
+        .others
+        .iter()
+        .flat_map(|byte| (0..8).map(move |j| byte & (0x80 >> j) != 0));
+    let [mut first, mut second, mut third] = [(); 3].map(|_| Vec::new());
+    for (one, two) in input.bits.iter().zip(others) {
+        let three = *one != two;
+        first.push(one.then_some(two));
+        second.push(two.then_some(three));
+        third.push(three.then_some(*one));
+    }
+    let mut times = 0u64;
+    for _ in 0..rounds {
+        let columns = std::hint::black_box((&first, &second, &third));
+        for row in 0..first.len() {
+            let not = columns.2[row].map(|value| !value);
+            let truth = or(and(columns.0[row], columns.1[row]), not);
+            times += (truth == Some(true)) as u64;
+        }
+    }
+    (times << 32).wrapping_add(first.len() as u64)
 }

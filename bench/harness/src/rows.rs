@@ -78,6 +78,9 @@ pub enum Call {
     Flip,
     GrowAndSet,
     Available,
+    Transpose,
+    Slots,
+    Columns,
 }
 
 pub struct Row {
@@ -119,6 +122,7 @@ impl Row {
             Call::FirstFree => Shape::FreeAtTheEnd,
             Call::Live | Call::Available => Shape::Flow,
             Call::Matrix | Call::Lists => Shape::Steps(2),
+            Call::Slots => Shape::Indices(1_000_000),
             _ => Shape::Plain,
         };
         Row {
@@ -302,6 +306,9 @@ pub fn all() -> Vec<Row> {
         Row::over("closure of lists, 4000 nodes", Call::Lists, 4000, Round),
         Row::over("liveness, 10000 nodes", Call::Live, 1000, Round),
         Row::over("available, 10000 nodes", Call::Available, 1000, Round),
+        Row::over("transpose 1000 x 1000", Call::Transpose, 1_000_000, Round),
+        Row::over("slots, a million steps", Call::Slots, 1_000_000, Round),
+        Row::over("condition on three columns", Call::Columns, 10_000_000, Round),
     ]);
     rows
 }

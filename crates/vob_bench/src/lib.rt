@@ -5,11 +5,13 @@
 
 mod bits;
 mod checksum;
+mod columns;
 mod flow;
 mod matrix;
 mod pair;
 mod plain;
 mod rounds;
+mod slots;
 mod walk;
 mod whole;
 
@@ -121,4 +123,37 @@ pub extern "C" fn vob_bench_available(
     rounds: usize,
 ) -> u64 {
     flow::available(alloc, numbers, expressions, rounds).unwrap_or(NONE)
+}
+
+/// The transpose of a bit matrix whose rows have `row_bytes` bytes.
+#[unsafe(no_mangle)]
+pub extern "C" fn vob_bench_transpose(
+    alloc: Global,
+    bytes: &[u8],
+    row_bytes: usize,
+    rounds: usize,
+) -> u64 {
+    matrix::transpose(alloc, bytes, row_bytes, rounds).unwrap_or(NONE)
+}
+
+/// Slots that are taken and given back, by the steps of a script.
+#[unsafe(no_mangle)]
+pub extern "C" fn vob_bench_slots(
+    alloc: Global,
+    steps: &[usize],
+    slots: usize,
+    rounds: usize,
+) -> u64 {
+    slots::script(alloc, steps, slots, rounds).unwrap_or(NONE)
+}
+
+/// How many rows of three columns meet a condition.
+#[unsafe(no_mangle)]
+pub extern "C" fn vob_bench_columns(
+    alloc: Global,
+    bytes: &[u8],
+    others: &[u8],
+    rounds: usize,
+) -> u64 {
+    columns::filter(alloc, bytes, others, rounds).unwrap_or(NONE)
 }

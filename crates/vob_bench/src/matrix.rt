@@ -1,5 +1,5 @@
 //! Workloads on a matrix of bits: its transitive closure, by Warshall's way, over rows of their own and
-//! by a `BitMatrix`.
+//! by a `BitMatrix`; and its transpose.
 
 use crate::checksum::{checksum_all, checksum_rows};
 use crate::rounds::Missing;
@@ -104,6 +104,40 @@ pub(crate) fn close_graph(
         let node = if nodes == 0 { 0 } else { round % nodes };
         times = times.wrapping_add((matrix.get(node, node) == Some(true)) as u64);
         last = matrix;
+    }
+    Ok(checksum_rows(&last, times))
+}
+
+/// The matrix of rows of bytes.
+fn matrix_of(alloc: Global, bytes: &[u8], row_bytes: usize) -> Result<BitMatrix, Missing> {
+    let rows = rows_of(alloc, bytes, row_bytes)?;
+    let columns = rows.first().map_or(0, |row| row.len());
+    let mut matrix = BitMatrix::new(alloc, rows.len(), columns)?;
+    for row in 0..rows.len() {
+        for column in rows[row].iter_set_bits(..) {
+            if row < matrix.rows() && column < matrix.columns() {
+                matrix.set(row, column, true);
+            }
+        }
+    }
+    Ok(matrix)
+}
+
+/// The transpose a round, and the checksum of its rows.
+#[inline(never)]
+pub(crate) fn transpose(
+    alloc: Global,
+    bytes: &[u8],
+    row_bytes: usize,
+    rounds: usize,
+) -> Result<u64, Missing> {
+    let mut times: u64 = 0;
+    let mut last = BitMatrix::new(alloc, 0, 0)?;
+    let matrix = matrix_of(alloc, bytes, row_bytes)?;
+    for round in 0..rounds {
+        let turned = matrix.transpose(alloc)?;
+        times = times.wrapping_add((turned.get(0, round) == Some(true)) as u64);
+        last = turned;
     }
     Ok(checksum_rows(&last, times))
 }

@@ -31,6 +31,7 @@ impl Bits for BitSet {
             | Call::Any
             | Call::Intersection
             | Call::SetBits
+            | Call::Transpose
             | Call::Count => Offer::Same,
             _ => Offer::None,
         }
@@ -65,6 +66,9 @@ impl Bits for BitSet {
     }
     fn first_set(&self) -> Option<usize> {
         self.iter().next()
+    }
+    fn each_set_bit(&self, call: impl FnMut(usize)) {
+        self.iter().for_each(call)
     }
     fn set_bits(&self) -> u64 {
         sum_of(self.iter())

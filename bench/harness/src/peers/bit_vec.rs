@@ -51,6 +51,9 @@ impl Bits for BitVec {
             | Call::Flip
             | Call::GrowAndSet
             | Call::FirstFree
+            | Call::Transpose
+            | Call::Slots
+            | Call::Columns
             | Call::Filter => Offer::None,
             // Its split_off within a block can leave a block too many, which append takes in.
             Call::DrainAligned | Call::DrainShifted => Offer::None,

@@ -42,6 +42,7 @@ impl Bits for FixedBitSet {
             | Call::Any
             | Call::Intersection
             | Call::SetBits
+            | Call::Transpose
             | Call::Count => Offer::Same,
             _ => Offer::None,
         }
@@ -101,6 +102,9 @@ impl Bits for FixedBitSet {
     }
     fn rank(&self, index: usize) -> u64 {
         self.count_ones(..index) as u64
+    }
+    fn each_set_bit(&self, call: impl FnMut(usize)) {
+        self.ones().for_each(call)
     }
     fn set_bits(&self) -> u64 {
         sum_of(self.ones())

@@ -41,6 +41,7 @@ impl Bits for Vob {
             Call::Order | Call::ShiftUp | Call::Reverse | Call::Rotate | Call::InsertRemove => {
                 Offer::Other("bit by bit")
             }
+            Call::Slots | Call::Columns => Offer::None,
             _ => Offer::Same,
         }
     }
@@ -78,6 +79,9 @@ impl Bits for Vob {
             times += bit as u64;
         }
         times
+    }
+    fn each_set_bit(&self, call: impl FnMut(usize)) {
+        self.iter_set_bits(..).for_each(call)
     }
     fn set_bits(&self) -> u64 {
         sum_of(self.iter_set_bits(..))

@@ -1,0 +1,51 @@
+//! A workload on slots: taken and given back by a script.
+
+use crate::rounds::Missing;
+use std::alloc::{AllocError, Global};
+use vob_users::slots::Slots;
+
+/// Of so many steps this many take a slot. The others give back one of those that are held.
+const STEPS: usize = 8;
+
+const TAKES: usize = 5;
+
+/// Takes a step of a script, and returns how many slots were taken.
+fn step(slots: &mut Slots, held: &mut Vec<usize>, number: usize) -> Result<u64, AllocError> {
+    if number % STEPS < TAKES {
+        let Some(slot) = slots.alloc() else {
+            return Ok(0);
+        };
+        held.push(slot)?;
+        return Ok(1);
+    }
+    if !held.is_empty() {
+        let slot = held.swap_remove(number / STEPS % held.len());
+        slots.free(slot);
+    }
+    Ok(0)
+}
+
+/// Takes the steps of a script a round, each time with new slots. Returns how many slots were taken in
+/// all, above how many are held at the end.
+#[inline(never)]
+pub(crate) fn script(
+    alloc: Global,
+    steps: &[usize],
+    count: usize,
+    rounds: usize,
+) -> Result<u64, Missing> {
+    let mut times: u64 = 0;
+    let mut held = Vec::new(alloc);
+    for _ in 0..rounds {
+        let mut slots = Slots::new(alloc, count)?;
+        held.clear();
+        for number in steps {
+            times = times.wrapping_add(step(&mut slots, &mut held, *number)?);
+        }
+    }
+    Ok(
+        times
+            .wrapping_mul(0x1_0000_0000)
+            .wrapping_add(held.len() as u64),
+    )
+}
