@@ -13,7 +13,7 @@ import sys
 
 OURS = "conthiral"
 ORIGINAL = "vob 4.0.1"
-PEERS = ["fixedbitset", "bit-vec", "bit-set", "smallbitvec", "boost", "vector<bool>"]
+PEERS = ["fixedbitset", "bit-vec", "bit-set", "smallbitvec", "boost", "vector<bool>", "plain Rust"]
 CPUS = ["x86-64-v2", "x86-64-v3"]
 RESULTS = pathlib.Path(__file__).resolve().parent / "results"
 
@@ -52,6 +52,8 @@ COUNTED = [
     ("4000 nodes", "closure of lists, 4000 nodes at 4000 bits"),
     ("liveness, 10,000 nodes", "liveness, 10000 nodes at 1000 bits"),
     ("available expressions, 10,000 nodes", "available, 10000 nodes at 1000 bits"),
+    ("transpose, 1000 by 1000, half set", "transpose 1000 x 1000 at 1000000 bits"),
+    ("condition on three columns, 10,000,000 rows", "condition on three columns at 10000000 bits"),
     ("`intersection`, half set", "intersection at 1048576 bits"),
     ("`shl`", "shl at 1048576 bits"),
     ("`rotate_left`", "rotate_left at 1048576 bits"),
