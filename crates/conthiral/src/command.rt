@@ -1,0 +1,91 @@
+//! The words of the command line.
+
+use clap::{Arg, ArgAction, ArgMatches, Command};
+use std::alloc::{AllocError, Global};
+
+/// The name that stands for standard input.
+pub const STANDARD_INPUT: &str = "-";
+
+/// What the words ask for. Each task names the file that it reads.
+#[derive(Clone, Copy)]
+pub enum Task<'a> {
+    /// The sets of a grammar, and its states if they are asked for.
+    Grammar { file: &'a str, states: bool },
+}
+
+/// Returns the argument of a file that may be left out.
+fn file_argument<'a>(alloc: Global, help: &'a str) -> Arg<'a> {
+    Arg::new(alloc, "file")
+        .value_name("FILE")
+        .default_value(STANDARD_INPUT)
+        .hide_default_value(true)
+        .help(help)
+}
+
+/// Returns a flag with a long name, which is its id too.
+fn flag<'a>(alloc: Global, name: &'a str, help: &'a str) -> Arg<'a> {
+    Arg::new(alloc, name)
+        .long(name)
+        .action(ArgAction::SetTrue)
+        .help(help)
+}
+
+/// Returns the words of `grammar`.
+fn grammar_command<'a>(alloc: Global) -> Result<Command<'a>, AllocError> {
+    let file = file_argument(
+        alloc,
+        "A grammar of yacc or bison; - or none: standard input",
+    );
+    let states = flag(
+        alloc,
+        "states",
+        "Print the states, with their items and moves",
+    );
+    Command::new(alloc, "grammar")
+        .about("Print the sets of a grammar: nullable, FIRST and FOLLOW")
+        .after_help("Example:\n  ./conthiral grammar --states examples/grammars/sums.y")
+        .arg(states)?
+        .arg(file)
+}
+
+/// Returns all words that can be given.
+pub fn command<'a>(alloc: Global) -> Result<Command<'a>, AllocError> {
+    Command::new(alloc, "conthiral")
+        .bin_name("conthiral")?
+        .about("Sets of bits at work on files")
+        .subcommand_required(true)
+        .arg_required_else_help(true)
+        .subcommand(grammar_command(alloc)?)
+}
+
+/// Returns what the words ask for, or `None` if they name no task.
+pub fn task_of<'a>(matches: &ArgMatches<'a>) -> Option<Task<'a>> {
+    let (name, own) = matches.subcommand()?;
+    let file = own.get_str("file").unwrap_or(STANDARD_INPUT);
+    match name {
+        "grammar" => Some(Task::Grammar {
+            file,
+            states: own.get_flag("states"),
+        }),
+        _ => None,
+    }
+}
+
+impl<'a> Task<'a> {
+    /// Returns what messages call the file.
+    pub fn file_name(&self) -> &'a str {
+        let file = self.file();
+        if file == STANDARD_INPUT {
+            "standard input"
+        } else {
+            file
+        }
+    }
+
+    /// Returns the name of the file that the task reads.
+    pub fn file(&self) -> &'a str {
+        match self {
+            Task::Grammar { file, .. } => file,
+        }
+    }
+}

@@ -1,0 +1,95 @@
+//! Why a command fails, and how that is said.
+
+use std::alloc::{AllocError, AllocFailed};
+use std::{fmt, io};
+use vob_tables::{GrammarError, TextError};
+
+/// Why a command fails.
+#[derive(Debug, Drop)]
+pub enum Fault {
+    /// There was no memory.
+    Memory,
+    /// The input can't be read.
+    Input(io::Error),
+    /// The output can't be written.
+    Output(io::Error),
+    /// The input is no grammar.
+    Grammar(TextError),
+    /// The sets of a grammar weren't found.
+    Rules(GrammarError),
+}
+
+impl Fault {
+    /// Returns whether the reader of the output went away, which is no fault of anybody.
+    pub fn is_closed_pipe(&self) -> bool {
+        match self {
+            Fault::Output(error) => error.kind() == io::ErrorKind::BrokenPipe,
+            _ => false,
+        }
+    }
+}
+
+impl From<AllocError> for Fault {
+    fn from(_: AllocError) -> Fault {
+        Fault::Memory
+    }
+}
+
+impl<T: Drop> From<AllocFailed<T>> for Fault {
+    fn from(_: AllocFailed<T>) -> Fault {
+        Fault::Memory
+    }
+}
+
+impl From<io::Error> for Fault {
+    fn from(error: io::Error) -> Fault {
+        Fault::Output(error)
+    }
+}
+
+impl From<TextError> for Fault {
+    fn from(error: TextError) -> Fault {
+        Fault::Grammar(error)
+    }
+}
+
+impl From<GrammarError> for Fault {
+    fn from(error: GrammarError) -> Fault {
+        match error {
+            GrammarError::Memory => Fault::Memory,
+            _ => Fault::Rules(error),
+        }
+    }
+}
+
+/// A fault, with the name of the file that was read.
+#[derive(Drop)]
+pub struct Report<'a> {
+    pub file: &'a str,
+    pub fault: &'a Fault,
+}
+
+impl fmt::Display for Report<'_> {
+    fn fmt<W: fmt::Write>(&self, f: &mut fmt::Formatter<W>) -> fmt::Result {
+        let file = self.file;
+        match self.fault {
+            Fault::Memory => f.write_str("out of memory"),
+            Fault::Input(error) => write!(f, "{file}: {error}"),
+            Fault::Output(error) => write!(f, "standard output: {error}"),
+            Fault::Grammar(error) => write_grammar(f, file, error),
+            Fault::Rules(error) => write!(f, "{file}: {error}"),
+        }
+    }
+}
+
+/// Writes what is wrong with a grammar, and where.
+fn write_grammar<W: fmt::Write>(
+    f: &mut fmt::Formatter<W>,
+    file: &str,
+    error: &TextError,
+) -> fmt::Result {
+    let line = error.line;
+    let column = error.column;
+    let fault = error.fault;
+    write!(f, "{file}:{line}:{column}: {fault}")
+}

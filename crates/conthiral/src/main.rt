@@ -1,0 +1,14 @@
+//! Puts the sets of this repository to work on files: grammars, graphs, flow graphs and tables.
+#![tactic(auto)]
+
+mod command;
+mod fault;
+mod grammar;
+mod put;
+mod run;
+
+use std::process::ExitCode;
+
+fn main(rt: HostRuntime) -> ExitCode {
+    run::run(&rt)
+}

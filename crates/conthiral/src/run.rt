@@ -1,0 +1,82 @@
+//! A run of the program: words, input, output and status.
+
+use crate::command::{STANDARD_INPUT, Task, command, task_of};
+use crate::fault::{Fault, Report};
+use crate::grammar::print_grammar;
+use std::io::{BufWriter, Read, Write};
+use std::process::ExitCode;
+use std::rt::{Env, Files};
+use std::{env, fs, io};
+
+/// The status of a run that failed.
+const FAILED: u8 = 2;
+
+/// Reads the whole input.
+fn read_input<R: Files + Input + AllocGlobal>(rt: &R, file: &str) -> io::Result<Vec<u8>> {
+    if file != STANDARD_INPUT {
+        return fs::read(rt, file);
+    }
+    let mut text = Vec::new(rt.alloc());
+    rt.reader().read_to_end(&mut text)?;
+    Ok(text)
+}
+
+/// Reads the input of a task, and writes what it asks for. Returns the status.
+fn perform<R: Files + Input + Print + AllocGlobal>(rt: &R, task: &Task<'_>) -> Result<u8, Fault> {
+    let alloc = rt.alloc();
+    let text = read_input(rt, task.file()).map_err(Fault::Input)?;
+    let mut output = BufWriter::new(alloc, io::writer(rt))?;
+    let status = match task {
+        Task::Grammar { states, .. } => print_grammar(alloc, &text, *states, &mut output)?,
+    };
+    output.flush()?;
+    Ok(status)
+}
+
+/// Performs a task, and says on standard error why it failed.
+fn perform_or_report<R: Files + Input + Print + Eprint + AllocGlobal>(
+    rt: &R,
+    task: &Task<'_>,
+) -> u8 {
+    match perform(rt, task) {
+        Ok(status) => status,
+        Err(fault) if fault.is_closed_pipe() => 0,
+        Err(fault) => {
+            let report = Report {
+                file: task.file_name(),
+                fault: &fault,
+            };
+            let _ = eprintln!(rt; "conthiral: {report}");
+            FAILED
+        }
+    }
+}
+
+/// Does what the words of the command line ask for. Returns the status: 0, or 2 after a fault.
+pub fn run<R: Env + Files + Input + Print + Eprint + AllocGlobal>(rt: &R) -> ExitCode {
+    let status = match run_words(rt) {
+        Ok(status) => status,
+        Err(error) => {
+            let _ = eprintln!(rt; "conthiral: {error}");
+            FAILED
+        }
+    };
+    ExitCode::from(status)
+}
+
+/// Does the same, and fails if the words can't be read or their help can't be written.
+fn run_words<R: Env + Files + Input + Print + Eprint + AllocGlobal>(rt: &R) -> io::Result<u8> {
+    let alloc = rt.alloc();
+    let words: Vec<String> = env::args(rt)?.collect(alloc)?;
+    let matches = match command(alloc)?.try_get_matches_from(words.as_slice()) {
+        Ok(matches) => matches,
+        Err(error) => {
+            error.print(rt)?;
+            return Ok(if error.use_stderr() { FAILED } else { 0 });
+        }
+    };
+    match task_of(&matches) {
+        Some(task) => Ok(perform_or_report(rt, &task)),
+        None => Ok(FAILED),
+    }
+}
