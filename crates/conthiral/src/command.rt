@@ -10,7 +10,15 @@ pub const STANDARD_INPUT: &str = "-";
 #[derive(Clone, Copy)]
 pub enum Task<'a> {
     /// The sets of a grammar, and its states if they are asked for.
-    Grammar { file: &'a str, states: bool },
+    Grammar {
+        file: &'a str,
+        states: bool,
+    },
+    /// The closure of a graph, or what one of its nodes leads to.
+    Closure {
+        file: &'a str,
+        from: Option<&'a str>,
+    },
 }
 
 /// Returns the argument of a file that may be left out.
@@ -48,6 +56,23 @@ fn grammar_command<'a>(alloc: Global) -> Result<Command<'a>, AllocError> {
         .arg(file)
 }
 
+/// Returns the words of `closure`.
+fn closure_command<'a>(alloc: Global) -> Result<Command<'a>, AllocError> {
+    let file = file_argument(alloc, "Edges; - or none: standard input");
+    let from = Arg::new(alloc, "from")
+        .long("from")
+        .value_name("NODE")
+        .help("Print the nodes to which NODE leads, one a line");
+    Command::new(alloc, "closure")
+        .about("Print the edges of the closure of a graph")
+        .after_help(
+            "A line `a b` is an edge from a to b. Words that begin with # begin a comment.\n\n\
+            Example:\n  ./conthiral closure --from curl examples/edges.txt",
+        )
+        .arg(from)?
+        .arg(file)
+}
+
 /// Returns all words that can be given.
 pub fn command<'a>(alloc: Global) -> Result<Command<'a>, AllocError> {
     Command::new(alloc, "conthiral")
@@ -55,7 +80,8 @@ pub fn command<'a>(alloc: Global) -> Result<Command<'a>, AllocError> {
         .about("Sets of bits at work on files")
         .subcommand_required(true)
         .arg_required_else_help(true)
-        .subcommand(grammar_command(alloc)?)
+        .subcommand(grammar_command(alloc)?)?
+        .subcommand(closure_command(alloc)?)
 }
 
 /// Returns what the words ask for, or `None` if they name no task.
@@ -66,6 +92,10 @@ pub fn task_of<'a>(matches: &ArgMatches<'a>) -> Option<Task<'a>> {
         "grammar" => Some(Task::Grammar {
             file,
             states: own.get_flag("states"),
+        }),
+        "closure" => Some(Task::Closure {
+            file,
+            from: own.get_str("from"),
         }),
         _ => None,
     }
@@ -85,7 +115,7 @@ impl<'a> Task<'a> {
     /// Returns the name of the file that the task reads.
     pub fn file(&self) -> &'a str {
         match self {
-            Task::Grammar { file, .. } => file,
+            Task::Grammar { file, .. } | Task::Closure { file, .. } => file,
         }
     }
 }

@@ -2,6 +2,7 @@
 
 use std::alloc::{AllocError, AllocFailed};
 use std::{fmt, io};
+use vob_flow::SolveError;
 use vob_tables::{GrammarError, TextError};
 
 /// Why a command fails.
@@ -17,6 +18,16 @@ pub enum Fault {
     Grammar(TextError),
     /// The sets of a grammar weren't found.
     Rules(GrammarError),
+    /// A line isn't in its form: where, and what was expected there.
+    Line {
+        line: usize,
+        column: usize,
+        expected: &'static str,
+    },
+    /// The graph has no node with this name.
+    Name(String),
+    /// The sets of a graph weren't found.
+    Sets(SolveError),
 }
 
 impl Fault {
@@ -62,6 +73,15 @@ impl From<GrammarError> for Fault {
     }
 }
 
+impl From<SolveError> for Fault {
+    fn from(error: SolveError) -> Fault {
+        match error {
+            SolveError::Memory => Fault::Memory,
+            _ => Fault::Sets(error),
+        }
+    }
+}
+
 /// A fault, with the name of the file that was read.
 #[derive(Drop)]
 pub struct Report<'a> {
@@ -78,6 +98,13 @@ impl fmt::Display for Report<'_> {
             Fault::Output(error) => write!(f, "standard output: {error}"),
             Fault::Grammar(error) => write_grammar(f, file, error),
             Fault::Rules(error) => write!(f, "{file}: {error}"),
+            Fault::Line {
+                line,
+                column,
+                expected,
+            } => write!(f, "{file}:{line}:{column}: expected {expected}"),
+            Fault::Name(name) => write!(f, "{file}: no node is called {name}"),
+            Fault::Sets(error) => write!(f, "{file}: {error}"),
         }
     }
 }

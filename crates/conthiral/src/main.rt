@@ -4,8 +4,11 @@
 mod command;
 mod fault;
 mod grammar;
+mod graph;
+mod names;
 mod put;
 mod run;
+mod words;
 
 use std::process::ExitCode;
 

@@ -3,6 +3,7 @@
 use crate::command::{STANDARD_INPUT, Task, command, task_of};
 use crate::fault::{Fault, Report};
 use crate::grammar::print_grammar;
+use crate::graph::print_closure;
 use std::io::{BufWriter, Read, Write};
 use std::process::ExitCode;
 use std::rt::{Env, Files};
@@ -28,6 +29,7 @@ fn perform<R: Files + Input + Print + AllocGlobal>(rt: &R, task: &Task<'_>) -> R
     let mut output = BufWriter::new(alloc, io::writer(rt))?;
     let status = match task {
         Task::Grammar { states, .. } => print_grammar(alloc, &text, *states, &mut output)?,
+        Task::Closure { from, .. } => print_closure(alloc, &text, *from, &mut output)?,
     };
     output.flush()?;
     Ok(status)
