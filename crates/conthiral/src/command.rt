@@ -1,10 +1,28 @@
 //! The words of the command line.
 
+use crate::analysis::{ANALYSES, Analysis};
 use clap::{Arg, ArgAction, ArgMatches, Command};
 use std::alloc::{AllocError, Global};
 
 /// The name that stands for standard input.
 pub const STANDARD_INPUT: &str = "-";
+
+/// What the help of `flow` says of its input and of its output.
+const FLOW_HELP: &str = "\
+A line is a node, the first one the entry; each part may be missing:
+  loop: reads i n; writes t; next body done
+
+  live         variables that may be read before they are written
+  reaching     definitions that may still hold: x@n is what node n writes to x
+  available    expressions computed on all paths to here, and not changed since
+  busy         expressions computed on all paths from here, before they change
+  dominators   nodes that all paths from the entry pass
+
+An expression is what a node reads: (i n) above. A node that no path reaches
+has all expressions available, and all nodes dominate it.
+
+Example:
+  ./conthiral flow examples/flow.txt --analysis live";
 
 /// What the words ask for. Each task names the file that it reads.
 #[derive(Clone, Copy)]
@@ -18,6 +36,11 @@ pub enum Task<'a> {
     Closure {
         file: &'a str,
         from: Option<&'a str>,
+    },
+    /// An analysis of a flow graph.
+    Flow {
+        file: &'a str,
+        analysis: Analysis,
     },
 }
 
@@ -73,6 +96,22 @@ fn closure_command<'a>(alloc: Global) -> Result<Command<'a>, AllocError> {
         .arg(file)
 }
 
+/// Returns the words of `flow`.
+fn flow_command<'a>(alloc: Global) -> Result<Command<'a>, AllocError> {
+    let file = file_argument(alloc, "A flow graph; - or none: standard input");
+    let analysis = Arg::new(alloc, "analysis")
+        .long("analysis")
+        .value_name("WHICH")
+        .required(true)
+        .value_parser(ANALYSES.as_slice())
+        .help("What to find");
+    Command::new(alloc, "flow")
+        .about("Print what holds before and after each node of a flow graph")
+        .after_help(FLOW_HELP)
+        .arg(analysis)?
+        .arg(file)
+}
+
 /// Returns all words that can be given.
 pub fn command<'a>(alloc: Global) -> Result<Command<'a>, AllocError> {
     Command::new(alloc, "conthiral")
@@ -81,7 +120,8 @@ pub fn command<'a>(alloc: Global) -> Result<Command<'a>, AllocError> {
         .subcommand_required(true)
         .arg_required_else_help(true)
         .subcommand(grammar_command(alloc)?)?
-        .subcommand(closure_command(alloc)?)
+        .subcommand(closure_command(alloc)?)?
+        .subcommand(flow_command(alloc)?)
 }
 
 /// Returns what the words ask for, or `None` if they name no task.
@@ -96,6 +136,10 @@ pub fn task_of<'a>(matches: &ArgMatches<'a>) -> Option<Task<'a>> {
         "closure" => Some(Task::Closure {
             file,
             from: own.get_str("from"),
+        }),
+        "flow" => Some(Task::Flow {
+            file,
+            analysis: Analysis::of(own.get_str("analysis")?)?,
         }),
         _ => None,
     }
@@ -115,7 +159,8 @@ impl<'a> Task<'a> {
     /// Returns the name of the file that the task reads.
     pub fn file(&self) -> &'a str {
         match self {
-            Task::Grammar { file, .. } | Task::Closure { file, .. } => file,
+            Task::Grammar { file, .. } | Task::Closure { file, .. } | Task::Flow { file, .. } =>
+                file,
         }
     }
 }

@@ -3,6 +3,7 @@
 use std::alloc::{AllocError, AllocFailed};
 use std::{fmt, io};
 use vob_flow::SolveError;
+use vob_flow::live::LiveError;
 use vob_tables::{GrammarError, TextError};
 
 /// Why a command fails.
@@ -28,6 +29,8 @@ pub enum Fault {
     Name(String),
     /// The sets of a graph weren't found.
     Sets(SolveError),
+    /// The live variables of a flow graph weren't found.
+    Live(LiveError),
 }
 
 impl Fault {
@@ -82,6 +85,15 @@ impl From<SolveError> for Fault {
     }
 }
 
+impl From<LiveError> for Fault {
+    fn from(error: LiveError) -> Fault {
+        match error {
+            LiveError::Memory => Fault::Memory,
+            _ => Fault::Live(error),
+        }
+    }
+}
+
 /// A fault, with the name of the file that was read.
 #[derive(Drop)]
 pub struct Report<'a> {
@@ -105,6 +117,7 @@ impl fmt::Display for Report<'_> {
             } => write!(f, "{file}:{line}:{column}: expected {expected}"),
             Fault::Name(name) => write!(f, "{file}: no node is called {name}"),
             Fault::Sets(error) => write!(f, "{file}: {error}"),
+            Fault::Live(error) => write!(f, "{file}: {error}"),
         }
     }
 }

@@ -1,8 +1,11 @@
 //! Puts the sets of this repository to work on files: grammars, graphs, flow graphs and tables.
 #![tactic(auto)]
 
+mod analysis;
 mod command;
+mod effects;
 mod fault;
+mod flow;
 mod grammar;
 mod graph;
 mod names;

@@ -1,5 +1,6 @@
 //! A run of the program: words, input, output and status.
 
+use crate::analysis::print_flow;
 use crate::command::{STANDARD_INPUT, Task, command, task_of};
 use crate::fault::{Fault, Report};
 use crate::grammar::print_grammar;
@@ -30,6 +31,7 @@ fn perform<R: Files + Input + Print + AllocGlobal>(rt: &R, task: &Task<'_>) -> R
     let status = match task {
         Task::Grammar { states, .. } => print_grammar(alloc, &text, *states, &mut output)?,
         Task::Closure { from, .. } => print_closure(alloc, &text, *from, &mut output)?,
+        Task::Flow { analysis, .. } => print_flow(alloc, &text, *analysis, &mut output)?,
     };
     output.flush()?;
     Ok(status)
