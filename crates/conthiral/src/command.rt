@@ -1,6 +1,7 @@
 //! The words of the command line.
 
 use crate::analysis::{ANALYSES, Analysis};
+use crate::filter::Shows;
 use clap::{Arg, ArgAction, ArgMatches, Command};
 use std::alloc::{AllocError, Global};
 
@@ -24,6 +25,20 @@ has all expressions available, and all nodes dominate it.
 Example:
   ./conthiral flow examples/flow.txt --analysis live";
 
+/// What the help of `filter` says of conditions.
+const FILTER_HELP: &str = "\
+A condition compares columns by =, !=, <, <=, > and >=, and joins comparisons
+by ! (not), & (and) and | (or), which bind in this order, and by parentheses:
+  city = Paris & !(age < 30) | \"home town\" != \"New York\"
+
+A value in double quotes is a text. One without is a number if it reads as
+one; then each cell of its column must be a number or empty.
+An empty cell is missing, and so is each comparison with it, as in SQL: a row
+is kept if the condition is true, and not if it is false or missing.
+
+Example:
+  ./conthiral filter examples/cities.csv 'coastal = yes & population > 5000000'";
+
 /// What the words ask for. Each task names the file that it reads.
 #[derive(Clone, Copy)]
 pub enum Task<'a> {
@@ -41,6 +56,12 @@ pub enum Task<'a> {
     Flow {
         file: &'a str,
         analysis: Analysis,
+    },
+    /// The rows of a table of which a condition is true.
+    Filter {
+        file: &'a str,
+        condition: &'a str,
+        shows: Shows,
     },
 }
 
@@ -104,12 +125,49 @@ fn flow_command<'a>(alloc: Global) -> Result<Command<'a>, AllocError> {
         .value_name("WHICH")
         .required(true)
         .value_parser(ANALYSES.as_slice())
-        .help("What to find");
+        .hide_possible_values(true)
+        .help("What to find: one of the analyses below");
     Command::new(alloc, "flow")
         .about("Print what holds before and after each node of a flow graph")
         .after_help(FLOW_HELP)
         .arg(analysis)?
         .arg(file)
+}
+
+/// Returns the words of `filter`.
+fn filter_command<'a>(alloc: Global) -> Result<Command<'a>, AllocError> {
+    let file = Arg::new(alloc, "file")
+        .value_name("TABLE")
+        .required(true)
+        .help("A CSV file with a header; -: standard input");
+    let condition = Arg::new(alloc, "condition")
+        .value_name("CONDITION")
+        .required(true)
+        .help("What is to be true of a row");
+    let count = flag(alloc, "count", "Print the number of rows that are kept");
+    let quiet = flag(
+        alloc,
+        "quiet",
+        "Print nothing; the status is 1 if no row is kept",
+    );
+    Command::new(alloc, "filter")
+        .about("Print the rows of a table of which a condition is true")
+        .after_help(FILTER_HELP)
+        .arg(count)?
+        .arg(quiet)?
+        .arg(file)?
+        .arg(condition)
+}
+
+/// Returns what a filter is to print.
+fn shows_of(matches: &ArgMatches<'_>) -> Shows {
+    if matches.get_flag("quiet") {
+        Shows::Nothing
+    } else if matches.get_flag("count") {
+        Shows::Count
+    } else {
+        Shows::Rows
+    }
 }
 
 /// Returns all words that can be given.
@@ -121,7 +179,8 @@ pub fn command<'a>(alloc: Global) -> Result<Command<'a>, AllocError> {
         .arg_required_else_help(true)
         .subcommand(grammar_command(alloc)?)?
         .subcommand(closure_command(alloc)?)?
-        .subcommand(flow_command(alloc)?)
+        .subcommand(flow_command(alloc)?)?
+        .subcommand(filter_command(alloc)?)
 }
 
 /// Returns what the words ask for, or `None` if they name no task.
@@ -141,6 +200,11 @@ pub fn task_of<'a>(matches: &ArgMatches<'a>) -> Option<Task<'a>> {
             file,
             analysis: Analysis::of(own.get_str("analysis")?)?,
         }),
+        "filter" => Some(Task::Filter {
+            file,
+            condition: own.get_str("condition")?,
+            shows: shows_of(own),
+        }),
         _ => None,
     }
 }
@@ -159,8 +223,10 @@ impl<'a> Task<'a> {
     /// Returns the name of the file that the task reads.
     pub fn file(&self) -> &'a str {
         match self {
-            Task::Grammar { file, .. } | Task::Closure { file, .. } | Task::Flow { file, .. } =>
-                file,
+            Task::Grammar { file, .. }
+            | Task::Closure { file, .. }
+            | Task::Flow { file, .. }
+            | Task::Filter { file, .. } => file,
         }
     }
 }

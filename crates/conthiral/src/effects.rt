@@ -88,7 +88,8 @@ fn definition_label(alloc: Global, variable: &[u8], node: &[u8]) -> Result<Vec<u
     Ok(label)
 }
 
-/// Adds the definitions of a node, and returns their numbers. Each is added to the list of its variable.
+/// Adds the definitions of a node, and returns their numbers. Each is added to the list of its
+/// variable.
 fn add_definitions(
     alloc: Global,
     graph: &FlowGraph<'_>,
@@ -174,8 +175,8 @@ fn add_expression<'a>(
     Ok(numbers)
 }
 
-/// Returns the expression that each node computes, before it writes, and those that it ends: all that
-/// read what it writes. Nodes that read the same variables in the same order have one expression.
+/// Returns the expression that each node computes, before it writes, and those that it ends: all
+/// that read what it writes. Nodes that read the same variables in the same order share one.
 pub fn expression_effects(alloc: Global, graph: &FlowGraph<'_>) -> Result<Effects, AllocError> {
     let own = expression_labels(alloc, graph)?;
     let mut names = Names::new(alloc);

@@ -31,6 +31,24 @@ pub enum Fault {
     Sets(SolveError),
     /// The live variables of a flow graph weren't found.
     Live(LiveError),
+    /// A condition isn't in its form: before which column of it, and what was expected there.
+    Condition {
+        column: usize,
+        expected: &'static str,
+    },
+    /// The row that begins on a line has a number of cells, and not as many as the header.
+    Row {
+        line: u64,
+        cells: u64,
+        header: u64,
+    },
+    /// A cell of the row that begins on a line isn't a number: the one in the column with a name.
+    Cell {
+        line: u64,
+        name: String,
+    },
+    /// The rows of a table haven't the same length.
+    Columns,
 }
 
 impl Fault {
@@ -94,6 +112,17 @@ impl From<LiveError> for Fault {
     }
 }
 
+/// What can go wrong as rows are written.
+impl From<csv::Error> for Fault {
+    fn from(error: csv::Error) -> Fault {
+        match error.into_kind() {
+            csv::ErrorKind::Io(error) => Fault::Output(error),
+            csv::ErrorKind::UnequalLengths { .. } => Fault::Columns,
+            _ => Fault::Memory,
+        }
+    }
+}
+
 /// A fault, with the name of the file that was read.
 #[derive(Drop)]
 pub struct Report<'a> {
@@ -118,6 +147,18 @@ impl fmt::Display for Report<'_> {
             Fault::Name(name) => write!(f, "{file}: no node is called {name}"),
             Fault::Sets(error) => write!(f, "{file}: {error}"),
             Fault::Live(error) => write!(f, "{file}: {error}"),
+            Fault::Condition { column, expected } => {
+                write!(f, "the condition:{column}: expected {expected}")
+            }
+            Fault::Row {
+                line,
+                cells,
+                header,
+            } => write!(f, "{file}:{line}: expected {header} cells, found {cells}"),
+            Fault::Cell { line, name } => {
+                write!(f, "{file}:{line}: expected a number in column {name}")
+            }
+            Fault::Columns => write!(f, "{file}: the rows differ in length"),
         }
     }
 }

@@ -25,8 +25,8 @@ enum Wants {
     Next,
 }
 
-/// A graph as it is read: what is wanted next, the last word, and the names behind `next`, each with the
-/// number of its node.
+/// A graph as it is read: what is wanted next, the last word, and the names after `next`, each with
+/// the number of its node.
 #[derive(Drop)]
 struct Reader<'a> {
     graph: FlowGraph<'a>,
@@ -160,7 +160,7 @@ impl<'a> Reader<'a> {
         }
     }
 
-    /// Lets the names behind `next` be nodes. Fails at the first that no node has.
+    /// Lets the names after `next` be nodes. Fails at the first that no node has.
     fn link(self) -> Result<FlowGraph<'a>, Fault> {
         let Reader {
             mut graph,
@@ -179,11 +179,11 @@ impl<'a> Reader<'a> {
     }
 }
 
-/// Reads a flow graph. A line is a node: its name, a colon, and parts that begin with `reads`, `writes`
-/// or `next`, with `;` between them.
+/// Reads a flow graph. A line is a node: its name, a colon, and parts that begin with `reads`,
+/// `writes` or `next`, with `;` between them.
 ///
-/// Fails at the first word that can't stand where it does. A name that two nodes have is one, and then
-/// one behind `next` that no node has.
+/// Fails at the first word that can't stand where it does, as the name of a node that another has.
+/// Fails then at the first name after `next` that no node has.
 pub fn read_flow(alloc: Global, text: &[u8]) -> Result<FlowGraph<'_>, Fault> {
     let words = words_of(alloc, text, b":;")?;
     let mut reader = Reader::new(alloc);

@@ -81,7 +81,7 @@ fn put_counts<W: Write>(output: &mut W, grammar: &Grammar, states: usize) -> io:
     writeln!(output, "states {states}")
 }
 
-/// Writes a line with the names of some terminals behind a word.
+/// Writes a line: a word, and the names of some terminals.
 fn put_set<W: Write>(
     output: &mut W,
     word: &[u8],
@@ -132,7 +132,7 @@ fn put_item<W: Write>(output: &mut W, names: &Names, rule: &Rule, dot: usize) ->
     output.write_all(b"\n")
 }
 
-/// Returns whether an item is of a kernel: its dot is behind a symbol, or it is the start.
+/// Returns whether an item is of a kernel: its dot is after a symbol, or it is the start.
 fn is_kernel(item: Item) -> bool {
     item.dot > 0 || item.rule == 0
 }

@@ -152,10 +152,11 @@ fn nodes_from(alloc: Global, graph: &Graph<'_>, from: &str) -> Result<Vob, Fault
     }
 }
 
-/// Writes the edges of the closure of a graph, or the nodes to which one of its nodes leads. An edge
-/// of the closure stands for a path of one edge or more. Returns the status.
+/// Writes the edges of the closure of a graph, or the nodes to which one of its nodes leads. An
+/// edge of the closure stands for a path of one edge or more. Returns the status.
 ///
-/// Fails at the first line that isn't an edge, or if the graph has no node with the name.
+/// Fails at the first line that isn't an edge, or if the graph has no node with the name. Nothing
+/// is written then.
 pub fn print_closure<W: Write>(
     alloc: Global,
     text: &[u8],

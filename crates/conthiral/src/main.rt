@@ -3,8 +3,10 @@
 
 mod analysis;
 mod command;
+mod condition;
 mod effects;
 mod fault;
+mod filter;
 mod flow;
 mod grammar;
 mod graph;

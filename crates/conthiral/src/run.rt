@@ -3,6 +3,7 @@
 use crate::analysis::print_flow;
 use crate::command::{STANDARD_INPUT, Task, command, task_of};
 use crate::fault::{Fault, Report};
+use crate::filter::print_filter;
 use crate::grammar::print_grammar;
 use crate::graph::print_closure;
 use std::io::{BufWriter, Read, Write};
@@ -32,6 +33,11 @@ fn perform<R: Files + Input + Print + AllocGlobal>(rt: &R, task: &Task<'_>) -> R
         Task::Grammar { states, .. } => print_grammar(alloc, &text, *states, &mut output)?,
         Task::Closure { from, .. } => print_closure(alloc, &text, *from, &mut output)?,
         Task::Flow { analysis, .. } => print_flow(alloc, &text, *analysis, &mut output)?,
+        Task::Filter {
+            condition,
+            shows,
+            ..
+        } => print_filter(alloc, &text, condition, *shows, &mut output)?,
     };
     output.flush()?;
     Ok(status)

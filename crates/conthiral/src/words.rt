@@ -2,7 +2,8 @@
 
 use std::alloc::{AllocError, Global};
 
-/// A word, and the line and the column where it begins, counted from 1. A column is a byte of its line.
+/// A word, and the line and the column where it begins, counted from 1. A column is a byte of its
+/// line.
 #[derive(Clone, Copy)]
 pub struct Word<'a> {
     pub text: &'a [u8],
@@ -11,7 +12,7 @@ pub struct Word<'a> {
 }
 
 impl Word<'_> {
-    /// Returns the column right behind the word.
+    /// Returns the column right after the word.
     pub fn end(&self) -> usize {
         self.column.saturating_add(self.text.len())
     }
@@ -86,8 +87,8 @@ impl<'a> Scanner<'a> {
     }
 }
 
-/// Returns the words of a text. White space separates them; each of the bytes `marks` is a word of its
-/// own. A word that begins with `#` begins a comment, up to the end of its line.
+/// Returns the words of a text. White space separates them; each of the bytes `marks` is a word of
+/// its own. A word that begins with `#` begins a comment, up to the end of its line.
 pub fn words_of<'a>(
     alloc: Global,
     text: &'a [u8],
