@@ -186,8 +186,8 @@ impl<'a> Test<'a> {
         Some(self.relation.holds(order))
     }
 
-    /// Returns what the comparison is in a row: missing if the cell is empty. Fails if the cell should
-    /// be a number and isn't.
+    /// Returns what the comparison is in a row: missing if the cell is empty. Fails if the cell
+    /// should be a number and isn't.
     fn value(
         &self,
         alloc: Global,

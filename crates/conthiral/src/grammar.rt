@@ -13,7 +13,7 @@ use vob_tables::{
 
 /// How the file calls the symbols.
 #[derive(Drop)]
-struct Names {
+struct SymbolNames {
     terminals: Vec<Vec<u8>>,
     nonterminals: Vec<Vec<u8>>,
 }
@@ -52,7 +52,7 @@ fn number_actions(alloc: Global, names: &mut [Vec<u8>]) -> Result<(), Fault> {
     Ok(())
 }
 
-impl Names {
+impl SymbolNames {
     /// Returns the name of a symbol.
     fn of(&self, symbol: Symbol) -> &[u8] {
         match symbol {
@@ -85,7 +85,7 @@ fn put_counts<W: Write>(output: &mut W, grammar: &Grammar, states: usize) -> io:
 fn put_set<W: Write>(
     output: &mut W,
     word: &[u8],
-    names: &Names,
+    names: &SymbolNames,
     set: Option<&Vob>,
 ) -> io::Result<()> {
     output.write_all(word)?;
@@ -100,7 +100,7 @@ fn put_set<W: Write>(
 /// Writes the sets of a nonterminal.
 fn put_nonterminal<W: Write>(
     output: &mut W,
-    names: &Names,
+    names: &SymbolNames,
     tables: &Tables,
     number: usize,
 ) -> io::Result<()> {
@@ -116,7 +116,12 @@ fn put_nonterminal<W: Write>(
 }
 
 /// Writes an item: its rule, with a point for the dot.
-fn put_item<W: Write>(output: &mut W, names: &Names, rule: &Rule, dot: usize) -> io::Result<()> {
+fn put_item<W: Write>(
+    output: &mut W,
+    names: &SymbolNames,
+    rule: &Rule,
+    dot: usize,
+) -> io::Result<()> {
     output.write_all(b"  ")?;
     put_name(output, name_at(&names.nonterminals, rule.left))?;
     output.write_all(b":")?;
@@ -140,7 +145,7 @@ fn is_kernel(item: Item) -> bool {
 /// Writes the item with a number, if it is of a kernel.
 fn put_if_kernel<W: Write>(
     output: &mut W,
-    names: &Names,
+    names: &SymbolNames,
     items: &Items<'_>,
     number: usize,
 ) -> io::Result<()> {
@@ -157,7 +162,7 @@ fn put_if_kernel<W: Write>(
 /// Writes the items of a state's kernel.
 fn put_kernel<W: Write>(
     output: &mut W,
-    names: &Names,
+    names: &SymbolNames,
     items: &Items<'_>,
     set: &Vob,
 ) -> io::Result<()> {
@@ -168,7 +173,7 @@ fn put_kernel<W: Write>(
 }
 
 /// Writes the moves of a state.
-fn put_moves<W: Write>(output: &mut W, names: &Names, moves: &[Move]) -> io::Result<()> {
+fn put_moves<W: Write>(output: &mut W, names: &SymbolNames, moves: &[Move]) -> io::Result<()> {
     for own in moves {
         let state = own.state;
         output.write_all(b"  ")?;
@@ -181,7 +186,7 @@ fn put_moves<W: Write>(output: &mut W, names: &Names, moves: &[Move]) -> io::Res
 /// Writes the states: the kernel of each, and its moves.
 fn put_states<W: Write>(
     output: &mut W,
-    names: &Names,
+    names: &SymbolNames,
     items: &Items<'_>,
     automaton: &Automaton,
 ) -> io::Result<()> {
@@ -212,7 +217,7 @@ pub fn print_grammar<W: Write>(
         ..
     } = grammar_of(alloc, text)?;
     number_actions(alloc, &mut nonterminals)?;
-    let names = Names {
+    let names = SymbolNames {
         terminals,
         nonterminals,
     };

@@ -62,10 +62,12 @@ fn perform_or_report<R: Files + Input + Print + Eprint + AllocGlobal>(
     }
 }
 
-/// Does what the words of the command line ask for. Returns the status: 0, or 2 after a fault.
+/// Does what the words of the command line ask for. Returns the status: 0, or 1 if a quiet filter
+/// keeps no row, or 2 after a fault. A reader of the output that goes away is no fault.
 pub fn run<R: Env + Files + Input + Print + Eprint + AllocGlobal>(rt: &R) -> ExitCode {
     let status = match run_words(rt) {
         Ok(status) => status,
+        Err(error) if error.kind() == io::ErrorKind::BrokenPipe => 0,
         Err(error) => {
             let _ = eprintln!(rt; "conthiral: {error}");
             FAILED
