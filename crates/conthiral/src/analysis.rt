@@ -2,7 +2,7 @@
 
 use crate::effects::{
     Effects, add_border, add_to, definition_effects, expression_effects, labels_of, lasting,
-    nodes_after, nodes_before,
+    nodes_after, nodes_before, reached_before,
 };
 use crate::fault::Fault;
 use crate::flow::{FlowGraph, read_flow};
@@ -133,7 +133,7 @@ fn available_sides(alloc: Global, graph: &FlowGraph<'_>) -> Result<Sides, Fault>
         mut kills,
         ..
     } = effects;
-    let mut from = nodes_before(alloc, &graph.nodes)?;
+    let mut from = reached_before(alloc, &graph.nodes)?;
     let border = from.len();
     add_to(&mut from, 0, border)?;
     add_border(alloc, labels.len(), &mut generates, &mut kills, &mut from)?;

@@ -12,7 +12,6 @@ pub const STANDARD_INPUT: &str = "-";
 const FLOW_HELP: &str = "\
 A line is a node, the first one the entry; each part may be missing:
   loop: reads i n; writes t; next body done
-
   live         variables that may be read before they are written
   reaching     definitions that may still hold: x@n is what node n writes to x
   available    expressions computed on all paths to here, and not changed since

@@ -1,9 +1,12 @@
 //! What each node of a flow graph generates and kills: definitions and expressions.
 
+use crate::fault::Fault;
 use crate::flow::FlowGraph;
+use crate::graph::all_below;
 use crate::names::Names;
 use std::alloc::{AllocError, Global};
 use vob_flow::live::Flow;
+use vob_flow::reach;
 
 /// What each node of a graph generates and kills, by the names of the places.
 #[derive(Drop)]
@@ -63,6 +66,32 @@ pub fn nodes_before(alloc: Global, nodes: &[Flow]) -> Result<Vec<Vec<usize>>, Al
     let mut before = empty_lists(alloc, nodes.len())?;
     for (number, node) in nodes.iter().enumerate() {
         add_to_each(&mut before, &node.next, number)?;
+    }
+    Ok(before)
+}
+
+/// Returns for each node the nodes that come next.
+fn nodes_next(alloc: Global, nodes: &[Flow]) -> Result<Vec<Vec<usize>>, AllocError> {
+    let mut next = Vec::new(alloc);
+    for node in nodes {
+        next.push(node.next.clone()?)?;
+    }
+    Ok(next)
+}
+
+/// Returns for each node those that come before it and that a path from the entry reaches.
+pub fn reached_before(alloc: Global, nodes: &[Flow]) -> Result<Vec<Vec<usize>>, Fault> {
+    let next = nodes_next(alloc, nodes)?;
+    let mut before = empty_lists(alloc, nodes.len())?;
+    let entry = [0];
+    if !all_below(&entry, next.len()) {
+        return Ok(before);
+    }
+    let reached = reach(alloc, &next, &entry)?;
+    for (number, node) in nodes.iter().enumerate() {
+        if reached.get(number) == Some(true) {
+            add_to_each(&mut before, &node.next, number)?;
+        }
     }
     Ok(before)
 }

@@ -132,7 +132,7 @@ fn put_nodes<W: Write>(output: &mut W, names: &Names<'_>, nodes: &Vob) -> io::Re
 }
 
 /// Whether all numbers are below `end`.
-fn all_below(numbers: &[usize], end: usize) -> bool
+pub fn all_below(numbers: &[usize], end: usize) -> bool
     ensures { IsTrue result ↔ All (λ number. number < end) numbers.now }
 {
     numbers.iter().all(|number| *number < end)
