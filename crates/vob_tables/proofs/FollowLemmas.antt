@@ -102,7 +102,7 @@ last_more xs back i x less at is =
 -- ---- what stands behind one symbol more
 
 module _ (rules : List Rule) (left : ℕ) where
-  of_trailer : (after : List Symbol) (starts : List Bool) (empty : Bool) →
+  pub of_trailer : (after : List Symbol) (starts : List Bool) (empty : Bool) →
       IsTrailer rules after starts empty → (y : Symbol) →
       IsOfTrailer left starts empty y ↔ StandsBehind rules left after y
   of_trailer after starts empty h (Terminal t) = h.begins t

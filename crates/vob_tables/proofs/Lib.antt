@@ -5,8 +5,10 @@ mod EmptyLemmas
 mod EquationLemmas
 mod FaultLemmas
 mod FirstLemmas
+mod FlowLemmas
 mod FollowLemmas
 mod GrowthLemmas
 mod ItemLemmas
+mod NodeLemmas
 mod SolvedLemmas
 mod StateLemmas

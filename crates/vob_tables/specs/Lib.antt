@@ -4,11 +4,14 @@ pub mod Derivations
 pub mod Equations
 pub mod Expansions
 pub mod Faults
+pub mod Flows
 pub mod Grammar
 pub mod Heads
 pub mod ItemSets
 pub mod ItemTables
 pub mod Items
+pub mod Lookaheads
+pub mod Nodes
 pub mod Passes
 pub mod Rounds
 pub mod States

@@ -64,7 +64,7 @@ fn open_rules(
 }
 
 /// Returns what each nonterminal brings at once, and from which others it draws.
-fn expansion_equations(
+pub(crate) fn expansion_equations(
     alloc: Global,
     grammar: &Grammar,
     items: &Items<'_>,

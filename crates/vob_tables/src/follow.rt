@@ -32,7 +32,13 @@ fn put_row(vanishes: bool, row: &Vob, begins: &mut Vob)
 
 /// Makes of what can begin some symbols what can begin them behind another. Returns whether all can
 /// become empty, given whether they can.
-fn put_before(nullable: &Vob, first: &[Vob], symbol: &Symbol, begins: &mut Vob, empty: bool) -> bool
+pub(crate) fn put_before(
+    nullable: &Vob,
+    first: &[Vob],
+    symbol: &Symbol,
+    begins: &mut Vob,
+    empty: bool,
+) -> bool
     requires place { HasPlace (length begins.old.bits) symbol.now }
     requires below { IsBelow (length first.now) symbol.now }
     requires long { AreOfLength (length begins.old.bits) (bits_of first.now) }
@@ -55,7 +61,7 @@ fn put_before(nullable: &Vob, first: &[Vob], symbol: &Symbol, begins: &mut Vob, 
 
 /// Lets a set start with what can begin the symbols behind a nonterminal, and draw from the left
 /// side where they can become empty.
-fn add_trailer(
+pub(crate) fn add_trailer(
     left: usize,
     begins: &Vob,
     empty: bool,

@@ -5,6 +5,7 @@ mod flow;
 mod grammar;
 mod lengths;
 mod live;
+mod lookaheads;
 mod matrix;
 mod slots;
 mod small_matrices;

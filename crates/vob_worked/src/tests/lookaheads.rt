@@ -1,0 +1,90 @@
+//! Lookaheads of grammars worked by hand.
+use super::grammar::{add_text, empty};
+use super::support::same;
+use std::process::Abort;
+use vob_tables::{Grammar, Lookaheads};
+
+/// The names of nonterminals and of terminals, rules, and for each item of each state, by their
+/// numbers, its lookaheads.
+struct Row {
+    names: (&'static str, &'static str),
+    rules: &'static [&'static str],
+    ahead: &'static [(usize, usize, &'static str)],
+}
+
+#[rattlefmt::skip]
+const GRAMMARS: [Row; 4] = [
+    // The textbooks' grammar of assignments through pointers. FOLLOW of R has =, but R isn't complete
+    // before = in state 4, where the start led by L.
+    Row { names: ("ASLR", "$=*i"), rules: &["A=S$", "S=L=R", "S=R", "L=*R", "L=i", "R=L"],
+        ahead: &[(0, 0, ""), (0, 3, "$"), (0, 7, "$"), (0, 9, "$="), (0, 12, "$="), (0, 14, "$"),
+            (1, 9, "$="), (1, 10, "$="), (1, 12, "$="), (1, 14, "$="), (2, 13, "$="), (3, 1, ""),
+            (4, 4, "$"), (4, 15, "$"), (5, 8, "$"), (6, 15, "$="), (7, 11, "$="), (8, 2, ""),
+            (9, 5, "$"), (9, 9, "$"), (9, 12, "$"), (9, 14, "$"), (10, 6, "$")] },
+    // B can become empty, so what follows S follows A too.
+    Row { names: ("ZSAB", "$ab"), rules: &["Z=S$", "S=AB", "A=a", "B=b", "B="],
+        ahead: &[(0, 0, ""), (0, 3, "$"), (0, 6, "$b"), (1, 7, "$b"), (2, 1, ""), (3, 4, "$"),
+            (3, 8, "$"), (3, 10, "$"), (4, 2, ""), (5, 9, "$"), (6, 5, "$")] },
+    // Loops: A becomes A, and its lookaheads come back to it.
+    Row { names: ("ZA", "$a"), rules: &["Z=A$", "A=A", "A=a"],
+        ahead: &[(0, 0, ""), (0, 3, "$"), (0, 5, "$"), (1, 6, "$"), (2, 1, ""), (2, 4, "$"),
+            (3, 2, "")] },
+    // LR(1), but not LALR(1): the two ways to e meet in one state, where both A and B end by both.
+    Row { names: ("ZSAB", "$abcde"), rules: &["Z=S$", "S=aAd", "S=bBd", "S=aBc", "S=bAc", "A=e", "B=e"],
+        ahead: &[(1, 4, "$"), (1, 12, "$"), (1, 19, "d"), (1, 21, "c"), (4, 20, "cd"),
+            (4, 22, "cd")] },
+];
+
+/// The grammar of a row.
+fn grammar_of(rt: &(impl Abort + AllocGlobal), row: &Row) -> Grammar {
+    let (nonterminals, terminals) = row.names;
+    let mut grammar = empty(rt, nonterminals.len(), terminals.len());
+    for text in row.rules {
+        add_text(rt, &mut grammar, nonterminals, terminals, text);
+    }
+    grammar
+}
+
+/// Compares the lookaheads of an item of a state with these terminals.
+fn check_ahead(
+    rt: &impl Abort,
+    found: &Lookaheads<'_>,
+    state: usize,
+    item: usize,
+    terminals: &str,
+    wanted: &str,
+) {
+    let set = found.of(state, item).expect(rt, "the state has the item");
+    same(rt, "the terminals", item, set.len(), terminals.len());
+    for (number, name) in terminals.as_bytes().iter().enumerate() {
+        let has = wanted.as_bytes().contains(name);
+        same(rt, "a terminal", item, set.get(number), Some(has));
+    }
+}
+
+#[test]
+fn lookaheads_are_those_of_the_textbook(rt: HostRuntime) {
+    for row in &GRAMMARS {
+        let grammar = grammar_of(&rt, row);
+        let found = Lookaheads::new(rt.alloc(), &grammar).expect(&rt, "lookaheads");
+        for (state, item, wanted) in row.ahead {
+            check_ahead(&rt, &found, *state, *item, row.names.1, wanted);
+        }
+    }
+}
+
+#[test]
+fn an_item_that_a_state_does_not_have_has_no_lookaheads(rt: HostRuntime) {
+    let grammar = grammar_of(&rt, &GRAMMARS[0]);
+    let found = Lookaheads::new(rt.alloc(), &grammar).expect(&rt, "lookaheads");
+    for (state, item) in [
+        (0, 1),
+        (0, 16),
+        (4, 3),
+        (10, 7),
+        (11, 0),
+        (usize::MAX, usize::MAX),
+    ] {
+        same(&rt, "an item", item, found.of(state, item).is_some(), false);
+    }
+}
