@@ -7,8 +7,8 @@ use std::io;
 use std::io::Write;
 use vob::Vob;
 use vob_tables::{
-    Automaton, Grammar, GrammarText, Item, Items, Move, Rule, Symbol, first_sets, follow_sets,
-    grammar_of, nullable, states,
+    Grammar, GrammarText, Item, Lookaheads, Move, Rule, Symbol, first_sets, follow_sets,
+    grammar_of, nullable,
 };
 
 /// How the file calls the symbols.
@@ -18,23 +18,23 @@ struct SymbolNames {
     nonterminals: Vec<Vec<u8>>,
 }
 
-/// The sets of a grammar, and its states.
+/// The sets of a grammar, and its states with their lookaheads.
 #[derive(Drop)]
-struct Tables {
+struct Tables<'a> {
     nullable: Vob,
     first: Vec<Vob>,
     follow: Vec<Vob>,
-    automaton: Automaton,
+    states: Lookaheads<'a>,
 }
 
-impl Tables {
+impl<'a> Tables<'a> {
     /// Finds the sets and the states.
-    fn new(alloc: Global, grammar: &Grammar) -> Result<Tables, Fault> {
+    fn new(alloc: Global, grammar: &'a Grammar) -> Result<Tables<'a>, Fault> {
         Ok(Tables {
             nullable: nullable(alloc, grammar)?,
             first: first_sets(alloc, grammar)?,
             follow: follow_sets(alloc, grammar)?,
-            automaton: states(alloc, grammar)?,
+            states: Lookaheads::new(alloc, grammar)?,
         })
     }
 }
@@ -81,6 +81,14 @@ fn put_counts<W: Write>(output: &mut W, grammar: &Grammar, states: usize) -> io:
     writeln!(output, "states {states}")
 }
 
+/// Writes the names of some terminals, each after a space.
+fn put_terminals<W: Write>(output: &mut W, names: &SymbolNames, set: &Vob) -> io::Result<()> {
+    for terminal in set.iter_set_bits(..) {
+        put_next(output, name_at(&names.terminals, terminal))?;
+    }
+    Ok(())
+}
+
 /// Writes a line: a word, and the names of some terminals.
 fn put_set<W: Write>(
     output: &mut W,
@@ -90,9 +98,7 @@ fn put_set<W: Write>(
 ) -> io::Result<()> {
     output.write_all(word)?;
     if let Some(set) = set {
-        for terminal in set.iter_set_bits(..) {
-            put_next(output, name_at(&names.terminals, terminal))?;
-        }
+        put_terminals(output, names, set)?;
     }
     output.write_all(b"\n")
 }
@@ -101,7 +107,7 @@ fn put_set<W: Write>(
 fn put_nonterminal<W: Write>(
     output: &mut W,
     names: &SymbolNames,
-    tables: &Tables,
+    tables: &Tables<'_>,
     number: usize,
 ) -> io::Result<()> {
     output.write_all(b"\n")?;
@@ -134,7 +140,17 @@ fn put_item<W: Write>(
     if dot >= rule.right.len() {
         output.write_all(b" .")?;
     }
-    output.write_all(b"\n")
+    Ok(())
+}
+
+/// Writes the lookaheads of an item in brackets.
+fn put_ahead<W: Write>(output: &mut W, names: &SymbolNames, ahead: Option<&Vob>) -> io::Result<()> {
+    if let Some(set) = ahead {
+        output.write_all(b"  [")?;
+        put_terminals(output, names, set)?;
+        output.write_all(b" ]")?;
+    }
+    Ok(())
 }
 
 /// Returns whether an item is of a kernel: its dot is after a symbol, or it is the start.
@@ -142,32 +158,44 @@ fn is_kernel(item: Item) -> bool {
     item.dot > 0 || item.rule == 0
 }
 
-/// Writes the item with a number, if it is of a kernel.
-fn put_if_kernel<W: Write>(
+/// Writes the item with a number, if it is of a kernel or complete, and its lookaheads if it is
+/// complete.
+fn put_if_shown<W: Write>(
     output: &mut W,
     names: &SymbolNames,
-    items: &Items<'_>,
+    states: &Lookaheads<'_>,
+    state: usize,
     number: usize,
 ) -> io::Result<()> {
+    let items = states.items();
     if number >= items.len() {
         return Ok(());
     }
     let item = items.item(number);
-    match items.grammar().rules.get(item.rule) {
-        Some(rule) if is_kernel(item) => put_item(output, names, rule, item.dot),
-        _ => Ok(()),
+    let Some(rule) = items.grammar().rules.get(item.rule) else {
+        return Ok(());
+    };
+    let is_complete = item.dot >= rule.right.len();
+    if !is_complete && !is_kernel(item) {
+        return Ok(());
     }
+    put_item(output, names, rule, item.dot)?;
+    if is_complete && item.rule > 0 {
+        put_ahead(output, names, states.of(state, number))?;
+    }
+    output.write_all(b"\n")
 }
 
-/// Writes the items of a state's kernel.
-fn put_kernel<W: Write>(
+/// Writes the items of a state that are of its kernel or complete.
+fn put_items<W: Write>(
     output: &mut W,
     names: &SymbolNames,
-    items: &Items<'_>,
+    states: &Lookaheads<'_>,
+    state: usize,
     set: &Vob,
 ) -> io::Result<()> {
     for number in set.iter_set_bits(..) {
-        put_if_kernel(output, names, items, number)?;
+        put_if_shown(output, names, states, state, number)?;
     }
     Ok(())
 }
@@ -183,16 +211,16 @@ fn put_moves<W: Write>(output: &mut W, names: &SymbolNames, moves: &[Move]) -> i
     Ok(())
 }
 
-/// Writes the states: the kernel of each, and its moves.
+/// Writes the states: the items and the moves of each.
 fn put_states<W: Write>(
     output: &mut W,
     names: &SymbolNames,
-    items: &Items<'_>,
-    automaton: &Automaton,
+    states: &Lookaheads<'_>,
 ) -> io::Result<()> {
+    let automaton = states.automaton();
     for (state, set) in automaton.sets.iter().enumerate() {
         writeln!(output, "\nstate {state}")?;
-        put_kernel(output, names, items, set)?;
+        put_items(output, names, states, state, set)?;
         if let Some(moves) = automaton.moves.get(state) {
             put_moves(output, names, moves)?;
         }
@@ -222,13 +250,12 @@ pub fn print_grammar<W: Write>(
         nonterminals,
     };
     let tables = Tables::new(alloc, &grammar)?;
-    let items = Items::new(alloc, &grammar)?;
-    put_counts(output, &grammar, tables.automaton.sets.len())?;
+    put_counts(output, &grammar, tables.states.automaton().sets.len())?;
     for number in 0..grammar.nonterminals {
         put_nonterminal(output, &names, &tables, number)?;
     }
     if wants_states {
-        put_states(output, &names, &items, &tables.automaton)?;
+        put_states(output, &names, &tables.states)?;
     }
     Ok(0)
 }
