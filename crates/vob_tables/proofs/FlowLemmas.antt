@@ -16,18 +16,18 @@ use Rattle.vob_tables.specs.Expansions.{Expands}
 use Rattle.vob_tables.specs.Faults.{IsRuleOf, IsSymbol}
 use Rattle.vob_tables.specs.Flows.{FlowsFrom, FlowsOf, FlowsTo, GainWalked, HasTables, HaveLookaheads, IsKept, IsKeptAt, IsKeptBy, IsOfFirst, IsOfMember, IsOpened}
 use Rattle.vob_tables.specs.ItemSets.{Has, Opens}
-use Rattle.vob_tables.specs.ItemSets.InClosure.{inside, expands}
 use Rattle.vob_tables.specs.Items.{HasNext, IsItem, item_total}
-use Rattle.vob_tables.specs.Lookaheads.{HasMove, HasNextThen, LooksAhead, Machine}
+use Rattle.vob_tables.specs.Lookaheads.{HasNextThen, LooksAhead, Machine}
 use Rattle.vob_tables.specs.Lookaheads.LooksAhead.{begins, passes, keeps}
 use Rattle.vob_tables.specs.Nodes.{node}
 use Rattle.vob_tables.specs.Grammar.{AreFirst, AreNullable}
-use Rattle.vob_tables.specs.States.{AreStates, IsMove, IsState}
-use Rattle.vob_tables.specs.States.IsState.{start as first_state, after as next_state}
+use Rattle.vob_tables.specs.States.{AreStates}
 use Rattle.vob_tables.proofs.EquationLemmas.{shape_long}
 use Rattle.vob_tables.proofs.FollowLemmas.{of_trailer}
 use Rattle.vob_tables.proofs.ItemLemmas.{next_is, one_item}
+use Rattle.vob_tables.proofs.MemberLemmas.{member_advances, member_closed}
 use Rattle.vob_tables.proofs.NodeLemmas.{node_inside, one_node}
+use Rattle.vob_tables.proofs.StateLemmas.{state_long}
 use Rattle.vob_tables.proofs.SolvedLemmas.{AreSolved-as}
 use Rattle.vob_tables.specs.declared.grammar.Rule.{Rule}
 use Rattle.vob_tables.specs.declared.grammar.Symbol.{Symbol}
@@ -189,20 +189,13 @@ module _ (m : Machine) (nullable : List Bool) (first opens : List (List Bool))
   abbrev rules : List Rule
   rules = m.grammar.rules.items
 
-  is_state : (q : ℕ) → q < length m.sets → IsState rules (get_or m.sets q [])
-  is_state q less = h.states.each q [] less
-
-  state_long : {set : List Bool} → IsState rules set → length set ≡ item_total rules
-  state_long (first_state s) = s.len
-  state_long (next_state x state ahead s) = s.len
-
   -- an item of a state is there
   pub state_inside : (q j : ℕ) → IsIn m.sets q j → j < item_total rules
   state_inside q j own =
       omega (
         arith,
         true_inside (get_or m.sets q []) j own,
-        state_long (is_state q (row_inside m.sets q j own)),
+        state_long rules (h.states.each q [] (row_inside m.sets q j own)),
       )
 
   -- and what stands behind its dot
@@ -219,29 +212,6 @@ module _ (m : Machine) (nullable : List Bool) (first opens : List (List Bool))
   rest_there j item is =
       All-drop (IsSymbol m.grammar.terminals m.grammar.nonterminals) (item.dot + 1)
       is.rule.right.items (all_at (IsRuleOf m.grammar) rules h.rules item.rule is.rule is.is).1
-
-  closed_state : {set : List Bool} → IsState rules set → (j a i : ℕ) → Has set j →
-      HasNext rules j (Nonterminal a) → Opens rules a i → Has set i
-  closed_state (first_state s) j a i own next opens =
-      (s.each i).1 (expands ((s.each j).0 own) next opens)
-  closed_state (next_state x state ahead s) j a i own next opens =
-      (s.each i).1 (expands ((s.each j).0 own) next opens)
-
-  -- a state has what its items bring
-  pub state_closed : (q j a i : ℕ) → IsIn m.sets q j → HasNext rules j (Nonterminal a) →
-      Opens rules a i → IsIn m.sets q i
-  state_closed q j a i own next opens =
-      closed_state (is_state q (row_inside m.sets q j own)) j a i own next opens
-
-  -- and the state that follows has the item behind
-  pub state_advances : (q j : ℕ) (x : Symbol) (p : ℕ) → IsIn m.sets q j → HasNext rules j x →
-      HasMove m.moves q x p → IsIn m.sets p (j + 1)
-  state_advances q j x p own next (k, less, is) =
-      let row = h.states.moves_of q (row_inside m.sets q j own) in
-      let move : Move = record { symbol = x; state = p } in
-      let by = subst (λ (z : Move). IsMove rules m.sets (get_or m.sets q []) z) is
-      (row.each k move less) in
-      (by.goto.each (j + 1)).1 (inside (j, own, next, refl))
 
   -- ---- what one item gives
 
@@ -360,31 +330,31 @@ module _ (m : Machine) (nullable : List Bool) (first opens : List (List Bool))
     ahead_sound {t} {n} (at_start (q, (j, own, inl kept))) r i there at =
         absurd (terminal_differs t _ (sym kept.5))
     ahead_sound {t} {n} (at_start (q, (j, own, inr (a, k, rest, next, opens, to, st)))) r i there at =
-        ahead_at t q k r i n (state_closed q j a k own next.next opens) there to at
+        ahead_at t q k r i n (member_closed m h.states q j a k own next.next opens) there to at
         (begins own next st opens)
     ahead_sound {t} {n} (along {m = o} (q, (j, own, inl (x, p, next, move, to, named))) c) r i there at =
         let from : node m.sets q j ≡ o = cc in
-        ahead_at t p (j + 1) r i n (state_advances q j x p own next move) there to at
+        ahead_at t p (j + 1) r i n (member_advances m h.states q j x p own next move) there to at
         (keeps (ahead_sound c q j own from) next move)
     ahead_sound {t} {n} (along {m = o} (q, (j, own, inr (a, k, rest, next, opens, to, st))) c) r i there at =
-        ahead_at t q k r i n (state_closed q j a k own next.next opens) there to at
+        ahead_at t q k r i n (member_closed m h.states q j a k own next.next opens) there to at
         (passes (ahead_sound c q j own st.0) next st.1 opens)
 
     ahead_complete : {t q i : ℕ} → LooksAhead m t q i →
         IsIn m.sets q i × IsIn rows (node m.sets q i) t
     ahead_complete {t} (begins {q} {j} {a} {i} {rest} own next st opens) = (
-      state_closed q j a i own next.next opens,
+      member_closed m h.states q j a i own next.next opens,
       s.starts (node m.sets q i) t (q, (j, own, inr (a, i, rest, next, opens, refl, st))),
     )
     ahead_complete {t} (passes {q} {j} {a} {i} {rest} l next empty opens) =
         let (own, there) = ahead_complete l in (
-          state_closed q j a i own next.next opens,
+          member_closed m h.states q j a i own next.next opens,
           s.draws (node m.sets q i) (node m.sets q j) t
               (q, (j, own, inr (a, i, rest, next, opens, refl, (refl, empty)))) there,
         )
     ahead_complete {t} (keeps {q} {j} {p} {x} l next move) =
         let (own, there) = ahead_complete l in (
-          state_advances q j x p own next move,
+          member_advances m h.states q j x p own next move,
           s.draws (node m.sets p (j + 1)) (node m.sets q j) t
               (q, (j, own, inl (x, p, next, move, refl, refl))) there,
         )

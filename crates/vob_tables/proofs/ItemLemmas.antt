@@ -9,7 +9,7 @@ use Rattle.vob_tables.specs.declared.items.Item.{Item}
 use Rattle.vob_tables.specs.declared.grammar.Rule.{Rule}
 use Rattle.vob_tables.specs.declared.grammar.Symbol.{Symbol}
 use Rattle.vob_tables.specs.ItemTables.{AreFirsts, AreItems}
-use Rattle.vob_tables.specs.Items.{HasNext, IsItem, NextItemIsBehind, first_item, item_count, item_total}
+use Rattle.vob_tables.specs.Items.{Completes, HasNext, IsItem, NextItemIsBehind, first_item, item_count, item_total}
 
 -- the items of one rule more
 pub first_item-more : (rules : List Rule) (r : ℕ) (rule : Rule) → slice_get rules r ≡ Some rule →
@@ -94,6 +94,24 @@ one_item rules i x y h k =
     let dots : x.dot ≡ y.dot = omega (arith, first, h.number, k.number) in
     ap (λ (r : ℕ). let z : Item = record { rule = r; dot = x.dot } in z) same
     ∙ ap (λ (d : ℕ). let z : Item = record { rule = y.rule; dot = d } in z) dots
+
+-- a rule has one item with the dot behind all
+pub one_complete : (rules : List Rule) (r i j : ℕ) → Completes rules r i → Completes rules r j → i ≡ j
+one_complete rules r i j h k =
+    let own = subst (λ n. slice_get rules n ≡ Some h.is.rule) h.rule h.is.is in
+    let other = subst (λ n. slice_get rules n ≡ Some k.is.rule) k.rule k.is.is in
+    let long = ap (λ (x : Rule). length x.right.items)
+    (same_Some h.is.rule k.is.rule (sym own ∙ other)) in
+    omega (
+      arith,
+      ap (first_item rules) h.rule,
+      ap (first_item rules) k.rule,
+      h.is.number,
+      k.is.number,
+      h.dot,
+      k.dot,
+      long,
+    )
 
 -- what stands behind its dot
 pub next_is : (rules : List Rule) (i : ℕ) (item : Item) (is : IsItem rules i item) (x : Symbol) →

@@ -1,5 +1,6 @@
 mod AheadLemmas
 mod ClosureLemmas
+mod ConflictLemmas
 mod DerivationLemmas
 mod EmptyLemmas
 mod EquationLemmas
@@ -9,6 +10,11 @@ mod FlowLemmas
 mod FollowLemmas
 mod GrowthLemmas
 mod ItemLemmas
+mod MemberLemmas
+mod MoveLemmas
 mod NodeLemmas
+mod PrecedenceLemmas
 mod SolvedLemmas
+mod SoundLemmas
 mod StateLemmas
+mod TableLemmas

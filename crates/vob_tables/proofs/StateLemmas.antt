@@ -50,7 +50,7 @@ same_sets rules P set other h g =
     (λ i less. same_bit (item set i) (item other i)
     (λ there. (g.each i).1 ((h.each i).0 there)) (λ there. (h.each i).1 ((g.each i).0 there)))
 
-state_long : (rules : List Rule) {set : List Bool} → IsState rules set →
+pub state_long : (rules : List Rule) {set : List Bool} → IsState rules set →
     length set ≡ item_total rules
 state_long rules (start h) = h.len
 state_long rules (after x state ahead h) = h.len

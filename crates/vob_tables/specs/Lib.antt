@@ -1,5 +1,6 @@
 pub mod Ahead
 pub mod Behind
+pub mod Conflicts
 pub mod Derivations
 pub mod Equations
 pub mod Expansions
@@ -13,5 +14,8 @@ pub mod Items
 pub mod Lookaheads
 pub mod Nodes
 pub mod Passes
+pub mod Precedences
 pub mod Rounds
 pub mod States
+pub mod Tables
+pub mod Those

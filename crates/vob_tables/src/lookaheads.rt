@@ -1,10 +1,10 @@
 //! The lookaheads of a grammar's states, by which a parser knows when an item is complete.
-ghost use Rattle.std.specs.Prelude.{◌≡◌, ◌≢◌, ◌↔◌, ℕ, [], All, Err, IfNone, IfOk, IfSome};
+ghost use Rattle.std.specs.Prelude.{◌≡◌, ◌≢◌, ◌↔◌, ℕ, [], All, Err, IfNone, IfOk, IfSome, IsTrue, Some};
 ghost use Rattle.vob.specs.Vobs.{bits_of};
 ghost use Rattle.vob_flow.specs.Draws.{IsIn};
 ghost use Rattle.vob_tables.specs.Faults.{IsBadRule, IsRuleOf};
 ghost use Rattle.vob_tables.specs.Flows.{HaveLookaheads};
-ghost use Rattle.vob_tables.specs.Lookaheads.{AreLookaheads, machine_of};
+ghost use Rattle.vob_tables.specs.Lookaheads.{AreLookaheads, HasMove, Reduces, machine_of};
 ghost use Rattle.vob_tables.specs.Rounds.{rows_of};
 ghost use Rattle.vob_tables.specs.States.{AreStates};
 
@@ -13,10 +13,10 @@ use crate::empty::solve_nullable;
 use crate::equations::solve;
 use crate::first::solve_first;
 use crate::flows::Flows;
-use crate::grammar::{Grammar, GrammarError, check_rules};
+use crate::grammar::{Grammar, GrammarError, Symbol, check_rules};
 use crate::items::Items;
 use crate::nodes::{Nodes, offsets_of};
-use crate::state::{Automaton, states};
+use crate::state::{Automaton, find_move, states};
 use std::alloc::{AllocError, Global};
 use std::marker::Model;
 use vob::Vob;
@@ -122,6 +122,13 @@ impl<'a> Lookaheads<'a> {
         &self.automaton
     }
 
+    /// Returns the state to which a state moves by a symbol, or `None` if it doesn't.
+    pub fn next(&self, state: usize, symbol: Symbol) -> Option<usize>
+        ensures { (p : ℕ) → (result ≡ Some p) ↔ HasMove self.now.moves state symbol p }
+    {
+        find_move(self.automaton.moves.get(state)?, symbol)
+    }
+
     /// Returns the lookaheads of an item of a state, with a bit for each terminal, or `None` if the
     /// state doesn't have the item.
     pub fn of(&self, state: usize, item: usize) -> Option<&Vob>
@@ -137,5 +144,19 @@ impl<'a> Lookaheads<'a> {
             offsets: &self.offsets,
         };
         Some(&self.rows[nodes.number(state, item)])
+    }
+
+    /// Returns whether a parser may reduce by a rule in a state if a terminal is ahead: whether it is
+    /// a lookahead of the rule's complete item.
+    pub fn reduces(&self, state: usize, terminal: usize, rule: usize) -> bool
+        ensures { IsTrue result ↔ Reduces self.now state terminal rule }
+    {
+        if rule >= self.items.grammar().rules.len() {
+            return false;
+        }
+        match self.of(state, self.items.complete(rule)) {
+            Some(set) => set.get(terminal) == Some(true),
+            None => false,
+        }
     }
 }

@@ -1,4 +1,5 @@
 //! Users and runs of commands, by rows worked out by hand and against plain lists.
+mod cells;
 mod commands;
 mod filter;
 mod flow;

@@ -9,7 +9,8 @@ use Rattle.vob_tables.specs.Lookaheads.{Machine}
 use Rattle.vob_tables.specs.Nodes.{node}
 use Rattle.vob_tables.specs.declared.grammar.Symbol.TheVariants.{Nonterminal}
 use Rattle.vob_tables.proofs.EquationLemmas.{GainEach-none, GainEach-row}
-use Rattle.vob_tables.proofs.FlowLemmas.{move_at, state_advances}
+use Rattle.vob_tables.proofs.FlowLemmas.{move_at}
+use Rattle.vob_tables.proofs.MemberLemmas.{member_advances}
 use Rattle.vob_tables.proofs.ItemLemmas.{next_inside}
 use Rattle.vob_tables.proofs.flows.Flows.keep_by.Goals as goal
 
@@ -28,7 +29,7 @@ number-to-requires c =
     c.self.invariant in
     let by = move_at _ c.args.by c.args.symbol (sym (c.is_by.ensures.0 c.if-not-is_by.false)) c.requires.by in
     rw (ap (λ (m : Machine). m.sets) c.self.view_is)
-    (state_advances _ _ _ _ h c.args.state c.args.number c.args.symbol c.args.by.state
+    (member_advances c.args.self.now h.states c.args.state c.args.number c.args.symbol c.args.by.state
     c.requires.item c.requires.next by)
 
 pub returns-then-not-is_by : goal.returns-then-not-is_by

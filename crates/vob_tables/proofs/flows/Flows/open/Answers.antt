@@ -16,7 +16,8 @@ use Rattle.vob_tables.specs.declared.grammar.Grammar.{Grammar}
 use Rattle.vob_tables.specs.declared.grammar.Rule.{Rule}
 use Rattle.vob_tables.specs.declared.grammar.Symbol.TheVariants.{Nonterminal}
 use Rattle.vob_tables.proofs.FirstLemmas.{rule_read}
-use Rattle.vob_tables.proofs.FlowLemmas.{GainEach-as, next_dot, next_then, opened_is, state_closed, state_inside, symbol_there}
+use Rattle.vob_tables.proofs.MemberLemmas.{member_closed}
+use Rattle.vob_tables.proofs.FlowLemmas.{GainEach-as, next_dot, next_then, opened_is, state_inside, symbol_there}
 use Rattle.vob_tables.proofs.flows.Flows.open.Goals as goal
 
 pub item-item-requires : goal.item-item-requires
@@ -96,7 +97,7 @@ open_items-requires-clause-opened c = λ i own.
     let row = get_or-map (λ (v : BitVector). v.bits) opens a c.index-opens-nonterminal.result [] low
     ∙ ap (λ (v : BitVector). v.bits) (sym c.index-opens-nonterminal.is) in
     let there = subst (λ (bits : List Bool). Has bits i) (sym row) own in
-    state_closed _ _ _ _ h c.args.state c.args.number a i c.requires.item c.requires.next
+    member_closed c.args.self.now h.states c.args.state c.args.number a i c.requires.item c.requires.next
     ((h.openings.each a i).0 there)
 
 pub returns-clause-opened : goal.returns-clause-opened
