@@ -13,5 +13,7 @@ pub mod Items
 pub mod Lookaheads
 pub mod Nodes
 pub mod Passes
+pub mod Precedences
 pub mod Rounds
 pub mod States
+pub mod Tables

@@ -13,9 +13,11 @@ mod items;
 pub mod laws;
 mod lookaheads;
 mod nodes;
+mod precedence;
 mod scan;
 mod state;
 mod symbols;
+mod table;
 mod text;
 mod text_error;
 
@@ -28,5 +30,6 @@ pub use items::{Item, Items};
 pub use lookaheads::Lookaheads;
 pub use state::{Automaton, Move, states};
 pub use symbols::{Associativity, Precedence};
+pub use table::{Action, Cell, Table};
 pub use text::{GrammarText, grammar_of};
 pub use text_error::{TextError, TextFault};

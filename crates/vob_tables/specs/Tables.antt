@@ -1,0 +1,83 @@
+-- The table of a parser: what it may do in each state when a terminal is ahead.
+use Rattle.std.specs.Prelude.{◌≡◌, ◌↔◌, ◌×◌, ℕ, ◌<◌, List, [], ◌∷◌, length, slice_get, slice_index_or, map, All, AllPairs, Contains, None, Option, Some, Vec}
+use Rattle.std.specs.declared.alloc.Global.{Global}
+use Rattle.vob_tables.specs.Items.{IsItem}
+use Rattle.vob_tables.specs.Lookaheads.{HasMove, LooksAhead, Machine}
+use Rattle.vob_tables.specs.Precedences.{resolved, stays}
+use Rattle.vob_tables.specs.declared.grammar.Rule.{Rule}
+use Rattle.vob_tables.specs.declared.grammar.Symbol.TheVariants.{Terminal}
+use Rattle.vob_tables.specs.declared.items.Item.{Item}
+use Rattle.vob_tables.specs.declared.precedence.Stays.{Stays}
+use Rattle.vob_tables.specs.declared.symbols.Precedence.{Precedence}
+use Rattle.vob_tables.specs.declared.table.Action.{Action}
+use Rattle.vob_tables.specs.declared.table.Action.TheVariants.{Reduce, Shift}
+use Rattle.vob_tables.specs.declared.table.Cell.{Cell}
+
+-- item i is rule r with the dot behind all
+pub record Completes (rules : List Rule) (r i : ℕ) : Type 0 where
+  pub item : Item
+  pub is : IsItem rules i item
+  pub rule : item.rule ≡ r
+  pub dot : item.dot ≡ length is.rule.right.items
+
+-- in state q terminal t is a lookahead of rule r's complete item
+abbrev pub Reduces : Machine → ℕ → ℕ → ℕ → Type 0
+Reduces m q t r = (i : ℕ) × Completes m.grammar.rules.items r i × LooksAhead m t q i
+
+-- all that a parser may do in state q if terminal t is ahead: shift the terminal and enter a state,
+-- or reduce by some rules, the lower numbers first
+pub record AreActions (m : Machine) (q t : ℕ) (shift : Option ℕ) (rules : List ℕ) : Type 0 where
+  pub shifts : (p : ℕ) → (shift ≡ Some p) ↔ HasMove m.moves q (Terminal t) p
+  pub reduces : (r : ℕ) → Contains rules r ↔ Reduces m q t r
+  pub rise : AllPairs (λ r s. r < s) rules
+
+-- what precedence leaves of that, where Which tells what stays of a shift and a rule
+pub record IsCell (m : Machine) (which : ℕ → Stays) (q t : ℕ) (cell : Cell) : Type 0 where
+  pub shift : Option ℕ
+  pub rules : List ℕ
+  pub all : AreActions m q t shift rules
+  pub left : (cell.shift, cell.reduces.items) ≡ resolved which shift rules
+
+-- by the precedences of terminals and of rules: those behind the ends of the lists have none
+abbrev pub which_at : List (Option Precedence) → List (Option Precedence) → ℕ → ℕ → Stays
+which_at terminals rules t r = stays (slice_index_or rules r None) (slice_index_or terminals t None)
+
+-- a row of cells for each state, a cell for each terminal
+pub record AreCells (m : Machine) (terminals rules : List (Option Precedence))
+    (cells : List (List Cell)) : Type 0 where
+  pub count : length cells ≡ length m.sets
+  pub long : All (λ row. length row ≡ m.grammar.terminals) cells
+  pub each : (q t : ℕ) (cell : Cell) → slice_get (slice_index_or cells q []) t ≡ Some cell →
+      IsCell m (which_at terminals rules t) q t cell
+
+-- a grammar's states and the cells
+pub record TableView : Type 0 where
+  pub machine : Machine
+  pub cells : List (List Cell)
+
+-- the rows of cells
+abbrev pub cells_of : List (Vec Cell Global) → List (List Cell)
+cells_of rows = map (λ row. row.items) rows
+
+-- what a parser does of what it may: it shifts, or else reduces by the lowest rule
+abbrev pub chosen : Option ℕ → List ℕ → Option Action
+chosen (Some p) rules = Some (Shift p)
+chosen None [] = None
+chosen None (r ∷ rules) = Some (Reduce r)
+
+-- that of a cell, or of none
+abbrev pub action_of : Option Cell → Option Action
+action_of None = None
+action_of (Some cell) = chosen cell.shift cell.reduces.items
+
+-- that in state q if terminal t is ahead
+abbrev pub action_at : List (List Cell) → ℕ → ℕ → Option Action
+action_at cells q t = action_of (slice_get (slice_index_or cells q []) t)
+
+-- each action in the cells is one that the parser may do
+pub record AreSound (m : Machine) (cells : List (List Cell)) : Type 0 where
+  pub count : length cells ≡ length m.sets
+  pub long : All (λ row. length row ≡ m.grammar.terminals) cells
+  pub shifts : (q t p : ℕ) → action_at cells q t ≡ Some (Shift p) →
+      HasMove m.moves q (Terminal t) p
+  pub reduces : (q t r : ℕ) → action_at cells q t ≡ Some (Reduce r) → Reduces m q t r
