@@ -1,10 +1,10 @@
 //! The lookaheads of a grammar's states, by which a parser knows when an item is complete.
-ghost use Rattle.std.specs.Prelude.{◌≡◌, ◌≢◌, ◌↔◌, ℕ, [], All, Err, IfNone, IfOk, IfSome};
+ghost use Rattle.std.specs.Prelude.{◌≡◌, ◌≢◌, ◌↔◌, ℕ, [], All, Err, IfNone, IfOk, IfSome, Some};
 ghost use Rattle.vob.specs.Vobs.{bits_of};
 ghost use Rattle.vob_flow.specs.Draws.{IsIn};
 ghost use Rattle.vob_tables.specs.Faults.{IsBadRule, IsRuleOf};
 ghost use Rattle.vob_tables.specs.Flows.{HaveLookaheads};
-ghost use Rattle.vob_tables.specs.Lookaheads.{AreLookaheads, machine_of};
+ghost use Rattle.vob_tables.specs.Lookaheads.{AreLookaheads, HasMove, machine_of};
 ghost use Rattle.vob_tables.specs.Rounds.{rows_of};
 ghost use Rattle.vob_tables.specs.States.{AreStates};
 
@@ -13,10 +13,10 @@ use crate::empty::solve_nullable;
 use crate::equations::solve;
 use crate::first::solve_first;
 use crate::flows::Flows;
-use crate::grammar::{Grammar, GrammarError, check_rules};
+use crate::grammar::{Grammar, GrammarError, Symbol, check_rules};
 use crate::items::Items;
 use crate::nodes::{Nodes, offsets_of};
-use crate::state::{Automaton, states};
+use crate::state::{Automaton, find_move, states};
 use std::alloc::{AllocError, Global};
 use std::marker::Model;
 use vob::Vob;
@@ -120,6 +120,13 @@ impl<'a> Lookaheads<'a> {
         ensures states { AreStates self.now.grammar.rules.items self.now.sets self.now.moves }
     {
         &self.automaton
+    }
+
+    /// Returns the state to which a state moves by a symbol, or `None` if it doesn't.
+    pub fn next(&self, state: usize, symbol: Symbol) -> Option<usize>
+        ensures { (p : ℕ) → (result ≡ Some p) ↔ HasMove self.now.moves state symbol p }
+    {
+        find_move(self.automaton.moves.get(state)?, symbol)
     }
 
     /// Returns the lookaheads of an item of a state, with a bit for each terminal, or `None` if the

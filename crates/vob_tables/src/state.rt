@@ -1,10 +1,10 @@
 //! The states of the automaton of a grammar, and the moves between them.
-ghost use Rattle.std.specs.Prelude.{◌≡◌, ◌≢◌, ◌↔◌, ℕ, ◌<◌, [], length, slice_index_or, All, Err, IfNone, IfOk, IfSome};
+ghost use Rattle.std.specs.Prelude.{◌≡◌, ◌≢◌, ◌↔◌, ℕ, ◌<◌, [], length, slice_index_or, All, AllPairs, Contains, Err, IfNone, IfOk, IfSome, Some};
 ghost use Rattle.vob.specs.Vobs.{bits_of};
 ghost use Rattle.vob_tables.specs.Faults.{IsBadRule};
 ghost use Rattle.vob_tables.specs.Ahead.{AreAhead, symbol_with};
 ghost use Rattle.vob_tables.specs.Rounds.{AreMovesFrom, AreSome, HasEntered, rows_of};
-ghost use Rattle.vob_tables.specs.States.{AreStates};
+ghost use Rattle.vob_tables.specs.States.{AreStates, Precedes};
 
 use crate::closure::Closures;
 use crate::grammar::{Grammar, GrammarError, Symbol};
@@ -107,6 +107,21 @@ fn moves_from(
 {
     let ahead = closures.ahead(alloc, &sets[from])?;
     moves_by(alloc, closures, sets, from, &ahead)
+}
+
+/// Returns the state to which one of some moves leads by a symbol, or `None` if none does. The moves
+/// must be in the order of their symbols.
+pub(crate) fn find_move(moves: &[Move], symbol: Symbol) -> Option<usize>
+    requires { AllPairs (λ one other. Precedes one.symbol other.symbol) moves.now }
+    ensures { (p : ℕ) → (result ≡ Some p)
+        ↔ Contains moves.now (record { symbol = symbol; state = p }) }
+{
+    for found in moves {
+        if found.symbol == symbol {
+            return Some(found.state);
+        }
+    }
+    None
 }
 
 /// Returns the states of a grammar that has a rule.
