@@ -9,6 +9,11 @@ mod FlowLemmas
 mod FollowLemmas
 mod GrowthLemmas
 mod ItemLemmas
+mod LinkLemmas
+mod MemberLemmas
+mod MoveLemmas
 mod NodeLemmas
+mod ParseLemmas
 mod SolvedLemmas
 mod StateLemmas
+mod StepLemmas
