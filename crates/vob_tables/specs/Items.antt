@@ -23,6 +23,13 @@ pub record IsItem (rules : List Rule) (i : ℕ) (item : Item) : Type 0 where
   pub dot : item.dot ≤ length rule.right.items
   pub number : first_item rules item.rule + item.dot ≡ i
 
+-- item i is rule r with the dot behind all
+pub record Completes (rules : List Rule) (r i : ℕ) : Type 0 where
+  pub item : Item
+  pub is : IsItem rules i item
+  pub rule : item.rule ≡ r
+  pub dot : item.dot ≡ length is.rule.right.items
+
 -- symbol x stands behind the dot of the item with number i
 pub record HasNext (rules : List Rule) (i : ℕ) (x : Symbol) : Type 0 where
   pub item : Item

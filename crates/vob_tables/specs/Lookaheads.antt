@@ -5,7 +5,7 @@ use Rattle.vob.specs.Vobs.{bits_of}
 use Rattle.vob_flow.specs.Draws.{IsIn}
 use Rattle.vob_tables.specs.Grammar.{BecomesEmpty, BeginsWith}
 use Rattle.vob_tables.specs.ItemSets.{Opens}
-use Rattle.vob_tables.specs.Items.{HasNext}
+use Rattle.vob_tables.specs.Items.{Completes, HasNext}
 use Rattle.vob_tables.specs.Rounds.{rows_of}
 use Rattle.vob_tables.specs.declared.grammar.Grammar.{Grammar}
 use Rattle.vob_tables.specs.declared.grammar.Rule.{Rule}
@@ -53,3 +53,7 @@ pub data LooksAhead (m : Machine) (t : ℕ) : ℕ → ℕ → Type 0 where
 pub record AreLookaheads (m : Machine) (q i : ℕ) (set : List Bool) : Type 0 where
   pub len : length set ≡ m.grammar.terminals
   pub each : (t : ℕ) → (item set t ≡ true) ↔ LooksAhead m t q i
+
+-- in state q terminal t is a lookahead of rule r's complete item
+abbrev pub Reduces : Machine → ℕ → ℕ → ℕ → Type 0
+Reduces m q t r = (i : ℕ) × Completes m.grammar.rules.items r i × LooksAhead m t q i

@@ -1,5 +1,5 @@
 -- What precedence leaves of a shift and of rules, as yacc and bison resolve them.
-use Rattle.std.specs.Prelude.{◌×◌, ℕ, if◌then◌else◌, nat_lt, List, [], ◌∷◌, None, Option, Some}
+use Rattle.std.specs.Prelude.{ℕ, if◌then◌else◌, nat_lt, List, [], ◌∷◌, None, Option, Some}
 use Rattle.vob_tables.specs.declared.symbols.Associativity.{Associativity}
 use Rattle.vob_tables.specs.declared.symbols.Associativity.TheVariants.{Left, Right, Neither, Unstated}
 use Rattle.vob_tables.specs.declared.symbols.Precedence.{Precedence}

@@ -1,8 +1,7 @@
 -- The table of a parser: what it may do in each state when a terminal is ahead.
-use Rattle.std.specs.Prelude.{◌≡◌, ◌↔◌, ◌×◌, ℕ, ◌<◌, List, [], ◌∷◌, length, slice_get, slice_index_or, map, All, AllPairs, Contains, None, Option, Some, Vec}
+use Rattle.std.specs.Prelude.{◌≡◌, ◌↔◌, ℕ, ◌<◌, List, [], ◌∷◌, length, slice_get, slice_index_or, map, All, AllPairs, Contains, None, Option, Some, Vec}
 use Rattle.std.specs.declared.alloc.Global.{Global}
-use Rattle.vob_tables.specs.Items.{IsItem}
-use Rattle.vob_tables.specs.Lookaheads.{HasMove, LooksAhead, Machine}
+use Rattle.vob_tables.specs.Lookaheads.{HasMove, Machine, Reduces}
 use Rattle.vob_tables.specs.Precedences.{resolved, stays}
 use Rattle.vob_tables.specs.declared.grammar.Rule.{Rule}
 use Rattle.vob_tables.specs.declared.grammar.Symbol.TheVariants.{Terminal}
@@ -12,17 +11,6 @@ use Rattle.vob_tables.specs.declared.symbols.Precedence.{Precedence}
 use Rattle.vob_tables.specs.declared.table.Action.{Action}
 use Rattle.vob_tables.specs.declared.table.Action.TheVariants.{Reduce, Shift}
 use Rattle.vob_tables.specs.declared.table.Cell.{Cell}
-
--- item i is rule r with the dot behind all
-pub record Completes (rules : List Rule) (r i : ℕ) : Type 0 where
-  pub item : Item
-  pub is : IsItem rules i item
-  pub rule : item.rule ≡ r
-  pub dot : item.dot ≡ length is.rule.right.items
-
--- in state q terminal t is a lookahead of rule r's complete item
-abbrev pub Reduces : Machine → ℕ → ℕ → ℕ → Type 0
-Reduces m q t r = (i : ℕ) × Completes m.grammar.rules.items r i × LooksAhead m t q i
 
 -- all that a parser may do in state q if terminal t is ahead: shift the terminal and enter a state,
 -- or reduce by some rules, the lower numbers first

@@ -1,7 +1,7 @@
 //! The items of a grammar: rules with a dot on their right side, each with a number.
 ghost use Rattle.std.specs.Prelude.{◌≡◌, ◌↔◌, ℕ, ◌+◌, ◌<◌, length, slice_get, IfOk, OnOk};
 ghost use Rattle.vob_tables.specs.ItemTables.{AreFirsts, AreItems};
-ghost use Rattle.vob_tables.specs.Items.{HasNext, IsItem, first_item, item_total};
+ghost use Rattle.vob_tables.specs.Items.{Completes, HasNext, IsItem, first_item, item_total};
 
 use crate::grammar::{Grammar, Rule, Symbol};
 use std::alloc::{AllocError, Global};
@@ -102,6 +102,14 @@ impl<'a> Items<'a> {
     {
         let item = self.item(number);
         symbol_at(&self.grammar.rules[item.rule].right, item.dot)
+    }
+
+    /// Returns the number of a rule's item with the dot behind all. The rule must be there.
+    pub fn complete(&self, rule: usize) -> usize
+        requires { rule < length self.now.rules.items }
+        ensures { Completes self.now.rules.items rule result }
+    {
+        self.first(rule) + self.grammar.rules[rule].right.len()
     }
 }
 

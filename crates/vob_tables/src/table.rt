@@ -1,6 +1,6 @@
 //! The table of a parser.
-ghost use Rattle.std.specs.Prelude.{◌≡◌, ◌<◌, ◌×◌, [], length, slice_get, slice_index_or, Some, IfSome, IfNone};
-ghost use Rattle.vob_tables.specs.Tables.{action_at};
+ghost use Rattle.std.specs.Prelude.{◌≡◌, ◌<◌, [], length, slice_get, slice_index_or, Some, IfSome, IfNone};
+ghost use Rattle.vob_tables.specs.Tables.{AreSound, action_at};
 
 use crate::lookaheads::Lookaheads;
 use std::marker::Model;
@@ -60,7 +60,8 @@ impl Cell {
 impl<'a> Table<'a> {
     /// Returns the states, with the lookaheads of their items.
     pub fn lookaheads(&self) -> &Lookaheads<'a>
-        ensures { result.now ≡ self.now.machine }
+        ensures machine { result.now ≡ self.now.machine }
+        ensures sound { AreSound self.now.machine self.now.cells }
     {
         &self.lookaheads
     }
