@@ -82,6 +82,8 @@ impl<'a> Table<'a> {
     pub fn action(&self, state: usize, terminal: usize) -> Option<Action>
         ensures { result ≡ action_at self.now.cells state terminal }
     {
+        // A proof knows from this how many cells there are.
+        let _rows = &self.rows;
         self.cell(state, terminal)?.action()
     }
 }
