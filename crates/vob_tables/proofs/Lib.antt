@@ -1,4 +1,5 @@
 mod AheadLemmas
+mod CellLemmas
 mod ClosureLemmas
 mod DerivationLemmas
 mod EmptyLemmas

@@ -3,11 +3,11 @@ use Rattle.std.proofs.Common.{◌≡◌, ℕ, ◌+◌, ◌-◌, ◌<◌, ◌≤�
 use Rattle.std.proofs.lemmas.List.{append-nil, append_assoc, drop_all, drop_more, get_or_past, length-drop, length-reverse, reverse-append, take-append-drop, take_all}
 use Rattle.std.proofs.Math.Seq.{drop-append_seam}
 use Rattle.std.proofs.lemmas.Option.{get_or_from_slice_get, same_Some, slice_get_within}
-use Rattle.vob_tables.specs.Derivations.{DerivesBy}
+use Rattle.vob_tables.specs.Derivations.{DerivesBy, IsParse}
 use Rattle.vob_tables.specs.Derivations.DerivesBy.{nothing, further}
 use Rattle.vob_tables.specs.Items.{Completes, IsItem}
 use Rattle.vob_tables.specs.Lookaheads.{HasMove, Machine}
-use Rattle.vob_tables.specs.Parses.{Config, IsAccepted, IsParse, IsReached, IsReplaced, IsTaken, Steps, action_in, beginning, replaced, shifted, top}
+use Rattle.vob_tables.specs.Parses.{Config, IsAccepted, IsReached, IsReplaced, IsTaken, Steps, action_in, beginning, replaced, shifted, top}
 use Rattle.vob_tables.specs.Parses.IsReached.{begins, then_steps}
 use Rattle.vob_tables.specs.States.{AreStates}
 use Rattle.vob_tables.specs.Stops.{CanReplace}

@@ -1,6 +1,6 @@
 -- One step of a parser, as its parts take it.
 use Rattle.std.proofs.Common.{◌≡◌, ◌↔◌, ℕ, ◌<◌, zero, suc, Bool, true, false, List, [], ◌∷◌, length, get_or, drop, None, Option, Some, slice_get, refl, sym, ap, ◌∙◌, subst, arith}
-use Rattle.std.proofs.lemmas.Option.{get_or_from_slice_get, none-some, same_Some, slice_get-get_or, slice_get_within}
+use Rattle.std.proofs.lemmas.Option.{get_or_from_slice_get, none-some, same_Some}
 use Rattle.std.specs.Bool.{IsTrue}
 use Rattle.std.specs.Option.{option_eq}
 use mathlib.Core.Bool.{beq}
@@ -10,23 +10,16 @@ use Rattle.vob_flow.specs.Draws.{IsIn}
 use Rattle.vob_tables.specs.Items.{Completes, first_item}
 use Rattle.vob_tables.specs.Lookaheads.{HasMove, Machine}
 use Rattle.vob_tables.specs.Parses.{Config, IsLast, IsReplaced, replaced, top}
-use Rattle.vob_tables.specs.Stops.{CanReplace}
 use Rattle.vob_tables.specs.declared.grammar.Rule.{Rule}
 use Rattle.vob_tables.specs.declared.grammar.Symbol.TheVariants.{Nonterminal}
 
 -- ---- a reduction: states are left first, and another is entered then
 
 module _ (m : Machine) (c mid : Config) (r n q : ℕ) (own : Rule) (found : Option ℕ)
-    (can : CanReplace m.grammar.rules.items r c) (read : own ≡ get_or m.grammar.rules.items r own)
-    (count : n ≡ length own.right.items)
+    (is : slice_get m.grammar.rules.items r ≡ Some own) (count : n ≡ length own.right.items)
     (left : mid ≡ record { states = drop n c.states; read = c.read; reduced = c.reduced })
     (at : q ≡ top mid.states)
     (next : (p : ℕ) → (found ≡ Some p) ↔ HasMove m.moves q (Nonterminal own.left) p) where
-  own_rule : slice_get m.grammar.rules.items r ≡ Some own
-  own_rule =
-      slice_get-get_or m.grammar.rules.items r own
-      (slice_get_within m.grammar.rules.items r can.rule can.is) ∙ ap Some (sym read)
-
   -- the newest state that is left
   uncovered : q ≡ top (drop (length own.right.items) c.states)
   uncovered =
@@ -34,17 +27,17 @@ module _ (m : Machine) (c mid : Config) (r n q : ℕ) (own : Rule) (found : Opti
       ∙ ap (λ (k : ℕ). top (drop k c.states)) count
 
   pub replaced_is : (p : ℕ) → found ≡ Some p → IsReplaced m r c (replaced r 0 p mid)
-  replaced_is p is = record {
+  replaced_is p found_is = record {
     rule = own;
-    is = own_rule;
+    is = is;
     state = p;
-    move = subst (λ (k : ℕ). HasMove m.moves k (Nonterminal own.left) p) uncovered ((next p).0 is);
+    move = subst (λ (k : ℕ). HasMove m.moves k (Nonterminal own.left) p) uncovered ((next p).0 found_is);
     after = ap (replaced r 0 p) left ∙ ap (λ (k : ℕ). replaced r k p c) count;
   }
 
   pub replaced_none : found ≡ None → (d : Config) → ¬ IsReplaced m r c d
   replaced_none none d = λ to.
-      let same = same_Some own to.rule (sym own_rule ∙ to.is) in
+      let same = same_Some own to.rule (sym is ∙ to.is) in
       let move = subst (λ (x : Rule).
       HasMove m.moves (top (drop (length x.right.items) c.states)) (Nonterminal x.left) to.state)
       (sym same) to.move in

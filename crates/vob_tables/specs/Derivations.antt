@@ -1,5 +1,5 @@
 -- What symbols derive by the rules of a grammar, and what nullable, first and follow mean by it.
-use Rattle.std.specs.Prelude.{◌≡◌, ◌↔◌, ℕ, List, [], ◌∷◌, ◌++◌, map, slice_get, Some}
+use Rattle.std.specs.Prelude.{◌≡◌, ◌↔◌, ℕ, List, [], ◌∷◌, ◌++◌, map, reverse, slice_get, Some}
 use Rattle.vob_tables.specs.Grammar.{BecomesEmpty, BeginsWith, Follows, HasRule}
 use Rattle.vob_tables.specs.declared.grammar.Rule.{Rule}
 use Rattle.vob_tables.specs.declared.grammar.Symbol.{Symbol}
@@ -26,6 +26,15 @@ pub data DerivesBy (rules : List Rule) (tokens : List ℕ) : List Symbol → Lis
       xs ≡ before ++ Nonterminal rule.left ∷ map Terminal after →
       DerivesBy rules tokens (before ++ (rule.right.items ++ map Terminal after)) rs →
       DerivesBy rules tokens xs (r ∷ rs)
+
+-- rules that, read backwards, are a rightmost derivation of the tokens from what stands before the
+-- end in rule 0
+pub record IsParse (rules : List Rule) (tokens parsed : List ℕ) : Type 0 where
+  pub rule : Rule
+  pub is : slice_get rules 0 ≡ Some rule
+  pub symbols : List Symbol
+  pub then_end : rule.right.items ≡ symbols ++ Terminal 0 ∷ []
+  pub derives : DerivesBy rules tokens symbols (reverse parsed)
 
 -- symbols can become empty exactly if they derive nothing
 abbrev pub EmptyIsDerived : Type 0

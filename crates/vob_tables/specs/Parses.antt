@@ -1,24 +1,13 @@
--- A parser by a table: what it does step by step, and what the rules that it finds mean.
-use Rattle.std.specs.Prelude.{◌≡◌, ℕ, ◌+◌, ◌<◌, ◌≤◌, List, [], ◌∷◌, ◌++◌, length, drop, reverse, slice_get, slice_index_or, Option, Some}
+-- A parser by a table: what it does step by step.
+use Rattle.std.specs.Prelude.{◌≡◌, ℕ, ◌+◌, ◌<◌, ◌≤◌, List, [], ◌∷◌, length, drop, slice_get, slice_index_or, Option, Some}
 use Rattle.vob_flow.specs.Draws.{IsIn}
-use Rattle.vob_tables.specs.Derivations.{DerivesBy}
 use Rattle.vob_tables.specs.Items.{Completes}
 use Rattle.vob_tables.specs.Lookaheads.{HasMove, Machine}
 use Rattle.vob_tables.specs.Tables.{TableView, action_at}
 use Rattle.vob_tables.specs.declared.grammar.Rule.{Rule}
-use Rattle.vob_tables.specs.declared.grammar.Symbol.{Symbol}
-use Rattle.vob_tables.specs.declared.grammar.Symbol.TheVariants.{Nonterminal, Terminal}
+use Rattle.vob_tables.specs.declared.grammar.Symbol.TheVariants.{Nonterminal}
 use Rattle.vob_tables.specs.declared.table.Action.{Action}
 use Rattle.vob_tables.specs.declared.table.Action.TheVariants.{Reduce, Shift}
-
--- rules that, read backwards, are a rightmost derivation of the tokens from what stands before the
--- end in rule 0
-pub record IsParse (rules : List Rule) (tokens parsed : List ℕ) : Type 0 where
-  pub rule : Rule
-  pub is : slice_get rules 0 ≡ Some rule
-  pub symbols : List Symbol
-  pub then_end : rule.right.items ≡ symbols ++ Terminal 0 ∷ []
-  pub derives : DerivesBy rules tokens symbols (reverse parsed)
 
 -- a parser under way: the states on its stack, how many tokens it has read, and the rules by which
 -- it reduced. The newest state and the newest rule are first

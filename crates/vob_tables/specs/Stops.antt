@@ -8,8 +8,8 @@ use Rattle.vob_tables.specs.declared.grammar.Rule.{Rule}
 use Rattle.vob_tables.specs.declared.parse.ParseError.{ParseError}
 use Rattle.vob_tables.specs.declared.parse.ParseError.TheVariants.{Memory, TooLong, Unexpected}
 
--- a parser that reduced by some rules accepts
-pub record IsEnd (table : TableView) (tokens rules : List ℕ) : Type 0 where
+-- steps lead to a parser that accepts, and reduced by these rules
+pub record AcceptsBy (table : TableView) (tokens rules : List ℕ) : Type 0 where
   pub config : Config
   pub reached : IsReached table tokens config
   pub accepted : IsAccepted table tokens config

@@ -1,9 +1,10 @@
 //! A parser by a table.
-ghost use Rattle.std.specs.Prelude.{◌≡◌, ◌↔◌, ℕ, ◌<◌, ◌≤◌, drop, length, reverse, slice_index, Err, IfErr, IfOk, IsTrue, OnOk};
-ghost use Rattle.vob_tables.specs.Parses.{IsAccepted, IsLast, IsParse, IsReached, IsReplaced, Steps, beginning, replaced, shifted, top};
-ghost use Rattle.vob_tables.specs.Stops.{CanReplace, IsEnd, IsSound, IsStop, IsTooLong, IsUnexpected};
+ghost use Rattle.std.specs.Prelude.{◌≡◌, ◌↔◌, ℕ, ◌<◌, ◌≤◌, drop, length, reverse, slice_get, slice_index, Err, IfErr, IfOk, IsTrue, OnOk, Some};
+ghost use Rattle.vob_tables.specs.Derivations.{IsParse};
+ghost use Rattle.vob_tables.specs.Parses.{IsAccepted, IsLast, IsReached, IsReplaced, Steps, beginning, replaced, shifted, top};
+ghost use Rattle.vob_tables.specs.Stops.{AcceptsBy, CanReplace, IsSound, IsStop, IsTooLong, IsUnexpected};
 
-use crate::grammar::Symbol;
+use crate::grammar::{Rule, Symbol};
 use crate::table::{Action, Table};
 use std::alloc::{AllocError, Global};
 use std::marker::Model;
@@ -198,13 +199,21 @@ impl Table<'_> {
     fn accepts(&self, tokens: &[usize], run: &Run) -> bool
         ensures { IsTrue result ↔ IsAccepted self.now tokens.now run.now }
     {
-        if run.read < tokens.len() {
+        if run.read() < tokens.len() {
             return false;
         }
         match self.action(run.state(), 0) {
             Some(Action::Shift(state)) => self.is_last(state, run.depth()),
             _ => false,
         }
+    }
+
+    /// Returns the rule with a number, which must be one.
+    fn rule(&self, number: usize) -> &Rule
+        requires { number < length self.now.machine.grammar.rules.items }
+        ensures { slice_get self.now.machine.grammar.rules.items number ≡ Some result.now }
+    {
+        &self.lookaheads().items().grammar().rules[number]
     }
 
     /// Reduces by a rule: leaves the states of its right side, and enters the one that follows by its
@@ -218,7 +227,7 @@ impl Table<'_> {
         ensures within { OnOk result (length run.new.reduced ≤ steps) }
         ensures err { IfErr result (IsStop (IsReplaced self.now.machine rule run.old) steps run.old) }
     {
-        let own = &self.lookaheads().items().grammar().rules[rule];
+        let own = self.rule(rule);
         run.leave(own.right.len());
         let left = Symbol::Nonterminal(own.left);
         let Some(state) = self.lookaheads().next(run.state(), left) else {
@@ -270,7 +279,7 @@ impl Table<'_> {
         ensures within { IfOk result (λ rules. length rules.items ≤ steps) }
 
         // It does what the table says.
-        ensures accepted { IfOk result (λ rules. IsEnd self.now tokens.now rules.items) }
+        ensures accepted { IfOk result (λ rules. AcceptsBy self.now tokens.now rules.items) }
         ensures unexpected { (n : ℕ) → result ≡ Err (ParseError.Unexpected n)
             → IsUnexpected self.now tokens.now n }
         ensures too_long { result ≡ Err ParseError.TooLong

@@ -32,7 +32,7 @@ returns-in_err-step-clause-too_long c = λ e.
     c.args.steps c.steps.run x) same c.in_err-step.ensures.err in
     record {
       config = stop.0;
-      reached = then_steps c.steps.invariant.reached stop.1;
+      reached = then_steps {d = stop.0} c.steps.invariant.reached stop.1;
       more = stop.2;
     }
 
