@@ -23,27 +23,6 @@ use Rattle.vob_tables.proofs.LinkLemmas.{AreLinked, EndWith, dots_linked, linked
 use Rattle.vob_tables.proofs.LinkLemmas.AreLinked.{bottom}
 use Rattle.vob_tables.proofs.MemberLemmas.{ahead_inside}
 
--- each step reads a token or reduces by one rule more
-taken_smaller : (m : Machine) (tokens : List ℕ) (limit : ℕ) (c d : Config) (a : Action) →
-    IsTaken m tokens c a d → length d.reduced ≤ limit →
-    (length tokens - d.read) + (limit - length d.reduced)
-    < (length tokens - c.read) + (limit - length c.reduced)
-taken_smaller m tokens limit c d (Shift p) (low, is) less =
-    let read = ap (λ (e : Config). e.read) is in
-    let reduced = ap (λ (e : Config). length e.reduced) is in
-    omega (arith, low, less, read, reduced)
-taken_smaller m tokens limit c d (Reduce r) to less =
-    let read = ap (λ (e : Config). e.read) to.after in
-    let reduced = ap (λ (e : Config). length e.reduced) to.after in
-    omega (arith, less, read, reduced)
-
-pub steps_smaller : (table : TableView) (tokens : List ℕ) (limit : ℕ) (c d : Config) →
-    Steps table tokens c d → length d.reduced ≤ limit →
-    (length tokens - d.read) + (limit - length d.reduced)
-    < (length tokens - c.read) + (limit - length c.reduced)
-steps_smaller table tokens limit c d step less =
-    taken_smaller table.machine tokens limit c d step.action step.taken less
-
 -- the tokens that a parser hasn't read
 abbrev unread : List ℕ → Config → List Symbol
 unread tokens c = map Terminal (drop c.read tokens)
@@ -57,7 +36,8 @@ pub record IsRun (m : Machine) (tokens : List ℕ) (c : Config) : Type 0 where
   pub read : c.read ≤ length tokens
 
 -- the newest of some symbols are before the others
-reverse_parts : {A : Type 0} (n : ℕ) (xs : List A) → reverse xs ≡ reverse (drop n xs) ++ reverse (take n xs)
+reverse_parts : {A : Type 0} (n : ℕ) (xs : List A) →
+    reverse xs ≡ reverse (drop n xs) ++ reverse (take n xs)
 reverse_parts n xs = sym (ap reverse (take-append-drop n xs)) ∙ reverse-append (take n xs) (drop n xs)
 
 -- the states that are left once the newest are
@@ -100,7 +80,7 @@ module _ (table : TableView) (tokens : List ℕ)
       c.read < length tokens → IsRun m tokens (shifted p c)
   run_shifts c p h action low =
       let t = get_or tokens c.read 0 in
-      let move = sound.shifts (get_or c.states 0 0) t p action in
+      let move = sound.shifts (top c.states) t p action in
       let rest = map Terminal (drop (c.read + 1) tokens) in
       let same = reverse_last (Terminal t) h.symbols rest
       ∙ ap (λ (ts : List ℕ). reverse h.symbols ++ map Terminal ts)
@@ -117,7 +97,7 @@ module _ (table : TableView) (tokens : List ℕ)
       action_in table tokens c ≡ Some (Reduce r) → slice_get rules r ≡ Some rule →
       EndWith h.symbols rule.right.items (length rule.right.items)
   reduced_end c r rule h action is =
-      let (i, done, l) = sound.reduces (get_or c.states 0 0) (get_or tokens c.read 0) r action in
+      let (i, done, l) = sound.reduces (top c.states) (get_or tokens c.read 0) r action in
       let there = ahead_inside m states l in
       let ends = dots_linked m states h.linked i (length done.is.rule.right.items) done.item done.is
       there done.dot in
@@ -155,7 +135,8 @@ module _ (table : TableView) (tokens : List ℕ)
 
   pub run_reached : {c : Config} → IsReached table tokens c → IsRun m tokens c
   run_reached (begins is) = subst (λ (c : Config). IsRun m tokens c) (sym is) run_begins
-  run_reached (then_steps {c} {d} reached step) = run_takes c d step.action (run_reached reached) step.is step.taken
+  run_reached (then_steps {c} {d} reached step) =
+      run_takes c d step.action (run_reached reached) step.is step.taken
 
   -- a rule by which the table reduces finds states enough
   pub reduce_fits : (c : Config) (r : ℕ) → IsReached table tokens c →
@@ -178,10 +159,11 @@ module _ (table : TableView) (tokens : List ℕ)
       let done = a.last.completes in
       let right = done.is.rule.right.items in
       let last = get_or_past tokens c.read 0 a.read in
-      let move = subst (λ (t : ℕ). HasMove m.moves (get_or c.states 0 0) (Terminal t) a.state) last
-      (sound.shifts (get_or c.states 0 0) (get_or tokens c.read 0) a.state a.is) in
+      let move = subst (λ (t : ℕ). HasMove m.moves (top c.states) (Terminal t) a.state) last
+      (sound.shifts (top c.states) (get_or tokens c.read 0) a.state a.is) in
       let linked = linked_push m.moves h.linked (Terminal 0) a.state move in
-      let ends = dots_linked m states linked a.last.item done.item.dot done.item done.is a.last.there refl in
+      let ends = dots_linked m states linked a.last.item done.item.dot done.item done.is a.last.there
+      refl in
       let count = linked_count m.moves h.linked in
       let all = take_all done.item.dot (Terminal 0 ∷ h.symbols) (omega (arith, count, a.last.whole)) in
       sym (take_all done.item.dot right (omega (arith, done.dot)))
