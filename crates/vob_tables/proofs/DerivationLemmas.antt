@@ -1,9 +1,11 @@
 -- Derivations, and the three ways in which the sets of a grammar speak of them.
-use Rattle.std.proofs.Common.{◌≡◌, ℕ, ◌⊎◌, inl, inr, List, [], ◌∷◌, ◌++◌, refl, sym, ap, ◌∙◌, subst}
+use Rattle.std.proofs.Common.{◌≡◌, ℕ, ◌⊎◌, inl, inr, List, [], ◌∷◌, ◌++◌, map, Some, slice_get, refl, sym, ap, ◌∙◌, subst}
 use Rattle.std.proofs.lemmas.List.{append-nil, append_assoc}
-use Rattle.vob_tables.specs.Derivations.{BeginningIsDerived, Derives, DerivesInOne, EmptyIsDerived, FollowingIsDerived}
+use Rattle.std.proofs.lemmas.Option.{get_or_from_slice_get, slice_get_within}
+use Rattle.vob_tables.specs.Derivations.{BeginningIsDerived, Derives, DerivesInOne, EmptyIsDerived, FollowingIsDerived, RightmostIsDerived}
 use Rattle.vob_tables.specs.Derivations.DerivesInOne.{replaced}
 use Rattle.vob_tables.specs.Derivations.Derives.{itself, further}
+use Rattle.vob_tables.specs.Derivations.DerivesBy.{nothing as last, further as then_by}
 use Rattle.vob_tables.specs.Grammar.{BecomesEmpty, BeginsWith, Follows, HasRule}
 use Rattle.vob_tables.specs.Grammar.BecomesEmpty.{nothing, by_rule as by_empty}
 use Rattle.vob_tables.specs.Grammar.BeginsWith.{here, by_rule, behind}
@@ -236,3 +238,21 @@ following_derived rules t a = (
   follow_derives,
   (λ found. follow_from found.3 t a found.1 (Terminal t ∷ found.2) refl here),
 )
+
+-- a rule that is there is one of a nonterminal
+has_rule : (rules : List Rule) (r : ℕ) (rule : Rule) → slice_get rules r ≡ Some rule →
+    HasRule rules rule.left rule.right.items
+has_rule rules r rule is = (
+  rule,
+  (r, slice_get_within rules r rule is, get_or_from_slice_get rules r rule rule is),
+  refl,
+  refl,
+)
+
+pub rightmost_derived : RightmostIsDerived
+rightmost_derived rules tokens xs by (last is) =
+    subst (λ (ys : List Symbol). Derives rules xs ys) is itself
+rightmost_derived rules tokens xs by (then_by {r = r} {rule = rule} before after there is d) =
+    let step = by_one before (map Terminal after) (has_rule rules r rule there) in
+    subst (λ (ys : List Symbol). Derives rules ys (map Terminal tokens)) (sym is)
+    (after_that step (rightmost_derived rules tokens _ _ d))

@@ -10,11 +10,14 @@ mod FlowLemmas
 mod FollowLemmas
 mod GrowthLemmas
 mod ItemLemmas
+mod LinkLemmas
 mod MemberLemmas
 mod MoveLemmas
 mod NodeLemmas
+mod ParseLemmas
 mod PrecedenceLemmas
 mod SolvedLemmas
 mod SoundLemmas
 mod StateLemmas
+mod StepLemmas
 mod TableLemmas

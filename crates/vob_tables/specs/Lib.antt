@@ -13,9 +13,11 @@ pub mod ItemTables
 pub mod Items
 pub mod Lookaheads
 pub mod Nodes
+pub mod Parses
 pub mod Passes
 pub mod Precedences
 pub mod Rounds
 pub mod States
+pub mod Stops
 pub mod Tables
 pub mod Those

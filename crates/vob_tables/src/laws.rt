@@ -1,6 +1,6 @@
 //! What the sets of a grammar mean by derivations, and which item stands behind another. Each
 //! function does nothing: its contract is the law.
-ghost use Rattle.vob_tables.specs.Derivations.{BeginningIsDerived, EmptyIsDerived, FollowingIsDerived};
+ghost use Rattle.vob_tables.specs.Derivations.{BeginningIsDerived, EmptyIsDerived, FollowingIsDerived, RightmostIsDerived};
 ghost use Rattle.vob_tables.specs.Items.{NextItemIsBehind};
 
 /// Symbols can become empty exactly if they derive nothing. So `nullable` finds the nonterminals
@@ -25,4 +25,10 @@ pub fn following_is_derived()
 /// dot of that one. So `goto` passes the dot.
 pub fn next_item_is_behind()
     ensures { NextItemIsBehind }
+{}
+
+/// What derives some tokens by a rightmost derivation derives them. So `parse` accepts nothing but
+/// what the grammar derives.
+pub fn rightmost_is_derived()
+    ensures { RightmostIsDerived }
 {}

@@ -1,7 +1,7 @@
 //! The table of a parser.
 ghost use Rattle.std.specs.Prelude.{◌≡◌, ◌↔◌, ◌+◌, [], length, None, slice_get, slice_index_or, Some, IfNone, IfOk, IfSome, IsTrue, OnOk};
 ghost use Rattle.vob_tables.specs.Conflicts.{AreConflicts, AreConflictsBefore, IsConflictAt};
-ghost use Rattle.vob_tables.specs.Tables.{AreRowsOfCells, action_at};
+ghost use Rattle.vob_tables.specs.Tables.{AreRowsOfCells, AreSound, action_at};
 
 use crate::lookaheads::Lookaheads;
 use crate::rows::Source;
@@ -107,7 +107,8 @@ impl<'a> Table<'a> {
 
     /// Returns the states, with the lookaheads of their items.
     pub fn lookaheads(&self) -> &Lookaheads<'a>
-        ensures { result.now ≡ self.now.machine }
+        ensures machine { result.now ≡ self.now.machine }
+        ensures sound { AreSound self.now.machine self.now.cells }
     {
         &self.lookaheads
     }

@@ -8,6 +8,7 @@ mod lengths;
 mod live;
 mod lookaheads;
 mod matrix;
+mod parses;
 mod slots;
 mod small_matrices;
 mod support;
