@@ -14,7 +14,8 @@ use Rattle.vob_tables.specs.Equations.{AreEquations, AreSolved, GainEach, HasAt,
 use Rattle.vob_tables.specs.Equations.Reaches.{at_start, along}
 use Rattle.vob_tables.specs.Expansions.{Expands}
 use Rattle.vob_tables.specs.Faults.{IsRuleOf, IsSymbol}
-use Rattle.vob_tables.specs.Flows.{FlowsFrom, FlowsOf, FlowsTo, GainWalked, HasTables, HaveLookaheads, IsKept, IsKeptAt, IsKeptBy, IsOfFirst, IsOfMember, IsOpened}
+use Rattle.vob_tables.specs.Flows.{FlowsFrom, FlowsOf, FlowsTo, HasTables, HaveLookaheads, IsKept, IsKeptAt, IsKeptBy, IsOpened}
+use Rattle.vob_tables.specs.Walked.{GainWalked, IsOfFirst, IsOfMember}
 use Rattle.vob_tables.specs.ItemSets.{Has, Opens}
 use Rattle.vob_tables.specs.Items.{HasNext, IsItem, item_total}
 use Rattle.vob_tables.specs.Lookaheads.{HasNextThen, LooksAhead, Machine}

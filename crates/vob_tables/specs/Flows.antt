@@ -1,13 +1,11 @@
 -- How lookaheads flow between the items of states. No public clause cites this page.
-use Rattle.std.specs.Prelude.{◌≡◌, ◌↔◌, ◌⊎◌, ℕ, ◌+◌, ◌<◌, Bool, true, false, List, length, slice_get, slice_index_or, [], All, Some}
-use Rattle.std.specs.declared.ops.Bound.TheVariants.{Unbounded}
+use Rattle.std.specs.Prelude.{◌≡◌, ◌↔◌, ◌⊎◌, ℕ, ◌+◌, Bool, List, length, slice_get, slice_index_or, [], All, Some}
 use Rattle.vob.specs.Vobs.{total_count}
-use Rattle.vob_flow.specs.Draws.{HaveShape, IsIn}
+use Rattle.vob_flow.specs.Draws.{IsIn}
 use Rattle.vob_tables.specs.Behind.{StandsBehind}
-use Rattle.vob_tables.specs.Equations.{HasAt}
 use Rattle.vob_tables.specs.Faults.{IsRuleOf}
 use Rattle.vob_tables.specs.Grammar.{AreFirst, AreNullable}
-use Rattle.vob_tables.specs.ItemSets.{Has, Opens}
+use Rattle.vob_tables.specs.ItemSets.{Opens}
 use Rattle.vob_tables.specs.Items.{HasNext}
 use Rattle.vob_tables.specs.Lookaheads.{AreLookaheads, HasMove, HasNextThen, Machine}
 use Rattle.vob_tables.specs.Nodes.{AreOffsets, node}
@@ -16,7 +14,6 @@ use Rattle.vob_tables.specs.declared.grammar.Grammar.{Grammar}
 use Rattle.vob_tables.specs.declared.grammar.Symbol.{Symbol}
 use Rattle.vob_tables.specs.declared.grammar.Symbol.TheVariants.{Nonterminal}
 use Rattle.vob_tables.specs.declared.state.Move.{Move}
-use Rattle.vob_walk.specs.Left.{AreMatches, is_left}
 
 -- a row for each nonterminal: the first items of its rules
 pub record AreOpenings (grammar : Grammar) (rows : List (List Bool)) : Type 0 where
@@ -64,27 +61,6 @@ FlowsOf m q n y = (j : ℕ) × IsIn m.sets q j × FlowsFrom m q j n y
 
 abbrev pub FlowsTo : Machine → ℕ → Symbol → Type 0
 FlowsTo m n y = (q : ℕ) × FlowsOf m q n y
-
--- one of the first k
-abbrev pub IsOfFirst : ℕ → (ℕ → ℕ → Symbol → Type 0) → ℕ → Symbol → Type 0
-IsOfFirst k Each n y = (q : ℕ) × (q < k) × Each q n y
-
--- one of a set's members
-abbrev pub IsOfMember : List Bool → (ℕ → ℕ → Symbol → Type 0) → ℕ → Symbol → Type 0
-IsOfMember set Each n y = (j : ℕ) × Has set j × Each j n y
-
--- a walk over a set lets sets gain what its members give, but for those that are left
-pub record GainWalked (Each : ℕ → ℕ → Symbol → Type 0) (set : List Bool) (left : List ℕ)
-    (sets : List (List Bool)) (lists : List (List ℕ)) (after : List (List Bool))
-    (draws : List (List ℕ)) : Type 0 where
-  pub matches : AreMatches set true Unbounded Unbounded left
-  pub shape : HaveShape sets after
-  pub count : length draws ≡ length lists
-  pub kept : (n : ℕ) (y : Symbol) → HasAt sets lists n y → HasAt after draws n y
-  pub done : (j n : ℕ) (y : Symbol) → Has set j → is_left left j ≡ false → Each j n y →
-      HasAt after draws n y
-  pub only : (n : ℕ) (y : Symbol) → HasAt after draws n y →
-      HasAt sets lists n y ⊎ IsOfMember set Each n y
 
 -- a row for each node: the lookaheads of the item
 pub record HaveLookaheads (m : Machine) (rows : List (List Bool)) : Type 0 where

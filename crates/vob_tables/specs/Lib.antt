@@ -21,3 +21,4 @@ pub mod States
 pub mod Stops
 pub mod Tables
 pub mod Those
+pub mod Walked

@@ -6,7 +6,8 @@ ghost use Rattle.vob_flow.specs.Draws.{IsIn};
 ghost use Rattle.vob_tables.specs.Behind.{IsOfTrailer, IsTrailer};
 ghost use Rattle.vob_tables.specs.Equations.{AreEquations, GainEach, lists_of};
 ghost use Rattle.vob_tables.specs.Faults.{IsRuleOf};
-ghost use Rattle.vob_tables.specs.Flows.{FlowsFrom, FlowsOf, FlowsTo, IsKept, IsKeptBy, IsOfFirst, IsOfMember, IsOpened};
+ghost use Rattle.vob_tables.specs.Flows.{FlowsFrom, FlowsOf, FlowsTo, IsKept, IsKeptBy, IsOpened};
+ghost use Rattle.vob_tables.specs.Walked.{IsOfFirst, IsOfMember};
 ghost use Rattle.vob_tables.specs.ItemSets.{Has};
 ghost use Rattle.vob_tables.specs.Items.{HasNext};
 ghost use Rattle.vob_tables.specs.Nodes.{node};
@@ -102,8 +103,8 @@ impl<'a> Flows<'a> {
         Ok(())
     }
 
-    /// Does that for the items that one with a nonterminal behind its dot brings: they start with
-    /// what can begin the symbols behind it, and draw from the item if these can become empty.
+    /// Does that for the items that one with a nonterminal behind its dot brings. They start with
+    /// what can begin the symbols behind it. If these can become empty, they draw from the item.
     fn open(
         &self,
         state: usize,

@@ -228,19 +228,15 @@ impl Scanner {
     fn step(&mut self, at: usize, end: usize, byte: u8) -> Result<(), Stop> {
         match self.mode {
             Mode::Between => self.begin(at, end, byte)?,
+            Mode::Word(_) if is_in_name(byte) => {}
             Mode::Word(kind) => {
-                if !is_in_name(byte) {
-                    self.add(kind, at)?;
-                    self.begin(at, end, byte)?;
-                }
+                self.add(kind, at)?;
+                self.begin(at, end, byte)?;
             }
             Mode::Quoted { kind, escaped } => self.quoted(end, byte, kind, escaped)?,
             Mode::Type { depth } => self.type_byte(byte, depth),
-            Mode::Bracket => {
-                if byte == b']' {
-                    self.mode = Mode::Between;
-                }
-            }
+            Mode::Bracket if byte == b']' => self.mode = Mode::Between,
+            Mode::Bracket => {}
             Mode::Percent => self.percent(end, byte)?,
             Mode::Prologue { percent } => {
                 self.mode = if percent && byte == b'}' {
@@ -252,11 +248,8 @@ impl Scanner {
                 };
             }
             Mode::Slash => self.slash(at, end, byte)?,
-            Mode::Line => {
-                if byte == b'\n' {
-                    self.mode = Mode::Between;
-                }
-            }
+            Mode::Line if byte == b'\n' => self.mode = Mode::Between,
+            Mode::Line => {}
             Mode::Comment { star } => {
                 self.mode = if star && byte == b'/' {
                     Mode::Between

@@ -2,7 +2,8 @@
 use Rattle.std.proofs.Common.{◌∙◌, ap, length, subst, sym}
 use Rattle.std.proofs.lemmas.List.{with_items_is}
 use Rattle.vob.specs.Vobs.{bits_of, total_count}
-use Rattle.vob_tables.specs.Flows.{FlowsOf, FlowsTo, HasTables, IsOfFirst}
+use Rattle.vob_tables.specs.Flows.{FlowsOf, FlowsTo, HasTables}
+use Rattle.vob_tables.specs.Walked.{IsOfFirst}
 use Rattle.vob_tables.specs.Lookaheads.{Machine}
 use Rattle.vob_tables.specs.declared.grammar.Grammar.{Grammar}
 use Rattle.vob_tables.proofs.EquationLemmas.{AreEquations-gained}

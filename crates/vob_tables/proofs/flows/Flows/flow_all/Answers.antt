@@ -3,7 +3,8 @@ use Rattle.std.proofs.Common.{◌≡◌, ◌∙◌, ℕ, Global, Vec, ap, arith,
 use Rattle.std.proofs.lemmas.List.{length-map}
 use Rattle.vob.specs.Vobs.{bits_of}
 use Rattle.vob_tables.specs.Equations.{GainEach, lists_of}
-use Rattle.vob_tables.specs.Flows.{FlowsOf, HasTables, IsOfFirst}
+use Rattle.vob_tables.specs.Flows.{FlowsOf, HasTables}
+use Rattle.vob_tables.specs.Walked.{IsOfFirst}
 use Rattle.vob_tables.specs.Lookaheads.{Machine}
 use Rattle.vob_tables.specs.declared.state.Move.{Move}
 use Rattle.vob_tables.proofs.EquationLemmas.{GainEach-both, shape_long}

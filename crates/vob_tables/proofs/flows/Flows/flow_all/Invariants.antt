@@ -2,7 +2,8 @@
 use Rattle.std.proofs.Common.{◌≡◌, length}
 use Rattle.vob.specs.Vobs.{bits_of}
 use Rattle.vob_tables.specs.Equations.{GainEach, lists_of}
-use Rattle.vob_tables.specs.Flows.{FlowsOf, IsOfFirst}
+use Rattle.vob_tables.specs.Flows.{FlowsOf}
+use Rattle.vob_tables.specs.Walked.{IsOfFirst}
 use Rattle.vob_tables.proofs.flows.Flows.flow_all.Given as goal
 
 abbrev pub invariant-loop-state : goal.invariant-loop-state

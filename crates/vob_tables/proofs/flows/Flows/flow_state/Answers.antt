@@ -2,7 +2,8 @@
 use Rattle.std.proofs.Common.{◌∙◌, Bool, List, [], ap, get_or, refl, subst}
 use Rattle.vob.specs.Vobs.{bits_of}
 use Rattle.vob_tables.specs.Equations.{lists_of}
-use Rattle.vob_tables.specs.Flows.{FlowsFrom, GainWalked}
+use Rattle.vob_tables.specs.Flows.{FlowsFrom}
+use Rattle.vob_tables.specs.Walked.{GainWalked}
 use Rattle.vob_tables.specs.Lookaheads.{Machine}
 use Rattle.vob_tables.proofs.EquationLemmas.{shape_long}
 use Rattle.vob_tables.proofs.FlowLemmas.{GainEach-walked, GainWalked-start, GainWalked-step, walked_own}

@@ -2,7 +2,8 @@
 use Rattle.std.proofs.Common.{◌≡◌, [], length, slice_index_or}
 use Rattle.vob.specs.Vobs.{bits_of}
 use Rattle.vob_tables.specs.Equations.{lists_of}
-use Rattle.vob_tables.specs.Flows.{FlowsFrom, GainWalked}
+use Rattle.vob_tables.specs.Flows.{FlowsFrom}
+use Rattle.vob_tables.specs.Walked.{GainWalked}
 use Rattle.vob_tables.proofs.flows.Flows.flow_state.Given as goal
 
 abbrev pub invariant-loop-number : goal.invariant-loop-number

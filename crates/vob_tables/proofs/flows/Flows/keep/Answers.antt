@@ -5,7 +5,8 @@ use Rattle.std.proofs.lemmas.Option.{slice_get_read}
 use Rattle.vob.specs.Vobs.{bits_of}
 use Rattle.vob.proofs.BitsLemmas.{row_inside}
 use Rattle.vob_tables.specs.Equations.{GainEach, lists_of}
-use Rattle.vob_tables.specs.Flows.{HasTables, IsKept, IsKeptAt, IsOfFirst}
+use Rattle.vob_tables.specs.Flows.{HasTables, IsKept, IsKeptAt}
+use Rattle.vob_tables.specs.Walked.{IsOfFirst}
 use Rattle.vob_tables.specs.Lookaheads.{Machine}
 use Rattle.vob_tables.specs.declared.state.Move.{Move}
 use Rattle.vob_tables.proofs.EquationLemmas.{GainEach-both}

@@ -1,7 +1,8 @@
 -- The moves so far keep the lookaheads.
 use Rattle.vob.specs.Vobs.{bits_of}
 use Rattle.vob_tables.specs.Equations.{GainEach, lists_of}
-use Rattle.vob_tables.specs.Flows.{IsKeptAt, IsOfFirst}
+use Rattle.vob_tables.specs.Flows.{IsKeptAt}
+use Rattle.vob_tables.specs.Walked.{IsOfFirst}
 use Rattle.vob_tables.proofs.flows.Flows.keep.Given as goal
 
 abbrev pub invariant-loop-step : goal.invariant-loop-step

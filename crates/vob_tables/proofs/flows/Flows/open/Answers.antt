@@ -7,7 +7,8 @@ use Rattle.vob.specs.Vob.{BitVector}
 use Rattle.vob.specs.Vobs.{bits_of}
 use Rattle.vob_tables.specs.Behind.{IsOfTrailer, IsTrailer}
 use Rattle.vob_tables.specs.Equations.{GainEach, lists_of}
-use Rattle.vob_tables.specs.Flows.{HasTables, IsOfMember, IsOpened}
+use Rattle.vob_tables.specs.Flows.{HasTables, IsOpened}
+use Rattle.vob_tables.specs.Walked.{IsOfMember}
 use Rattle.vob_tables.specs.ItemSets.{Has, Opens}
 use Rattle.vob_tables.specs.Items.{HasNext, IsItem, item_total}
 use Rattle.vob_tables.specs.Lookaheads.{Machine}

@@ -3,7 +3,7 @@ use Rattle.std.proofs.Common.{◌≡◌}
 use Rattle.vob.specs.Vobs.{bits_of}
 use Rattle.vob_tables.specs.Behind.{IsOfTrailer}
 use Rattle.vob_tables.specs.Equations.{lists_of}
-use Rattle.vob_tables.specs.Flows.{GainWalked}
+use Rattle.vob_tables.specs.Walked.{GainWalked}
 use Rattle.vob_tables.specs.Nodes.{node}
 use Rattle.vob_tables.proofs.flows.Flows.open_items.Given as goal
 
