@@ -7,11 +7,12 @@ use mathlib.Core.Bool.{beq}
 use Rattle.std.proofs.lemmas.Bool.{false≢true}
 use Rattle.vob_block.specs.Packing.{item}
 use Rattle.vob_flow.specs.Draws.{IsIn}
-use Rattle.vob_tables.specs.Items.{Completes, first_item}
+use Rattle.vob_tables.specs.Items.{Completes}
 use Rattle.vob_tables.specs.Lookaheads.{HasMove, Machine}
 use Rattle.vob_tables.specs.Parses.{Config, IsLast, IsReplaced, replaced, top}
 use Rattle.vob_tables.specs.declared.grammar.Rule.{Rule}
 use Rattle.vob_tables.specs.declared.grammar.Symbol.TheVariants.{Nonterminal}
+use Rattle.vob_tables.proofs.ItemLemmas.{one_complete}
 
 -- ---- a reduction: states are left first, and another is entered then
 
@@ -47,17 +48,6 @@ module _ (m : Machine) (c mid : Config) (r n q : ℕ) (own : Rule) (found : Opti
 
 -- ---- the state behind the end
 
--- a rule has one complete item
-one_complete : (m : Machine) (r i j : ℕ) → Completes m.grammar.rules.items r i →
-    Completes m.grammar.rules.items r j → i ≡ j
-one_complete m r i j h k =
-    let rules = m.grammar.rules.items in
-    let own = subst (λ (s : ℕ). slice_get rules s ≡ Some h.is.rule) (h.rule ∙ sym k.rule) h.is.is in
-    let same = same_Some h.is.rule k.is.rule (sym own ∙ k.is.is) in
-    let long = ap (λ (x : Rule). length x.right.items) same in
-    let first = ap (first_item rules) (h.rule ∙ sym k.rule) in
-    omega (arith, long, first, h.is.number, k.is.number, h.dot, k.dot)
-
 pub last_is : (m : Machine) (p count i : ℕ) (rule : Rule) →
     Completes m.grammar.rules.items 0 i → rule ≡ get_or m.grammar.rules.items 0 rule →
     length rule.right.items ≡ count → IsIn m.sets p i ↔ IsLast m p count
@@ -69,7 +59,7 @@ last_is m p count i rule done read long = (
       let right = ap (λ (x : Rule). length x.right.items) (read ∙ same) in
       record { item = i; completes = done; there = there; whole = omega (arith, done.dot, right, long) }),
   (λ last.
-      subst (λ (k : ℕ). IsIn m.sets p k) (one_complete m 0 last.item i last.completes done)
+      subst (λ (k : ℕ). IsIn m.sets p k) (one_complete m.grammar.rules.items 0 last.item i last.completes done)
       last.there),
 )
 
