@@ -1,12 +1,23 @@
 //! The words of the command line.
 
 use crate::analysis::{ANALYSES, Analysis};
+use crate::fault::Fault;
 use crate::filter::Shows;
 use clap::{Arg, ArgAction, ArgMatches, Command};
 use std::alloc::{AllocError, Global};
 
 /// The name that stands for standard input.
 pub const STANDARD_INPUT: &str = "-";
+
+/// What the help of `parse` says of its input and of its output.
+const PARSE_HELP: &str = "\
+White space separates tokens. A quoted character may stand without its quotes.
+The rules of the rightmost derivation are printed, that of the start first.
+Conflicts that precedence leaves are decided for the shift, or else for the
+rule that comes first, as in bison.
+
+Example:
+  echo 'NUMBER - NUMBER' | ./conthiral parse examples/grammars/minus.y";
 
 /// What the help of `flow` says of its input and of its output.
 const FLOW_HELP: &str = "\
@@ -45,6 +56,11 @@ pub enum Task<'a> {
     Grammar {
         file: &'a str,
         states: bool,
+    },
+    /// The derivation of the tokens in a file by a grammar in another.
+    Parse {
+        file: &'a str,
+        grammar: &'a str,
     },
     /// The closure of a graph, or what one of its nodes leads to.
     Closure {
@@ -90,12 +106,26 @@ fn grammar_command<'a>(alloc: Global) -> Result<Command<'a>, AllocError> {
     let states = flag(
         alloc,
         "states",
-        "Print the states, with their items and moves",
+        "Print the rules, and the states with what a parser does",
     );
     Command::new(alloc, "grammar")
         .about("Print the sets of a grammar: nullable, FIRST and FOLLOW")
         .after_help("Example:\n  ./conthiral grammar --states examples/grammars/sums.y")
         .arg(states)?
+        .arg(file)
+}
+
+/// Returns the words of `parse`.
+fn parse_command<'a>(alloc: Global) -> Result<Command<'a>, AllocError> {
+    let grammar = Arg::new(alloc, "grammar")
+        .value_name("GRAMMAR")
+        .required(true)
+        .help("A grammar of yacc or bison");
+    let file = file_argument(alloc, "Names of tokens; - or none: standard input");
+    Command::new(alloc, "parse")
+        .about("Print how a grammar derives tokens")
+        .after_help(PARSE_HELP)
+        .arg(grammar)?
         .arg(file)
 }
 
@@ -177,6 +207,7 @@ pub fn command<'a>(alloc: Global) -> Result<Command<'a>, AllocError> {
         .subcommand_required(true)
         .arg_required_else_help(true)
         .subcommand(grammar_command(alloc)?)?
+        .subcommand(parse_command(alloc)?)?
         .subcommand(closure_command(alloc)?)?
         .subcommand(flow_command(alloc)?)?
         .subcommand(filter_command(alloc)?)
@@ -190,6 +221,10 @@ pub fn task_of<'a>(matches: &ArgMatches<'a>) -> Option<Task<'a>> {
         "grammar" => Some(Task::Grammar {
             file,
             states: own.get_flag("states"),
+        }),
+        "parse" => Some(Task::Parse {
+            file,
+            grammar: own.get_str("grammar")?,
         }),
         "closure" => Some(Task::Closure {
             file,
@@ -209,9 +244,12 @@ pub fn task_of<'a>(matches: &ArgMatches<'a>) -> Option<Task<'a>> {
 }
 
 impl<'a> Task<'a> {
-    /// Returns what messages call the file.
-    pub fn file_name(&self) -> &'a str {
-        let file = self.file();
+    /// Returns what messages call the file with a fault.
+    pub fn file_name(&self, fault: &Fault) -> &'a str {
+        let file = match self {
+            Task::Parse { grammar, .. } if fault.is_of_grammar() => grammar,
+            _ => self.file(),
+        };
         if file == STANDARD_INPUT {
             "standard input"
         } else {
@@ -223,6 +261,7 @@ impl<'a> Task<'a> {
     pub fn file(&self) -> &'a str {
         match self {
             Task::Grammar { file, .. }
+            | Task::Parse { file, .. }
             | Task::Closure { file, .. }
             | Task::Flow { file, .. }
             | Task::Filter { file, .. } => file,

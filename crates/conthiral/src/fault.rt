@@ -31,6 +31,16 @@ pub enum Fault {
     Sets(SolveError),
     /// The live variables of a flow graph weren't found.
     Live(LiveError),
+    /// The grammar file can't be read.
+    GrammarInput(io::Error),
+    /// A token doesn't fit: where it stands, and what it is.
+    Token {
+        line: usize,
+        column: usize,
+        name: String,
+    },
+    /// The tokens need too many reductions.
+    Cycle,
     /// A condition isn't in its form: before which column of it, and what was expected there.
     Condition {
         column: usize,
@@ -52,6 +62,14 @@ pub enum Fault {
 }
 
 impl Fault {
+    /// Returns whether the fault is in a grammar file.
+    pub fn is_of_grammar(&self) -> bool {
+        matches!(
+            self,
+            Fault::Grammar(_) | Fault::Rules(_) | Fault::GrammarInput(_) | Fault::Cycle
+        )
+    }
+
     /// Returns whether the reader of the output went away, which is no fault of anybody.
     pub fn is_closed_pipe(&self) -> bool {
         match self {
@@ -147,6 +165,11 @@ impl fmt::Display for Report<'_> {
             Fault::Name(name) => write!(f, "{file}: no node is called {name}"),
             Fault::Sets(error) => write!(f, "{file}: {error}"),
             Fault::Live(error) => write!(f, "{file}: {error}"),
+            Fault::GrammarInput(error) => write!(f, "{file}: {error}"),
+            Fault::Token { line, column, name } => {
+                write!(f, "{file}:{line}:{column}: unexpected {name}")
+            }
+            Fault::Cycle => write!(f, "{file}: the grammar derives some symbol from itself"),
             Fault::Condition { column, expected } => {
                 write!(f, "the condition:{column}: expected {expected}")
             }

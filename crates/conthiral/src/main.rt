@@ -11,6 +11,7 @@ mod flow;
 mod grammar;
 mod graph;
 mod names;
+mod parse;
 mod put;
 mod run;
 mod words;

@@ -6,6 +6,7 @@ use crate::fault::{Fault, Report};
 use crate::filter::print_filter;
 use crate::grammar::print_grammar;
 use crate::graph::print_closure;
+use crate::parse::print_parse;
 use std::io::{BufWriter, Read, Write};
 use std::process::ExitCode;
 use std::rt::{Env, Files};
@@ -31,6 +32,10 @@ fn perform<R: Files + Input + Print + AllocGlobal>(rt: &R, task: &Task<'_>) -> R
     let mut output = BufWriter::new(alloc, io::writer(rt))?;
     let status = match task {
         Task::Grammar { states, .. } => print_grammar(alloc, &text, *states, &mut output)?,
+        Task::Parse { grammar, .. } => {
+            let grammar = fs::read(rt, grammar).map_err(Fault::GrammarInput)?;
+            print_parse(alloc, &grammar, &text, &mut output)?
+        }
         Task::Closure { from, .. } => print_closure(alloc, &text, *from, &mut output)?,
         Task::Flow { analysis, .. } => print_flow(alloc, &text, *analysis, &mut output)?,
         Task::Filter {
@@ -53,7 +58,7 @@ fn perform_or_report<R: Files + Input + Print + Eprint + AllocGlobal>(
         Err(fault) if fault.is_closed_pipe() => 0,
         Err(fault) => {
             let report = Report {
-                file: task.file_name(),
+                file: task.file_name(&fault),
                 fault: &fault,
             };
             let _ = eprintln!(rt; "conthiral: {report}");

@@ -1,5 +1,5 @@
 //! Tables of parsers worked by hand: what is done at each terminal, and what precedence decides.
-use super::grammar::{add_text, empty};
+use super::grammar::grammar_of;
 use super::support::same;
 use std::alloc::{AllocError, Global};
 use std::process::Abort;
@@ -16,15 +16,6 @@ const CELLS: [&str; 8] = [
 
 /// A sum, which state 5 may shift or reduce at `+`.
 const SUM: [&str; 3] = ["A=E$", "E=E+E", "E=i"];
-
-/// The grammar of rules.
-fn grammar_of(rt: &(impl Abort + AllocGlobal), names: (&str, &str), rules: &[&str]) -> Grammar {
-    let mut grammar = empty(rt, names.0.len(), names.1.len());
-    for text in rules {
-        add_text(rt, &mut grammar, names.0, names.1, text);
-    }
-    grammar
-}
 
 /// Appends what a cell does to a text.
 fn add_cell(alloc: Global, text: &mut String, cell: &Cell) -> Result<(), AllocError> {
@@ -60,7 +51,7 @@ fn cells_of(
 }
 
 /// Makes the table of a grammar by some precedences.
-fn table_of<'a>(
+pub fn table_of<'a>(
     rt: &(impl Abort + AllocGlobal),
     grammar: &'a Grammar,
     terminals: &[Option<Precedence>],

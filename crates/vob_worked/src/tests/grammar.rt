@@ -36,7 +36,7 @@ fn place(names: &str, name: u8) -> usize {
 /// Appends the rule of a text: a name for the left side, and after `=` one for each symbol of the
 /// right side. `nonterminals` has the names of the first nonterminals, `terminals` those of the
 /// first terminals.
-pub fn add_text(
+fn add_text(
     rt: &(impl Abort + AllocGlobal),
     grammar: &mut Grammar,
     nonterminals: &str,
@@ -58,6 +58,15 @@ pub fn add_text(
         .first()
         .map_or(usize::MAX, |name| place(nonterminals, *name));
     add(rt, grammar, left, &right);
+}
+
+/// The grammar of rules. `names` has the names of nonterminals and of terminals.
+pub fn grammar_of(rt: &(impl Abort + AllocGlobal), names: (&str, &str), rules: &[&str]) -> Grammar {
+    let mut grammar = empty(rt, names.0.len(), names.1.len());
+    for text in rules {
+        add_text(rt, &mut grammar, names.0, names.1, text);
+    }
+    grammar
 }
 
 /// Compares sets with digits, one for each terminal.
@@ -92,11 +101,7 @@ fn check_sets(
 
 /// Compares all sets of the grammar of some texts.
 fn check_texts(rt: &(impl Abort + AllocGlobal), row: &Row) {
-    let (nonterminals, terminals) = row.names;
-    let mut grammar = empty(rt, nonterminals.len(), terminals.len());
-    for text in row.rules {
-        add_text(rt, &mut grammar, nonterminals, terminals, text);
-    }
+    let grammar = grammar_of(rt, row.names, row.rules);
     check_sets(rt, &grammar, row.null, row.first, row.follow);
 }
 

@@ -1,8 +1,8 @@
 //! Lookaheads of grammars worked by hand.
-use super::grammar::{add_text, empty};
+use super::grammar::grammar_of;
 use super::support::same;
 use std::process::Abort;
-use vob_tables::{Grammar, Lookaheads};
+use vob_tables::Lookaheads;
 
 /// The names of nonterminals and of terminals, rules, and for each item of each state, by their
 /// numbers, its lookaheads.
@@ -35,16 +35,6 @@ const GRAMMARS: [Row; 4] = [
             (4, 22, "cd")] },
 ];
 
-/// The grammar of a row.
-fn grammar_of(rt: &(impl Abort + AllocGlobal), row: &Row) -> Grammar {
-    let (nonterminals, terminals) = row.names;
-    let mut grammar = empty(rt, nonterminals.len(), terminals.len());
-    for text in row.rules {
-        add_text(rt, &mut grammar, nonterminals, terminals, text);
-    }
-    grammar
-}
-
 /// Compares the lookaheads of an item of a state with these terminals.
 fn check_ahead(
     rt: &impl Abort,
@@ -65,7 +55,7 @@ fn check_ahead(
 #[test]
 fn lookaheads_are_those_of_the_textbook(rt: HostRuntime) {
     for row in &GRAMMARS {
-        let grammar = grammar_of(&rt, row);
+        let grammar = grammar_of(&rt, row.names, row.rules);
         let found = Lookaheads::new(rt.alloc(), &grammar).expect(&rt, "lookaheads");
         for (state, item, wanted) in row.ahead {
             check_ahead(&rt, &found, *state, *item, row.names.1, wanted);
@@ -75,7 +65,8 @@ fn lookaheads_are_those_of_the_textbook(rt: HostRuntime) {
 
 #[test]
 fn an_item_that_a_state_does_not_have_has_no_lookaheads(rt: HostRuntime) {
-    let grammar = grammar_of(&rt, &GRAMMARS[0]);
+    let row = &GRAMMARS[0];
+    let grammar = grammar_of(&rt, row.names, row.rules);
     let found = Lookaheads::new(rt.alloc(), &grammar).expect(&rt, "lookaheads");
     for (state, item) in [
         (0, 1),

@@ -1,8 +1,9 @@
 //! Tokens parsed by tables worked by hand.
-use super::grammar::{add_text, empty};
+use super::cells::table_of;
+use super::grammar::grammar_of;
 use super::support::{check_error, same};
 use std::process::Abort;
-use vob_tables::{Grammar, Lookaheads, ParseError, Table};
+use vob_tables::{Lookaheads, ParseError, Table};
 
 /// The names of nonterminals and of terminals, rules, and texts of terminals, each with the rules
 /// that a parser returns, or else the place of the terminal that no action takes.
@@ -40,21 +41,6 @@ const GRAMMARS: [Row; 4] = [
         parsed: &[("a", &[1]), ("aa$", &[1, 0, 2]), ("aaa$$", &[1, 0, 2, 0, 2])],
         refused: &[("", 0), ("aa", 2), ("aaa", 3), ("aaa$", 4)] },
 ];
-
-/// The grammar of some rules.
-fn grammar_of(rt: &(impl Abort + AllocGlobal), names: (&str, &str), rules: &[&str]) -> Grammar {
-    let mut grammar = empty(rt, names.0.len(), names.1.len());
-    for text in rules {
-        add_text(rt, &mut grammar, names.0, names.1, text);
-    }
-    grammar
-}
-
-/// The table of a grammar, without precedences.
-fn table_of<'a>(rt: &(impl Abort + AllocGlobal), grammar: &'a Grammar) -> Table<'a> {
-    let states = Lookaheads::new(rt.alloc(), grammar).expect(rt, "states");
-    Table::new(rt.alloc(), states, &[], &[]).expect(rt, "a table")
-}
 
 /// The numbers of a text's terminals: as many as there are for a letter that is none.
 fn tokens_of(rt: &(impl Abort + AllocGlobal), terminals: &str, text: &str) -> Vec<usize> {
@@ -105,7 +91,7 @@ fn check_parsed(
 fn texts_are_parsed_as_in_the_textbook(rt: HostRuntime) {
     for row in &GRAMMARS {
         let grammar = grammar_of(&rt, row.names, row.rules);
-        let table = table_of(&rt, &grammar);
+        let table = table_of(&rt, &grammar, &[], &[]);
         for (text, rules) in row.parsed {
             check_parsed(&rt, &table, row.names.1, text, rules);
         }
@@ -122,7 +108,7 @@ fn reductions_without_end_are_cut_off(rt: HostRuntime) {
     // S needs no symbol, and E may stand before it again and again: E is reduced for ever, since its
     // rule comes first.
     let grammar = grammar_of(&rt, ("ASE", "$"), &["A=S$", "S=ES", "E=", "S="]);
-    let table = table_of(&rt, &grammar);
+    let table = table_of(&rt, &grammar, &[], &[]);
     for steps in [0usize, 1, 1000] {
         let refused = parse(&rt, &table, "$", "", steps).err();
         same(&rt, "steps", steps, refused, Some(ParseError::TooLong));
@@ -140,4 +126,21 @@ fn refusals_of_a_parser_have_numbers_and_texts(rt: HostRuntime) {
         same(&rt, "a number", 0, error.number(), number);
         check_error(&rt, error, text);
     }
+}
+
+#[test]
+fn a_parser_is_made_of_a_grammar_file(rt: HostRuntime) {
+    let alloc = rt.alloc();
+    let text = b"%token NUMBER %left '-' %% sum: sum '-' sum | NUMBER;";
+    let file = vob_tables::grammar_of(alloc, text).expect(&rt, "a grammar");
+    let states = Lookaheads::new(alloc, &file.grammar).expect(&rt, "states");
+    let made = Table::new(alloc, states, &file.precedences, &file.rule_precedences);
+    let table = made.expect(&rt, "a table");
+    let conflicts = table.conflicts(alloc).expect(&rt, "conflicts");
+    assert_eq!(rt; conflicts.len(), 0);
+    // The end is terminal 0, `error` is 1, NUMBER 2 and '-' 3. Rule 0 derives the start and the end.
+    let parsed = table.parse(alloc, &[2, 3, 2, 3, 2], 100);
+    let rules = parsed.expect(&rt, "rules");
+    // The operator groups to the left: by rule 1 the first difference comes before the third number.
+    assert_eq!(rt; rules.as_slice(), [2, 2, 1, 2, 1].as_slice());
 }

@@ -2,11 +2,11 @@
 ghost use Rattle.std.specs.Prelude.{◌≡◌, length};
 ghost use Rattle.vob_tables.specs.Items.{item_total};
 
-use super::grammar::{add_text, empty};
+use super::grammar::{empty, grammar_of};
 use super::support::same;
 use std::process::Abort;
 use vob::Vob;
-use vob_tables::{Closures, Grammar, GrammarError, Item, Items, Move, Symbol, states};
+use vob_tables::{Closures, GrammarError, Item, Items, Move, Symbol, states};
 
 /// The names of nonterminals and of terminals, rules, and for each state its items and its moves, by
 /// the name of a symbol and the number of a state.
@@ -41,16 +41,6 @@ const GRAMMARS: [Row; 5] = [
     // B has no rule.
     Row { names: ("SB", ""), rules: &["S=B"], items: &[&[0], &[1]], moves: &[&[(b'B', 1)], &[]] },
 ];
-
-/// The grammar of a row.
-fn grammar_of(rt: &(impl Abort + AllocGlobal), row: &Row) -> Grammar {
-    let (nonterminals, terminals) = row.names;
-    let mut grammar = empty(rt, nonterminals.len(), terminals.len());
-    for text in row.rules {
-        add_text(rt, &mut grammar, nonterminals, terminals, text);
-    }
-    grammar
-}
 
 /// The name of a symbol, or 0 if it has none.
 fn name_of(names: (&str, &str), symbol: Symbol) -> u8 {
@@ -98,7 +88,7 @@ fn check_moves(rt: &impl Abort, names: (&str, &str), moves: &[Move], wanted: &[(
 
 /// Compares the states of the grammar of a row.
 fn check_states(rt: &(impl Abort + AllocGlobal), row: &Row) {
-    let made = states(rt.alloc(), &grammar_of(rt, row)).expect(rt, "states");
+    let made = states(rt.alloc(), &grammar_of(rt, row.names, row.rules)).expect(rt, "states");
     same(rt, "the states", 0, made.sets.len(), row.items.len());
     same(rt, "the moves", 0, made.moves.len(), row.moves.len());
     for (set, items) in made.sets.iter().zip(row.items) {
@@ -118,7 +108,8 @@ fn states_are_those_of_the_textbook(rt: HostRuntime) {
 
 #[test]
 fn items_are_numbered_rule_by_rule(rt: HostRuntime) {
-    let grammar = grammar_of(&rt, &GRAMMARS[0]);
+    let row = &GRAMMARS[0];
+    let grammar = grammar_of(&rt, row.names, row.rules);
     let items = Items::new(rt.alloc(), &grammar).expect(&rt, "items");
     same(&rt, "the items", 0, items.len(), 20);
     let found = items.number(Item { rule: 5, dot: 3 });
@@ -131,7 +122,8 @@ fn items_are_numbered_rule_by_rule(rt: HostRuntime) {
 
 #[test]
 fn a_symbol_that_is_not_ahead_leaves_nothing(rt: HostRuntime) {
-    let grammar = grammar_of(&rt, &GRAMMARS[0]);
+    let row = &GRAMMARS[0];
+    let grammar = grammar_of(&rt, row.names, row.rules);
     let closures = Closures::new(rt.alloc(), &grammar).expect(&rt, "closures");
     let mut first = Vob::from_elem(rt.alloc(), false, closures.items().len()).expect(&rt, "a set");
     first.set_indices(&[0]).expect(&rt, "an index");
@@ -146,9 +138,7 @@ fn a_symbol_that_is_not_ahead_leaves_nothing(rt: HostRuntime) {
 fn a_grammar_without_rules_has_no_states(rt: HostRuntime) {
     let refused = states(rt.alloc(), &empty(&rt, 2, 2)).err();
     same(&rt, "states", 0, refused, Some(GrammarError::NoRule));
-    let mut grammar = empty(&rt, 1, 1);
-    add_text(&rt, &mut grammar, "A", "a", "A=aA");
-    add_text(&rt, &mut grammar, "A", "a", "A=b");
+    let grammar = grammar_of(&rt, ("A", "a"), &["A=aA", "A=b"]);
     let refused = states(rt.alloc(), &grammar).err();
     let bad = GrammarError::BadSymbol { rule: 1 };
     same(&rt, "states", 1, refused, Some(bad));
