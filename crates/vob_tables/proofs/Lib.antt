@@ -1,9 +1,12 @@
 mod AheadLemmas
+mod BecomingLemmas
 mod ClosureLemmas
+mod CompleteLemmas
 mod ConflictLemmas
 mod DerivationLemmas
 mod EmptyLemmas
 mod EquationLemmas
+mod FateLemmas
 mod FaultLemmas
 mod FirstLemmas
 mod FlowLemmas

@@ -68,7 +68,7 @@ module _ (m : Machine) (h : AreStates m.grammar.rules.items m.sets m.moves) wher
   rules = m.grammar.rules.items
 
   -- a state that moves is there
-  move_inside : (q : ℕ) (x : Symbol) (p : ℕ) → HasMove m.moves q x p → q < length m.sets
+  pub move_inside : (q : ℕ) (x : Symbol) (p : ℕ) → HasMove m.moves q x p → q < length m.sets
   move_inside q x p (k, less, is) = elim (cases_lt q (length m.sets)) [
     | inl low ↦ low
     | inr past ↦

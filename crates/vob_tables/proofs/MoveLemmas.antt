@@ -26,7 +26,7 @@ at_default moves i d e less =
     get_or_from_slice_get moves i (get_or moves i e) d (slice_get-get_or moves i e less)
 
 -- a move that is found is the only one by its symbol
-one_move : (moves : List Move) → AllPairs (λ one other. Precedes one.symbol other.symbol) moves →
+pub one_move : (moves : List Move) → AllPairs (λ one other. Precedes one.symbol other.symbol) moves →
     (x : Symbol) (i j : ℕ) (d : Move) → i < length moves → j < length moves →
     (get_or moves i d).symbol ≡ x → (get_or moves j d).symbol ≡ x → i ≡ j
 one_move moves rise x i j d low less first other = elim (cases_lt i j) [

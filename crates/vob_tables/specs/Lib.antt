@@ -1,4 +1,5 @@
 pub mod Ahead
+pub mod Becoming
 pub mod Behind
 pub mod Conflicts
 pub mod Derivations

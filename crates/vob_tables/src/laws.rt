@@ -1,5 +1,6 @@
 //! What the sets of a grammar mean by derivations, and which item stands behind another. Each
 //! function does nothing: its contract is the law.
+ghost use Rattle.vob_tables.specs.Becoming.{ParsesAreFound};
 ghost use Rattle.vob_tables.specs.Derivations.{BeginningIsDerived, EmptyIsDerived, FollowingIsDerived, RightmostIsDerived};
 ghost use Rattle.vob_tables.specs.Items.{NextItemIsBehind};
 
@@ -31,4 +32,10 @@ pub fn next_item_is_behind()
 /// what the grammar derives.
 pub fn rightmost_is_derived()
     ensures { RightmostIsDerived }
+{}
+
+/// If the table says each action that a parser may do, tokens with a rightmost derivation are never
+/// refused, but for memory or too few reductions. So `parse` accepts what the grammar derives.
+pub fn parses_are_found()
+    ensures { ParsesAreFound }
 {}
