@@ -1,5 +1,5 @@
 -- What a rightmost derivation derives, symbols become.
-use Rattle.std.proofs.Common.{◌≡◌, ℕ, List, [], ◌∷◌, ◌++◌, map, reverse, Some, slice_get, refl, sym, ap, ◌∙◌, subst}
+use Rattle.std.proofs.Common.{◌≡◌, ℕ, List, [], ◌∷◌, ◌++◌, map, reverse, refl, sym, ap, ◌∙◌, subst}
 use Rattle.std.proofs.lemmas.List.{append-nil, append_assoc, reverse-append}
 use Rattle.vob_tables.specs.Becoming.{Becomes}
 use Rattle.vob_tables.specs.Becoming.Becomes.{nothing, terminal, by_rule}

@@ -1,10 +1,8 @@
 -- A parser by a table without conflicts finds what symbols become.
-use Rattle.std.proofs.Common.{◌≡◌, ℕ, zero, suc, ◌+◌, ◌<◌, ◌≤◌, ◌⊎◌, inl, inr, List, [], ◌∷◌, ◌++◌, length, get_or, take, drop, map, reverse, Some, slice_get, refl, sym, ap, ◌∙◌, subst, arith, add-one}
-use Rattle.std.specs.List.{Any, Contains}
-use Rattle.std.proofs.lemmas.Bool.{cases_lt}
-use Rattle.std.proofs.lemmas.List.{append-nil, append_assoc, drop-drop, drop_more, get_or_past, length-append, reverse-append, reverse-reverse}
+use Rattle.std.proofs.Common.{◌≡◌, ℕ, zero, suc, ◌+◌, ◌⊎◌, inl, inr, List, [], ◌∷◌, ◌++◌, length, get_or, drop, reverse, Some, slice_get, refl, sym, ap, ◌∙◌, subst, arith, add-one}
+use Rattle.std.proofs.lemmas.List.{append-nil, append_assoc, drop-drop, get_or_past, length-append, reverse-append}
 use Rattle.std.proofs.Math.Seq.{drop-append_seam}
-use Rattle.std.proofs.lemmas.Option.{get_or_from_slice_get, same_Some, slice_get-get_or, slice_get_within}
+use Rattle.std.proofs.lemmas.Option.{get_or_from_slice_get, slice_get-get_or, slice_get_within}
 use Rattle.vob_tables.specs.Becoming.{AreDone, Becomes}
 use Rattle.vob_tables.specs.Becoming.Becomes.{nothing, terminal, by_rule}
 use Rattle.vob_tables.specs.Grammar.{BecomesEmpty, BeginsWith, HasRule}
@@ -13,9 +11,9 @@ use Rattle.vob_tables.specs.Grammar.BeginsWith.{here, by_rule as begins_rule, be
 use Rattle.vob_tables.specs.ItemSets.{Opens}
 use Rattle.vob_tables.specs.ItemSets.InClosure.{inside}
 use Rattle.vob_tables.specs.Items.{Completes, HasNext, IsItem, first_item}
-use Rattle.vob_tables.specs.Lookaheads.{HasMove, HasNextThen, LooksAhead, Machine, Reduces}
+use Rattle.vob_tables.specs.Lookaheads.{HasMove, HasNextThen, LooksAhead, Machine}
 use Rattle.vob_tables.specs.Lookaheads.LooksAhead.{begins, passes, keeps}
-use Rattle.vob_tables.specs.Parses.{Config, IsAccepted, IsReached, IsReplaced, IsTaken, Steps, action_in, beginning, replaced, shifted, top}
+use Rattle.vob_tables.specs.Parses.{Config, IsAccepted, IsReached, IsReplaced, Steps, beginning, replaced, shifted, top}
 use Rattle.vob_tables.specs.Parses.IsReached.{begins as start_reached, then_steps}
 use Rattle.vob_tables.specs.States.{AreStates}
 use Rattle.vob_flow.specs.Draws.{IsIn}
@@ -25,11 +23,9 @@ use Rattle.vob_tables.specs.declared.grammar.Symbol.{Symbol}
 use Rattle.vob_tables.specs.declared.grammar.Symbol.TheVariants.{Terminal, Nonterminal}
 use Rattle.vob_tables.specs.declared.items.Item.{Item}
 use Rattle.vob_tables.specs.declared.state.Move.{Move}
-use Rattle.vob_tables.specs.declared.table.Action.{Action}
 use Rattle.vob_tables.specs.declared.table.Action.TheVariants.{Reduce, Shift}
 use Rattle.vob_tables.proofs.EmptyLemmas.{BecomesEmpty-append}
 use Rattle.vob_tables.proofs.FirstLemmas.{BeginsWith-append}
-use Rattle.vob_tables.proofs.ItemLemmas.{next_item}
 use Rattle.vob_tables.proofs.MemberLemmas.{member_advances, member_closed}
 use Rattle.vob.proofs.BitsLemmas.{row_inside}
 

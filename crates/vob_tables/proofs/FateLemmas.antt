@@ -1,10 +1,10 @@
 -- A parser takes one way.
-use Rattle.std.proofs.Common.{◌≡◌, ℕ, ◌<◌, ◌≤◌, ◌⊎◌, inl, inr, List, [], length, get_or, drop, reverse, Some, slice_get, refl, sym, ap, ◌∙◌, subst, arith}
+use Rattle.std.proofs.Common.{◌≡◌, ℕ, ◌≤◌, ◌⊎◌, inl, inr, List, [], length, get_or, drop, reverse, Some, refl, sym, ap, ◌∙◌, subst, arith}
 use Rattle.std.proofs.lemmas.List.{length-reverse, reverse-reverse}
 use Rattle.std.proofs.lemmas.Option.{get_or_from_slice_get, same_Some, slice_get-get_or}
 use Rattle.vob_tables.specs.Becoming.{ParsesAreFound}
 use Rattle.vob_tables.specs.Lookaheads.{HasMove, Machine}
-use Rattle.vob_tables.specs.Parses.{Config, IsAccepted, IsReached, IsReplaced, IsTaken, Steps, action_in, beginning, replaced, shifted, top}
+use Rattle.vob_tables.specs.Parses.{Config, IsAccepted, IsReached, IsTaken, Steps, beginning, replaced, top}
 use Rattle.vob_tables.specs.Parses.IsReached.{begins, then_steps}
 use Rattle.vob_tables.specs.States.{AreStates}
 use Rattle.vob_tables.specs.Stops.{IsTooLong, IsUnexpected}
