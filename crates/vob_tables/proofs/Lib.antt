@@ -4,6 +4,7 @@ mod ClosureLemmas
 mod CompleteLemmas
 mod ConflictLemmas
 mod DerivationLemmas
+mod DoneLemmas
 mod EmptyLemmas
 mod EquationLemmas
 mod FateLemmas

@@ -1,13 +1,16 @@
 -- What symbols become by rules, as a parser finds it.
-use Rattle.std.specs.Prelude.{◌≡◌, ℕ, List, [], ◌∷◌, ◌++◌, ◌≤◌, length, slice_get, Some}
+use Rattle.std.specs.Prelude.{◌≡◌, ℕ, List, [], ◌∷◌, ◌++◌, ◌≤◌, length, slice_get, slice_index_or, All, None, Option, Some}
+use Rattle.vob_tables.specs.Conflicts.{AreConflicts}
 use Rattle.vob_tables.specs.Derivations.{IsParse}
+use Rattle.vob_tables.specs.Faults.{IsRuleOf}
 use Rattle.vob_tables.specs.Lookaheads.{HasMove, Machine, Reduces}
 use Rattle.vob_tables.specs.States.{AreStates}
 use Rattle.vob_tables.specs.Stops.{IsTooLong, IsUnexpected}
-use Rattle.vob_tables.specs.Tables.{TableView, action_at}
+use Rattle.vob_tables.specs.Tables.{AreRowsOfCells, TableView, action_at}
 use Rattle.vob_tables.specs.declared.grammar.Rule.{Rule}
 use Rattle.vob_tables.specs.declared.grammar.Symbol.{Symbol}
 use Rattle.vob_tables.specs.declared.grammar.Symbol.TheVariants.{Terminal, Nonterminal}
+use Rattle.vob_tables.specs.declared.symbols.Precedence.{Precedence}
 use Rattle.vob_tables.specs.declared.table.Action.TheVariants.{Reduce, Shift}
 use Rattle.vob_tables.specs.declared.table.Cell.{Cell}
 
@@ -25,6 +28,14 @@ pub data Becomes (rules : List Rule) : List Symbol → List ℕ → List ℕ →
 pub record AreDone (m : Machine) (cells : List (List Cell)) : Type 0 where
   pub shifts : (q t p : ℕ) → HasMove m.moves q (Terminal t) p → action_at cells q t ≡ Some (Shift p)
   pub reduces : (q t r : ℕ) → Reduces m q t r → action_at cells q t ≡ Some (Reduce r)
+
+-- the table of a grammar without precedences says all that a parser may do, if it has no conflict
+abbrev pub TablesDoAll : Type 0
+TablesDoAll = (m : Machine) (terminals rules : List (Option Precedence)) (cells : List (List Cell)) →
+    AreStates m.grammar.rules.items m.sets m.moves →
+    All (IsRuleOf m.grammar) m.grammar.rules.items →
+    AreRowsOfCells m terminals rules (length m.sets) cells →
+    ((r : ℕ) → slice_index_or rules r None ≡ None) → AreConflicts cells [] → AreDone m cells
 
 -- a parser by such a table finds each parse: it isn't stuck, and needs no more reductions
 abbrev pub ParsesAreFound : Type 0

@@ -1,6 +1,6 @@
 //! What the sets of a grammar mean by derivations, and which item stands behind another. Each
 //! function does nothing: its contract is the law.
-ghost use Rattle.vob_tables.specs.Becoming.{ParsesAreFound};
+ghost use Rattle.vob_tables.specs.Becoming.{ParsesAreFound, TablesDoAll};
 ghost use Rattle.vob_tables.specs.Derivations.{BeginningIsDerived, EmptyIsDerived, FollowingIsDerived, RightmostIsDerived};
 ghost use Rattle.vob_tables.specs.Items.{NextItemIsBehind};
 
@@ -38,4 +38,10 @@ pub fn rightmost_is_derived()
 /// refused, but for memory or too few reductions. So `parse` accepts what the grammar derives.
 pub fn parses_are_found()
     ensures { ParsesAreFound }
+{}
+
+/// The table of a grammar without precedences, whose rules name its symbols alone, says all that a
+/// parser may do if it has no conflict.
+pub fn tables_do_all()
+    ensures { TablesDoAll }
 {}
