@@ -8,6 +8,7 @@ mod growth;
 mod lines;
 mod live;
 mod made;
+mod parses;
 mod runs;
 mod sets;
 mod support;

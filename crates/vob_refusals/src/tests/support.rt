@@ -10,7 +10,7 @@ use vob_block::Block;
 /// How many requests are made before those of a test, where the first of these are refused:
 /// `tools/refuse` refuses the next four in turn. A test whose calls make more requests is there
 /// more often, each time after four fewer.
-pub const FIRST: usize = 24;
+pub const FIRST: usize = 70;
 
 /// Makes `times` requests for memory, before those of a test.
 pub fn request(rt: &(impl Abort + AllocGlobal), times: usize) {
