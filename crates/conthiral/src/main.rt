@@ -2,7 +2,9 @@
 #![tactic(auto)]
 
 mod analysis;
+mod closure;
 mod command;
+mod comparing;
 mod condition;
 mod effects;
 mod fault;
@@ -12,7 +14,9 @@ mod grammar;
 mod graph;
 mod names;
 mod put;
+mod reduction;
 mod run;
+mod table;
 mod words;
 
 use std::process::ExitCode;
