@@ -1,8 +1,10 @@
 //! The words of the command line.
 
 use crate::analysis::{ANALYSES, Analysis};
+use crate::closure::Part;
 use crate::fault::Fault;
 use crate::filter::Shows;
+use clap::builder::ValueParser;
 use clap::{Arg, ArgAction, ArgMatches, Command};
 use std::alloc::{AllocError, Global};
 
@@ -18,6 +20,19 @@ rule that comes first, as in bison.
 
 Example:
   echo 'NUMBER - NUMBER' | ./conthiral parse examples/grammars/minus.y";
+
+/// What the help of `closure` says of its input and of --reduce.
+const CLOSURE_HELP: &str = "\
+A line `a b` is an edge from a to b. Words that begin with # begin a comment.
+An edge of the closure stands for a path of one edge or more.
+
+With --reduce a graph without cycles keeps the edges that no longer path stands
+for. Nodes that lead to one another are joined by one cycle, in the order in
+which the file first names them. Between such groups an edge joins the nodes
+that are named first.
+
+Example:
+  ./conthiral closure --from curl examples/edges.txt";
 
 /// What the help of `flow` says of its input and of its output.
 const FLOW_HELP: &str = "\
@@ -46,6 +61,9 @@ one; then each cell of its column must be a number or empty.
 An empty cell is missing, and so is each comparison with it, as in SQL: a row
 is kept if the condition is true, and not if it is false or missing.
 
+Pages have 20 rows of those that are kept, and are counted from 1. After the
+last one a page has no rows: its header is printed alone.
+
 Example:
   ./conthiral filter examples/cities.csv 'coastal = yes & population > 5000000'";
 
@@ -62,10 +80,10 @@ pub enum Task<'a> {
         file: &'a str,
         grammar: &'a str,
     },
-    /// The closure of a graph, or what one of its nodes leads to.
+    /// A part of the closure of a graph.
     Closure {
         file: &'a str,
-        from: Option<&'a str>,
+        part: Part<'a>,
     },
     /// An analysis of a flow graph.
     Flow {
@@ -135,14 +153,18 @@ fn closure_command<'a>(alloc: Global) -> Result<Command<'a>, AllocError> {
     let from = Arg::new(alloc, "from")
         .long("from")
         .value_name("NODE")
-        .help("Print the nodes to which NODE leads, one a line");
+        .help("Print the nodes to which NODE leads, one a line")
+        .conflicts_with("reduce")?;
+    let reduce = flag(
+        alloc,
+        "reduce",
+        "Print the fewest edges that have the same closure",
+    );
     Command::new(alloc, "closure")
         .about("Print the edges of the closure of a graph")
-        .after_help(
-            "A line `a b` is an edge from a to b. Words that begin with # begin a comment.\n\n\
-            Example:\n  ./conthiral closure --from curl examples/edges.txt",
-        )
+        .after_help(CLOSURE_HELP)
         .arg(from)?
+        .arg(reduce)?
         .arg(file)
 }
 
@@ -179,13 +201,31 @@ fn filter_command<'a>(alloc: Global) -> Result<Command<'a>, AllocError> {
         "quiet",
         "Print nothing; the status is 1 if no row is kept",
     );
+    let page = Arg::new(alloc, "page")
+        .long("page")
+        .value_name("K")
+        .value_parser(ValueParser::unsigned(1, u64::MAX))
+        .help("Print the K-th page of the rows that are kept")
+        .conflicts_with_all(&["count", "quiet"])?;
     Command::new(alloc, "filter")
         .about("Print the rows of a table of which a condition is true")
         .after_help(FILTER_HELP)
         .arg(count)?
         .arg(quiet)?
+        .arg(page)?
         .arg(file)?
         .arg(condition)
+}
+
+/// Returns what of a closure is to be printed.
+fn part_of<'a>(matches: &ArgMatches<'a>) -> Part<'a> {
+    if matches.get_flag("reduce") {
+        return Part::Fewest;
+    }
+    match matches.get_str("from") {
+        Some(from) => Part::From(from),
+        None => Part::Edges,
+    }
 }
 
 /// Returns what a filter is to print.
@@ -195,7 +235,15 @@ fn shows_of(matches: &ArgMatches<'_>) -> Shows {
     } else if matches.get_flag("count") {
         Shows::Count
     } else {
-        Shows::Rows
+        page_of(matches)
+    }
+}
+
+/// Returns which page is to be printed, or all rows.
+fn page_of(matches: &ArgMatches<'_>) -> Shows {
+    match matches.get_one::<usize>("page") {
+        Some(page) => Shows::Page(page),
+        None => Shows::Rows,
     }
 }
 
@@ -228,7 +276,7 @@ pub fn task_of<'a>(matches: &ArgMatches<'a>) -> Option<Task<'a>> {
         }),
         "closure" => Some(Task::Closure {
             file,
-            from: own.get_str("from"),
+            part: part_of(own),
         }),
         "flow" => Some(Task::Flow {
             file,

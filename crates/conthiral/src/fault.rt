@@ -134,6 +134,8 @@ impl From<LiveError> for Fault {
 impl From<csv::Error> for Fault {
     fn from(error: csv::Error) -> Fault {
         match error.into_kind() {
+            csv::ErrorKind::Io(error) if error.kind() == io::ErrorKind::OutOfMemory =>
+                Fault::Memory,
             csv::ErrorKind::Io(error) => Fault::Output(error),
             csv::ErrorKind::UnequalLengths { .. } => Fault::Columns,
             _ => Fault::Memory,

@@ -1,207 +1,42 @@
 //! The rows of a table that a condition is true of.
+ghost use Rattle.std.specs.Prelude.{◌≡◌, ◌<◌, ◌++◌, length, map, All, IfOk, OnOk};
+ghost use Rattle.std.specs.Io.KnownBytes.{Appends};
+ghost use Rattle.csv.specs.Records.{fields_of};
+ghost use Rattle.csv.specs.Writing.{text_written};
+ghost use Rattle.vob_users.specs.Filter.{AreRows};
+ghost use Rattle.conthiral.specs.Printed.{members};
+ghost use Rattle.conthiral.specs.FilterText.{IsReady, paged, row_line, rows_text, true_rows};
 
-use crate::condition::{Comparison, Condition, Relation, read_condition};
+use crate::comparing::Test;
+use crate::condition::{Condition, read_condition};
 use crate::fault::Fault;
-use csv::{ByteRecord, ErrorKind, Position, ReaderBuilder, Writer, WriterBuilder};
+use crate::table::Table;
+use csv::{ByteRecord, Writer, WriterBuilder};
 use std::alloc::{AllocError, Global};
-use std::cmp::Ordering;
 use std::io::Write;
 use vob::Vob;
 use vob_users::column::Column;
-use vob_users::filter::{are_rows, select};
+use vob_users::filter::{Expression, are_rows, count, select};
+use vob_users::rows;
+use vob_users::rows::kept_rows;
+
+/// How many rows a page has.
+pub const PAGE_ROWS: usize = 20;
+
+/// How many rows are written at once.
+const PART_ROWS: usize = 1024;
 
 /// What a filter prints.
 #[derive(Clone, Copy, PartialEq, Eq)]
 pub enum Shows {
     /// The header and the rows that are kept.
     Rows,
+    /// The header and the rows of a page, counted from 1, of those that are kept.
+    Page(usize),
     /// The number of rows that are kept.
     Count,
     /// Nothing: the status says whether a row is kept.
     Nothing,
-}
-
-/// A table: its text, its header, and the rows below it.
-#[derive(Drop)]
-struct Table<'a> {
-    text: &'a [u8],
-    header: ByteRecord,
-    rows: Vec<ByteRecord>,
-}
-
-/// A number, exact if it is an integer of 64 bits.
-#[derive(Clone, Copy)]
-struct Number {
-    integer: Option<i64>,
-    float: f64,
-}
-
-/// Returns whether a byte can stand in a number.
-fn is_numeric(byte: u8) -> bool {
-    byte.is_ascii_digit() || b"+-.eE".contains(&byte)
-}
-
-/// Returns the number that a text is, if it is one.
-fn number_of(text: &[u8]) -> Option<Number> {
-    if !text.iter().all(|byte| is_numeric(*byte)) {
-        return None;
-    }
-    let text = str::from_utf8(text).ok()?;
-    let float = text.parse::<f64>().ok()?;
-    Some(Number {
-        integer: text.parse::<i64>().ok(),
-        float,
-    })
-}
-
-/// Returns the order of two numbers.
-fn order(first: Number, second: Number) -> Option<Ordering> {
-    if let Some(integer) = first.integer {
-        if let Some(other) = second.integer {
-            return Some(integer.cmp(&other));
-        }
-    }
-    first.float.partial_cmp(&second.float)
-}
-
-/// Returns the line of a row that is read from a position on. Blank lines before the row are passed
-/// over.
-fn line_at(text: &[u8], position: Option<Position>) -> u64 {
-    let Some(position) = position else {
-        return 0;
-    };
-    let mut line = position.line();
-    let start = usize::try_from(position.byte()).unwrap_or(text.len());
-    for byte in text.get(start..).unwrap_or_default() {
-        match *byte {
-            b'\n' => line = line.saturating_add(1),
-            b'\r' => {}
-            _ => break,
-        }
-    }
-    line
-}
-
-/// Returns the fault of a table that can't be read.
-fn no_table(text: &[u8], error: csv::Error) -> Fault {
-    match error.into_kind() {
-        ErrorKind::Io(error) => Fault::Input(error),
-        ErrorKind::UnequalLengths {
-            pos,
-            expected_len,
-            len,
-        } => Fault::Row {
-            line: line_at(text, pos),
-            cells: len,
-            header: expected_len,
-        },
-        _ => Fault::Memory,
-    }
-}
-
-/// Returns a text without the mark of UTF-8 that it may begin with.
-fn without_mark(text: &[u8]) -> &[u8] {
-    if text.starts_with(b"\xef\xbb\xbf") {
-        text.get(3..).unwrap_or_default()
-    } else {
-        text
-    }
-}
-
-impl<'a> Table<'a> {
-    /// Reads a table. Fails at the first row that has more cells than the header, or fewer.
-    fn read(alloc: Global, text: &'a [u8]) -> Result<Table<'a>, Fault> {
-        let text = without_mark(text);
-        let mut reader = ReaderBuilder::new()
-            .has_headers(false)
-            .from_reader(alloc, text);
-        let mut header = ByteRecord::new(alloc);
-        let found = match reader.read_byte_record(&mut header) {
-            Ok(found) => found,
-            Err(error) => return Err(no_table(text, error)),
-        };
-        if !found {
-            return Err(Fault::Line {
-                line: 1,
-                column: 1,
-                expected: "a header",
-            });
-        }
-        let mut rows = Vec::new(alloc);
-        for row in reader.into_byte_records() {
-            match row {
-                Ok(row) => rows.push(row)?,
-                Err(error) => return Err(no_table(text, error)),
-            }
-        }
-        Ok(Table { text, header, rows })
-    }
-
-    /// Returns the place of the column with a name.
-    fn place(&self, comparison: &Comparison<'_>) -> Result<usize, Fault> {
-        for place in 0..self.header.len() {
-            if self.header.get(place) == Some(comparison.column) {
-                return Ok(place);
-            }
-        }
-        Err(Fault::Condition {
-            column: comparison.column_at,
-            expected: "the name of a column",
-        })
-    }
-}
-
-/// A comparison of one column of a table.
-#[derive(Clone, Copy)]
-struct Test<'a> {
-    place: usize,
-    relation: Relation,
-    text: &'a [u8],
-    number: Option<Number>,
-}
-
-impl<'a> Test<'a> {
-    /// Finds the column of a comparison. A value is a number if it reads as one and isn't quoted.
-    fn new(table: &Table<'_>, comparison: &Comparison<'a>) -> Result<Test<'a>, Fault> {
-        let number = if comparison.is_quoted {
-            None
-        } else {
-            number_of(comparison.value)
-        };
-        Ok(Test {
-            place: table.place(comparison)?,
-            relation: comparison.relation,
-            text: comparison.value,
-            number,
-        })
-    }
-
-    /// Returns whether the comparison holds of a cell, or `None` if the cell should be a number and
-    /// isn't.
-    fn holds(&self, cell: &[u8]) -> Option<bool> {
-        let order = match self.number {
-            Some(number) => order(number_of(cell)?, number),
-            None => Some(cell.cmp(self.text)),
-        };
-        Some(self.relation.holds(order))
-    }
-
-    /// Returns what the comparison is in a row: missing if the cell is empty. Fails if the cell
-    /// should be a number and isn't.
-    fn value(
-        &self,
-        alloc: Global,
-        table: &Table<'_>,
-        row: &ByteRecord,
-    ) -> Result<Option<bool>, Fault> {
-        match row.get(self.place) {
-            None | Some(b"") => Ok(None),
-            Some(cell) => match self.holds(cell) {
-                Some(value) => Ok(Some(value)),
-                None => Err(no_number(alloc, table, self.place, row)?),
-            },
-        }
-    }
 }
 
 /// Makes the column of what a comparison is in each row.
@@ -214,20 +49,6 @@ fn column_of(alloc: Global, table: &Table<'_>, test: &Test<'_>) -> Result<Column
         }
     }
     Ok(column)
-}
-
-/// Returns the fault of a cell that isn't a number.
-fn no_number(
-    alloc: Global,
-    table: &Table<'_>,
-    place: usize,
-    row: &ByteRecord,
-) -> Result<Fault, AllocError> {
-    let name = table.header.get(place).unwrap_or_default();
-    Ok(Fault::Cell {
-        line: line_at(table.text, row.position()),
-        name: String::from_utf8_lossy(alloc, name)?,
-    })
 }
 
 /// Makes the columns of the comparisons of a condition.
@@ -244,42 +65,166 @@ fn columns_of(
     Ok(columns)
 }
 
-/// Returns the rows of which a condition is true: neither false nor missing.
-fn kept_rows(alloc: Global, table: &Table<'_>, condition: &Condition<'_>) -> Result<Vob, Fault> {
-    let columns = columns_of(alloc, table, condition)?;
-    let rows = table.rows.len();
-    if !are_rows(&columns, rows) {
-        return Err(Fault::Columns);
-    }
-    Ok(select(alloc, &condition.expression, &columns, rows)?)
-}
-
-/// Writes some rows of a table.
-fn put_rows<W: Write + Drop>(
-    writer: &mut Writer<W>,
-    table: &Table<'_>,
-    kept: &Vob,
-) -> Result<(), Fault> {
-    for number in kept.iter_set_bits(..) {
-        if let Some(row) = table.rows.get(number) {
-            writer.write_byte_record(row)?;
+/// Returns the numbers of the rows of a page, counted from 1, of those that are kept, or of all.
+fn numbers_of(alloc: Global, kept: &Vob, page: Option<usize>) -> Result<Vec<usize>, AllocError>
+    ensures { IfOk result (λ numbers. numbers.items ≡ paged page (members kept.now.bits)) }
+{
+    match page {
+        None => kept_rows(alloc, kept),
+        Some(number) => {
+            let before = number.saturating_sub(1).saturating_mul(PAGE_ROWS);
+            let skip = before.min(kept.len());
+            rows::page(alloc, kept, skip, PAGE_ROWS)
         }
     }
+}
+
+/// Writes the rows with some numbers.
+fn put_rows<W: Write + Drop>(
+    writer: &mut Writer<W>,
+    rows: &[ByteRecord],
+    numbers: &[usize],
+) -> Result<(), Fault>
+    requires numbers { All (λ number. number < length rows.now) numbers.now }
+    requires ready { IsReady writer.old }
+    ensures { OnOk result (Appends (text_written W.contents writer.old)
+        (text_written W.contents writer.new)
+        (rows_text (map fields_of rows.now) numbers.now)) }
+{
+    for number in numbers {
+        writer.write_byte_record(&rows[*number])?;
+    }
     Ok(())
 }
 
-/// Writes the header of a table and some of its rows.
-fn put_table<W: Write>(output: &mut W, table: &Table<'_>, kept: &Vob) -> Result<(), Fault> {
-    let mut writer = WriterBuilder::new().from_writer(output);
-    writer.write_byte_record(&table.header)?;
-    put_rows(&mut writer, table, kept)?;
-    writer.flush()?;
+/// Returns the lines of the rows with some numbers.
+fn lines_of(alloc: Global, rows: &[ByteRecord], numbers: &[usize]) -> Result<Vec<u8>, Fault>
+    requires { All (λ number. number < length rows.now) numbers.now }
+    ensures { IfOk result (λ text. text.items ≡ rows_text (map fields_of rows.now) numbers.now) }
+{
+    let mut writer = WriterBuilder::new().from_writer(Vec::new(alloc));
+    put_rows(&mut writer, rows, numbers)?;
+    match writer.into_inner() {
+        Ok(text) => Ok(text),
+        Err(error) => Err(Fault::from(error.into_error())),
+    }
+}
+
+/// Returns the line of a header.
+fn header_line(alloc: Global, header: &ByteRecord) -> Result<Vec<u8>, Fault>
+    ensures { IfOk result (λ text. text.items ≡ row_line (fields_of header.now)) }
+{
+    let mut writer = WriterBuilder::new().from_writer(Vec::new(alloc));
+    writer.write_byte_record(header)?;
+    match writer.into_inner() {
+        Ok(text) => Ok(text),
+        Err(error) => Err(Fault::from(error.into_error())),
+    }
+}
+
+/// Writes the lines of the rows with some numbers, a part of them at once.
+fn put_lines<W: Write>(
+    alloc: Global,
+    rows: &[ByteRecord],
+    numbers: &[usize],
+    output: &mut W,
+) -> Result<(), Fault>
+    requires { All (λ number. number < length rows.now) numbers.now }
+    ensures { OnOk result (Appends (W.contents output.old) (W.contents output.new)
+        (rows_text (map fields_of rows.now) numbers.now)) }
+{
+    let mut rest = numbers;
+    while !rest.is_empty() {
+        let (part, after) = rest.split_at(rest.len().min(PART_ROWS));
+        output.write_all(&lines_of(alloc, rows, part)?)?;
+        rest = after;
+    }
     Ok(())
 }
 
-/// Writes the rows of a table of which a condition is true. An empty cell is missing, and so is
-/// each comparison with it. Returns the status: 1 if nothing is to be shown and no row is kept,
-/// else 0.
+/// Writes the header of a table and the rows with some numbers.
+fn put_table<W: Write>(
+    alloc: Global,
+    table: &Table<'_>,
+    numbers: &[usize],
+    output: &mut W,
+) -> Result<(), Fault>
+    requires { All (λ number. number < length table.now.rows.items) numbers.now }
+    ensures { OnOk result (Appends (W.contents output.old) (W.contents output.new)
+        (row_line (fields_of table.now.header)
+        ++ rows_text (map fields_of table.now.rows.items) numbers.now)) }
+{
+    output.write_all(&header_line(alloc, &table.header)?)?;
+    put_lines(alloc, &table.rows, numbers, output)
+}
+
+/// Writes the header of a table and the rows of which a condition is true, or a page of them.
+fn put_kept<W: Write>(
+    alloc: Global,
+    table: &Table<'_>,
+    kept: &Vob,
+    page: Option<usize>,
+    output: &mut W,
+) -> Result<(), Fault>
+    requires { length kept.now.bits ≡ length table.now.rows.items }
+    ensures { OnOk result (Appends (W.contents output.old) (W.contents output.new)
+        (row_line (fields_of table.now.header)
+        ++ rows_text (map fields_of table.now.rows.items) (paged page (members kept.now.bits)))) }
+{
+    let numbers = numbers_of(alloc, kept, page)?;
+    put_table(alloc, table, &numbers, output)
+}
+
+/// Writes the header of a table and the rows of which a condition is true, or a page of them. The
+/// columns say what each comparison is in each row.
+fn put_true_rows<W: Write>(
+    alloc: Global,
+    table: &Table<'_>,
+    expression: &Expression,
+    columns: &[Column],
+    page: Option<usize>,
+    output: &mut W,
+) -> Result<(), Fault>
+    requires { AreRows (length table.now.rows.items) columns.now }
+    ensures { OnOk result (Appends (W.contents output.old) (W.contents output.new)
+        (row_line (fields_of table.now.header) ++ rows_text (map fields_of table.now.rows.items)
+        (paged page (true_rows expression.now columns.now (length table.now.rows.items))))) }
+{
+    let kept = select(alloc, expression, columns, table.rows.len())?;
+    put_kept(alloc, table, &kept, page, output)
+}
+
+/// Writes what is asked for of the rows of which a condition is true. Returns the status.
+fn put_shown<W: Write>(
+    alloc: Global,
+    table: &Table<'_>,
+    expression: &Expression,
+    columns: &[Column],
+    shows: Shows,
+    output: &mut W,
+) -> Result<u8, Fault>
+    requires { AreRows (length table.now.rows.items) columns.now }
+{
+    match shows {
+        Shows::Rows => put_true_rows(alloc, table, expression, columns, None, output)?,
+        Shows::Page(page) => {
+            put_true_rows(alloc, table, expression, columns, Some(page), output)?;
+        }
+        Shows::Count => {
+            let count = count(alloc, expression, columns, table.rows.len())?;
+            writeln!(output, "{count}")?;
+        }
+        Shows::Nothing => {
+            let count = count(alloc, expression, columns, table.rows.len())?;
+            return Ok(if count > 0 { 0 } else { 1 });
+        }
+    }
+    Ok(0)
+}
+
+/// Writes the rows of a table of which a condition is true, or a page of them. An empty cell is
+/// missing, and so is each comparison with it. Returns the status: 1 if nothing is to be shown and
+/// no row is kept, else 0.
 ///
 /// Fails if the text is no table, if the condition can't be read or names no column, or at the
 /// first cell that should be a number. Nothing is written then.
@@ -292,14 +237,16 @@ pub fn print_filter<W: Write>(
 ) -> Result<u8, Fault> {
     let condition = read_condition(alloc, condition)?;
     let table = Table::read(alloc, text)?;
-    let kept = kept_rows(alloc, &table, &condition)?;
-    match shows {
-        Shows::Rows => put_table(output, &table, &kept)?,
-        Shows::Count => {
-            let count = kept.count_ones();
-            writeln!(output, "{count}")?;
-        }
-        Shows::Nothing => return Ok(if kept.any() { 0 } else { 1 }),
+    let columns = columns_of(alloc, &table, &condition)?;
+    if !are_rows(&columns, table.rows.len()) {
+        return Err(Fault::Columns);
     }
-    Ok(0)
+    put_shown(
+        alloc,
+        &table,
+        &condition.expression,
+        &columns,
+        shows,
+        output,
+    )
 }

@@ -1,21 +1,16 @@
-//! The closure of a graph whose edges stand in a text, one a line.
+//! Graphs whose edges stand in a text, one a line.
 ghost use Rattle.std.specs.Prelude.{◌↔◌, ◌<◌, All, IsTrue};
 
 use crate::fault::Fault;
 use crate::names::Names;
-use crate::put::{put_name, put_next};
 use crate::words::{Word, words_of};
 use std::alloc::{AllocError, Global};
-use std::io;
-use std::io::Write;
-use vob::Vob;
-use vob_flow::{closure, reach};
 
 /// A graph: the names of its nodes, and the nodes to which edges lead from each.
 #[derive(Drop)]
-struct Graph<'a> {
-    names: Names<'a>,
-    next: Vec<Vec<usize>>,
+pub struct Graph<'a> {
+    pub names: Names<'a>,
+    pub next: Vec<Vec<usize>>,
 }
 
 /// A graph as it is read: the first name of the edge at hand, and the line of the last edge.
@@ -80,7 +75,7 @@ impl<'a> Reader<'a> {
 }
 
 /// Reads a graph: two names a line, the nodes from which and to which an edge leads.
-fn read_graph(alloc: Global, text: &[u8]) -> Result<Graph<'_>, Fault> {
+pub fn read_graph(alloc: Global, text: &[u8]) -> Result<Graph<'_>, Fault> {
     let words = words_of(alloc, text, b"")?;
     let mut reader = Reader {
         graph: Graph {
@@ -99,80 +94,9 @@ fn read_graph(alloc: Global, text: &[u8]) -> Result<Graph<'_>, Fault> {
     }
 }
 
-/// Writes an edge from a node to each of some nodes, one a line.
-fn put_edges<W: Write>(
-    output: &mut W,
-    names: &Names<'_>,
-    from: usize,
-    nodes: &Vob,
-) -> io::Result<()> {
-    for node in nodes.iter_set_bits(..) {
-        put_name(output, names.name(from))?;
-        put_next(output, names.name(node))?;
-        output.write_all(b"\n")?;
-    }
-    Ok(())
-}
-
-/// Writes the edges of the closure.
-fn put_closure<W: Write>(output: &mut W, names: &Names<'_>, sets: &[Vob]) -> io::Result<()> {
-    for (from, nodes) in sets.iter().enumerate() {
-        put_edges(output, names, from, nodes)?;
-    }
-    Ok(())
-}
-
-/// Writes the names of some nodes, one a line.
-fn put_nodes<W: Write>(output: &mut W, names: &Names<'_>, nodes: &Vob) -> io::Result<()> {
-    for node in nodes.iter_set_bits(..) {
-        put_name(output, names.name(node))?;
-        output.write_all(b"\n")?;
-    }
-    Ok(())
-}
-
 /// Whether all numbers are below `end`.
 pub fn all_below(numbers: &[usize], end: usize) -> bool
     ensures { IsTrue result ↔ All (λ number. number < end) numbers.now }
 {
     numbers.iter().all(|number| *number < end)
-}
-
-/// Returns the nodes to which a path of one edge or more leads from the node with a name.
-fn nodes_from(alloc: Global, graph: &Graph<'_>, from: &str) -> Result<Vob, Fault> {
-    let next = match graph.names.find(from.as_bytes()) {
-        Some(node) => graph.next.get(node),
-        None => None,
-    };
-    match next {
-        Some(nodes) if all_below(nodes, graph.next.len()) => {
-            Ok(reach(alloc, &graph.next, nodes)?)
-        }
-        _ => Err(Fault::Name(String::from_str(alloc, from)?)),
-    }
-}
-
-/// Writes the edges of the closure of a graph, or the nodes to which one of its nodes leads. An
-/// edge of the closure stands for a path of one edge or more. Returns the status.
-///
-/// Fails at the first line that isn't an edge, or if the graph has no node with the name. Nothing
-/// is written then.
-pub fn print_closure<W: Write>(
-    alloc: Global,
-    text: &[u8],
-    from: Option<&str>,
-    output: &mut W,
-) -> Result<u8, Fault> {
-    let graph = read_graph(alloc, text)?;
-    match from {
-        Some(from) => {
-            let nodes = nodes_from(alloc, &graph, from)?;
-            put_nodes(output, &graph.names, &nodes)?;
-        }
-        None => {
-            let sets = closure(alloc, &graph.next)?;
-            put_closure(output, &graph.names, &sets)?;
-        }
-    }
-    Ok(0)
 }

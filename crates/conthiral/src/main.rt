@@ -2,7 +2,9 @@
 #![tactic(auto)]
 
 mod analysis;
+mod closure;
 mod command;
+mod comparing;
 mod condition;
 mod effects;
 mod fault;
@@ -13,7 +15,9 @@ mod graph;
 mod names;
 mod parse;
 mod put;
+mod reduction;
 mod run;
+mod table;
 mod words;
 
 use std::process::ExitCode;

@@ -1,11 +1,11 @@
 //! A run of the program: words, input, output and status.
 
 use crate::analysis::print_flow;
+use crate::closure::print_closure;
 use crate::command::{STANDARD_INPUT, Task, command, task_of};
 use crate::fault::{Fault, Report};
 use crate::filter::print_filter;
 use crate::grammar::print_grammar;
-use crate::graph::print_closure;
 use crate::parse::print_parse;
 use std::io::{BufWriter, Read, Write};
 use std::process::ExitCode;
@@ -36,7 +36,7 @@ fn perform<R: Files + Input + Print + AllocGlobal>(rt: &R, task: &Task<'_>) -> R
             let grammar = fs::read(rt, grammar).map_err(Fault::GrammarInput)?;
             print_parse(alloc, &grammar, &text, &mut output)?
         }
-        Task::Closure { from, .. } => print_closure(alloc, &text, *from, &mut output)?,
+        Task::Closure { part, .. } => print_closure(alloc, &text, *part, &mut output)?,
         Task::Flow { analysis, .. } => print_flow(alloc, &text, *analysis, &mut output)?,
         Task::Filter {
             condition,
