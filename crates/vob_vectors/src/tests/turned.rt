@@ -39,17 +39,28 @@ fn rotated(rt: &(impl Abort + AllocGlobal), len: usize, by: usize) -> Vec<bool> 
     })
 }
 
-/// Rotates both ways by `n`, which is `by` modulo the length.
-fn check_rotated<T: Block>(rt: &(impl Abort + AllocGlobal), len: usize, n: usize, by: usize) {
+/// Rotates to the left by `n`, which is `by` modulo the length.
+fn check_left<T: Block>(rt: &(impl Abort + AllocGlobal), len: usize, n: usize, by: usize) {
     let mut vob = pattern::<T>(rt, 1, len);
     let room = vob.capacity();
     vob.rotate_left(n);
-    check_list(rt, &vob, &rotated(rt, len, by));
     same(rt, "the capacity", len, vob.capacity(), room);
-    vob.rotate_right(n);
-    check_list(rt, &vob, &pattern_list(rt, 1, 0, len));
+    check_list(rt, &vob, &rotated(rt, len, by));
+}
+
+/// Rotates to the right by `n`, which is `by` modulo the length, and back.
+fn check_right<T: Block>(rt: &(impl Abort + AllocGlobal), len: usize, n: usize, by: usize) {
+    let mut vob = pattern::<T>(rt, 1, len);
     vob.rotate_right(n);
     check_list(rt, &vob, &rotated(rt, len, len.saturating_sub(by)));
+    vob.rotate_left(n);
+    check_list(rt, &vob, &pattern_list(rt, 1, 0, len));
+}
+
+/// Both ways.
+fn check_rotated<T: Block>(rt: &(impl Abort + AllocGlobal), len: usize, n: usize, by: usize) {
+    check_left::<T>(rt, len, n, by);
+    check_right::<T>(rt, len, n, by);
 }
 
 fn check_rotations(rt: &(impl Abort + AllocGlobal), len: usize, n: usize) {
