@@ -1,7 +1,7 @@
 -- Sets of items: their closures, and what is left of them when the dot passes a symbol.
 use Rattle.std.specs.Prelude.{◌≡◌, ◌↔◌, ℕ, ◌+◌, Bool, true, List, length, slice_get, Some}
 use Rattle.vob_block.specs.Packing.{item}
-use Rattle.vob_tables.specs.Items.{HasNext, first_item, item_total}
+use Rattle.vob_tables.specs.Items.{Completes, HasNext, first_item, item_total}
 use Rattle.vob_tables.specs.declared.grammar.Rule.{Rule}
 use Rattle.vob_tables.specs.declared.grammar.Symbol.{Symbol}
 use Rattle.vob_tables.specs.declared.grammar.Symbol.TheVariants.{Nonterminal}
@@ -39,3 +39,7 @@ IsClosure rules set closure = IsItemSet rules (InClosure rules (Has set)) closur
 -- and the closure of its items whose dot passed symbol x
 abbrev pub IsGoto : List Rule → List Bool → Symbol → List Bool → Type 0
 IsGoto rules set x next = IsItemSet rules (InClosure rules (IsAdvanced rules set x)) next
+
+-- a set has the complete item of rule r
+abbrev pub HasComplete : List Rule → List Bool → ℕ → Type 0
+HasComplete rules set r = (i : ℕ) × Completes rules r i × Has set i

@@ -1,22 +1,15 @@
 -- The table of a parser: what it may do in each state when a terminal is ahead.
-use Rattle.std.specs.Prelude.{◌≡◌, ◌↔◌, ℕ, ◌<◌, Bool, List, [], ◌∷◌, length, slice_get, slice_index_or, map, All, None, Option, Some, Vec}
+use Rattle.std.specs.Prelude.{◌≡◌, ◌↔◌, ℕ, ◌<◌, List, [], ◌∷◌, length, slice_get, slice_index_or, map, All, None, Option, Some, Vec}
 use Rattle.std.specs.declared.alloc.Global.{Global}
-use Rattle.vob_tables.specs.ItemSets.{Has}
-use Rattle.vob_tables.specs.Items.{Completes}
 use Rattle.vob_tables.specs.Lookaheads.{HasMove, Machine, Reduces}
 use Rattle.vob_tables.specs.Precedences.{resolved, stays}
 use Rattle.vob_tables.specs.Those.{AreThose}
-use Rattle.vob_tables.specs.declared.grammar.Rule.{Rule}
 use Rattle.vob_tables.specs.declared.grammar.Symbol.TheVariants.{Terminal}
 use Rattle.vob_tables.specs.declared.precedence.Stays.{Stays}
 use Rattle.vob_tables.specs.declared.symbols.Precedence.{Precedence}
 use Rattle.vob_tables.specs.declared.table.Action.{Action}
 use Rattle.vob_tables.specs.declared.table.Action.TheVariants.{Reduce, Shift}
 use Rattle.vob_tables.specs.declared.table.Cell.{Cell}
-
--- a set has the complete item of rule r
-abbrev pub HasComplete : List Rule → List Bool → ℕ → Type 0
-HasComplete rules set r = (i : ℕ) × Completes rules r i × Has set i
 
 -- all that a parser may do in state q if terminal t is ahead: shift the terminal and enter a state,
 -- or reduce by some rules, the lower numbers first

@@ -266,8 +266,8 @@ impl Table<'_> {
     /// lowest rule.
     ///
     /// Fails with the index of the first token that no action takes, or the number of tokens if that
-    /// is the end; if there are more than `steps` reductions, as a grammar with a cycle may need
-    /// without end; or if memory runs out.
+    /// is the end. Fails if there are more than `steps` reductions: a grammar with a cycle may need
+    /// them without end. Fails if memory runs out.
     pub fn parse(
         &self,
         alloc: Global,

@@ -4,7 +4,8 @@ ghost use Rattle.vob.specs.Vobs.{bits_of};
 ghost use Rattle.vob_tables.specs.Items.{item_total};
 ghost use Rattle.vob_tables.specs.Lookaheads.{Reduces};
 ghost use Rattle.vob_tables.specs.Those.{AreThose};
-ghost use Rattle.vob_tables.specs.Tables.{AreCells, AreRowsOfCells, HasComplete, IsCell, cells_of};
+ghost use Rattle.vob_tables.specs.Tables.{AreCells, AreRowsOfCells, IsCell, cells_of};
+ghost use Rattle.vob_tables.specs.ItemSets.{HasComplete};
 
 use crate::grammar::Symbol;
 use crate::items::Items;

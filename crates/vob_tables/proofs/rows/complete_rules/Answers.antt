@@ -2,7 +2,7 @@
 use Rattle.std.proofs.Common.{◌≡◌, ◌∙◌, Some, ap, arith, false, length, slice_get, subst, sym, true}
 use Rattle.std.proofs.lemmas.Option.{get_or_from_slice_get, slice_get-get_or, slice_get_within}
 use Rattle.vob_tables.specs.ItemSets.{Has}
-use Rattle.vob_tables.specs.Tables.{HasComplete}
+use Rattle.vob_tables.specs.ItemSets.{HasComplete}
 use Rattle.std.proofs.lemmas.Bool.{false≢true}
 use Rattle.std.specs.Bool.{beq}
 use Rattle.std.specs.Option.{option_eq}

@@ -1,6 +1,6 @@
 -- The rules so far whose complete items the set has.
 use Rattle.vob_tables.specs.Those.{AreThose}
-use Rattle.vob_tables.specs.Tables.{HasComplete}
+use Rattle.vob_tables.specs.ItemSets.{HasComplete}
 use Rattle.vob_tables.proofs.TableLemmas.{Below}
 use Rattle.vob_tables.proofs.rows.complete_rules.Given as goal
 
