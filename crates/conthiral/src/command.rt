@@ -206,7 +206,8 @@ fn filter_command<'a>(alloc: Global) -> Result<Command<'a>, AllocError> {
         .value_name("K")
         .value_parser(ValueParser::unsigned(1, u64::MAX))
         .help("Print the K-th page of the rows that are kept")
-        .conflicts_with_all(&["count", "quiet"])?;
+        .conflicts_with("count")?
+        .conflicts_with("quiet")?;
     Command::new(alloc, "filter")
         .about("Print the rows of a table of which a condition is true")
         .after_help(FILTER_HELP)
