@@ -1,11 +1,8 @@
 //! Walks over two Vobs combined, from both ends: worked rows, and patterns against lists.
-ghost use Rattle.std.specs.Iterator.{IsFinite};
-ghost use Rattle.vob.specs.Vob.{HaveSameLength};
-
 use super::pointwise::{CALLS, Call, combined_bit};
 use super::support::{listed, pattern, pattern_bit, same, vob_of};
 use std::process::Abort;
-use vob::{End, IndexWalk, Vob, deal};
+use vob::{End, Vob, deal};
 use vob_block::Block;
 
 /// Pulls of which so many in three are at the back, and what they give of these indices.
@@ -14,61 +11,51 @@ fn pulls_at(
     backs: usize,
     indices: &[usize],
 ) -> (Vec<End>, Vec<Option<usize>>) {
-    let mut left = indices.iter();
+    let mut left = indices;
     let mut pulls = Vec::new(rt.alloc());
     let mut answers = Vec::new(rt.alloc());
     for turn in 0..indices.len().saturating_add(2) {
-        let end = if turn % 3 < backs {
-            End::Back
+        let (end, split) = if turn % 3 < backs {
+            (End::Back, left.split_last())
         } else {
-            End::Front
-        };
-        let index = match end {
-            End::Front => left.next(),
-            End::Back => left.next_back(),
+            (End::Front, left.split_first())
         };
         pulls.push(end).expect(rt, "memory");
-        answers.push(index.copied()).expect(rt, "memory");
+        answers
+            .push(split.map(|(index, _)| *index))
+            .expect(rt, "memory");
+        left = split.map(|(_, rest)| rest).unwrap_or(left);
     }
     (pulls, answers)
 }
 
-/// In turns 0 to 3 so many of three pulls at a walk are at the back; in turn 4 it is counted. It gives
-/// these indices.
-fn check_turn<W: IndexWalk + Iterator<Item = usize> + Drop>(
-    rt: &(impl Abort + AllocGlobal),
-    turn: usize,
-    mut walk: W,
-    wanted: &[usize],
-)
-    requires ends { W.can_next walk × IsFinite (W.remaining walk) }
-{
-    if turn == 4 {
-        same(rt, "the count", turn, walk.count(), wanted.len());
-        return;
-    }
-    let (pulls, answers) = pulls_at(rt, turn, wanted);
-    let mut found = Vec::new(rt.alloc());
-    deal(&mut walk, &pulls, &mut found).expect(rt, "memory");
-    same(rt, "pulls", turn, found.as_slice(), answers.as_slice());
-}
-
-/// A turn at the walk of a call.
-fn check_call<T: Block>(
+/// What pulls at the walk of a call over two Vobs of one length give.
+fn pulled<T: Block>(
     rt: &(impl Abort + AllocGlobal),
     call: Call,
-    vob: &Vob<T>,
-    other: &Vob<T>,
-    turn: usize,
-    wanted: &[usize],
-)
-    requires one_length { HaveSameLength vob.now other.now }
-{
+    (vob, other): (&Vob<T>, &Vob<T>),
+    pulls: &[End],
+) -> Vec<Option<usize>> {
+    assert!(rt; vob.len() == other.len(), "{call:?}");
+    let mut answers = Vec::new(rt.alloc());
+    let dealt = match call {
+        Call::And => deal(&mut vob.intersection(other), pulls, &mut answers),
+        Call::Or => deal(&mut vob.union(other), pulls, &mut answers),
+        Call::Xor => deal(&mut vob.symmetric_difference(other), pulls, &mut answers),
+        Call::AndNot => deal(&mut vob.difference(other), pulls, &mut answers),
+    };
+    dealt.expect(rt, "memory");
+    answers
+}
+
+/// How many indices the walk of a call over two Vobs of one length gives.
+fn counted<T: Block>(rt: &impl Abort, call: Call, vob: &Vob<T>, other: &Vob<T>) -> usize {
+    assert!(rt; vob.len() == other.len(), "{call:?}");
     match call {
-        Call::And => check_turn(rt, turn, vob.intersection(other), wanted),
-        Call::Or => check_turn(rt, turn, vob.union(other), wanted),
-        Call::Xor => check_turn(rt, turn, vob.symmetric_difference(other), wanted),
-        Call::AndNot => check_turn(rt, turn, vob.difference(other), wanted),
+        Call::And => vob.intersection(other).count(),
+        Call::Or => vob.union(other).count(),
+        Call::Xor => vob.symmetric_difference(other).count(),
+        Call::AndNot => vob.difference(other).count(),
     }
 }
 
@@ -81,10 +68,13 @@ fn check_walk<T: Block>(
     other: &Vob<T>,
     wanted: &[usize],
 ) {
-    assert!(rt; vob.len() == other.len(), "{call:?}");
-    for turn in 0..5 {
-        check_call(rt, call, vob, other, turn, wanted);
+    for backs in 0..4 {
+        let (pulls, answers) = pulls_at(rt, backs, wanted);
+        let found = pulled(rt, call, (vob, other), &pulls);
+        same(rt, "pulls", backs, found.as_slice(), answers.as_slice());
     }
+    let count = counted(rt, call, vob, other);
+    same(rt, "the count", 0, count, wanted.len());
 }
 
 /// The walk of a call over patterns of `len` bits, against the bits one by one.
