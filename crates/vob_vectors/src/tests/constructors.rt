@@ -2,6 +2,7 @@
 use super::support::{
     check_bits, check_blocks, check_equal, check_made, filled, push, same, vob_of, write,
 };
+use std::process::Abort;
 use vob::{Vob, VobError};
 
 #[test]
@@ -52,19 +53,26 @@ fn one_bit_many_times_leaves_no_dirt(rt: HostRuntime) {
     check_made(&rt, bytes, 13, &[255, 31]);
 }
 
+/// The Vob of these bytes.
+fn of_bytes(rt: &(impl Abort + AllocGlobal), bytes: &[u8]) -> Vob {
+    Vob::from_bytes(rt.alloc(), bytes).expect(rt, "memory")
+}
+
 #[test]
 fn bytes_give_their_greatest_bit_first(rt: HostRuntime) {
-    let alloc = rt.alloc();
-    let two = Vob::from_bytes(alloc, &[0b1010_0000, 0b0001_0010]).expect(&rt, "memory");
+    let two = of_bytes(&rt, &[0b1010_0000, 0b0001_0010]);
     check_blocks(&rt, &two, 16, &[18437]);
     check_bits(&rt, &two, "1010000000010010");
-    let three = Vob::from_bytes(alloc, &[0x80, 0x01, 0xff]);
-    check_made(&rt, three, 24, &[16744449]);
-    let eight = Vob::from_bytes(alloc, &[0xa0, 0x12, 0x35, 0xca, 0x31, 0x95, 0x7c, 0x51]);
-    check_made(&rt, eight, 64, &[0x8a3e_a98c_53ac_4805]);
-    let bytes = [0xa0, 0x12, 0x35, 0xca, 0x31, 0x95, 0x7c, 0x51, 0x80];
-    let nine = Vob::from_bytes(alloc, &bytes);
-    check_made(&rt, nine, 72, &[0x8a3e_a98c_53ac_4805, 1]);
+    check_blocks(&rt, &of_bytes(&rt, &[0x80, 0x01, 0xff]), 24, &[16744449]);
+    let eight = [0xa0, 0x12, 0x35, 0xca, 0x31, 0x95, 0x7c, 0x51];
+    check_blocks(&rt, &of_bytes(&rt, &eight), 64, &[0x8a3e_a98c_53ac_4805]);
+    let nine = [0xa0, 0x12, 0x35, 0xca, 0x31, 0x95, 0x7c, 0x51, 0x80];
+    check_blocks(&rt, &of_bytes(&rt, &nine), 72, &[0x8a3e_a98c_53ac_4805, 1]);
+}
+
+/// The Vob of these bits.
+fn of_slice(rt: &(impl Abort + AllocGlobal), bits: &[bool]) -> Vob {
+    Vob::from_slice(rt.alloc(), bits).expect(rt, "memory")
 }
 
 #[test]
@@ -78,7 +86,7 @@ fn items_and_bits_are_kept_in_order(rt: HostRuntime) {
     let mut ones = [true; 65];
     ones[1] = false;
     let first = usize::MAX - 2;
-    check_made(&rt, Vob::from_slice(alloc, &ones), 65, &[first, 1]);
+    check_blocks(&rt, &of_slice(&rt, &ones), 65, &[first, 1]);
     check_made(&rt, Vob::from_iter(alloc, ones), 65, &[first, 1]);
 }
 

@@ -1,51 +1,61 @@
 //! Bits copied over others, against one bit after another.
-use super::support::{pattern, same};
-use std::ops::Range;
+use super::support::{check_list, pattern, pattern_bit};
 use std::process::Abort;
 use vob::Vob;
 use vob_block::Block;
 
 /// `copy_range` of the bits from `start` to below `end`, where they are there and fit.
 fn copy<T: Block>(vob: &mut Vob<T>, at: usize, other: &Vob<T>, start: usize, end: usize) {
-    if start <= end && end <= other.len() && at <= vob.len() && end - start <= vob.len() - at {
+    let (len, others) = (vob.len(), other.len());
+    if start <= end && end <= others && at <= len && end - start <= len - at {
         vob.copy_range(at, other, start..end);
     }
 }
 
-/// Copies a part over a Vob of this length, from another that is ten bits longer. From `at` on its
-/// bits are the other's, and the rest is old.
+/// The bits of pattern 1 of this length, but from `at` on those of pattern 2 from `start` to below `end`.
+fn copied(
+    rt: &(impl Abort + AllocGlobal),
+    len: usize,
+    at: usize,
+    start: usize,
+    end: usize,
+) -> Vec<bool> {
+    let mut bits = Vec::new(rt.alloc());
+    for index in 0..len {
+        let from = start.saturating_add(index.saturating_sub(at));
+        let bit = if at <= index && from < end {
+            pattern_bit(2, from)
+        } else {
+            pattern_bit(1, index)
+        };
+        bits.push(bit).expect(rt, "memory");
+    }
+    bits
+}
+
+/// Copies a part over a Vob of this length, from another that is ten bits longer.
 fn check_part<T: Block>(
     rt: &(impl Abort + AllocGlobal),
     len: usize,
     at: usize,
-    part: Range<usize>,
+    start: usize,
+    end: usize,
 ) {
-    let old = pattern::<T>(rt, 1, len);
     let other = pattern::<T>(rt, 2, len.saturating_add(10));
     let mut vob = pattern::<T>(rt, 1, len);
-    let Range { start, end } = part;
     copy(&mut vob, at, &other, start, end);
-    same(rt, "the length", at, vob.len(), len);
-    for index in 0..len {
-        let from = start.saturating_add(index.saturating_sub(at));
-        let wanted = if at <= index && from < end {
-            other.get(from)
-        } else {
-            old.get(index)
-        };
-        same(rt, "bit", index, vob.get(index), wanted);
-    }
+    check_list(rt, &vob, &copied(rt, len, at, start, end));
 }
 
 /// Of a Vob of 130 bits.
 fn check_copied<T: Block>(rt: &(impl Abort + AllocGlobal), at: usize, start: usize, count: usize) {
-    check_part::<T>(rt, 130, at, start..start.saturating_add(count));
+    check_part::<T>(rt, 130, at, start, start.saturating_add(count));
 }
 
 /// A half of a Vob of this length, at another place of its block.
 fn check_half<T: Block>(rt: &(impl Abort + AllocGlobal), len: usize) {
     let start = len / 4;
-    check_part::<T>(rt, len, len / 3, start..start.saturating_add(len / 2));
+    check_part::<T>(rt, len, len / 3, start, start.saturating_add(len / 2));
 }
 
 #[test]

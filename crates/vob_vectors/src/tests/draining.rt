@@ -1,7 +1,6 @@
-//! Draining: worked rows, and every range of patterns against a push of each bit.
+//! Draining: worked rows, and every range of patterns against lists of bits.
 use super::support::{
-    check_bits, check_blocks, check_same, copy_of, drained, pattern, pattern_bit, push, same,
-    vob_of,
+    check_bits, check_blocks, check_list, copy_of, drained, pattern, pattern_list, same, vob_of,
 };
 use std::ops::Bound::{Excluded, Included, Unbounded};
 use std::ops::RangeBounds;
@@ -60,48 +59,33 @@ fn every_pair_of_bounds_is_drained(rt: HostRuntime) {
     check_row(&rt, ..=0, "1", "011011101");
 }
 
-/// A Vob without a range, whose bits are what was drained; the rest is what pushes leave.
-fn check_drain<T: Block>(rt: &impl Abort, whole: &Vob<T>, from: usize, drained_bits: &Vob<T>) {
-    let to = from.saturating_add(drained_bits.len());
-    let mut vob = copy_of(rt, whole);
-    check_same(rt, &drained(rt, &mut vob, from..to), drained_bits);
-    let mut left = copy_of(rt, whole);
-    left.truncate(from);
-    for index in to..whole.len() {
-        push(rt, &mut left, pattern_bit(whole.len(), index));
-    }
-    check_same(rt, &vob, &left);
+/// The bits of the pattern that has its length as its seed, without those of a range.
+fn without(rt: &(impl Abort + AllocGlobal), len: usize, from: usize, to: usize) -> Vec<bool> {
+    let mut bits = pattern_list(rt, len, 0, from);
+    let rest = pattern_list(rt, len, to, len);
+    bits.extend_from_slice(&rest).expect(rt, "memory");
+    bits
 }
 
-/// Every range from one index on of the pattern that has its length as its seed.
-fn check_drains_from<T: Block>(rt: &(impl Abort + AllocGlobal), len: usize, from: usize) {
-    let whole = pattern::<T>(rt, len, len);
-    let mut drained_bits = vob_of::<T>(rt, "");
-    for index in from..len {
-        check_drain(rt, &whole, from, &drained_bits);
-        push(rt, &mut drained_bits, pattern_bit(len, index));
-    }
-    check_drain(rt, &whole, from, &drained_bits);
-}
-
-/// The bits that a range gives and those that it leaves are those of the pattern there.
-fn check_drained_bits<T: Block>(
+/// A range of such a pattern: its bits are drained, and the others left.
+fn check_drain<T: Block>(
     rt: &(impl Abort + AllocGlobal),
+    whole: &Vob<T>,
     len: usize,
     from: usize,
     to: usize,
 ) {
-    let mut vob = pattern::<T>(rt, len, len);
+    let mut vob = copy_of(rt, whole);
     let given = drained(rt, &mut vob, from..to);
-    for index in 0..len {
-        let bit = if index < from {
-            vob.get(index)
-        } else if index < to {
-            given.get(index.saturating_sub(from))
-        } else {
-            vob.get(index.saturating_sub(given.len()))
-        };
-        same(rt, "a bit", index, bit, Some(pattern_bit(len, index)));
+    check_list(rt, &given, &pattern_list(rt, len, from, to));
+    check_list(rt, &vob, &without(rt, len, from, to));
+}
+
+/// The ranges from one index on that end at `first` or later.
+fn check_drains<T: Block>(rt: &(impl Abort + AllocGlobal), len: usize, from: usize, first: usize) {
+    let whole = pattern::<T>(rt, len, len);
+    for to in first..len.saturating_add(1) {
+        check_drain(rt, &whole, len, from, to);
     }
 }
 
@@ -109,14 +93,11 @@ fn check_drained_bits<T: Block>(
 fn drains_give_what_the_list_has_and_leave_what_pushes_leave(rt: HostRuntime) {
     for len in 0..70 {
         for from in 0..len + 1 {
-            check_drains_from::<u8>(&rt, len, from);
-            check_drains_from::<usize>(&rt, len, from);
+            check_drains::<u8>(&rt, len, from, from);
+            check_drains::<usize>(&rt, len, from, from);
         }
     }
-    for to in 0..20 {
-        for from in 0..to + 1 {
-            check_drained_bits::<u8>(&rt, 19, from, to);
-            check_drained_bits::<usize>(&rt, 130, from, to.saturating_add(60));
-        }
+    for from in 0..20 {
+        check_drains::<usize>(&rt, 130, from, 60);
     }
 }

@@ -1,8 +1,8 @@
-//! Growing, joining, cutting and filling: worked rows, and patterns against a push of each bit.
+//! Growing, joining, cutting and filling: worked rows, and patterns against pushes or lists of bits.
 use super::hints::Hinted;
 use super::support::{
-    check_blocks, check_made, check_same, copy_of, filled, join, pattern, pattern_bit, push,
-    resize, same, vob_of,
+    check_blocks, check_list, check_made, check_same, copy_of, filled, join, pattern, pattern_bit,
+    pattern_list, push, resize, same, vob_of,
 };
 use std::process::Abort;
 use vob::{Vob, VobError};
@@ -74,8 +74,9 @@ fn joined_bits_are_cut_apart_again_and_not_past_the_end(rt: HostRuntime) {
 
 /// Appends the blocks of another Vob.
 fn append<T: Block>(rt: &impl Abort, vob: &mut Vob<T>, other: &Vob<T>) {
-    vob.reserve(other.len()).expect(rt, "memory");
-    vob.append_blocks(&mut other.blocks(), other.len());
+    let more = other.len();
+    vob.reserve(more).expect(rt, "memory");
+    vob.append_blocks(&mut other.blocks(), more);
 }
 
 /// Two Vobs that are joined, or whose blocks are appended, are what pushes leave; cut apart, they are
@@ -140,22 +141,32 @@ fn check_growth<T: Block>(
     check_same(rt, &extended, &pushed);
 }
 
-/// Equal bits after a pattern are what pushes leave; cut off, what was there is left.
-fn check_resize<T: Block>(rt: &(impl Abort + AllocGlobal), value: bool, first: usize, more: usize) {
-    let before = pattern::<T>(rt, 1, first);
-    let mut pushed = copy_of(rt, &before);
+/// The first bits of pattern 1, and then equal bits.
+fn lengthened(
+    rt: &(impl Abort + AllocGlobal),
+    value: bool,
+    first: usize,
+    more: usize,
+) -> Vec<bool> {
+    let mut bits = pattern_list(rt, 1, 0, first);
     for _ in 0..more {
-        push(rt, &mut pushed, value);
+        bits.push(value).expect(rt, "memory");
     }
-    let mut resized = copy_of(rt, &before);
-    resize(rt, &mut resized, pushed.len(), value);
-    check_same(rt, &resized, &pushed);
-    resize(rt, &mut resized, first, !value);
-    check_same(rt, &resized, &before);
+    bits
+}
+
+/// Equal bits come after a pattern; cut off, what was there is left.
+fn check_resize<T: Block>(rt: &(impl Abort + AllocGlobal), value: bool, first: usize, more: usize) {
+    let bits = lengthened(rt, value, first, more);
+    let mut vob = pattern::<T>(rt, 1, first);
+    resize(rt, &mut vob, bits.len(), value);
+    check_list(rt, &vob, &bits);
+    resize(rt, &mut vob, first, !value);
+    check_list(rt, &vob, &pattern_list(rt, 1, 0, first));
 }
 
 #[test]
-fn growth_leaves_what_pushes_leave(rt: HostRuntime) {
+fn growth_leaves_the_bits_of_both(rt: HostRuntime) {
     let mut items = Vec::new(rt.alloc());
     for count in 0..150 {
         for first in 0..40 {

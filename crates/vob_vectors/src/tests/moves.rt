@@ -1,22 +1,31 @@
 //! Bits moved to other indices, put in and taken out, and words at any index, against one bit after
 //! another.
-use super::support::{check_bits, check_same, moved, pattern, pattern_bit, same, vob_of};
+use super::support::{check_bits, check_list, moved, pattern, pattern_list, same, vob_of};
 use std::process::Abort;
-use vob::Vob;
+use vob::{IndicesError, Vob};
 use vob_block::Block;
 
-fn check_shifts<T: Block>(rt: &(impl Abort + AllocGlobal), len: usize, n: usize) {
-    let mut up = pattern::<T>(rt, 1, len);
-    up.shl(n);
-    check_same(
+/// The bits of pattern 1 of this length, `n` indices up.
+fn shifted_up(rt: &(impl Abort + AllocGlobal), len: usize, n: usize) -> Vec<bool> {
+    moved(rt, len, |index| index.checked_sub(n))
+}
+
+/// The bits of pattern 1 of this length, `n` indices down.
+fn shifted_down(rt: &(impl Abort + AllocGlobal), len: usize, n: usize) -> Vec<bool> {
+    moved(
         rt,
-        &up,
-        &moved::<T, _>(rt, len, |index| index.checked_sub(n)),
-    );
-    let mut down = pattern::<T>(rt, 1, len);
-    down.shr(n);
-    let from = |index: usize| index.checked_add(n).filter(|old| *old < len);
-    check_same(rt, &down, &moved::<T, _>(rt, len, from));
+        len,
+        |index| index.checked_add(n).filter(|old| *old < len),
+    )
+}
+
+fn check_shifts<T: Block>(rt: &(impl Abort + AllocGlobal), len: usize, n: usize) {
+    let mut vob = pattern::<T>(rt, 1, len);
+    vob.shl(n);
+    check_list(rt, &vob, &shifted_up(rt, len, n));
+    let mut vob = pattern::<T>(rt, 1, len);
+    vob.shr(n);
+    check_list(rt, &vob, &shifted_down(rt, len, n));
 }
 
 #[test]
@@ -30,6 +39,15 @@ fn bits_are_shifted_both_ways(rt: HostRuntime) {
     }
 }
 
+/// The bits of pattern 1 of this length, and a true one put in at this index.
+fn inserted(rt: &(impl Abort + AllocGlobal), len: usize, index: usize) -> Vec<bool> {
+    let mut bits = pattern_list(rt, 1, 0, index);
+    bits.push(true).expect(rt, "memory");
+    let rest = pattern_list(rt, 1, index, len);
+    bits.extend_from_slice(&rest).expect(rt, "memory");
+    bits
+}
+
 /// Puts a bit in and takes it out again.
 fn check_insert<T: Block>(rt: &(impl Abort + AllocGlobal), len: usize, index: usize) {
     let mut vob = pattern::<T>(rt, 1, len);
@@ -37,16 +55,11 @@ fn check_insert<T: Block>(rt: &(impl Abort + AllocGlobal), len: usize, index: us
         return;
     }
     vob.insert_bit(index, true).expect(rt, "memory");
-    same(rt, "the length", index, Some(vob.len()), len.checked_add(1));
-    for i in 0..vob.len() {
-        let old = if i < index { i } else { i.saturating_sub(1) };
-        let wanted = i == index || pattern_bit(1, old);
-        same(rt, "bit", i, vob.get(i), Some(wanted));
-    }
+    check_list(rt, &vob, &inserted(rt, len, index));
     if index < vob.len() {
         same(rt, "the bit", index, vob.remove(index), true);
     }
-    check_same(rt, &vob, &pattern::<T>(rt, 1, len));
+    check_list(rt, &vob, &pattern_list(rt, 1, 0, len));
 }
 
 #[test]
@@ -70,15 +83,25 @@ fn copy<T: Block>(vob: &mut Vob<T>, at: usize, start: usize, end: usize) -> bool
     false
 }
 
+/// The bits of pattern 1 of this length, but from `at` on `count` of them that begin at `start`.
+fn copied(
+    rt: &(impl Abort + AllocGlobal),
+    len: usize,
+    at: usize,
+    start: usize,
+    count: usize,
+) -> Vec<bool> {
+    moved(rt, len, |index| match index.checked_sub(at) {
+        Some(past) if past < count => start.checked_add(past),
+        _ => Some(index),
+    })
+}
+
 /// Copies a part of a Vob of 130 bits over another part of it.
 fn check_within<T: Block>(rt: &(impl Abort + AllocGlobal), at: usize, start: usize, count: usize) {
     let mut vob = pattern::<T>(rt, 1, 130);
     if copy(&mut vob, at, start, start.saturating_add(count)) {
-        let from = |index: usize| match index.checked_sub(at) {
-            Some(past) if past < count => start.checked_add(past),
-            _ => Some(index),
-        };
-        check_same(rt, &vob, &moved::<T, _>(rt, 130, from));
+        check_list(rt, &vob, &copied(rt, 130, at, start, count));
     }
 }
 
@@ -101,11 +124,7 @@ fn check_word(rt: &(impl Abort + AllocGlobal), at: usize, to: usize) {
     if at <= 32 && to <= 32 && vob.len() == 40 {
         let word = vob.load(at..at + 8);
         vob.store(to..to + 8, word);
-        let from = |index: usize| match index.checked_sub(to) {
-            Some(past) if past < 8 => at.checked_add(past),
-            _ => Some(index),
-        };
-        check_same(rt, &vob, &moved::<u8, _>(rt, 40, from));
+        check_list(rt, &vob, &copied(rt, 40, to, at, 8));
     }
 }
 
@@ -140,34 +159,27 @@ fn single_bits_change_places(rt: HostRuntime) {
     }
 }
 
-/// Sets indices past the end too, and at once.
-fn check_set<T: Block>(rt: &(impl Abort + AllocGlobal)) {
+/// The Vob of `1001000001`, made by indices that are set past the end.
+fn grown<T: Block>(rt: &(impl Abort + AllocGlobal)) -> Vob<T> {
     let mut vob = vob_of::<T>(rt, "1");
     vob.grow_and_set(9).expect(rt, "memory");
     check_bits(rt, &vob, "1000000001");
     vob.grow_and_set(3).expect(rt, "memory");
     check_bits(rt, &vob, "1001000001");
-    same(
-        rt,
-        "the greatest length",
-        0,
-        vob.grow_and_set(usize::MAX).is_err(),
-        true,
-    );
+    let refused = vob.grow_and_set(usize::MAX).is_err();
+    same(rt, "the greatest length", 0, refused, true);
+    vob
+}
+
+/// Sets indices at once, or none of them.
+fn check_set<T: Block>(rt: &(impl Abort + AllocGlobal)) {
+    let mut vob = grown::<T>(rt);
     vob.set_indices(&[1, 8, 1])
         .expect(rt, "each is below the length");
     check_bits(rt, &vob, "1101000011");
-    let text = match vob.set_indices(&[2, 10, 11]) {
-        Ok(()) => String::new(rt.alloc()),
-        Err(error) => format!(in rt.alloc(); "{error}").expect(rt, "memory"),
-    };
-    same(
-        rt,
-        "past the end",
-        1,
-        text.as_str(),
-        "the index at position 1 is at or past the length",
-    );
+    let refused = vob.set_indices(&[2, 10, 11]);
+    let wanted = Err(IndicesError::OutOfRange { position: 1 });
+    same(rt, "past the end", 1, refused, wanted);
     check_bits(rt, &vob, "1101000011");
 }
 

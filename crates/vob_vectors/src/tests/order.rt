@@ -1,27 +1,24 @@
 //! Vobs compared as lists, and what two share added to a third.
 use super::support::{check_bits, pattern, pattern_bit, same, vob_of};
+use std::cmp::Ordering;
 use std::process::Abort;
 use vob_block::Block;
 
-/// Digits come in the order of the bits that they write.
-fn check_order<T: Block>(rt: &(impl Abort + AllocGlobal), digits: &str, others: &str) {
+/// How the Vobs of these digits compare: one with the other, the other way round, and by `<`.
+fn order_of<T: Block>(
+    rt: &(impl Abort + AllocGlobal),
+    digits: &str,
+    others: &str,
+) -> (Ordering, Ordering, bool) {
     let vob = vob_of::<T>(rt, digits);
     let other = vob_of::<T>(rt, others);
-    same(
-        rt,
-        digits,
-        others.len(),
-        vob.cmp(&other),
-        digits.cmp(others),
-    );
-    same(
-        rt,
-        others,
-        digits.len(),
-        other.cmp(&vob),
-        others.cmp(digits),
-    );
-    same(rt, digits, others.len(), vob < other, digits < others);
+    (vob.cmp(&other), other.cmp(&vob), vob < other)
+}
+
+/// Digits come in the order of the bits that they write.
+fn check_order(rt: &impl Abort, digits: &str, others: &str, found: (Ordering, Ordering, bool)) {
+    let wanted = (digits.cmp(others), others.cmp(digits), digits < others);
+    same(rt, digits, others.len(), found, wanted);
 }
 
 #[test]
@@ -38,9 +35,9 @@ fn vobs_come_in_the_order_of_their_lists(rt: HostRuntime) {
     ];
     for digits in rows {
         for others in rows {
-            check_order::<u8>(&rt, digits, others);
-            check_order::<u64>(&rt, digits, others);
-            check_order::<u128>(&rt, digits, others);
+            check_order(&rt, digits, others, order_of::<u8>(&rt, digits, others));
+            check_order(&rt, digits, others, order_of::<u64>(&rt, digits, others));
+            check_order(&rt, digits, others, order_of::<u128>(&rt, digits, others));
         }
     }
 }

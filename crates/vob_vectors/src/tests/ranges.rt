@@ -1,29 +1,31 @@
-//! Ranges of bits made one value or negated, and Vobs made of indices, against pushes of each bit.
-use super::support::{check_bits, check_same, filled, pattern, pattern_bit, push, same, vob_of};
+//! Ranges of bits made one value or negated, and Vobs made of indices, against lists of bits.
+use super::support::{
+    check_bits, check_list, check_same, filled, pattern, pattern_bit, same, vob_of,
+};
 use std::ops::Bound::{Excluded, Included, Unbounded};
 use std::ops::RangeBounds;
 use std::process::Abort;
 use vob::{IndicesError, Vob};
 use vob_block::Block;
 
-/// Makes the pattern of a length, and sets the bits of a range to a value or, with none, negates
-/// them. Returns whether one changed too.
-fn changed_pattern<T: Block>(
+/// The bits of the pattern of a length, with those of a range made a value or, with none, negated.
+/// Returns whether one changed too.
+fn changed_bits(
     rt: &(impl Abort + AllocGlobal),
     len: usize,
     (start, stop): (usize, usize),
     value: Option<bool>,
-) -> (Vob<T>, bool) {
-    let mut vob = vob_of::<T>(rt, "");
+) -> (Vec<bool>, bool) {
+    let mut bits = Vec::new(rt.alloc());
     let mut changed = false;
     for index in 0..len {
         let bit = pattern_bit(len, index);
         let inside = start <= index && index < stop;
         let wanted = if inside { value.unwrap_or(!bit) } else { bit };
         changed = changed || wanted != bit;
-        push(rt, &mut vob, wanted);
+        bits.push(wanted).expect(rt, "memory");
     }
-    (vob, changed)
+    (bits, changed)
 }
 
 /// A range made a value, which may change bits once and never again; or negated.
@@ -33,18 +35,18 @@ fn check_changed<T: Block>(
     (start, stop): (usize, usize),
     value: Option<bool>,
 ) {
-    let (wanted, changed) = changed_pattern::<T>(rt, len, (start, stop), value);
+    let (wanted, changed) = changed_bits(rt, len, (start, stop), value);
     let mut vob = pattern::<T>(rt, len, len);
     let room = vob.capacity();
     if let Some(value) = value {
         let answer = vob.set_range(start..stop, value);
         same(rt, "changed", start, answer, changed);
-        check_same(rt, &vob, &wanted);
+        check_list(rt, &vob, &wanted);
         same(rt, "again", start, vob.set_range(start..stop, value), false);
         same(rt, "the capacity", len, vob.capacity(), room);
     } else {
         vob.negate_range(start..stop);
-        check_same(rt, &vob, &wanted);
+        check_list(rt, &vob, &wanted);
     }
 }
 
@@ -111,15 +113,21 @@ fn made_of<T: Block>(
     }
 }
 
-/// The indices of a pattern give the pattern back.
-fn check_indices_of<T: Block>(rt: &(impl Abort + AllocGlobal), len: usize) {
-    let vob = pattern::<T>(rt, len, len);
+/// The indices of the true bits of the pattern that has its length as its seed, the last one first.
+fn pattern_indices(rt: &(impl Abort + AllocGlobal), len: usize) -> Vec<usize> {
     let mut indices = Vec::new(rt.alloc());
-    for index in vob.iter_set_bits(..).rev() {
-        indices.push(index).expect(rt, "memory");
+    for index in (0..len).rev() {
+        if pattern_bit(len, index) {
+            indices.push(index).expect(rt, "memory");
+        }
     }
-    let made = made_of::<T>(rt, len, &indices).expect(rt, "a Vob");
-    check_same(rt, &made, &vob);
+    indices
+}
+
+/// The indices of such a pattern give the pattern back.
+fn check_indices_of<T: Block>(rt: &(impl Abort + AllocGlobal), len: usize) {
+    let made = made_of::<T>(rt, len, &pattern_indices(rt, len)).expect(rt, "a Vob");
+    check_same(rt, &made, &pattern(rt, len, len));
 }
 
 #[test]

@@ -1,7 +1,7 @@
 //! Raw storage: what is taken back as a Vob and what isn't, and records of it as text.
 ghost use Rattle.std.specs.Prelude.{◌≡◌, ◌++◌, ◌∷◌, [], OnOk};
 
-use super::support::{check_bits, check_blocks, same, vob_of};
+use super::support::{check_bits, check_blocks, same, same_list, vob_of};
 use std::alloc::AllocError;
 use std::process::Abort;
 use vob::{RawVob, Vob, VobRecord};
@@ -14,10 +14,8 @@ fn raw_of<T: Block>(rt: &(impl Abort + AllocGlobal), len: usize, blocks: &[T]) -
 
 /// Compares the length and the blocks.
 fn check_raw<T: Block>(rt: &impl Abort, raw: &RawVob<T>, len: usize, blocks: &[T]) {
-    assert!(rt;
-        raw.len() == len && raw.get_storage() == blocks,
-        "{raw:?} has {len} bits in {blocks:?}"
-    );
+    same(rt, "the length", len, raw.len(), len);
+    same_list(rt, "the blocks", raw.get_storage(), blocks);
 }
 
 /// Raw storage that is taken as a Vob.
@@ -116,10 +114,8 @@ fn record_of(rt: &(impl Abort + AllocGlobal), text: &str) -> VobRecord {
 fn check_refused_text(rt: &(impl Abort + AllocGlobal), text: &str, len: usize, blocks: &[usize]) {
     let refused = record_of(rt, text).into_vob().err();
     let record = refused.expect(rt, "this record isn't canonical");
-    assert!(rt;
-        record.len == len && record.vec.as_slice() == blocks,
-        "{record:?} has {len} bits in {blocks:?}"
-    );
+    same(rt, "the length", len, record.len, len);
+    same_list(rt, "the blocks", record.vec.as_slice(), blocks);
 }
 
 /// A text that is read as a record, which is taken, and written again.

@@ -1,5 +1,5 @@
 //! Runs pulled at both ends, against the stretches that one bit after another shows.
-use super::support::{filled, pattern, pattern_bit, same, vob_of};
+use super::support::{filled, pattern, pattern_bit, same, same_list, vob_of};
 use std::ops::Range;
 use std::process::Abort;
 use vob::{Runs, Vob};
@@ -33,46 +33,90 @@ fn range_of(stretch: Option<&(usize, usize)>) -> Option<Range<usize>> {
     }
 }
 
-/// Pulls at the front where the pattern with this seed has a true bit, and else at the back, until
-/// both ends gave `None`.
-fn check_pulls<T: Block>(
-    rt: &impl Abort,
+/// Whether a pull is at the front: where the pattern with this seed has a true bit. After `count`
+/// pulls both ends take turns.
+fn is_front(turns: usize, pull: usize, count: usize) -> bool {
+    if pull < count {
+        pattern_bit(turns, pull)
+    } else {
+        pull % 2 == 0
+    }
+}
+
+/// What pulls at a walk give, four more than there are runs.
+fn pulled<T: Block>(
+    rt: &(impl Abort + AllocGlobal),
     turns: usize,
     mut runs: Runs<'_, T>,
-    wanted: &[(usize, usize)],
-) {
-    let mut left = wanted.iter();
-    for pull in 0..wanted.len() {
-        if pattern_bit(turns, pull) {
-            same(rt, "front", pull, runs.next(), range_of(left.next()));
+    count: usize,
+) -> Vec<Option<Range<usize>>> {
+    let mut found = Vec::new(rt.alloc());
+    for pull in 0..count.saturating_add(4) {
+        let run = if is_front(turns, pull, count) {
+            runs.next()
         } else {
-            same(
-                rt,
-                "back",
-                pull,
-                runs.next_back(),
-                range_of(left.next_back()),
-            );
-        }
+            runs.next_back()
+        };
+        found.push(run).expect(rt, "memory");
     }
-    same(rt, "back", wanted.len(), runs.next_back(), None);
-    same(rt, "front", wanted.len(), runs.next(), None);
-    same(rt, "back again", wanted.len(), runs.next_back(), None);
+    found
+}
+
+/// What the same pulls at the list of the runs give.
+fn given(
+    rt: &(impl Abort + AllocGlobal),
+    turns: usize,
+    wanted: &[(usize, usize)],
+) -> Vec<Option<Range<usize>>> {
+    let mut left = wanted.iter();
+    let mut found = Vec::new(rt.alloc());
+    for pull in 0..wanted.len().saturating_add(4) {
+        let run = if is_front(turns, pull, wanted.len()) {
+            left.next()
+        } else {
+            left.next_back()
+        };
+        found.push(range_of(run)).expect(rt, "memory");
+    }
+    found
+}
+
+/// Pulls at both ends until both gave `None`, and once more at each.
+fn check_pulls<T: Block>(
+    rt: &(impl Abort + AllocGlobal),
+    turns: usize,
+    runs: Runs<'_, T>,
+    wanted: Vec<(usize, usize)>,
+) {
+    let found = pulled(rt, turns, runs, wanted.len());
+    let answers = given(rt, turns, &wanted);
+    same_list(rt, "the runs", found.as_slice(), answers.as_slice());
 }
 
 /// The runs of all bits, of the unset ones, and of ranges that cut runs, pulled in five orders.
 fn check_orders<T: Block>(rt: &(impl Abort + AllocGlobal), seed: usize, len: usize) {
     let vob = pattern::<T>(rt, seed, len);
     let (low, high) = (len / 3, len.saturating_sub(len / 4));
-    let set = stretches(rt, seed, true, 0, len);
-    let unset = stretches(rt, seed, false, 0, len);
-    let above = stretches(rt, seed, true, low, len);
-    let between = stretches(rt, seed, true, low, high);
     for turns in 0..5 {
-        check_pulls(rt, turns, vob.runs(), set.as_slice());
-        check_pulls(rt, turns, vob.unset_runs(), unset.as_slice());
-        check_pulls(rt, turns, vob.runs_in(low..), above.as_slice());
-        check_pulls(rt, turns, vob.runs_in(low..high), between.as_slice());
+        check_pulls(rt, turns, vob.runs(), stretches(rt, seed, true, 0, len));
+        check_pulls(
+            rt,
+            turns,
+            vob.unset_runs(),
+            stretches(rt, seed, false, 0, len),
+        );
+        check_pulls(
+            rt,
+            turns,
+            vob.runs_in(low..),
+            stretches(rt, seed, true, low, len),
+        );
+        check_pulls(
+            rt,
+            turns,
+            vob.runs_in(low..high),
+            stretches(rt, seed, true, low, high),
+        );
     }
 }
 
@@ -87,22 +131,27 @@ fn both_ends_give_each_run_once(rt: HostRuntime) {
     }
 }
 
-/// One stretch of set bits from `start` to below `stop`, among 300: either end gives it whole.
+/// The stretches of this list that aren't empty.
+fn some_of(rt: &(impl Abort + AllocGlobal), stretches: &[(usize, usize)]) -> Vec<(usize, usize)> {
+    let mut found = Vec::new(rt.alloc());
+    for (start, stop) in stretches {
+        if start < stop {
+            found.push((*start, *stop)).expect(rt, "memory");
+        }
+    }
+    found
+}
+
+/// One stretch of set bits from `start` to below `stop`, among 300: either end gives it whole, and
+/// the unset bits before and behind it.
 fn check_stretch<T: Block>(rt: &(impl Abort + AllocGlobal), start: usize, stop: usize) {
     let mut vob = filled::<T>(rt, false, 300);
     vob.set_range(start..stop, true);
     for turns in 0..5 {
-        check_pulls(rt, turns, vob.runs(), &[(start, stop)]);
+        check_pulls(rt, turns, vob.runs(), some_of(rt, &[(start, stop)]));
+        let others = some_of(rt, &[(0, start), (stop, 300)]);
+        check_pulls(rt, turns, vob.unset_runs(), others);
     }
-    // The unset bits are pulled in turn: those behind the stretch come last.
-    let mut unset = vob.unset_runs();
-    let behind = if stop < 300 { Some(stop..300) } else { None };
-    let before = if start > 0 { Some(0..start) } else { None };
-    if behind.is_some() {
-        same(rt, "behind", stop, unset.next_back(), behind);
-    }
-    same(rt, "before", start, unset.next_back(), before);
-    same(rt, "none", start, unset.next(), None);
 }
 
 #[test]
@@ -119,21 +168,19 @@ fn long_runs_come_whole_from_the_back(rt: HostRuntime) {
 /// The runs of 0110111001, of which the third is 9..10.
 fn check_by_hand<T: Block>(rt: &(impl Abort + AllocGlobal)) {
     let vob = vob_of::<T>(rt, "0110111001");
-    let mut runs = vob.runs();
-    same(rt, "the third", 0, runs.next_back(), Some(9..10));
-    same(rt, "the first", 1, runs.next(), Some(1..3));
-    same(rt, "the second", 2, runs.next_back(), Some(4..7));
-    same(rt, "none", 3, runs.next(), None);
-    same(rt, "none at the back", 4, runs.next_back(), None);
-    let mut cut = vob.runs_in(5..10);
-    same(rt, "the last of the range", 0, cut.next_back(), Some(9..10));
-    same(rt, "the first, cut at 5", 1, cut.next_back(), Some(5..7));
-    same(rt, "none below the range", 2, cut.next_back(), None);
-    let mut unset = vob.unset_runs();
-    same(rt, "the first unset one", 0, unset.next(), Some(0..1));
-    same(rt, "the last unset one", 1, unset.next_back(), Some(7..9));
-    same(rt, "the one between", 2, unset.next(), Some(3..4));
-    same(rt, "no unset one", 3, unset.next_back(), None);
+    for turns in 0..5 {
+        let runs = some_of(rt, &[(1, 3), (4, 7), (9, 10)]);
+        check_pulls(rt, turns, vob.runs(), runs);
+        // The first of the range is cut at 5.
+        check_pulls(
+            rt,
+            turns,
+            vob.runs_in(5..10),
+            some_of(rt, &[(5, 7), (9, 10)]),
+        );
+        let unset = some_of(rt, &[(0, 1), (3, 4), (7, 9)]);
+        check_pulls(rt, turns, vob.unset_runs(), unset);
+    }
 }
 
 #[test]

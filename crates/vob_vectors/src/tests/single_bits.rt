@@ -152,22 +152,31 @@ fn truncated_bits_are_gone_from_the_blocks(rt: HostRuntime) {
     check_cuts::<u64>(&rt, &[u64::MAX, u64::MAX, 1]);
 }
 
+/// Both calls write a value at an index of two equal Vobs, and say whether the bit changed.
+fn check_write<T: Block>(
+    rt: &impl Abort,
+    one: &mut Vob<T>,
+    other: &mut Vob<T>,
+    index: usize,
+    value: bool,
+    changed: bool,
+) {
+    let set = write(one, index, value);
+    let unchecked = write_unchecked(other, index, value);
+    same(rt, "both", index, [set, unchecked], [Some(changed); 2]);
+    reads(rt, one, index, Some(value));
+    reads(rt, other, index, Some(value));
+}
+
 /// Two equal Vobs by the pattern: each index read, and written by both calls.
 fn check_pattern<T: Block>(rt: &(impl Abort + AllocGlobal), seed: usize, len: usize) {
     let mut one = pattern::<T>(rt, seed, len);
     let mut other = pattern::<T>(rt, seed, len);
     for index in 0..len {
-        let mut bit = pattern_bit(seed, index);
+        let bit = pattern_bit(seed, index);
         reads(rt, &one, index, Some(bit));
-        for value in [false, true] {
-            let changed = Some(bit != value);
-            bit = value;
-            same(rt, "set", index, write(&mut one, index, value), changed);
-            let unchecked = write_unchecked(&mut other, index, value);
-            same(rt, "set_unchecked", index, unchecked, changed);
-            reads(rt, &one, index, Some(value));
-            reads(rt, &other, index, Some(value));
-        }
+        check_write(rt, &mut one, &mut other, index, false, bit);
+        check_write(rt, &mut one, &mut other, index, true, true);
     }
 }
 

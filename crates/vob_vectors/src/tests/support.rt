@@ -19,6 +19,11 @@ pub fn same<V: PartialEq + Debug + Drop>(
     assert_eq!(rt; found, wanted, "{what}, {at}");
 }
 
+/// Compares a list of blocks or of results with what is wanted.
+pub fn same_list<V: PartialEq + Debug>(rt: &impl Abort, what: &str, found: &[V], wanted: &[V]) {
+    assert_eq!(rt; found, wanted, "{what}");
+}
+
 /// All that a walk gives, in its order.
 pub fn listed<V: Drop, W: Iterator<Item = V>>(rt: &(impl Abort + AllocGlobal), walk: W) -> Vec<V>
     requires ends { W.can_next walk × IsFinite (W.remaining walk) }
@@ -85,24 +90,38 @@ pub fn pattern<T: Block>(rt: &(impl Abort + AllocGlobal), seed: usize, len: usiz
     vob
 }
 
-/// The bits that a Vob of pattern 1 has once each index `i` takes the bit of index `from(i)`, and is
-/// unset if there is none.
-pub fn moved<T: Block, F: Fn(usize) -> Option<usize>>(
+/// The bits from `start` to below `end` of the pattern with this seed.
+pub fn pattern_list(
+    rt: &(impl Abort + AllocGlobal),
+    seed: usize,
+    start: usize,
+    end: usize,
+) -> Vec<bool> {
+    let mut bits = Vec::new(rt.alloc());
+    for index in start..end {
+        bits.push(pattern_bit(seed, index)).expect(rt, "memory");
+    }
+    bits
+}
+
+/// The bits that pattern 1 has once each index `i` takes the bit of index `from(i)`, and is unset if
+/// there is none.
+pub fn moved<F: Fn(usize) -> Option<usize>>(
     rt: &(impl Abort + AllocGlobal),
     len: usize,
     from: F,
-) -> Vob<T>
+) -> Vec<bool>
     requires { F.IsAlwaysCallable from }
 {
-    let mut wanted = vob_of::<T>(rt, "");
+    let mut bits = Vec::new(rt.alloc());
     for index in 0..len {
         let bit = match from(index) {
             Some(old) => pattern_bit(1, old),
             None => false,
         };
-        push(rt, &mut wanted, bit);
+        bits.push(bit).expect(rt, "memory");
     }
-    wanted
+    bits
 }
 
 /// The digits of the first `len` bits of the pattern with this seed.
@@ -117,10 +136,8 @@ pub fn pattern_digits(rt: &(impl Abort + AllocGlobal), seed: usize, len: usize) 
 
 /// Compares the length and the blocks.
 pub fn check_blocks<T: Block>(rt: &impl Abort, vob: &Vob<T>, len: usize, blocks: &[T]) {
-    assert!(rt;
-        vob.len() == len && vob.get_storage() == blocks,
-        "{vob:?} has {len} bits in {blocks:?}"
-    );
+    same(rt, "the length", len, vob.len(), len);
+    same_list(rt, "the blocks", vob.get_storage(), blocks);
 }
 
 /// Compares the length and the blocks of a Vob that was made.
@@ -136,6 +153,15 @@ pub fn check_made<T: Block, E: Debug + Drop>(
 /// Compares the length and the blocks with those of another Vob.
 pub fn check_same<T: Block>(rt: &impl Abort, vob: &Vob<T>, wanted: &Vob<T>) {
     check_blocks(rt, vob, wanted.len(), wanted.get_storage());
+}
+
+/// Compares the length and the blocks with those of the Vob of these bits.
+pub fn check_list<T: Block>(rt: &(impl Abort + AllocGlobal), vob: &Vob<T>, bits: &[bool]) {
+    let mut wanted = vob_of::<T>(rt, "");
+    for bit in bits {
+        push(rt, &mut wanted, *bit);
+    }
+    check_same(rt, vob, &wanted);
 }
 
 /// Compares by both operators.

@@ -1,17 +1,21 @@
 //! Bits in reverse order, and bits rotated, against one bit after another.
-use super::support::{check_bits, check_same, moved, pattern, same, vob_of};
+use super::support::{check_bits, check_list, moved, pattern, pattern_list, same, vob_of};
 use std::process::Abort;
 use vob_block::Block;
+
+/// The bits of pattern 1 of this length in reverse order.
+fn reversed(rt: &(impl Abort + AllocGlobal), len: usize) -> Vec<bool> {
+    moved(rt, len, |index| len.saturating_sub(1).checked_sub(index))
+}
 
 fn check_reversed<T: Block>(rt: &(impl Abort + AllocGlobal), len: usize) {
     let mut vob = pattern::<T>(rt, 1, len);
     let room = vob.capacity();
     vob.reverse();
-    let from = |index: usize| len.saturating_sub(1).checked_sub(index);
-    check_same(rt, &vob, &moved::<T, _>(rt, len, from));
+    check_list(rt, &vob, &reversed(rt, len));
     same(rt, "the capacity", len, vob.capacity(), room);
     vob.reverse();
-    check_same(rt, &vob, &pattern::<T>(rt, 1, len));
+    check_list(rt, &vob, &pattern_list(rt, 1, 0, len));
 }
 
 #[test]
@@ -26,23 +30,37 @@ fn bits_of_every_length_are_reversed(rt: HostRuntime) {
     check_reversed::<u128>(&rt, 1000);
 }
 
-/// Rotates both ways by `n`, which is `by` modulo the length.
-fn check_rotated<T: Block>(rt: &(impl Abort + AllocGlobal), len: usize, n: usize, by: usize) {
-    let mut down = pattern::<T>(rt, 1, len);
-    let room = down.capacity();
-    down.rotate_left(n);
-    let from = |index: usize| {
+/// The bits of pattern 1 of this length, each taken from the index that is `by` above it, or from the
+/// front after the last.
+fn rotated(rt: &(impl Abort + AllocGlobal), len: usize, by: usize) -> Vec<bool> {
+    moved(rt, len, |index| {
         let far = index.saturating_add(by);
         Some(far.checked_sub(len).unwrap_or(far))
-    };
-    check_same(rt, &down, &moved::<T, _>(rt, len, from));
-    same(rt, "the capacity", len, down.capacity(), room);
-    down.rotate_right(n);
-    check_same(rt, &down, &pattern::<T>(rt, 1, len));
-    down.rotate_right(n);
-    let rest = len.saturating_sub(by);
-    let back = |index: usize| { Some(index.checked_sub(by).unwrap_or(index.saturating_add(rest))) };
-    check_same(rt, &down, &moved::<T, _>(rt, len, back));
+    })
+}
+
+/// Rotates to the left by `n`, which is `by` modulo the length.
+fn check_left<T: Block>(rt: &(impl Abort + AllocGlobal), len: usize, n: usize, by: usize) {
+    let mut vob = pattern::<T>(rt, 1, len);
+    let room = vob.capacity();
+    vob.rotate_left(n);
+    same(rt, "the capacity", len, vob.capacity(), room);
+    check_list(rt, &vob, &rotated(rt, len, by));
+}
+
+/// Rotates to the right by `n`, which is `by` modulo the length, and back.
+fn check_right<T: Block>(rt: &(impl Abort + AllocGlobal), len: usize, n: usize, by: usize) {
+    let mut vob = pattern::<T>(rt, 1, len);
+    vob.rotate_right(n);
+    check_list(rt, &vob, &rotated(rt, len, len.saturating_sub(by)));
+    vob.rotate_left(n);
+    check_list(rt, &vob, &pattern_list(rt, 1, 0, len));
+}
+
+/// Both ways.
+fn check_rotated<T: Block>(rt: &(impl Abort + AllocGlobal), len: usize, n: usize, by: usize) {
+    check_left::<T>(rt, len, n, by);
+    check_right::<T>(rt, len, n, by);
 }
 
 fn check_rotations(rt: &(impl Abort + AllocGlobal), len: usize, n: usize) {

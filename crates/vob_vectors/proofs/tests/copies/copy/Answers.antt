@@ -6,10 +6,10 @@ use Rattle.vob_vectors.proofs.tests.copies.copy.Goals as goal
 pub copy_range-requires : goal.copy_range-requires
 copy_range-requires g c =
     let few = length-bits_within c.args.other.now.bits c.args.start c.args.end
-    c.if-start-end.true (omega (arith, c.if-end-len.true, c.len-then-end-len.ensures.len)) in
+    c.if-start-end.true (omega (arith, c.if-end-others.true, c.len-others.ensures.len)) in
     record {
       fits = inl (
         tt,
-        omega (arith, few, c.if-at-len.true, c.if-end-start.true, c.len-then-at-len.ensures.len),
+        omega (arith, few, c.if-at-len.true, c.if-end-start.true, c.len-len.ensures.len),
       );
     }
