@@ -5,3 +5,5 @@ pub mod ClosureTextLemmas
 pub mod PathLemmas
 pub mod FilterTextLemmas
 pub mod LengthLemmas
+pub mod ProblemLemmas
+pub mod DefinitionLemmas

@@ -1,5 +1,5 @@
 -- Texts that are written one after another.
-use Rattle.std.proofs.Common.{Option, None, Some, ◌≡◌, ℕ, zero, suc, ◌+◌, ◌-◌, ◌<◌, ◌≤◌, true, false, Bool, inl, inr, List, [], ◌∷◌, ◌++◌, length, get_or, map, refl, ap, sym, ◌∙◌, arith, subst}
+use Rattle.std.proofs.Common.{Option, None, Some, ◌≡◌, ℕ, suc, ◌+◌, ◌-◌, ◌<◌, ◌≤◌, true, false, Bool, inl, inr, List, [], ◌∷◌, ◌++◌, length, get_or, map, refl, ap, sym, ◌∙◌, arith}
 use Rattle.std.specs.Prelude.{◌↔◌, All, Contains, AllPairs}
 use Rattle.std.specs.Io.KnownBytes.{Appends}
 use Rattle.std.specs.List.{flat_map, range_with_len}
@@ -9,7 +9,6 @@ use Rattle.std.proofs.lemmas.Bool.{cases_lt, false≢true}
 use Rattle.std.proofs.lemmas.List.Elements.{Contains-get_or}
 use Rattle.std.proofs.lemmas.List.Concat.{flat_map-append}
 use Rattle.vob_block.specs.Packing.{item}
-use Rattle.vob_walk.specs.Walk.{Walk}
 use Rattle.vob_walk.proofs.IndexLemmas.{matches_exactly, matches_rise}
 use Rattle.conthiral.specs.Printed.{members}
 
@@ -19,7 +18,7 @@ pub record AppendsBut (old now : Option (List ℕ)) (text rest : List ℕ) : Typ
   pub appended : Appends old now part
   pub cut : text ≡ part ++ rest
 
-Appends-none : (known : Option (List ℕ)) → Appends known known []
+pub Appends-none : (known : Option (List ℕ)) → Appends known known []
 Appends-none None = tt
 Appends-none (Some xs) = sym (append-nil xs)
 
@@ -102,6 +101,14 @@ pub members_inside : (set : List Bool) → All (λ number. number < length set) 
 members_inside set k d less =
     ((matches_exactly set true Unbounded Unbounded (get_or (members set) k d)).0
     (Contains-get_or (members set) k d less)).0
+
+none_below : (numbers : List ℕ) → All (λ number. number < 0) numbers → numbers ≡ []
+none_below [] all = refl
+none_below (x ∷ numbers) all =
+    let less : x < 0 = all 0 x (omega arith) in absurd (omega (arith, less))
+
+pub members_none : members [] ≡ []
+members_none = none_below (members []) (members_inside [])
 
 pub members-rise : (set : List Bool) → AllPairs (λ i j. i < j) (members set)
 members-rise set = matches_rise set true Unbounded Unbounded

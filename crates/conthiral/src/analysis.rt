@@ -1,13 +1,17 @@
 //! What holds before and after each node of a flow graph.
+ghost use Rattle.std.specs.Prelude.{◌≡◌, [], length, slice_index_or, IfOk, OnOk};
+ghost use Rattle.std.specs.Io.KnownBytes.{Appends};
+ghost use Rattle.vob.specs.Vobs.{bits_of};
+ghost use Rattle.conthiral.specs.Printed.{Writes};
+ghost use Rattle.conthiral.specs.Problems.{AreFlowsOf, AreSetsOf, IsSolved, lists_of};
+ghost use Rattle.conthiral.specs.FlowText.{ListsDominators, ListsLive, ListsReaching, ListsSolution, dominators_text, labels_text, set_text, sides_text};
 
-use crate::effects::{
-    Effects, add_border, add_to, definition_effects, expression_effects, labels_of, lasting,
-    nodes_after, nodes_before, reached_before,
-};
+use crate::definitions::reaching_problem;
 use crate::fault::Fault;
 use crate::flow::{FlowGraph, read_flow};
 use crate::names::Names;
-use crate::put::{put_name, put_next};
+use crate::problem::{Kind, Problem, available_problem, busy_problem, labels_of, nodes_before};
+use crate::put::{end_line, put_name, put_next};
 use std::alloc::{AllocError, Global};
 use std::io;
 use std::io::Write;
@@ -50,16 +54,17 @@ impl Analysis {
     }
 }
 
-/// What holds before and after each node, by the names of the places.
+/// The sets before and after each node, of the numbers of the places.
 #[derive(Drop)]
 struct Sides {
-    labels: Vec<Vec<u8>>,
     before: Vec<Vob>,
     after: Vec<Vob>,
 }
 
 /// Returns the sets of the numbers in some lists.
-fn sets_of(alloc: Global, places: usize, lists: &[Vec<usize>]) -> Result<Vec<Vob>, Fault> {
+fn sets_of(alloc: Global, places: usize, lists: &[Vec<usize>]) -> Result<Vec<Vob>, Fault>
+    ensures { IfOk result (λ sets. AreSetsOf places lists.now sets.items) }
+{
     let mut sets = Vec::new(alloc);
     for list in lists {
         match Vob::<usize>::from_indices(alloc, places, list) {
@@ -70,152 +75,207 @@ fn sets_of(alloc: Global, places: usize, lists: &[Vec<usize>]) -> Result<Vec<Vob
     Ok(sets)
 }
 
-/// Returns what each node draws from others: what it doesn't kill.
-fn draws_of<'a>(
-    alloc: Global,
-    kills: &'a [Vob],
-    from: &'a [Vec<usize>],
-) -> Result<Vec<Draw<'a>>, AllocError> {
-    let mut draws = Vec::new(alloc);
-    for (kill, list) in kills.iter().zip(from.iter()) {
-        draws.push(Draw {
-            mask: Mask::Without(kill),
-            from: list,
-        })?;
-    }
-    Ok(draws)
-}
-
 /// Returns the fault of lists that don't fit one another.
 fn no_fit(set: usize) -> Fault {
     Fault::Sets(SolveError::BadLength { set })
 }
 
-/// Returns the variables that may still be read: before each node and after it.
-fn live_sides(alloc: Global, graph: &FlowGraph<'_>) -> Result<Sides, Fault> {
-    let live = liveness(alloc, graph.variables.len(), &graph.nodes)?;
-    Ok(Sides {
-        labels: labels_of(alloc, &graph.variables)?,
-        before: live.before,
-        after: live.after,
-    })
-}
-
-/// Returns the definitions that may still hold: before each node and after it.
-fn reaching_sides(alloc: Global, graph: &FlowGraph<'_>) -> Result<Sides, Fault> {
-    let Effects {
-        labels,
-        generates,
-        kills,
-    } = definition_effects(alloc, graph)?;
-    let from = nodes_before(alloc, &graph.nodes)?;
-    let kills = sets_of(alloc, labels.len(), &kills)?;
-    let draws = draws_of(alloc, &kills, &from)?;
-    let mut after = sets_of(alloc, labels.len(), &generates)?;
-    if draws.len() != after.len() {
-        return Err(no_fit(draws.len()));
+/// Returns what each node draws from others: what isn't in its set of those that it kills.
+fn flows_of<'a>(
+    alloc: Global,
+    problem: &'a Problem,
+    kills: &'a [Vob],
+) -> Result<Vec<Draw<'a>>, Fault>
+    requires { AreSetsOf (length problem.now.labels.items) problem.now.kills.items kills.now }
+    ensures { IfOk result (λ flows. AreFlowsOf problem.now flows.items) }
+{
+    if kills.len() != problem.from.len() {
+        return Err(no_fit(kills.len()));
     }
-    let before = reaching_definitions(alloc, labels.len(), &mut after, &draws)?;
-    Ok(Sides {
-        labels,
-        before,
-        after,
-    })
-}
-
-/// Returns the expressions that were computed on all paths to here: before each node and after it.
-/// Before the entry there are none.
-fn available_sides(alloc: Global, graph: &FlowGraph<'_>) -> Result<Sides, Fault> {
-    let effects = expression_effects(alloc, graph)?;
-    let mut generates = lasting(alloc, &effects)?;
-    let Effects {
-        labels,
-        mut kills,
-        ..
-    } = effects;
-    let mut from = reached_before(alloc, &graph.nodes)?;
-    let border = from.len();
-    add_to(&mut from, 0, border)?;
-    add_border(alloc, labels.len(), &mut generates, &mut kills, &mut from)?;
-    let kills = sets_of(alloc, labels.len(), &kills)?;
-    let draws = draws_of(alloc, &kills, &from)?;
-    let mut after = sets_of(alloc, labels.len(), &generates)?;
-    if draws.len() != after.len() {
-        return Err(no_fit(draws.len()));
+    let mut flows = Vec::new(alloc);
+    for node in 0..kills.len() {
+        flows.push(Draw {
+            mask: Mask::Without(&kills[node]),
+            from: &problem.from[node],
+        })?;
     }
-    let before = available_expressions(alloc, labels.len(), &mut after, &draws)?;
-    Ok(Sides {
-        labels,
-        before,
-        after,
-    })
+    Ok(flows)
 }
 
-/// Returns the expressions that will be computed on all paths from here: before each node and after
-/// it. After a node with no next one there are none.
-fn busy_sides(alloc: Global, graph: &FlowGraph<'_>) -> Result<Sides, Fault> {
-    let Effects {
-        labels,
-        mut generates,
-        mut kills,
-    } = expression_effects(alloc, graph)?;
-    let mut from = nodes_after(alloc, &graph.nodes, graph.nodes.len())?;
-    add_border(alloc, labels.len(), &mut generates, &mut kills, &mut from)?;
-    let kills = sets_of(alloc, labels.len(), &kills)?;
-    let draws = draws_of(alloc, &kills, &from)?;
-    let mut before = sets_of(alloc, labels.len(), &generates)?;
-    if draws.len() != before.len() {
-        return Err(no_fit(draws.len()));
+/// Solves a problem: returns the least sets that meet its equations, or the greatest ones if it asks
+/// about all paths.
+fn solve(alloc: Global, problem: &Problem) -> Result<Sides, Fault>
+    ensures { IfOk result (λ sides.
+        IsSolved problem.now (bits_of sides.before.items) (bits_of sides.after.items)) }
+{
+    let places = problem.labels.len();
+    let kills = sets_of(alloc, places, &problem.kills)?;
+    let flows = flows_of(alloc, problem, &kills)?;
+    let mut sets = sets_of(alloc, places, &problem.generates)?;
+    if flows.len() != sets.len() {
+        return Err(no_fit(flows.len()));
     }
-    let after = very_busy_expressions(alloc, labels.len(), &mut before, &draws)?;
-    Ok(Sides {
-        labels,
-        before,
-        after,
-    })
+    match problem.kind {
+        Kind::ForwardMay => {
+            let before = reaching_definitions(alloc, places, &mut sets, &flows)?;
+            Ok(Sides {
+                before,
+                after: sets,
+            })
+        }
+        Kind::ForwardMust => {
+            let before = available_expressions(alloc, places, &mut sets, &flows)?;
+            Ok(Sides {
+                before,
+                after: sets,
+            })
+        }
+        Kind::BackwardMust => {
+            let after = very_busy_expressions(alloc, places, &mut sets, &flows)?;
+            Ok(Sides {
+                before: sets,
+                after,
+            })
+        }
+    }
 }
 
-/// Writes a word and the labels of a set.
+/// Returns the label of a place, or nothing if there is none.
+fn label_at(labels: &[Vec<u8>], place: usize) -> &[u8]
+    ensures { result.now ≡ slice_index_or (lists_of labels.now) place [] }
+{
+    match labels.get(place) {
+        Some(label) => label,
+        None => b"",
+    }
+}
+
+/// Writes the labels of the places in a set, a space before each.
+fn put_labels<W: Write>(output: &mut W, labels: &[Vec<u8>], set: &Vob) -> io::Result<()>
+    ensures { OnOk result (Appends (W.contents output.old) (W.contents output.new)
+        (labels_text (lists_of labels.now) set.now.bits)) }
+{
+    for place in set.iter_set_bits(..) {
+        put_next(output, label_at(labels, place))?;
+    }
+    Ok(())
+}
+
+/// Writes the labels of the set of a node, if it has one.
 fn put_set<W: Write>(
     output: &mut W,
-    word: &[u8],
     labels: &[Vec<u8>],
-    set: Option<&Vob>,
-) -> io::Result<()> {
-    output.write_all(word)?;
-    if let Some(set) = set {
-        for place in set.iter_set_bits(..) {
-            if let Some(label) = labels.get(place) {
-                put_next(output, label)?;
-            }
-        }
+    sets: &[Vob],
+    node: usize,
+) -> io::Result<()>
+    ensures { OnOk result (Appends (W.contents output.old) (W.contents output.new)
+        (set_text (lists_of labels.now) (bits_of sets.now) node)) }
+{
+    if node < sets.len() {
+        put_labels(output, labels, &sets[node])?;
     }
     Ok(())
 }
 
 /// Writes what holds before and after each node, a node a line.
-fn put_sides<W: Write>(output: &mut W, names: &Names<'_>, sides: &Sides) -> io::Result<()> {
+fn put_sides<W: Write>(
+    output: &mut W,
+    names: &Names<'_>,
+    labels: &[Vec<u8>],
+    sides: &Sides,
+) -> io::Result<()>
+    ensures { OnOk result (Appends (W.contents output.old) (W.contents output.new)
+        (sides_text names.now (lists_of labels.now)
+        (bits_of sides.now.before.items) (bits_of sides.now.after.items))) }
+{
     for node in 0..names.len() {
         put_name(output, names.name(node))?;
-        put_set(output, b": before", &sides.labels, sides.before.get(node))?;
-        put_set(output, b"; after", &sides.labels, sides.after.get(node))?;
-        output.write_all(b"\n")?;
+        output.write_all(b": before")?;
+        put_set(output, labels, &sides.before, node)?;
+        output.write_all(b"; after")?;
+        put_set(output, labels, &sides.after, node)?;
+        end_line(output)?;
     }
     Ok(())
 }
 
-/// Writes the dominators of each node, a node a line.
+/// Writes the dominators of each node, a node a line. The labels are the names.
 fn put_dominators<W: Write>(
     output: &mut W,
     names: &Names<'_>,
     labels: &[Vec<u8>],
     sets: &[Vob],
-) -> io::Result<()> {
+) -> io::Result<()>
+    requires { lists_of labels.now ≡ names.now }
+    ensures { OnOk result (Appends (W.contents output.old) (W.contents output.new)
+        (dominators_text names.now (bits_of sets.now))) }
+{
     for node in 0..names.len() {
         put_name(output, names.name(node))?;
-        put_set(output, b": dominators", labels, sets.get(node))?;
-        output.write_all(b"\n")?;
+        output.write_all(b": dominators")?;
+        put_set(output, labels, sets, node)?;
+        end_line(output)?;
     }
+    Ok(())
+}
+
+/// Writes the variables that may still be read before and after each node.
+fn print_live<W: Write>(alloc: Global, graph: &FlowGraph<'_>, output: &mut W) -> Result<(), Fault>
+    ensures { OnOk result (Writes (W.contents output.old) (W.contents output.new)
+        (ListsLive graph.now)) }
+{
+    let live = liveness(alloc, graph.variables.len(), &graph.nodes)?;
+    let labels = labels_of(alloc, &graph.variables)?;
+    let sides = Sides {
+        before: live.before,
+        after: live.after,
+    };
+    put_sides(output, &graph.names, &labels, &sides)?;
+    Ok(())
+}
+
+/// Writes the solution of a problem before and after each node with a name.
+fn print_solution<W: Write>(
+    alloc: Global,
+    names: &Names<'_>,
+    problem: &Problem,
+    output: &mut W,
+) -> Result<(), Fault>
+    ensures { OnOk result (Writes (W.contents output.old) (W.contents output.new)
+        (ListsSolution names.now problem.now)) }
+{
+    let sides = solve(alloc, problem)?;
+    put_sides(output, names, &problem.labels, &sides)?;
+    Ok(())
+}
+
+/// Writes the definitions that may still hold before and after each node.
+fn print_reaching<W: Write>(
+    alloc: Global,
+    graph: &FlowGraph<'_>,
+    output: &mut W,
+) -> Result<(), Fault>
+    ensures { OnOk result (Writes (W.contents output.old) (W.contents output.new)
+        (ListsReaching graph.now)) }
+{
+    let problem = reaching_problem(alloc, graph)?;
+    print_solution(alloc, &graph.names, &problem, output)?;
+    Ok(())
+}
+
+/// Writes the nodes that all paths from the first node to each pass.
+fn print_dominators<W: Write>(
+    alloc: Global,
+    graph: &FlowGraph<'_>,
+    output: &mut W,
+) -> Result<(), Fault>
+    ensures { OnOk result (Writes (W.contents output.old) (W.contents output.new)
+        (ListsDominators graph.now)) }
+{
+    let before = nodes_before(alloc, &graph.nodes)?;
+    let sets = dominators(alloc, 0, &before)?;
+    let labels = labels_of(alloc, &graph.names)?;
+    put_dominators(output, &graph.names, &labels, &sets)?;
     Ok(())
 }
 
@@ -229,19 +289,15 @@ pub fn print_flow<W: Write>(
     output: &mut W,
 ) -> Result<u8, Fault> {
     let graph = read_flow(alloc, text)?;
-    let sides = match analysis {
-        Analysis::Live => live_sides(alloc, &graph)?,
-        Analysis::Reaching => reaching_sides(alloc, &graph)?,
-        Analysis::Available => available_sides(alloc, &graph)?,
-        Analysis::Busy => busy_sides(alloc, &graph)?,
-        Analysis::Dominators => {
-            let before = nodes_before(alloc, &graph.nodes)?;
-            let sets = dominators(alloc, 0, &before)?;
-            let labels = labels_of(alloc, &graph.names)?;
-            put_dominators(output, &graph.names, &labels, &sets)?;
-            return Ok(0);
+    let names = &graph.names;
+    match analysis {
+        Analysis::Live => print_live(alloc, &graph, output)?,
+        Analysis::Reaching => print_reaching(alloc, &graph, output)?,
+        Analysis::Available => {
+            print_solution(alloc, names, &available_problem(alloc, &graph)?, output)?;
         }
-    };
-    put_sides(output, &graph.names, &sides)?;
+        Analysis::Busy => print_solution(alloc, names, &busy_problem(alloc, &graph)?, output)?,
+        Analysis::Dominators => print_dominators(alloc, &graph, output)?,
+    }
     Ok(0)
 }

@@ -1,4 +1,7 @@
-//! What each node of a flow graph generates and kills: definitions and expressions.
+//! Dataflow problems of a flow graph.
+ghost use Rattle.std.specs.Prelude.{◌≡◌, ◌∷◌, [], replicate, slice_index_or, IfOk, OnOk};
+ghost use Rattle.conthiral.specs.Problems.{AreBefore, IsAddedTo, lists_of};
+ghost use Rattle.conthiral.specs.Definitions.{AreGathered, AreKilled};
 
 use crate::fault::Fault;
 use crate::flow::FlowGraph;
@@ -8,16 +11,32 @@ use std::alloc::{AllocError, Global};
 use vob_flow::live::Flow;
 use vob_flow::reach;
 
-/// What each node of a graph generates and kills, by the names of the places.
+/// Which paths a problem asks about.
+#[derive(Clone, Copy)]
+pub enum Kind {
+    /// Some path to a node.
+    ForwardMay,
+    /// All paths to a node.
+    ForwardMust,
+    /// All paths from a node.
+    BackwardMust,
+}
+
+/// A dataflow problem: what the places are called, which of them each node generates and kills, and
+/// the nodes from which each draws.
 #[derive(Drop)]
-pub struct Effects {
+pub struct Problem {
+    pub kind: Kind,
     pub labels: Vec<Vec<u8>>,
     pub generates: Vec<Vec<usize>>,
     pub kills: Vec<Vec<usize>>,
+    pub from: Vec<Vec<usize>>,
 }
 
 /// Returns copies of names.
-pub fn labels_of(alloc: Global, names: &Names<'_>) -> Result<Vec<Vec<u8>>, AllocError> {
+pub fn labels_of(alloc: Global, names: &Names<'_>) -> Result<Vec<Vec<u8>>, AllocError>
+    ensures { IfOk result (λ labels. lists_of labels.items ≡ names.now) }
+{
     let mut labels = Vec::new(alloc);
     for number in 0..names.len() {
         labels.push(names.name(number).to_vec(alloc)?)?;
@@ -26,7 +45,9 @@ pub fn labels_of(alloc: Global, names: &Names<'_>) -> Result<Vec<Vec<u8>>, Alloc
 }
 
 /// Returns the given number of empty lists.
-fn empty_lists(alloc: Global, count: usize) -> Result<Vec<Vec<usize>>, AllocError> {
+pub fn empty_lists(alloc: Global, count: usize) -> Result<Vec<Vec<usize>>, AllocError>
+    ensures { IfOk result (λ lists. lists_of lists.items ≡ replicate count []) }
+{
     let mut lists = Vec::new(alloc);
     for _ in 0..count {
         lists.push(Vec::new(alloc))?;
@@ -35,37 +56,53 @@ fn empty_lists(alloc: Global, count: usize) -> Result<Vec<Vec<usize>>, AllocErro
 }
 
 /// Adds a number to the list with another number, if there is one.
-pub fn add_to(lists: &mut [Vec<usize>], list: usize, number: usize) -> Result<(), AllocError> {
-    if let Some(numbers) = lists.get_mut(list) {
-        numbers.push(number)?;
+pub fn add_to(lists: &mut [Vec<usize>], list: usize, number: usize) -> Result<(), AllocError>
+    ensures { OnOk result (IsAddedTo (list ∷ []) number (lists_of lists.old) (lists_of lists.new)) }
+{
+    if list < lists.len() {
+        lists[list].push(number)?;
     }
     Ok(())
 }
 
 /// Adds a number to the lists with some numbers.
-fn add_to_each(lists: &mut [Vec<usize>], some: &[usize], number: usize) -> Result<(), AllocError> {
+fn add_to_each(lists: &mut [Vec<usize>], some: &[usize], number: usize) -> Result<(), AllocError>
+    ensures { OnOk result (IsAddedTo some.now number (lists_of lists.old) (lists_of lists.new)) }
+{
     for list in some {
         add_to(lists, *list, number)?;
     }
     Ok(())
 }
 
+/// Returns the list with a number, or an empty one if there is none.
+fn list_at(lists: &[Vec<usize>], list: usize) -> &[usize]
+    ensures { result.now ≡ slice_index_or (lists_of lists.now) list [] }
+{
+    match lists.get(list) {
+        Some(numbers) => numbers,
+        None => &[],
+    }
+}
+
 /// Returns all that the lists with some numbers have.
-fn gathered(alloc: Global, lists: &[Vec<usize>], some: &[usize]) -> Result<Vec<usize>, AllocError> {
+fn gathered(alloc: Global, lists: &[Vec<usize>], some: &[usize]) -> Result<Vec<usize>, AllocError>
+    ensures { IfOk result (λ numbers. AreGathered (lists_of lists.now) some.now numbers.items) }
+{
     let mut numbers = Vec::new(alloc);
     for list in some {
-        if let Some(own) = lists.get(*list) {
-            numbers.extend_from_slice(own)?;
-        }
+        numbers.extend_from_slice(list_at(lists, *list))?;
     }
     Ok(numbers)
 }
 
 /// Returns for each node the nodes that come before it.
-pub fn nodes_before(alloc: Global, nodes: &[Flow]) -> Result<Vec<Vec<usize>>, AllocError> {
+pub fn nodes_before(alloc: Global, nodes: &[Flow]) -> Result<Vec<Vec<usize>>, AllocError>
+    ensures { IfOk result (λ before. AreBefore nodes.now (lists_of before.items)) }
+{
     let mut before = empty_lists(alloc, nodes.len())?;
-    for (number, node) in nodes.iter().enumerate() {
-        add_to_each(&mut before, &node.next, number)?;
+    for number in 0..nodes.len() {
+        add_to_each(&mut before, &nodes[number].next, number)?;
     }
     Ok(before)
 }
@@ -80,7 +117,7 @@ fn nodes_next(alloc: Global, nodes: &[Flow]) -> Result<Vec<Vec<usize>>, AllocErr
 }
 
 /// Returns for each node those that come before it and that a path from the entry reaches.
-pub fn reached_before(alloc: Global, nodes: &[Flow]) -> Result<Vec<Vec<usize>>, Fault> {
+fn reached_before(alloc: Global, nodes: &[Flow]) -> Result<Vec<Vec<usize>>, Fault> {
     let next = nodes_next(alloc, nodes)?;
     let mut before = empty_lists(alloc, nodes.len())?;
     let entry = [0];
@@ -97,63 +134,18 @@ pub fn reached_before(alloc: Global, nodes: &[Flow]) -> Result<Vec<Vec<usize>>, 
 }
 
 /// Returns for each node the places that the variables have which it writes, by lists of them.
-fn killed(
+pub fn killed(
     alloc: Global,
     nodes: &[Flow],
     by_variable: &[Vec<usize>],
-) -> Result<Vec<Vec<usize>>, AllocError> {
+) -> Result<Vec<Vec<usize>>, AllocError>
+    ensures { IfOk result (λ kills. AreKilled nodes.now (lists_of by_variable.now) (lists_of kills.items)) }
+{
     let mut kills = Vec::new(alloc);
-    for node in nodes {
-        kills.push(gathered(alloc, by_variable, &node.writes)?)?;
+    for node in 0..nodes.len() {
+        kills.push(gathered(alloc, by_variable, &nodes[node].writes)?)?;
     }
     Ok(kills)
-}
-
-/// Returns how a definition is called: `x@n` for what node n writes to x.
-fn definition_label(alloc: Global, variable: &[u8], node: &[u8]) -> Result<Vec<u8>, AllocError> {
-    let mut label = variable.to_vec(alloc)?;
-    label.push(b'@')?;
-    label.extend_from_slice(node)?;
-    Ok(label)
-}
-
-/// Adds the definitions of a node, and returns their numbers. Each is added to the list of its
-/// variable.
-fn add_definitions(
-    alloc: Global,
-    graph: &FlowGraph<'_>,
-    number: usize,
-    labels: &mut Vec<Vec<u8>>,
-    by_variable: &mut [Vec<usize>],
-) -> Result<Vec<usize>, AllocError> {
-    let mut numbers = Vec::new(alloc);
-    let Some(node) = graph.nodes.get(number) else {
-        return Ok(numbers);
-    };
-    for variable in node.writes.iter() {
-        let definition = labels.len();
-        let name = graph.variables.name(*variable);
-        labels.push(definition_label(alloc, name, graph.names.name(number))?)?;
-        add_to(by_variable, *variable, definition)?;
-        numbers.push(definition)?;
-    }
-    Ok(numbers)
-}
-
-/// Returns the definitions that each node makes and those that it ends: all of its variables.
-pub fn definition_effects(alloc: Global, graph: &FlowGraph<'_>) -> Result<Effects, AllocError> {
-    let mut labels = Vec::new(alloc);
-    let mut generates = Vec::new(alloc);
-    let mut by_variable = empty_lists(alloc, graph.variables.len())?;
-    for node in 0..graph.nodes.len() {
-        generates.push(add_definitions(alloc, graph, node, &mut labels, &mut by_variable)?)?;
-    }
-    let kills = killed(alloc, &graph.nodes, &by_variable)?;
-    Ok(Effects {
-        labels,
-        generates,
-        kills,
-    })
 }
 
 /// Returns how an expression is called: `(a b)` for one that reads a and b.
@@ -204,9 +196,14 @@ fn add_expression<'a>(
     Ok(numbers)
 }
 
-/// Returns the expression that each node computes, before it writes, and those that it ends: all
+/// Returns a problem of expressions. A node computes what it reads, before it writes, and ends all
 /// that read what it writes. Nodes that read the same variables in the same order share one.
-pub fn expression_effects(alloc: Global, graph: &FlowGraph<'_>) -> Result<Effects, AllocError> {
+fn expressions(
+    alloc: Global,
+    graph: &FlowGraph<'_>,
+    kind: Kind,
+    from: Vec<Vec<usize>>,
+) -> Result<Problem, AllocError> {
     let own = expression_labels(alloc, graph)?;
     let mut names = Names::new(alloc);
     let mut generates = Vec::new(alloc);
@@ -216,10 +213,12 @@ pub fn expression_effects(alloc: Global, graph: &FlowGraph<'_>) -> Result<Effect
     }
     let kills = killed(alloc, &graph.nodes, &by_variable)?;
     let labels = labels_of(alloc, &names)?;
-    Ok(Effects {
+    Ok(Problem {
+        kind,
         labels,
         generates,
         kills,
+        from,
     })
 }
 
@@ -235,16 +234,16 @@ fn without(alloc: Global, numbers: &[usize], others: &[usize]) -> Result<Vec<usi
 }
 
 /// Returns what each node generates and doesn't kill.
-pub fn lasting(alloc: Global, effects: &Effects) -> Result<Vec<Vec<usize>>, AllocError> {
+fn lasting(alloc: Global, problem: &Problem) -> Result<Vec<Vec<usize>>, AllocError> {
     let mut lists = Vec::new(alloc);
-    for (own, kills) in effects.generates.iter().zip(effects.kills.iter()) {
+    for (own, kills) in problem.generates.iter().zip(problem.kills.iter()) {
         lists.push(without(alloc, own, kills)?)?;
     }
     Ok(lists)
 }
 
 /// Returns the nodes that come after each. After a node with none comes `border`.
-pub fn nodes_after(
+fn nodes_after(
     alloc: Global,
     nodes: &[Flow],
     border: usize,
@@ -260,21 +259,33 @@ pub fn nodes_after(
     Ok(after)
 }
 
-/// Returns the numbers below `end`.
-fn all(alloc: Global, end: usize) -> Result<Vec<usize>, AllocError> {
-    (0..end).collect(alloc)
+impl Problem {
+    /// Adds a last node, at which nothing holds: it generates nothing, kills all, and draws from none.
+    fn add_border(&mut self, alloc: Global) -> Result<(), AllocError> {
+        let all: Vec<usize> = (0..self.labels.len()).collect(alloc)?;
+        self.generates.push(Vec::new(alloc))?;
+        self.kills.push(all)?;
+        self.from.push(Vec::new(alloc))?;
+        Ok(())
+    }
 }
 
-/// Adds a last node, at which nothing holds: it generates nothing, kills all, and draws from none.
-pub fn add_border(
-    alloc: Global,
-    places: usize,
-    generates: &mut Vec<Vec<usize>>,
-    kills: &mut Vec<Vec<usize>>,
-    from: &mut Vec<Vec<usize>>,
-) -> Result<(), AllocError> {
-    generates.push(Vec::new(alloc))?;
-    kills.push(all(alloc, places)?)?;
-    from.push(Vec::new(alloc))?;
-    Ok(())
+/// Returns the problem of the expressions that were computed on all paths to a node. Before the
+/// entry there are none.
+pub fn available_problem(alloc: Global, graph: &FlowGraph<'_>) -> Result<Problem, Fault> {
+    let mut from = reached_before(alloc, &graph.nodes)?;
+    add_to(&mut from, 0, graph.nodes.len())?;
+    let mut problem = expressions(alloc, graph, Kind::ForwardMust, from)?;
+    problem.generates = lasting(alloc, &problem)?;
+    problem.add_border(alloc)?;
+    Ok(problem)
+}
+
+/// Returns the problem of the expressions that will be computed on all paths from a node. After a
+/// node with no next one there are none.
+pub fn busy_problem(alloc: Global, graph: &FlowGraph<'_>) -> Result<Problem, AllocError> {
+    let from = nodes_after(alloc, &graph.nodes, graph.nodes.len())?;
+    let mut problem = expressions(alloc, graph, Kind::BackwardMust, from)?;
+    problem.add_border(alloc)?;
+    Ok(problem)
 }
