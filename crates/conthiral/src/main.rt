@@ -15,14 +15,17 @@ mod graph;
 mod names;
 mod parse;
 mod problem;
+mod progress;
 mod put;
 mod reduction;
 mod run;
 mod table;
 mod words;
 
+use std::io::IsTerminal;
 use std::process::ExitCode;
 
 fn main(rt: HostRuntime) -> ExitCode {
-    run::run(&rt)
+    let says = rt.stderr().is_terminal() && !rt.stdout().is_terminal();
+    run::run(&rt, says)
 }

@@ -7,9 +7,11 @@ use crate::fault::{Fault, Report};
 use crate::filter::print_filter;
 use crate::grammar::print_grammar;
 use crate::parse::print_parse;
+use crate::progress::Watched;
 use std::io::{BufWriter, Read, Write};
 use std::process::ExitCode;
 use std::rt::{Env, Files};
+use std::time::Clock;
 use std::{env, fs, io};
 
 /// The status of a run that failed.
@@ -26,10 +28,15 @@ fn read_input<R: Files + Input + AllocGlobal>(rt: &R, file: &str) -> io::Result<
 }
 
 /// Reads the input of a task, and writes what it asks for. Returns the status.
-fn perform<R: Files + Input + Print + AllocGlobal>(rt: &R, task: &Task<'_>) -> Result<u8, Fault> {
+fn perform<R: Files + Input + Print + Eprint + Clock + AllocGlobal>(
+    rt: &R,
+    task: &Task<'_>,
+    says: bool,
+) -> Result<u8, Fault> {
     let alloc = rt.alloc();
     let text = read_input(rt, task.file()).map_err(Fault::Input)?;
-    let mut output = BufWriter::new(alloc, io::writer(rt))?;
+    let watched = Watched::new(rt, io::writer(rt), says, text.len());
+    let mut output = BufWriter::new(alloc, watched)?;
     let status = match task {
         Task::Grammar { states, .. } => print_grammar(alloc, &text, *states, &mut output)?,
         Task::Parse { grammar, .. } => {
@@ -49,11 +56,12 @@ fn perform<R: Files + Input + Print + AllocGlobal>(rt: &R, task: &Task<'_>) -> R
 }
 
 /// Performs a task, and says on standard error why it failed.
-fn perform_or_report<R: Files + Input + Print + Eprint + AllocGlobal>(
+fn perform_or_report<R: Files + Input + Print + Eprint + Clock + AllocGlobal>(
     rt: &R,
     task: &Task<'_>,
+    says: bool,
 ) -> u8 {
-    match perform(rt, task) {
+    match perform(rt, task, says) {
         Ok(status) => status,
         Err(fault) if fault.is_closed_pipe() => 0,
         Err(fault) => {
@@ -68,9 +76,13 @@ fn perform_or_report<R: Files + Input + Print + Eprint + AllocGlobal>(
 }
 
 /// Does what the words of the command line ask for. Returns the status: 0, or 1 if a quiet filter
-/// keeps no row, or 2 after a fault. A reader of the output that goes away is no fault.
-pub fn run<R: Env + Files + Input + Print + Eprint + AllocGlobal>(rt: &R) -> ExitCode {
-    let status = match run_words(rt) {
+/// keeps no row, or 2 after a fault. A reader of the output that goes away is no fault. If `says`,
+/// long work says on standard error how far it is.
+pub fn run<R: Env + Files + Input + Print + Eprint + Clock + AllocGlobal>(
+    rt: &R,
+    says: bool,
+) -> ExitCode {
+    let status = match run_words(rt, says) {
         Ok(status) => status,
         Err(error) if error.kind() == io::ErrorKind::BrokenPipe => 0,
         Err(error) => {
@@ -82,7 +94,10 @@ pub fn run<R: Env + Files + Input + Print + Eprint + AllocGlobal>(rt: &R) -> Exi
 }
 
 /// Does the same, and fails if the words can't be read or their help can't be written.
-fn run_words<R: Env + Files + Input + Print + Eprint + AllocGlobal>(rt: &R) -> io::Result<u8> {
+fn run_words<R: Env + Files + Input + Print + Eprint + Clock + AllocGlobal>(
+    rt: &R,
+    says: bool,
+) -> io::Result<u8> {
     let alloc = rt.alloc();
     let words: Vec<String> = env::args(rt)?.collect(alloc)?;
     let matches = match command(alloc)?.try_get_matches_from(words.as_slice()) {
@@ -93,7 +108,7 @@ fn run_words<R: Env + Files + Input + Print + Eprint + AllocGlobal>(rt: &R) -> i
         }
     };
     match task_of(&matches) {
-        Some(task) => Ok(perform_or_report(rt, &task)),
+        Some(task) => Ok(perform_or_report(rt, &task, says)),
         None => Ok(FAILED),
     }
 }
