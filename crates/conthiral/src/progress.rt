@@ -7,20 +7,19 @@ use std::time::{Clock, Duration, Instant};
 /// The bytes of a megabyte.
 const MEGABYTE: u64 = 1_000_000;
 
-/// An output that says on standard error how much was written, once a second.
+/// Standard output, which says on standard error how much was written, once a second.
 #[derive(Drop)]
-pub struct Watched<'a, R, W> {
+pub struct Watched<'a, R> {
     rt: &'a R,
-    output: W,
     written: u64,
     // When something was last said, or `None` if nothing is to be said.
     last: Option<Instant>,
 }
 
-impl<'a, R: Clock + Eprint, W: Write + Drop> Watched<'a, R, W> {
-    /// Begins to watch an output, after so many bytes were read. Says at once that they are many.
+impl<'a, R: Clock + Eprint> Watched<'a, R> {
+    /// Begins to watch the output, after so many bytes were read. Says at once that they are many.
     /// Nothing is ever said unless `says`.
-    pub fn new(rt: &'a R, output: W, says: bool, read: usize) -> Watched<'a, R, W> {
+    pub fn new(rt: &'a R, says: bool, read: usize) -> Watched<'a, R> {
         let last = if says { Instant::now(rt).ok() } else { None };
         let megabytes = read as u64 / MEGABYTE;
         if last.is_some() && megabytes > 0 {
@@ -28,7 +27,6 @@ impl<'a, R: Clock + Eprint, W: Write + Drop> Watched<'a, R, W> {
         }
         Watched {
             rt,
-            output,
             written: 0,
             last,
         }
@@ -47,9 +45,9 @@ impl<'a, R: Clock + Eprint, W: Write + Drop> Watched<'a, R, W> {
     }
 }
 
-impl<R: Clock + Eprint, W: Write + Drop> Write for Watched<'_, R, W> {
+impl<R: Clock + Print + Eprint> Write for Watched<'_, R> {
     fn write(&mut self, buf: &[u8]) -> io::Result<usize> {
-        let count = self.output.write(buf)?;
+        let count = io::writer(self.rt).write(buf)?;
         self.written = self.written.saturating_add(count as u64);
         self.say();
         Ok(count)
@@ -57,7 +55,7 @@ impl<R: Clock + Eprint, W: Write + Drop> Write for Watched<'_, R, W> {
 
     /// Nothing that was said stays.
     fn flush(&mut self) -> io::Result<()> {
-        self.output.flush()?;
+        io::writer(self.rt).flush()?;
         if self.last.is_some() {
             let _ = eprint!(self.rt; "\x1b[K");
         }

@@ -35,8 +35,7 @@ fn perform<R: Files + Input + Print + Eprint + Clock + AllocGlobal>(
 ) -> Result<u8, Fault> {
     let alloc = rt.alloc();
     let text = read_input(rt, task.file()).map_err(Fault::Input)?;
-    let watched = Watched::new(rt, io::writer(rt), says, text.len());
-    let mut output = BufWriter::new(alloc, watched)?;
+    let mut output = BufWriter::new(alloc, Watched::new(rt, says, text.len()))?;
     let status = match task {
         Task::Grammar { states, .. } => print_grammar(alloc, &text, *states, &mut output)?,
         Task::Parse { grammar, .. } => {
