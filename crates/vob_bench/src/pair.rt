@@ -118,6 +118,65 @@ fn filter(vob: Vob, other: &Vob, rounds: usize) -> Result<u64, Missing> {
     })
 }
 
+/// Runs a count of the name over two Vobs.
+fn count(name: &[u8], vob: Vob, other: &Vob, rounds: usize) -> Result<u64, Missing> {
+    match name {
+        b"CountAnd" => each_round(vob, rounds, |vob, round| {
+            touch(vob, round);
+            let fits = vob.len() == other.len();
+            Ok(if fits { vob.count_and(other) } else { 0 } as u64)
+        }),
+        b"CountOr" => each_round(vob, rounds, |vob, round| {
+            touch(vob, round);
+            let fits = vob.len() == other.len();
+            Ok(if fits { vob.count_or(other) } else { 0 } as u64)
+        }),
+        b"CountAndNot" => each_round(vob, rounds, |vob, round| {
+            touch(vob, round);
+            let fits = vob.len() == other.len();
+            Ok(if fits { vob.count_and_not(other) } else { 0 } as u64)
+        }),
+        b"CountXor" => each_round(vob, rounds, |vob, round| {
+            touch(vob, round);
+            let fits = vob.len() == other.len();
+            Ok(if fits { vob.count_xor(other) } else { 0 } as u64)
+        }),
+        _ => Err(Missing::Name),
+    }
+}
+
+/// Runs a workload of the name that combines two Vobs in place, or else a count.
+fn combine(name: &[u8], vob: Vob, other: &Vob, rounds: usize) -> Result<u64, Missing> {
+    match name {
+        b"And" => each_round(vob, rounds, |vob, _| {
+            Ok((vob.len() == other.len() && vob.and(other)) as u64)
+        }),
+        b"Or" => each_round(vob, rounds, |vob, _| {
+            Ok((vob.len() == other.len() && vob.or(other)) as u64)
+        }),
+        b"Xor" => each_round(vob, rounds, |vob, _| {
+            Ok((vob.len() == other.len() && vob.xor(other)) as u64)
+        }),
+        b"AndNot" => each_round(vob, rounds, |vob, _| {
+            Ok((vob.len() == other.len() && vob.and_not(other)) as u64)
+        }),
+        // Without a look at what is returned.
+        b"OrDropped" => each_round(vob, rounds, |vob, _| {
+            if vob.len() == other.len() {
+                vob.or(other);
+            }
+            Ok(0)
+        }),
+        b"AndNotDropped" => each_round(vob, rounds, |vob, _| {
+            if vob.len() == other.len() {
+                vob.and_not(other);
+            }
+            Ok(0)
+        }),
+        _ => count(name, vob, other, rounds),
+    }
+}
+
 /// Runs the workload of a name.
 pub(crate) fn run(
     alloc: Global,
@@ -129,31 +188,6 @@ pub(crate) fn run(
     let vob = Vob::from_bytes(alloc, bytes)?;
     let other = Vob::from_bytes(alloc, others)?;
     match name {
-        b"And" => each_round(vob, rounds, |vob, _| {
-            Ok((vob.len() == other.len() && vob.and(&other)) as u64)
-        }),
-        b"Or" => each_round(vob, rounds, |vob, _| {
-            Ok((vob.len() == other.len() && vob.or(&other)) as u64)
-        }),
-        b"Xor" => each_round(vob, rounds, |vob, _| {
-            Ok((vob.len() == other.len() && vob.xor(&other)) as u64)
-        }),
-        b"AndNot" => each_round(vob, rounds, |vob, _| {
-            Ok((vob.len() == other.len() && vob.and_not(&other)) as u64)
-        }),
-        // Without a look at what is returned.
-        b"OrDropped" => each_round(vob, rounds, |vob, _| {
-            if vob.len() == other.len() {
-                vob.or(&other);
-            }
-            Ok(0)
-        }),
-        b"AndNotDropped" => each_round(vob, rounds, |vob, _| {
-            if vob.len() == other.len() {
-                vob.and_not(&other);
-            }
-            Ok(0)
-        }),
         b"Subset" => subset(vob, other, rounds),
         b"Superset" => superset(vob, other, rounds),
         b"Disjoint" => disjoint(vob, other, rounds),
@@ -167,31 +201,11 @@ pub(crate) fn run(
         b"ExtendAligned" => extend(vob, &other, 64, rounds),
         b"ExtendShifted" => extend(vob, &other, 64 + 13, rounds),
         b"Filter" => filter(vob, &other, rounds),
-        b"CountAnd" => each_round(vob, rounds, |vob, round| {
-            touch(vob, round);
-            let fits = vob.len() == other.len();
-            Ok(if fits { vob.count_and(&other) } else { 0 } as u64)
-        }),
-        b"CountOr" => each_round(vob, rounds, |vob, round| {
-            touch(vob, round);
-            let fits = vob.len() == other.len();
-            Ok(if fits { vob.count_or(&other) } else { 0 } as u64)
-        }),
-        b"CountAndNot" => each_round(vob, rounds, |vob, round| {
-            touch(vob, round);
-            let fits = vob.len() == other.len();
-            Ok(if fits { vob.count_and_not(&other) } else { 0 } as u64)
-        }),
-        b"CountXor" => each_round(vob, rounds, |vob, round| {
-            touch(vob, round);
-            let fits = vob.len() == other.len();
-            Ok(if fits { vob.count_xor(&other) } else { 0 } as u64)
-        }),
         // The bits from index 13 on, but for the last ones, written over those from index 29 on.
         b"CopyRange" => each_round(vob, rounds, |vob, round| {
             copy_bits(vob, 29, &other, (13, other.len().saturating_sub(64)));
             Ok(sample(vob, round) as u64)
         }),
-        _ => Err(Missing::Name),
+        _ => combine(name, vob, &other, rounds),
     }
 }

@@ -74,12 +74,33 @@ fn insert_and_remove(vob: &mut Vob, round: usize) -> Result<u64, Missing> {
     Ok(sample(vob, round) as u64)
 }
 
+/// Runs a workload of the name that changes all bits, or those without 13 at the front and 29 at the
+/// back.
+fn change_by(name: &[u8], vob: Vob, rounds: usize) -> Result<u64, Missing> {
+    let end = vob.len().saturating_sub(29);
+    match name {
+        b"SetAll" => each_round(vob, rounds, |vob, round| {
+            vob.set_all(round % 2 == 1);
+            Ok(sample(vob, round) as u64)
+        }),
+        b"Negate" => change(vob, rounds, |vob| vob.negate()),
+        b"Reverse" => change(vob, rounds, |vob| vob.reverse()),
+        b"Rotate" => change(vob, rounds, |vob| vob.rotate_left(13)),
+        b"ShiftUp" => change(vob, rounds, |vob| vob.shl(13)),
+        b"InsertRemove" => each_round(vob, rounds, insert_and_remove),
+        b"SetRange" => each_round(vob, rounds, |vob, round| {
+            vob.set_range(13..end, round % 2 == 1);
+            Ok(sample(vob, round) as u64)
+        }),
+        b"NegateRange" => change(vob, rounds, |vob| vob.negate_range(13..end)),
+        _ => Err(Missing::Name),
+    }
+}
+
 /// Runs the workload of a name.
 pub(crate) fn run(alloc: Global, name: &[u8], bytes: &[u8], rounds: usize) -> Result<u64, Missing> {
     let vob = Vob::from_bytes(alloc, bytes)?;
     let len = vob.len();
-    // The range without 13 bits at the front and 29 at the back.
-    let end = len.saturating_sub(29);
     match name {
         b"FromBytes" => each_round(vob, rounds, |vob, round| {
             *vob = Vob::from_bytes(alloc, bytes)?;
@@ -95,18 +116,10 @@ pub(crate) fn run(alloc: Global, name: &[u8], bytes: &[u8], rounds: usize) -> Re
             vob.resize(len, true)?;
             Ok(sample(vob, round) as u64)
         }),
-        b"SetAll" => each_round(vob, rounds, |vob, round| {
-            vob.set_all(round % 2 == 1);
-            Ok(sample(vob, round) as u64)
-        }),
-        b"Negate" => change(vob, rounds, |vob| vob.negate()),
-        b"Reverse" => change(vob, rounds, |vob| vob.reverse()),
-        b"Rotate" => change(vob, rounds, |vob| vob.rotate_left(13)),
-        b"ShiftUp" => change(vob, rounds, |vob| vob.shl(13)),
-        b"InsertRemove" => each_round(vob, rounds, insert_and_remove),
+        // The range without 13 bits at the front and 29 at the back.
         b"Slice" => each_round(vob, rounds, |vob, round| {
             touch(vob, round);
-            Ok(sample(&vob.slice(13..end)?, round) as u64)
+            Ok(sample(&vob.slice(13..len.saturating_sub(29))?, round) as u64)
         }),
         b"Clone" => each_round(vob, rounds, |vob, round| {
             touch(vob, round);
@@ -120,12 +133,7 @@ pub(crate) fn run(alloc: Global, name: &[u8], bytes: &[u8], rounds: usize) -> Re
         }),
         b"DrainAligned" => drain(vob, rounds, 0, 64),
         b"DrainShifted" => drain(vob, rounds, 13, 29),
-        b"SetRange" => each_round(vob, rounds, |vob, round| {
-            vob.set_range(13..end, round % 2 == 1);
-            Ok(sample(vob, round) as u64)
-        }),
-        b"NegateRange" => change(vob, rounds, |vob| vob.negate_range(13..end)),
         b"ToBytes" => each_round(vob, rounds, |vob, round| to_bytes(alloc, vob, round)),
-        _ => Err(Missing::Name),
+        _ => change_by(name, vob, rounds),
     }
 }
