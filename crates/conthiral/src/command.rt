@@ -53,19 +53,14 @@ Example:
 /// What the help of `filter` says of conditions.
 const FILTER_HELP: &str = "\
 A condition compares columns by =, !=, <, <=, > and >=, and joins comparisons
-by ! (not), & (and) and | (or), which bind in this order, and by parentheses:
-  city = Paris & !(age < 30) | \"home town\" != \"New York\"
-
+by ! (not), & (and) and | (or), which bind in this order, and by parentheses.
 A value in double quotes is a text. One without is a number if it reads as
-one; then each cell of its column must be a number or empty.
-An empty cell is missing, and so is each comparison with it, as in SQL: a row
-is kept if the condition is true, and not if it is false or missing.
-
-Pages have 20 rows of those that are kept, and are counted from 1. After the
-last one a page has no rows: its header is printed alone.
+one; then each cell of its column must be a number or empty. An empty cell is
+missing, and so is each comparison with it, as in SQL: a row is kept if the
+condition is true, and not if it is false or missing. A page has 20 rows.
 
 Example:
-  ./conthiral filter examples/cities.csv 'coastal = yes & population > 5000000'";
+  ./conthiral filter examples/cities.csv 'coastal = yes & !(elevation > 5)'";
 
 /// What the words ask for. Each task names the file that it reads.
 #[derive(Clone, Copy)]
