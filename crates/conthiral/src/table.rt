@@ -47,6 +47,60 @@ fn no_table(text: &[u8], error: csv::Error) -> Fault {
     }
 }
 
+/// What a byte of a row stands in. A quoted cell has the place of its first quote.
+#[derive(Clone, Copy)]
+enum Part {
+    Start,
+    Plain,
+    Quoted(usize),
+    Quote(usize),
+}
+
+impl Part {
+    /// Returns what the next byte stands in, after the byte at a place.
+    fn after(self, at: usize, byte: u8) -> Part {
+        match (self, byte) {
+            (Part::Start, b'"') => Part::Quoted(at),
+            (Part::Quoted(open), b'"') => Part::Quote(open),
+            (Part::Quoted(open), _) => Part::Quoted(open),
+            (Part::Quote(open), b'"') => Part::Quoted(open),
+            (_, b',' | b'\n' | b'\r') => Part::Start,
+            _ => Part::Plain,
+        }
+    }
+}
+
+/// Returns the fault of a quote at a place that isn't closed.
+fn no_close(text: &[u8], at: usize) -> Fault {
+    let mut line: usize = 1;
+    let mut start: usize = 0;
+    for place in 0..at.min(text.len()) {
+        if text[place] == b'\n' {
+            line = line.saturating_add(1);
+            start = place.saturating_add(1);
+        }
+    }
+    Fault::Line {
+        line,
+        column: at.saturating_sub(start).saturating_add(1),
+        expected: "a closing `\"`",
+    }
+}
+
+/// Fails if the row that begins at the last position has a quoted cell that the text doesn't close.
+/// The reader takes it as it is.
+fn check_closed(text: &[u8], last: Option<Position>) -> Result<(), Fault> {
+    let byte = last.map(|position| position.byte()).unwrap_or(0);
+    let mut part = Part::Start;
+    for at in usize::try_from(byte).unwrap_or(0)..text.len() {
+        part = part.after(at, text[at]);
+    }
+    match part {
+        Part::Quoted(at) => Err(no_close(text, at)),
+        _ => Ok(()),
+    }
+}
+
 /// Returns a text without the mark of UTF-8 that it may begin with.
 fn without_mark(text: &[u8]) -> &[u8] {
     if text.starts_with(b"\xef\xbb\xbf") {
@@ -57,7 +111,8 @@ fn without_mark(text: &[u8]) -> &[u8] {
 }
 
 impl<'a> Table<'a> {
-    /// Reads a table. Fails at the first row that has more cells than the header, or fewer.
+    /// Reads a table. Fails at the first row that has more cells than the header, or fewer, and then
+    /// at a quote that isn't closed.
     pub fn read(alloc: Global, text: &'a [u8]) -> Result<Table<'a>, Fault> {
         let text = without_mark(text);
         let mut reader = ReaderBuilder::new()
@@ -82,6 +137,7 @@ impl<'a> Table<'a> {
                 Err(error) => return Err(no_table(text, error)),
             }
         }
+        check_closed(text, rows.last().and_then(|row| row.position()))?;
         Ok(Table { text, header, rows })
     }
 
