@@ -12,9 +12,9 @@ use Rattle.vob_block.specs.Packing.{item}
 use Rattle.vob_walk.specs.Matches.{has_value, matches}
 use Rattle.vob_walk.proofs.IndexLemmas.{matches_count}
 use Rattle.conthiral.proofs.PrintedLemmas.{members_inside}
-use Rattle.vob_users.specs.Columns.{row_at}
-use Rattle.vob_users.specs.Filter.{IsFilter, truth}
-use Rattle.vob_users.specs.declared.filter.Expression.{Expression}
+use Rattle.vob_filter.specs.Columns.{row_at}
+use Rattle.vob_filter.specs.Filter.{IsFilter, truth}
+use Rattle.vob_filter.specs.declared.filter.Expression.{Expression}
 use Rattle.csv.specs.Writing.{default_writer, fields_written, has_written, row_text, text_written, writer_pending, writer_setup, writer_under}
 use Rattle.csv.specs.declared.writer.Writer.{Writer}
 use Rattle.csv.specs.declared.writer.WriterBuilder.{WriterBuilder}

@@ -3,9 +3,9 @@ use Rattle.std.specs.Prelude.{◌≡◌, ℕ, ◌-◌, ◌*◌, Bool, false, Lis
 use Rattle.std.specs.List.{flat_map, range_with_len}
 use Rattle.csv.specs.Writing.{default_writer, fields_written, has_written, row_text, writer_setup}
 use Rattle.csv.specs.declared.writer.Writer.{Writer}
-use Rattle.vob_users.specs.Columns.{row_at}
-use Rattle.vob_users.specs.Filter.{truth}
-use Rattle.vob_users.specs.declared.filter.Expression.{Expression}
+use Rattle.vob_filter.specs.Columns.{row_at}
+use Rattle.vob_filter.specs.Filter.{truth}
+use Rattle.vob_filter.specs.declared.filter.Expression.{Expression}
 
 -- a row as it is written: cells with commas between, those that need it in quotes
 abbrev pub row_line : List (List ℕ) → List ℕ

@@ -3,7 +3,7 @@
 use crate::fault::Fault;
 use std::alloc::{AllocError, Global};
 use std::cmp::Ordering;
-use vob_users::filter::Expression;
+use vob_filter::filter::Expression;
 
 /// How many words a condition has at most, so that its depth is bounded.
 const MOST_WORDS: usize = 1000;

@@ -4,7 +4,8 @@ use std::alloc::{AllocError, AllocFailed};
 use std::{fmt, io};
 use vob_flow::SolveError;
 use vob_flow::live::LiveError;
-use vob_tables::{GrammarError, TextError};
+use vob_lr::GrammarError;
+use vob_yacc::TextError;
 
 /// Why a command fails.
 #[derive(Debug, Drop)]

@@ -3,7 +3,7 @@ ghost use Rattle.std.specs.Prelude.{◌≡◌, ◌<◌, ◌++◌, length, map, A
 ghost use Rattle.std.specs.Io.KnownBytes.{Appends};
 ghost use Rattle.csv.specs.Records.{fields_of};
 ghost use Rattle.csv.specs.Writing.{text_written};
-ghost use Rattle.vob_users.specs.Filter.{AreRows};
+ghost use Rattle.vob_filter.specs.Filter.{AreRows};
 ghost use Rattle.conthiral.specs.Printed.{members};
 ghost use Rattle.conthiral.specs.FilterText.{IsReady, paged, row_line, rows_text, true_rows};
 
@@ -15,10 +15,10 @@ use csv::{ByteRecord, Writer, WriterBuilder};
 use std::alloc::{AllocError, Global};
 use std::io::Write;
 use vob::Vob;
-use vob_users::column::Column;
-use vob_users::filter::{Expression, are_rows, count, select};
-use vob_users::rows;
-use vob_users::rows::kept_rows;
+use vob_filter::column::Column;
+use vob_filter::filter::{Expression, are_rows, count, select};
+use vob_filter::rows;
+use vob_filter::rows::kept_rows;
 
 /// How many rows a page has.
 pub const PAGE_ROWS: usize = 20;

@@ -6,10 +6,8 @@ use std::alloc::Global;
 use std::io;
 use std::io::Write;
 use vob::Vob;
-use vob_tables::{
-    Cell, Grammar, GrammarText, Item, Lookaheads, Move, Precedence, Rule, Symbol, Table,
-    first_sets, follow_sets, grammar_of, nullable,
-};
+use vob_lr::{Cell, Grammar, Item, Lookaheads, Move, Precedence, Rule, Symbol, Table, first_sets, follow_sets, nullable};
+use vob_yacc::{GrammarText, grammar_of};
 
 /// How the file calls the symbols.
 #[derive(Drop)]

@@ -7,7 +7,7 @@ use indexmap::IndexMap;
 use std::alloc::{AllocError, Global};
 use std::io;
 use std::io::Write;
-use vob_tables::ParseError;
+use vob_lr::ParseError;
 
 /// Returns the terminals of a grammar file by their names. Those of one quoted character also go by
 /// the character.

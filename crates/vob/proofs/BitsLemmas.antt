@@ -18,6 +18,7 @@ use Rattle.std.proofs.lemmas.List.Sums.{sum_by-set, sum_by-cons}
 use Rattle.vob_block.specs.Packing.{item}
 use Rattle.vob_block.specs.Pointwise.{differ, pointwise, without}
 use Rattle.vob_block.proofs.BoolLemmas.{differ-is}
+use Rattle.vob_block.proofs.PackingLemmas.{true_inside}
 use Rattle.vob_block.proofs.PointwiseLemmas.{length-pointwise, item-pointwise}
 use Rattle.vob_walk.specs.Matches.{within, has_value}
 use Rattle.vob_walk.specs.Cursor.{indices_where}
@@ -83,12 +84,6 @@ set-same bits index value there =
     ap (slice_set bits index) (sym there) ∙ set-get_or bits index false
 
 -- a true bit is there
-pub true_inside : (bits : List Bool) (index : ℕ) → item bits index ≡ true → index < length bits
-true_inside bits index there = elim (cases_lt index (length bits)) [
-  | inl inside ↦ inside
-  | inr past ↦ absurd (false≢true (sym (get_or_past bits index false past) ∙ there))
-]
-
 -- ---- how many bits have a value
 
 pub count_cons : (value b : Bool) (bits : List Bool)

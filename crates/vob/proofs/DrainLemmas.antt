@@ -5,7 +5,7 @@ use Rattle.std.proofs.Common.{◌≡◌, ◌≢◌, ℕ, ◌+◌, ◌-◌, ◌�
 use Rattle.std.proofs.lemmas.List.{append-nil, drop-take, drop_all, length-take-le, length-drop, take_all}
 use Rattle.std.proofs.lemmas.Bool.{false≢true}
 use Rattle.vob_block.specs.Packing.{unpacking}
-use Rattle.vob_store.proofs.CutLemmas.{take-unpacking}
+use Rattle.vob_block.proofs.PackingLemmas.{take-unpacking}
 use Rattle.vob_walk.specs.Matches.{ForSomeRange, IsRangeOf}
 use Rattle.vob.specs.Drain.{bits_within, IsDrained}
 use Rattle.vob_walk.proofs.WindowLemmas.{IsRangeOf-own}

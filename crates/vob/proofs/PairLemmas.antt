@@ -16,7 +16,8 @@ use Rattle.vob_walk.specs.Matches.{has_value}
 use Rattle.vob_store.specs.Combined.{combined_bit, ones_combined, HaveNone}
 use Rattle.vob.specs.Bits.{count_of}
 use Rattle.vob.specs.Sets.{IsSubset, AreDisjoint, HasOther, HasShared}
-use Rattle.vob.proofs.BitsLemmas.{and_fewer, true_inside}
+use Rattle.vob_block.proofs.PackingLemmas.{true_inside}
+use Rattle.vob.proofs.BitsLemmas.{and_fewer}
 use Rattle.vob.proofs.SetsLemmas.{counted}
 
 -- ---- lists

@@ -13,25 +13,6 @@ use Rattle.vob_store.specs.Range.{IsRanged}
 use Rattle.vob_walk.specs.Matches.{within, ForSomeRange, IsRangeOf}
 use Rattle.vob.specs.Ranges.{replaced, IsChangedWithin}
 
-module _ {low high : Bound ℕ} {len start stop : ℕ} (range : IsRangeOf low high len start stop)
-    (i : ℕ) (less : i < len) where
-  pub there : within low high i ≡ true → (start ≤ i) × (i < stop)
-  there holds =
-      let both = and_parts (nat_le start i) (nat_lt i stop) (sym (range.each i less) ∙ holds) in
-      (leb-true start i both.0, ltb-true i stop both.1)
-
-  pub within-there : start ≤ i → i < stop → within low high i ≡ true
-  within-there above below = range.each i less
-      ∙ and_from (nat_le start i) (nat_lt i stop) (le-leb start i above) (lt-ltb i stop below)
-
-  pub within-before : i < start → within low high i ≡ false
-  within-before before = range.each i less
-      ∙ and_left (nat_le start i) (nat_lt i stop) (lt-leb start i before)
-
-  pub within-behind : stop ≤ i → within low high i ≡ false
-  within-behind behind = range.each i less
-      ∙ and_right (nat_le start i) (nat_lt i stop) (le-ltb i stop behind)
-
 -- changed blocks hold the list changed
 pub IsChangedWithin-ranged : (w : ℕ) → 0 < w → {f : Bool → Bool} {low high : Bound ℕ}
     {n start stop : ℕ} {xs ys : List ℕ} → IsCanonical n xs w → IsCanonical n ys w

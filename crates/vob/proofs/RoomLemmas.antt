@@ -1,15 +1,65 @@
--- Where n unset bits in a row stand, by the runs that were passed.
+-- Runs of unset bits, and where n of them in a row stand, by the runs that were passed.
 use Rattle.std.specs.Prelude.{Some, None, map}
 use Rattle.std.specs.declared.ops.Range.{Range}
 use Rattle.std.proofs.Common.{◌≡◌, ℕ, ◌+◌, ◌-◌, ◌<◌, ◌≤◌, Bool, true, false, not, List, length}
-use Rattle.std.proofs.Common.{sym, ap, ◌∙◌, arith, inl, inr}
+use Rattle.std.proofs.Common.{refl, sym, ap, ◌∙◌, ◌↔◌, arith, inl, inr}
 use Rattle.std.proofs.lemmas.Bool.{cases_lt, false≢true}
-use Rattle.std.proofs.lemmas.List.{length-map}
+use Rattle.std.proofs.lemmas.List.{get_or_past, get_or-map, length-map}
 use Rattle.vob_block.specs.Packing.{item}
-use Rattle.vob.specs.Room.{HasNoRoom, IsFirstRoom, IsRoom}
-use Rattle.vob.specs.Runs.{GivesRun, RunWalk}
-use Rattle.vob.proofs.SeenLemmas.{turned_at, unset_of}
-use Rattle.vob.proofs.SelectLemmas.{inside}
+use Rattle.vob_block.proofs.PackingLemmas.{true_inside}
+use Rattle.vob_walk.specs.Runs.{GivesRun, IsMaximalRun, RunWalk}
+use Rattle.vob.specs.Room.{HasNoRoom, IsFirstRoom, IsRoom, IsUnsetRun}
+
+-- ---- a run of the bits negated
+
+set_of : (b : Bool) → not b ≡ false → b ≡ true
+set_of true e = refl
+set_of false e = sym e
+
+pub unset_of : (b : Bool) → not b ≡ true → b ≡ false
+unset_of true e = sym e
+unset_of false e = refl
+
+pub turned_at : (bits : List Bool) (i : ℕ) → i < length bits
+    → item (map not bits) i ≡ not (item bits i)
+turned_at bits i below = get_or-map not bits i false false below
+
+module _ (bits : List Bool) (a b : ℕ) where
+  IsUnsetRun-turned : IsMaximalRun (map not bits) a b → IsUnsetRun bits a b
+  IsUnsetRun-turned run =
+      let within : b ≤ length bits = omega (arith, run.inside, length-map bits not) in
+      let some = run.some in record {
+        some = some;
+        inside = within;
+        unset = λ i above below. unset_of (item bits i)
+            (sym (turned_at bits i (omega (arith, below, within))) ∙ run.set i above below);
+        before = λ i next. set_of (item bits i)
+            (sym (turned_at bits i (omega (arith, next, some, within))) ∙ run.before i next);
+        behind = λ below. set_of (item bits b) (sym (turned_at bits b below) ∙ run.behind);
+      }
+
+  IsMaximalRun-turned : IsUnsetRun bits a b → IsMaximalRun (map not bits) a b
+  IsMaximalRun-turned run =
+      let within = run.inside in
+      let some = run.some in record {
+        some = some;
+        inside = omega (arith, within, length-map bits not);
+        set = λ i above below. turned_at bits i (omega (arith, below, within))
+            ∙ ap not (run.unset i above below);
+        before = λ i next. turned_at bits i (omega (arith, next, some, within))
+            ∙ ap not (run.before i next);
+        behind = elim (cases_lt b (length bits)) [
+          | inl below ↦ turned_at bits b below ∙ ap not (run.behind below)
+          | inr past ↦ get_or_past (map not bits) b false
+              (omega (arith, past, length-map bits not))
+        ];
+      }
+
+pub IsMaximalRun-negated : (bits : List Bool) (a b : ℕ) → IsMaximalRun (map not bits) a b
+    ↔ IsUnsetRun bits a b
+IsMaximalRun-negated bits a b = (IsUnsetRun-turned bits a b, IsMaximalRun-turned bits a b)
+
+-- ---- room
 
 -- each room begins at or above an index
 abbrev pub IsBelowRoom : ℕ → List Bool → ℕ → Type 0
@@ -80,7 +130,7 @@ module _ (n : ℕ) (some : 0 < n) (bits : List Bool) where
             unset = λ j above below.
                 let set = ap (λ l. item l j) (sym same)
                 ∙ gives.run.0.run.set j above (omega (arith, long, below)) in
-                let within = inside (map not bits) j set in
+                let within = true_inside (map not bits) j set in
                 unset_of (item bits j)
                 (sym (turned_at bits j (omega (arith, within, length-map bits not))) ∙ set);
           };

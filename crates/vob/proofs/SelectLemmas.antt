@@ -7,11 +7,12 @@ use Rattle.std.proofs.lemmas.Bool.{cases_lt, false≢true}
 use Rattle.std.proofs.lemmas.List.{get_or_past, take_all}
 use Rattle.std.proofs.lemmas.List.Sums.{sum_by-cons}
 use Rattle.vob_block.specs.Packing.{item, bit_at, packing}
+use Rattle.vob_block.proofs.PackingLemmas.{bit-in_blocks, true_inside}
 use Rattle.vob_walk.specs.Count.{ones_between}
 use Rattle.vob_walk.specs.Select.{HasRank}
 use Rattle.vob.specs.Bits.{count_of}
 use Rattle.vob.specs.Sets.{IsOfRank, IsIndexOfRank}
-use Rattle.vob.proofs.SetsLemmas.{bit-in_blocks, counted, rank_is, equal_by, some_where, none_where}
+use Rattle.vob.proofs.SetsLemmas.{counted, rank_is, equal_by, some_where, none_where}
 
 -- ---- set bits below an index
 
@@ -33,12 +34,6 @@ count-more (b ∷ bits) (suc i) (suc j) less there = omega (
   count-more bits i j (omega arith) there,
 )
 
-pub inside : (bits : List Bool) (i : ℕ) → item bits i ≡ true → i < length bits
-inside bits i there = elim (cases_lt i (length bits)) [
-  | inl less ↦ less
-  | inr past ↦ absurd (false≢true (sym (get_or_past bits i false past) ∙ there))
-]
-
 module _ (bits : List Bool) (k : ℕ) where
   once_ranked : (i j : ℕ) → IsOfRank bits k i → IsOfRank bits k j → i ≡ j
   once_ranked i j p q = equal_by i j
@@ -48,7 +43,7 @@ module _ (bits : List Bool) (k : ℕ) where
   too_few : (i : ℕ) → IsOfRank bits k i → count_of true bits ≤ k → ⊥
   too_few i p few =
       let all = ap (count_of true) (take_all (length bits) bits (omega arith)) in
-      let more = count-more bits i (length bits) (inside bits i p.there) p.there in
+      let more = count-more bits i (length bits) (true_inside bits i p.there) p.there in
       omega (arith, all, more, p.below, few)
 
   pub selected : (answer : Option ℕ) → MatchOption answer (count_of true bits ≤ k)
@@ -65,8 +60,8 @@ module _ (w : ℕ) (wide : 0 < w) (bits : List Bool) (xs : List ℕ)
   bit-is : (i : ℕ) → bit_at xs w i ≡ item bits i
   bit-is = bit-in_blocks w wide bits xs blocks
 
-  pub true_inside : (i : ℕ) → bit_at xs w i ≡ true → i < length bits
-  true_inside i there = inside bits i (sym (bit-is i) ∙ there)
+  pub some_inside : (i : ℕ) → bit_at xs w i ≡ true → i < length bits
+  some_inside i there = true_inside bits i (sym (bit-is i) ∙ there)
 
   ones-all : (m : ℕ) → length bits ≤ m → ones_between w xs 0 m ≡ count_of true bits
   unfolding ones_between
@@ -80,7 +75,7 @@ module _ (w : ℕ) (wide : 0 < w) (bits : List Bool) (xs : List ℕ)
   ranked k i h = record {
     there = sym (bit-is i) ∙ h.there;
     below = sym (rank_is w wide bits i i (ones_between w xs 0 i) xs
-        (omega (arith, true_inside i h.there)) blocks refl) ∙ h.below;
+        (omega (arith, some_inside i h.there)) blocks refl) ∙ h.below;
   }
 
   pub IsIndexOfRank-blocks : (k m : ℕ) (answer : Option ℕ) → length bits ≤ m

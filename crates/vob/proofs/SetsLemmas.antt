@@ -9,12 +9,11 @@ use Rattle.std.proofs.lemmas.Bool.{cases_lt, false≢true}
 use Rattle.std.proofs.lemmas.List.{ext_get_or, get_or-replicate, get_or-take, length-map, length-replicate, length-take}
 use Rattle.std.proofs.lemmas.List.Sums.{sum_by-cons}
 use Rattle.vob_block.specs.Packing.{item, need, bit_at, packing}
-use Rattle.vob_block.proofs.PackingLemmas.{bit_at-packing, length-packing}
+use Rattle.vob_block.proofs.PackingLemmas.{bit-in_blocks, bit_at-packing, length-packing, true_inside}
 use Rattle.vob_walk.specs.Count.{ones_between}
 use Rattle.vob_walk.specs.Next.{HasNoBit, IsFirstBit, IsLastBit}
 use Rattle.vob.specs.Bits.{count_of}
 use Rattle.vob.specs.Sets.{HasBit, HasOnly, IsBit, IsFirstFrom, IsIndexOfRank, IsLastUpTo, IsNext, IsPrevious}
-use Rattle.vob.proofs.BitsLemmas.{true_inside}
 
 -- ---- answers
 
@@ -75,11 +74,6 @@ module _ (value : Bool) (bits : List Bool) (from : ℕ) where
       }
 
 -- ---- an index that is found among the blocks of a list
-
-pub bit-in_blocks : (w : ℕ) → 0 < w → (bits : List Bool) (xs : List ℕ) → xs ≡ packing bits w
-    → (i : ℕ) → bit_at xs w i ≡ item bits i
-bit-in_blocks w wide bits xs blocks i =
-    ap (λ ys. bit_at ys w i) blocks ∙ bit_at-packing w wide bits i
 
 module _ {X : Type 0} (w : ℕ) (wide : 0 < w) (number : X → ℕ) (items : List X) (bits : List Bool)
     (n : ℕ) (blocks : map number items ≡ packing bits w) (long : n ≡ length bits) where

@@ -9,7 +9,7 @@ use Rattle.vob_block.specs.Packing.{item, bit_at, packing, IsCanonical}
 use Rattle.vob_block.specs.Places.{place, HasPlaces}
 use Rattle.vob_block.proofs.NeedLemmas.{need_is}
 use Rattle.vob_block.proofs.PackingLemmas.{bit_at-past}
-use Rattle.vob.proofs.SetsLemmas.{bit-in_blocks}
+use Rattle.vob_block.proofs.PackingLemmas.{bit-in_blocks}
 
 and-true : (b : Bool) → (b && true) ≡ b
 and-true true = refl

@@ -13,6 +13,7 @@ start_of (Excluded a) = a + 1
 start_of Unbounded = 0
 
 -- a list with others in place of as many bits from an index on
+-- Example: 11 over 0000 at 1: 0110
 abbrev pub written_over : ℕ → List Bool → List Bool → List Bool
 written_over at others bits = replaced at (at + length others) others bits
 
@@ -34,6 +35,7 @@ FitsRange known at low high others bits =
     (known × FitsFrom at low high others bits) ⊎ (at + length others ≤ length bits)
 
 -- what a range holds of others stands there, and each other bit is as it was
+-- Example: bits below 2 of 110 over 0000 at 1: 0110
 abbrev pub IsRangeCopied : ℕ → Bound ℕ → Bound ℕ → List Bool → List Bool → List Bool → Type 0
 IsRangeCopied at low high bits others after =
     IsCopied at (start_of low) (length (bits_within low high others)) bits others after

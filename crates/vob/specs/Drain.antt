@@ -10,9 +10,11 @@ unfoldable pub bits_where : (ℕ → Bool) → List Bool → List Bool
 bits_where wanted bits = map (item bits) (filter wanted (range_with_len 0 (length bits)))
 
 -- those whose index is within a range, and those whose index isn't
+-- Example: of 1011 from 1 below 3: 01
 abbrev pub bits_within : Bound ℕ → Bound ℕ → List Bool → List Bool
 bits_within low high bits = bits_where (within low high) bits
 
+-- the bits whose index isn't within a range
 abbrev pub bits_outside : Bound ℕ → Bound ℕ → List Bool → List Bool
 bits_outside low high bits = bits_where (λ i. not (within low high i)) bits
 

@@ -8,6 +8,7 @@ use Rattle.vob.specs.Vob.{BitVector, IsTooLong, NeedsMemory}
 
 -- what a call for n bits more refuses: a length that is too great always, memory only where more of
 -- it is needed, and nothing else
+-- Example: 8 bits, capacity 8, width 8: a push may return Memory
 pub record RefusesMore (width : ℕ) (vob : BitVector) (n : ℕ) (result : Result ⊤ VobError)
     : Type 0 where
   pub too_long : (result ≡ Err TooLong) ↔ IsTooLong vob n

@@ -3,6 +3,7 @@ use Rattle.std.specs.Prelude.{◌≡◌, ◌↔◌, ◌⊎◌, ℕ, ◌<◌, ◌
 use Rattle.vob_block.specs.Packing.{item}
 
 -- the bits of a length of which those at the given indices are set, and no others
+-- Example: 0 and 2, length 3: 101
 pub record IsMadeOf (n : ℕ) (indices : List ℕ) (bits : List Bool) : Type 0 where
   pub len : length bits ≡ n
   pub each : (i : ℕ) → IsTrue (item bits i) ↔ Contains indices i
@@ -13,6 +14,7 @@ pub record IsSetAt (indices : List ℕ) (bits after : List Bool) : Type 0 where
   pub each : (i : ℕ) → IsTrue (item after i) ↔ (IsTrue (item bits i) ⊎ Contains indices i)
 
 -- of some indices the one at a position is the first that is at or past a length
+-- Example: of 1, 3, 4 at length 3: position 1
 pub record IsFirstOutside (len : ℕ) (indices : List ℕ) (position : ℕ) : Type 0 where
   pub inside : position < length indices
   pub outside : len ≤ slice_index_or indices position 0

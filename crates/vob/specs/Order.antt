@@ -7,6 +7,7 @@ use Rattle.std.proofs.Common.{refl, subst}
 use Rattle.vob_block.specs.Packing.{item}
 
 -- index i is the first below both lengths at which two lists differ
+-- Example: of 10 and 111: index 1
 pub record IsFirstDifference (bits others : List Bool) (i : ℕ) : Type 0 where
   pub inside : i < length bits
   pub theirs : i < length others

@@ -11,6 +11,7 @@ pub record IsUnsetRun (bits : List Bool) (a b : ℕ) : Type 0 where
   pub behind : b < length bits → item bits b ≡ true
 
 -- n unset bits in a row stand from index i on, within the length
+-- Example: 2 in 0100: from index 2 on
 pub record IsRoom (n : ℕ) (bits : List Bool) (i : ℕ) : Type 0 where
   pub inside : i + n ≤ length bits
   pub unset : (j : ℕ) → i ≤ j → j < i + n → item bits j ≡ false
@@ -20,5 +21,6 @@ pub record IsFirstRoom (n : ℕ) (bits : List Bool) (i : ℕ) : Type 0 where
   pub there : IsRoom n bits i
   pub least : (j : ℕ) → IsRoom n bits j → i ≤ j
 
+-- nowhere do n unset bits stand in a row
 abbrev pub HasNoRoom : ℕ → List Bool → Type 0
 HasNoRoom n bits = (i : ℕ) → IsRoom n bits i → ⊥

@@ -12,6 +12,7 @@ WritesFields len vec =
     (Then vec (Sends map_ends)))))
 
 -- the length of some bits is sent, and then the blocks that are their packing
+-- Example: 101 at 8: {"len":3,"vec":[5]}
 pub record WritesBits {X : Type 0} (writes : X → Log → Log → Type 0) (number : X → ℕ) (width : ℕ)
     (bits : List Bool) (old new : Log) : Type 0 where
   pub blocks : List X

@@ -14,6 +14,7 @@ abbrev pub IsTooLong : BitVector → ℕ → Type 0
 IsTooLong vob n = 2 ^ 64 - 1 < length vob.bits + n
 
 -- n bits more fit within the capacity
+-- Example: 8 more for 8 bits with capacity 16
 abbrev pub HasRoomFor : BitVector → ℕ → Type 0
 HasRoomFor vob n = length vob.bits + n ≤ vob.capacity
 
@@ -28,6 +29,7 @@ abbrev pub HaveSameLength : BitVector → BitVector → Type 0
 HaveSameLength vob other = length vob.bits ≡ length other.bits
 
 -- the bits of two Vobs combined by f, in the room that the first had
+-- Example: 1010 and 1100 by "and": 1000
 pub record BecomesPointwise (f : Bool → Bool → Bool) (vob other after : BitVector) : Type 0 where
   pub bits : after.bits ≡ pointwise f vob.bits other.bits
   pub each : AreCombined f vob.bits other.bits after.bits

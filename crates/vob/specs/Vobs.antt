@@ -8,6 +8,7 @@ abbrev pub bits_of : List BitVector → List (List Bool)
 bits_of vobs = map (λ vob. vob.bits) vobs
 
 -- each list has `len` bits
+-- Example: 10 and 01 have length 2
 abbrev pub AreOfLength : ℕ → List (List Bool) → Type 0
 AreOfLength len lists = All (λ bits. length bits ≡ len) lists
 

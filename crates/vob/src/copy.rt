@@ -8,7 +8,7 @@ use crate::vob::Vob;
 use std::alloc::AllocError;
 use std::ops::RangeBounds;
 use vob_block::Block;
-use vob_store::copy::{Stretch, copy_bits};
+use vob_store::load_store::{Stretch, copy_bits};
 use vob_store::split::split_blocks;
 use vob_walk::range::cut_range;
 

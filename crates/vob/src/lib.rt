@@ -29,28 +29,27 @@
 //! In the examples of the calls `alloc` is the allocator, and a test stops by `rt`.
 #![tactic(auto)]
 
-pub mod bulk;
+pub mod append;
 pub mod combined;
 pub mod copy;
 pub mod edit;
 mod error;
 pub mod fused;
 pub mod iter;
-pub mod laws;
-pub mod low_bytes;
+pub mod le_bytes;
+pub mod load_store;
 mod macros;
-pub mod moves;
 pub mod ops;
 pub mod order;
 pub mod prelude;
 pub mod ranges;
 pub mod raw;
+pub mod reverse;
 pub mod runs;
 pub mod sets;
+pub mod shift;
 pub mod text;
-pub mod turns;
 pub mod vob;
-pub mod words;
 
 pub use error::{IndicesError, VobError};
 pub use iter::{

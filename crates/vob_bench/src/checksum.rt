@@ -1,7 +1,7 @@
 //! Checksums that every library of the benchmark can give.
 
 use vob::Vob;
-use vob_users::matrix::BitMatrix;
+use vob_matrix::matrix::BitMatrix;
 
 // A digest looks at every bit of up to this number, and at every second, third .. one of more.
 const MOST: usize = 0x10_0000;

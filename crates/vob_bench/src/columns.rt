@@ -3,8 +3,8 @@
 use crate::rounds::Missing;
 use std::alloc::{AllocError, Global};
 use vob::Vob;
-use vob_users::column::Column;
-use vob_users::filter::{Expression, are_rows, count};
+use vob_filter::column::Column;
+use vob_filter::filter::{Expression, are_rows, count};
 
 /// The column of the bits of `value`, missing where `present` is unset.
 fn column_of(alloc: Global, present: &Vob, value: &Vob) -> Result<Column, AllocError> {

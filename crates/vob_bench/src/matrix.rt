@@ -5,7 +5,7 @@ use crate::checksum::{checksum_all, checksum_rows};
 use crate::rounds::Missing;
 use std::alloc::{AllocError, Global};
 use vob::Vob;
-use vob_users::matrix::BitMatrix;
+use vob_matrix::matrix::BitMatrix;
 
 /// Appends a row.
 fn push_row(rows: &mut Vec<Vob>, row: Vob) -> Result<(), AllocError> {

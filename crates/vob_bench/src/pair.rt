@@ -4,7 +4,7 @@ use crate::checksum::{clear, flip, sample, touch};
 use crate::rounds::{Missing, each_round};
 use std::alloc::Global;
 use vob::Vob;
-use vob_users::rows::{count_rows, select};
+use vob_filter::rows::{count_rows, select};
 
 /// The bits of a range written over those from `at` on, if they are there and fit.
 fn copy_bits(vob: &mut Vob, at: usize, other: &Vob, bounds: (usize, usize)) {

@@ -2,7 +2,7 @@
 
 use crate::rounds::Missing;
 use std::alloc::{AllocError, Global};
-use vob_users::slots::Slots;
+use vob_slots::slots::Slots;
 
 /// Of so many steps this many take a slot. The others give back one of those that are held.
 const STEPS: usize = 8;

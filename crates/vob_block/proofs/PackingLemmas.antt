@@ -1,11 +1,12 @@
 -- What blocks store, and that packing and unpacking undo each other on canonical storage.
-use Rattle.std.specs.Prelude.{All}
+use Rattle.std.specs.Prelude.{All, take, true}
 use Rattle.std.proofs.Common.{◌≡◌, ◌≢◌, ℕ, ◌+◌, ◌*◌, ◌/◌, ◌%◌, ◌^◌, ◌<◌, ◌≤◌, Bool, false, List}
 use Rattle.std.proofs.Common.{length, get_or, set, refl, sym, ap, ◌∙◌, subst, arith, inl}
 use Rattle.std.proofs.Common.{inr, mod-lt, zero-add, div-add-mod'}
-use Rattle.std.proofs.lemmas.Bool.{cases_lt}
+use Rattle.std.proofs.lemmas.Bool.{cases_lt, false≢true}
 use Rattle.std.proofs.lemmas.List.{ext_get_or, get_or-set_same, get_or-set_other, get_or_past}
 use Rattle.std.proofs.lemmas.List.FromFn.{length-map-range_with_len, get_or-map-range_with_len}
+use Rattle.std.proofs.lemmas.List.FromFn.{take-map-range_with_len}
 use Rattle.std.proofs.lemmas.List.Elements.{All-from_get_or, All-get_or}
 use Rattle.std.proofs.lemmas.Nat.{div-mul-add, mod-mul-add}
 use Rattle.vob_block.specs.Places.{place, value}
@@ -174,3 +175,24 @@ module _ (w : ℕ) (wide : 0 < w) where
     bits = ap (λ ys. unpacking n ys w) is ∙ ap (λ m. unpacking m (packing bits w) w) (sym long)
         ∙ unpacking-packing bits;
   }
+
+-- ---- bits of a list
+
+-- a set bit is within
+pub true_inside : (bits : List Bool) (index : ℕ) → item bits index ≡ true → index < length bits
+true_inside bits index there = elim (cases_lt index (length bits)) [
+  | inl inside ↦ inside
+  | inr past ↦ absurd (false≢true (sym (get_or_past bits index false past) ∙ there))
+]
+
+-- the blocks of a list hold its bits
+pub bit-in_blocks : (w : ℕ) → 0 < w → (bits : List Bool) (xs : List ℕ) → xs ≡ packing bits w
+    → (i : ℕ) → bit_at xs w i ≡ item bits i
+bit-in_blocks w wide bits xs blocks i =
+    ap (λ ys. bit_at ys w i) blocks ∙ bit_at-packing w wide bits i
+
+-- the first m of n bits
+pub take-unpacking : (m n : ℕ) (xs : List ℕ) (w : ℕ) → m ≤ n → take m (unpacking n xs w)
+    ≡ unpacking m xs w
+unfolding unpacking
+take-unpacking m n xs w h = take-map-range_with_len (bit_at xs w) 0 n m h

@@ -4,6 +4,7 @@ use Rattle.std.specs.List.{range_with_len}
 use Rattle.vob_block.specs.Places.{place}
 
 -- of each byte in order its places 7, 6, .. 0
+-- Example: byte 160: 10100000
 unfoldable pub bytes_list : List ℕ → List Bool
 bytes_list [] = []
 bytes_list (byte ∷ bytes) =

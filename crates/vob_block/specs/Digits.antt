@@ -10,6 +10,7 @@ abbrev pub IsDigit : ℕ → Type 0
 IsDigit byte = (byte ≡ digit false) ⊎ (byte ≡ digit true)
 
 -- the byte at an index isn't, and all before it are
+-- Example: of 01x1y: index 2
 pub record IsFirstBad (text : List ℕ) (at : ℕ) : Type 0 where
   pub before : All IsDigit (take at text)
   pub byte : ℕ

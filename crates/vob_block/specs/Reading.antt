@@ -8,6 +8,7 @@ one_more None = 0
 one_more (Some n) = n + 1
 
 -- the blocks, the one with bit 0 first, and how many were read so far
+-- Example: after block(0) of [5]: 1 read
 pub record Reading (X : Type 0) : Type 0 where
   pub items : List X
   pub reads : ℕ

@@ -7,8 +7,8 @@ mod blocks;
 pub mod combine;
 pub mod kernel;
 mod lanes;
-mod narrow;
-mod wide;
+mod large_blocks;
+mod small_blocks;
 mod word;
 
 pub use bit_block::BitBlock;

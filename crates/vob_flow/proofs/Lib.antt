@@ -10,7 +10,6 @@ pub mod FirstLemmas
 mod FlowLemmas
 mod GatherLemmas
 mod GreatestLemmas
-pub mod HalvesLemmas
 mod LawLemmas
 mod LiveLemmas
 mod OrderLemmas

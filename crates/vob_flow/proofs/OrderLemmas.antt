@@ -8,7 +8,8 @@ use Rattle.std.proofs.lemmas.List.{get_or_append_left, get_or_push, length_push,
 use Rattle.std.proofs.lemmas.List.Elements.{All-nil, All-push, All-pop, Contains-push, Contains-append_left, Contains-push_cases}
 use Rattle.vob_block.specs.Packing.{item}
 use Rattle.vob.specs.Bits.{IsWritten, count_of, one_of}
-use Rattle.vob.proofs.BitsLemmas.{item_false, true_inside}
+use Rattle.vob_block.proofs.PackingLemmas.{true_inside}
+use Rattle.vob.proofs.BitsLemmas.{item_false}
 use Rattle.vob_flow.specs.declared.order.Visit.{Visit}
 use Rattle.vob_flow.specs.Order.{IsOrder, IsVisited, root_of, sets_of}
 

@@ -8,7 +8,7 @@ use Rattle.vob_block.specs.Packing.{item}
 use Rattle.vob.specs.Sets.{HasBit}
 use Rattle.vob.specs.Vob.{BitVector}
 use Rattle.vob.specs.Vobs.{AreOfLength, bits_of, total_count}
-use Rattle.vob.proofs.BitsLemmas.{true_inside}
+use Rattle.vob_block.proofs.PackingLemmas.{true_inside}
 use Rattle.vob.proofs.VobsLemmas.{of_length_at, total_count_at_most}
 use Rattle.vob_flow.specs.declared.draw.Draw.{Draw}
 use Rattle.vob_flow.specs.Draws.{HaveShape}

@@ -8,7 +8,8 @@ use Rattle.std.proofs.lemmas.List.Elements.{Contains-append_left, Contains-push,
 use Rattle.vob_block.specs.Packing.{item}
 use Rattle.vob_block.specs.Pointwise.{differ}
 use Rattle.vob.specs.Bits.{IsWritten}
-use Rattle.vob.proofs.BitsLemmas.{item_false, true_inside}
+use Rattle.vob_block.proofs.PackingLemmas.{true_inside}
+use Rattle.vob.proofs.BitsLemmas.{item_false}
 use Rattle.vob_flow.specs.Closure.{IsEdge}
 use Rattle.vob_flow.specs.Lists.{NameNodes}
 use Rattle.vob_flow.specs.Reach.{AreOnTheWay, AreReached, HaveEntered, Reaches}

@@ -23,6 +23,7 @@ abbrev pub LacksAt : List Draw → ℕ → List Bool → List Bool → Type 0
 LacksAt draws n start after =
     (draw : Draw) → slice_get draws n ≡ Some draw → IsLacking draw.mask start after
 
+-- and what those below number k lack
 abbrev pub AreLacking : List Draw → List (List Bool) → List (List Bool) → ℕ → Type 0
 AreLacking draws starts after k = AreChangedBelow (LacksAt draws) starts after k
 

@@ -14,6 +14,7 @@ pub mod live;
 mod order;
 mod passes;
 mod paths;
+pub mod raises;
 mod reaching;
 mod solver;
 

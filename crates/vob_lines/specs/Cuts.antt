@@ -8,9 +8,11 @@ use Rattle.std.specs.Str.Lines.{lines}
 unfoldable pub lines_of : List ℕ → List (List ℕ)
 lines_of text = lines text
 
+-- whether a byte ends a line
 abbrev pub is_line_feed : ℕ → Bool
 is_line_feed byte = byte == 10
 
+-- whether a byte stands between words
 abbrev pub is_space : ℕ → Bool
 is_space byte = byte == 32
 

@@ -17,6 +17,7 @@ abbrev pub form : List ℕ → List Argument → Form
 form word arguments = record { word = word; arguments = arguments }
 
 -- the line of each call
+-- Example: a push is the word push and two numbers, as in push 0 1
 abbrev pub form_of : Call → Form
 form_of (New n) = form (codes "new") (number n ∷ [])
 form_of (FromElem b n) = form (codes "elem") (bit b ∷ number n ∷ [])

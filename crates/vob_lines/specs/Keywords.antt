@@ -72,5 +72,6 @@ keywords =
     ∷ NumberNumberBit Resize ∷ BitList Slice ∷ BitList Items ∷ NumberBitList Append
     ∷ NumberBitList Extend ∷ Bytes ∷ Raw ∷ Record ∷ Drain ∷ Walk ∷ Count ∷ []
 
+-- the keyword that a word names, if any
 abbrev pub keyword_named : List ℕ → Option Keyword
 keyword_named word = find (λ keyword. bytes_eq (word_of keyword) word) keywords

@@ -17,6 +17,7 @@ AllRead [] (call ∷ calls) = ⊥
 AllRead (words ∷ sentences) [] = ⊥
 
 -- a line that has words and reads as no call, after lines that do; its number counts from 1
+-- Example: of "new 0" and "foo": line 2
 pub record IsFirstBadLine (lines : List (List ℕ)) (n : ℕ) : Type 0 where
   pub before : List (List ℕ)
   pub line : List ℕ

@@ -8,6 +8,7 @@ use Rattle.vob_walk.specs.declared.walk.End.{End}
 use Rattle.vob_walk.specs.declared.walk.End.TheVariants.{Front, Back}
 
 -- a numeral: one decimal digit or more, for a number below 2^64
+-- Example: 007 for 7
 abbrev pub Writes : List ℕ → ℕ → Type 0
 Writes word n = IsNumeral 10 word × (digits_value 10 word ≡ n) × (n < 2 ^ 64)
 

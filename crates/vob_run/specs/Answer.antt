@@ -38,5 +38,6 @@ pub record Outcome : Type 0 where
   pub answer : Answer
   pub lists : List (List Bool)
 
+-- an answer and the lists after it
 abbrev pub outcome : Answer → List (List Bool) → Outcome
 outcome a lists = record { answer = a; lists = lists }

@@ -15,6 +15,7 @@ use Rattle.vob_run.specs.Changes.{pushed, popped, written, extended, split, drai
 use Rattle.vob_run.specs.Blocks.{taken, taken_raw}
 
 -- what a call answers, and the lists after it; only calls that speak of blocks read the width
+-- Example: Push of 1 on 10: done, 101
 abbrev pub step : ℕ → List (List Bool) → Call → Outcome
 step width lists (New capacity) = makes lists []
 step width lists (FromElem value len) = makes lists (replicate len value)

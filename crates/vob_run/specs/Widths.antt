@@ -25,6 +25,7 @@ step_answers width before [] = []
 step_answers width before (call ∷ calls) =
     (step width before call).answer ∷ step_answers width (step width before call).lists calls
 
+-- the lists after these calls
 abbrev pub step_lists : ℕ → List (List Bool) → List Call → List (List Bool)
 step_lists width before [] = before
 step_lists width before (call ∷ calls) = step_lists width (step width before call).lists calls

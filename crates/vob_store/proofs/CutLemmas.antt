@@ -6,11 +6,10 @@ use Rattle.std.proofs.Common.{ap, ◌∙◌, arith, inl, inr, div-add-mod'}
 use Rattle.std.proofs.lemmas.Bool.{cases_eq, cases_lt, lt-ltb, le-ltb, and_right}
 use Rattle.std.proofs.Math.Bool.{and-true}
 use Rattle.std.proofs.lemmas.List.{append-nil, get_or-map, map-set, length-map, get_or-take, length-take-le, take-map}
-use Rattle.std.proofs.lemmas.List.FromFn.{take-map-range_with_len}
 use Rattle.vob_block.specs.Places.{place, HasPlaces}
 use Rattle.vob_block.specs.Packing.{need, bit_at, unpacking, IsCanonical, Stores}
 use Rattle.vob_block.proofs.NeedLemmas.{need-le-need, need_at_full, need_at_open, div-lt-need}
-use Rattle.vob_block.proofs.PackingLemmas.{bit_at-in_block, bit_at-is_place, length-unpacking, get_or-unpacking, unpacking_from_items}
+use Rattle.vob_block.proofs.PackingLemmas.{bit_at-in_block, bit_at-is_place, length-unpacking, get_or-unpacking, take-unpacking, unpacking_from_items}
 use Rattle.vob_store.proofs.BuildLemmas.{AreBuilt-upto, AreBuilt-start, Stores-built, Stores-last, item-low, item-high}
 
 -- ---- what is unpacked, at fewer bits
@@ -20,11 +19,6 @@ pub unpacking_same : (n : ℕ) (xs ys : List ℕ) (w : ℕ)
     → ((i : ℕ) → i < n → bit_at ys w i ≡ bit_at xs w i) → unpacking n ys w ≡ unpacking n xs w
 unpacking_same n xs ys w same = unpacking_from_items (unpacking n xs w) n ys w
     (length-unpacking n xs w) (λ i h. same i h ∙ sym (get_or-unpacking n xs w i false h))
-
-pub take-unpacking : (m n : ℕ) (xs : List ℕ) (w : ℕ) → m ≤ n → take m (unpacking n xs w)
-    ≡ unpacking m xs w
-unfolding unpacking
-take-unpacking m n xs w h = take-map-range_with_len (bit_at xs w) 0 n m h
 
 -- the first m of the bits that are stored
 pub unpacking-first : {w m n : ℕ} {xs : List ℕ} {bits : List Bool} → Stores w n xs bits → m ≤ n

@@ -10,7 +10,11 @@ pub mod OnceLemmas
 pub mod PairsLemmas
 pub mod PullLemmas
 pub mod ReadLemmas
+pub mod RunListLemmas
+pub mod RunsBackLemmas
+pub mod RunsLemmas
 pub mod ScanLemmas
+pub mod SeenLemmas
 pub mod SelectLemmas
 pub mod SkipLemmas
 pub mod WalkLemmas

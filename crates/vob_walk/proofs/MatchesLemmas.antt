@@ -3,11 +3,12 @@ use Rattle.std.specs.List.{range_with_len}
 use Rattle.std.specs.declared.ops.Bound.{Bound}
 use Rattle.std.proofs.Common.{◌≡◌, ℕ, ◌+◌, ◌<◌, ◌≤◌, Bool, true, false, ◌&&◌, not, cond, IsTrue}
 use Rattle.std.proofs.Common.{◌↔◌, List, [], ◌∷◌, length, filter, count_by, Contains, refl, ap, ◌∙◌}
-use Rattle.std.proofs.Common.{arith, inl, inr, ◌⊎◌}
-use Rattle.std.proofs.lemmas.Bool.{cases_Bool, and_from, and_parts, false≢true}
+use Rattle.std.proofs.Common.{sym, nat_le, nat_lt, arith, inl, inr, ◌⊎◌}
+use Rattle.std.proofs.lemmas.Bool.{cases_Bool, and_from, and_left, and_right, and_parts, false≢true}
+use Rattle.std.proofs.lemmas.Bool.{lt-leb, le-leb, lt-ltb, le-ltb, ltb-true, leb-true}
 use Rattle.std.proofs.lemmas.List.Sums.{length-filter}
 use Rattle.vob_block.specs.Packing.{item}
-use Rattle.vob_walk.specs.Matches.{within, has_value, matches}
+use Rattle.vob_walk.specs.Matches.{within, has_value, matches, IsRangeOf}
 use Rattle.vob_walk.proofs.WhereLemmas.{indices_where-has, indices_where-only, length-indices_where-le}
 
 one_more : (a b : Bool) (j : ℕ) (us vs ws : List ℕ) → length us + length vs ≡ length ws
@@ -80,3 +81,24 @@ module _ (bits : List Bool) (low high : Bound ℕ) where
   unfolding matches
   length-matches_both = filtered (within low high) (item bits) (range_with_len 0 (length bits))
       ∙ length-filter (within low high) (range_with_len 0 (length bits))
+
+-- ---- the indices of a range
+
+module _ {low high : Bound ℕ} {len start stop : ℕ} (range : IsRangeOf low high len start stop)
+    (i : ℕ) (less : i < len) where
+  pub there : within low high i ≡ true → (start ≤ i) × (i < stop)
+  there holds =
+      let both = and_parts (nat_le start i) (nat_lt i stop) (sym (range.each i less) ∙ holds) in
+      (leb-true start i both.0, ltb-true i stop both.1)
+
+  pub within-there : start ≤ i → i < stop → within low high i ≡ true
+  within-there above below = range.each i less
+      ∙ and_from (nat_le start i) (nat_lt i stop) (le-leb start i above) (lt-ltb i stop below)
+
+  pub within-before : i < start → within low high i ≡ false
+  within-before before = range.each i less
+      ∙ and_left (nat_le start i) (nat_lt i stop) (lt-leb start i before)
+
+  pub within-behind : stop ≤ i → within low high i ≡ false
+  within-behind behind = range.each i less
+      ∙ and_right (nat_le start i) (nat_lt i stop) (le-ltb i stop behind)

@@ -7,6 +7,9 @@ pub mod Matches
 pub mod Next
 pub mod Once
 pub mod Pairs
+pub mod RunSteps
+pub mod Runs
+pub mod RunsBack
 pub mod Select
 pub mod Skip
 pub mod Walk

@@ -9,6 +9,7 @@ abbrev pub HasNoBit : ℕ → List ℕ → Bool → ℕ → ℕ → Type 0
 HasNoBit width blocks value a b = (i : ℕ) → a ≤ i → i < b → bit_at blocks width i ≢ value
 
 -- index i is the first one from a to below b whose bit has the value
+-- Example: of [237, 2] at 8, unset, from 2: index 4
 pub record IsFirstBit (width : ℕ) (blocks : List ℕ) (value : Bool) (a b i : ℕ) : Type 0 where
   pub above : a ≤ i
   pub below : i < b

@@ -13,6 +13,7 @@ given_at Back (Back ∷ pulls) (Some i ∷ others) = i ∷ given_at Back pulls o
 given_at side (pull ∷ pulls) (answer ∷ others) = given_at side pulls others
 given_at side pulls others = []
 
+-- what the front gave, and what the back gave
 abbrev pub front_given : List ℕ → List End → List ℕ
 front_given xs pulls = given_at Front pulls (answers xs pulls)
 

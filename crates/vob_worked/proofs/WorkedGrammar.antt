@@ -3,13 +3,13 @@
 -- nonterminal 1 becomes the terminal 0 or nothing.
 use Rattle.std.proofs.Common.{◌≡◌, ◌≢◌, ℕ, zero, suc, ◌<◌, ◌⊎◌, inl, inr, List, [], ◌∷◌, ◌++◌, refl, sym, ◌∙◌, ap, subst, arith, lit<}
 use Rattle.std.specs.List.{Contains}
-use Rattle.vob_tables.specs.Grammar.{BecomesEmpty, BeginsWith, Follows, HasRule}
-use Rattle.vob_tables.specs.Grammar.BecomesEmpty.{nothing, by_rule as by_empty}
-use Rattle.vob_tables.specs.Grammar.BeginsWith.{here, by_rule, behind}
-use Rattle.vob_tables.specs.Grammar.Follows.{in_rule, at_end}
-use Rattle.vob_tables.specs.declared.grammar.Rule.{Rule}
-use Rattle.vob_tables.specs.declared.grammar.Symbol.{Symbol}
-use Rattle.vob_tables.specs.declared.grammar.Symbol.TheVariants.{Terminal, Nonterminal}
+use Rattle.vob_lr.specs.Grammar.{BecomesEmpty, BeginsWith, Follows, HasRule}
+use Rattle.vob_lr.specs.Grammar.BecomesEmpty.{nothing, by_rule as by_empty}
+use Rattle.vob_lr.specs.Grammar.BeginsWith.{here, by_rule, behind}
+use Rattle.vob_lr.specs.Grammar.Follows.{in_rule, at_end}
+use Rattle.vob_lr.specs.declared.grammar.Rule.{Rule}
+use Rattle.vob_lr.specs.declared.grammar.Symbol.{Symbol}
+use Rattle.vob_lr.specs.declared.grammar.Symbol.TheVariants.{Terminal, Nonterminal}
 
 abbrev right_0 : List Symbol
 right_0 = Nonterminal 1 ∷ Terminal 1 ∷ []

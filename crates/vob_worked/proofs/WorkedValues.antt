@@ -9,7 +9,7 @@ use Rattle.vob_block.proofs.PlaceLemmas.{place_above, place-zero}
 use Rattle.vob_block.specs.Places.{place, value}
 use Rattle.vob_block.specs.Packing.{need, packing, bit_at, unpacking, IsCanonical}
 use Rattle.vob.specs.Drain.{bits_where, bits_within, bits_outside}
-use Rattle.vob_users.specs.Matrix.{entry, IsPath}
+use Rattle.vob_matrix.specs.Matrix.{entry, IsPath}
 
 abbrev bits-101 : List Bool
 bits-101 = true ∷ false ∷ true ∷ []

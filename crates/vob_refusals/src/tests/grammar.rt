@@ -3,7 +3,7 @@ use super::support::{FIRST, request, same, tell};
 use std::alloc::{AllocError, Global};
 use std::process::Abort;
 use vob::Vob;
-use vob_tables::{Grammar, GrammarError, Rule, Symbol, first_sets, follow_sets, nullable};
+use vob_lr::{Grammar, GrammarError, Rule, Symbol, first_sets, follow_sets, nullable};
 
 /// One nonterminal that becomes nothing, or itself around terminal 1 of two.
 fn grammar(alloc: Global) -> Result<Grammar, AllocError> {

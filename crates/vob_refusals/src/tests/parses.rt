@@ -3,7 +3,7 @@
 use super::support::{FIRST, given, request, same_list, tell};
 use std::alloc::{AllocError, Global};
 use std::process::Abort;
-use vob_tables::{Conflict, Grammar, GrammarError, Lookaheads, ParseError, Rule, Symbol, Table};
+use vob_lr::{Conflict, Grammar, GrammarError, Lookaheads, ParseError, Rule, Symbol, Table};
 
 /// Nonterminal 0 becomes nonterminal 1 and the end. By either of two rules nonterminal 1 becomes
 /// nothing, which is a conflict. It takes two requests.

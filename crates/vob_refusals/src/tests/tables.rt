@@ -3,7 +3,7 @@ use super::support::{FIRST, request, same, tell};
 use std::alloc::{AllocError, Global};
 use std::process::Abort;
 use vob::Vob;
-use vob_tables::{Automaton, Closures, Grammar, GrammarError, Rule, Symbol, states};
+use vob_lr::{Automaton, Closures, Grammar, GrammarError, Rule, Symbol, states};
 
 /// One rule: nonterminal 0 becomes terminal 0.
 fn grammar(alloc: Global) -> Result<Grammar, AllocError> {

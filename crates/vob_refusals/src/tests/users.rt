@@ -3,12 +3,12 @@ use super::support::{FIRST, given, request, same, same_list, tell};
 use std::alloc::{AllocError, Global};
 use std::process::Abort;
 use vob::{Vob, VobError};
-use vob_users::column::Column;
-use vob_users::compare::{Comparison, compare_known};
-use vob_users::filter::{Expression, are_rows, select as select_by};
-use vob_users::matrix::BitMatrix;
-use vob_users::rows::{kept_rows, page, page_back, select};
-use vob_users::slots::Slots;
+use vob_filter::column::Column;
+use vob_filter::compare::{Comparison, compare_known};
+use vob_filter::filter::{Expression, are_rows, select as select_by};
+use vob_matrix::matrix::BitMatrix;
+use vob_filter::rows::{kept_rows, page, page_back, select};
+use vob_slots::slots::Slots;
 
 #[test]
 fn matrices_and_slots_are_made_or_refused(rt: HostRuntime) {

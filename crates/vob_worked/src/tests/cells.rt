@@ -3,7 +3,7 @@ use super::grammar::grammar_of;
 use super::support::same;
 use std::alloc::{AllocError, Global};
 use std::process::Abort;
-use vob_tables::{Associativity, Cell, Grammar, Lookaheads, Precedence, Table};
+use vob_lr::{Associativity, Cell, Grammar, Lookaheads, Precedence, Table};
 
 /// The textbooks' grammar of two words `c* d`.
 const WORDS: [&str; 4] = ["A=S$", "S=CC", "C=cC", "C=d"];

@@ -2,9 +2,9 @@
 //! lengths around a byte and a word.
 use super::support::{check_bits, same};
 use std::process::Abort;
-use vob_users::column::Column;
-use vob_users::compare::{Comparison, compare, compare_known};
-use vob_users::filter::{Expression, are_rows, count, evaluate, select};
+use vob_filter::column::Column;
+use vob_filter::compare::{Comparison, compare, compare_known};
+use vob_filter::filter::{Expression, are_rows, count, evaluate, select};
 
 /// The value that a letter stands for: true, false, or missing.
 fn value_of(letter: u8) -> Option<bool> {

@@ -4,7 +4,7 @@
 use super::support::{check_bits, same};
 use std::process::Abort;
 use vob::Vob;
-use vob_tables::{Grammar, GrammarError, Rule, Symbol, first_sets, follow_sets, nullable};
+use vob_lr::{Grammar, GrammarError, Rule, Symbol, first_sets, follow_sets, nullable};
 
 /// A grammar of these numbers of symbols, without a rule.
 pub fn empty(rt: &impl AllocGlobal, nonterminals: usize, terminals: usize) -> Grammar {

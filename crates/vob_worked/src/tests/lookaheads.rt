@@ -2,7 +2,7 @@
 use super::grammar::grammar_of;
 use super::support::same;
 use std::process::Abort;
-use vob_tables::Lookaheads;
+use vob_lr::Lookaheads;
 
 /// The names of nonterminals and of terminals, rules, and for each item of each state, by their
 /// numbers, its lookaheads.

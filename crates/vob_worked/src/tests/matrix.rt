@@ -4,7 +4,7 @@ use super::support::{check_bits, push, same, vob_of};
 use std::process::Abort;
 use vob::Vob;
 use vob_flow::closure;
-use vob_users::matrix::BitMatrix;
+use vob_matrix::matrix::BitMatrix;
 
 /// A matrix whose entries are all false.
 pub fn none(rt: &(impl Abort + AllocGlobal), rows: usize, columns: usize) -> BitMatrix {

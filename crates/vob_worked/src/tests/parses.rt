@@ -3,7 +3,7 @@ use super::cells::table_of;
 use super::grammar::grammar_of;
 use super::support::{check_error, same};
 use std::process::Abort;
-use vob_tables::{Lookaheads, ParseError, Table};
+use vob_lr::{Lookaheads, ParseError, Table};
 
 /// The names of nonterminals and of terminals, rules, and texts of terminals, each with the rules
 /// that a parser returns, or else the place of the terminal that no action takes.
@@ -132,7 +132,7 @@ fn refusals_of_a_parser_have_numbers_and_texts(rt: HostRuntime) {
 fn a_parser_is_made_of_a_grammar_file(rt: HostRuntime) {
     let alloc = rt.alloc();
     let text = b"%token NUMBER %left '-' %% sum: sum '-' sum | NUMBER;";
-    let file = vob_tables::grammar_of(alloc, text).expect(&rt, "a grammar");
+    let file = vob_yacc::grammar_of(alloc, text).expect(&rt, "a grammar");
     let states = Lookaheads::new(alloc, &file.grammar).expect(&rt, "states");
     let made = Table::new(alloc, states, &file.precedences, &file.rule_precedences);
     let table = made.expect(&rt, "a table");

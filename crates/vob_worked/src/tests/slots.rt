@@ -1,7 +1,7 @@
 //! Slots by scripts of calls, against a list of whether each is taken.
 use super::support::same;
 use std::process::Abort;
-use vob_users::slots::Slots;
+use vob_slots::slots::Slots;
 
 /// How many slots the scripts begin with.
 const SLOTS: usize = 70;

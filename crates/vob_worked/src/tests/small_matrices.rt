@@ -2,7 +2,7 @@
 use super::matrix::{draw, mark, none, power, times, turned};
 use super::support::same;
 use std::process::Abort;
-use vob_users::matrix::BitMatrix;
+use vob_matrix::matrix::BitMatrix;
 
 /// The most rows and columns of a plain matrix.
 const MOST: usize = 4;

@@ -1,12 +1,12 @@
 //! Items, closures and states of grammars worked by hand.
 ghost use Rattle.std.specs.Prelude.{◌≡◌, length};
-ghost use Rattle.vob_tables.specs.Items.{item_total};
+ghost use Rattle.vob_lr.specs.Items.{item_total};
 
 use super::grammar::{empty, grammar_of};
 use super::support::same;
 use std::process::Abort;
 use vob::Vob;
-use vob_tables::{Closures, GrammarError, Item, Items, Move, Symbol, states};
+use vob_lr::{Closures, GrammarError, Item, Items, Move, Symbol, states};
 
 /// The names of nonterminals and of terminals, rules, and for each state its items and its moves, by
 /// the name of a symbol and the number of a state.

@@ -2,7 +2,8 @@
 use super::support::same;
 use std::alloc::{AllocError, Global};
 use std::process::Abort;
-use vob_tables::{Associativity, GrammarText, Symbol, TextFault, grammar_of};
+use vob_lr::{Associativity, Symbol};
+use vob_yacc::{GrammarText, TextFault, grammar_of};
 
 /// Appends the name of a symbol behind a blank.
 fn add_name(text: &mut Vec<u8>, file: &GrammarText, symbol: &Symbol) -> Result<(), AllocError> {

@@ -3,13 +3,13 @@
 use super::support::{check_bits, check_error, same, vob_of};
 use std::process::Abort;
 use vob::Vob;
-use vob_tables::GrammarError;
-use vob_users::calendar::{Calendar, common_stretches};
-use vob_users::live::LiveError;
-use vob_users::loops::clear_those;
-use vob_users::rows::{count_between, count_rows, kept_rows, page, page_back, select};
-use vob_users::slots::Slots;
-use vob_users::take_slot::take_slot;
+use vob_lr::GrammarError;
+use vob_slots::calendar::{Calendar, common_stretches};
+use vob_flow::live::LiveError;
+use vob_slots::loops::clear_those;
+use vob_filter::rows::{count_between, count_rows, kept_rows, page, page_back, select};
+use vob_slots::slots::Slots;
+use vob_slots::take_slot::take_slot;
 
 #[test]
 fn a_filter_keeps_the_rows_of_its_set_bits(rt: HostRuntime) {

@@ -4,7 +4,7 @@ use Rattle.vob.specs.Vobs.{bits_of}
 use Rattle.vob_flow.specs.Draws.{FitsMask, IsIn}
 use Rattle.vob_flow.specs.Gains.{IsLetThrough}
 use Rattle.vob_flow.proofs.DrawLemmas.{HasGained-added, HasGained-none}
-use Rattle.vob_flow.proofs.HalvesLemmas.{bits-low, bits-high, long-low, long-high, set-low, set-high}
+use Rattle.vob.proofs.HalvesLemmas.{bits-low, bits-high, long-low, long-high, set-low, set-high}
 use Rattle.vob_flow.proofs.passes.add_from.Goals as goal
 
 pub add-requires-clause-source : goal.add-requires-clause-source

@@ -3,7 +3,7 @@ use Rattle.std.proofs.Common.{◌*◌, arith, length, map, ap, sym}
 use Rattle.std.proofs.lemmas.List.{length-map}
 use Rattle.vob_block.proofs.NeedLemmas.{need_enough}
 use Rattle.vob_block.proofs.PackingLemmas.{length-packing, length-unpacking}
-use Rattle.vob.proofs.SelectLemmas.{true_inside, IsIndexOfRank-blocks}
+use Rattle.vob.proofs.SelectLemmas.{some_inside, IsIndexOfRank-blocks}
 use Rattle.vob.proofs.SetsLemmas.{IsIndexOfRank-inside}
 use Rattle.vob.proofs.vob.Vob.select.Goals as goal
 
@@ -16,7 +16,7 @@ index_of_rank-requires g c =
     let bits = c.args.self.now.bits in
     let blocks = c.blocks-2.ensures.blocks in record {
       fits = λ i there.
-          let inside = true_inside w g.met.T.BitBlock.wide_law bits _ blocks i there in
+          let inside = some_inside w g.met.T.BitBlock.wide_law bits _ blocks i there in
           omega (arith, inside, long, held);
     }
 

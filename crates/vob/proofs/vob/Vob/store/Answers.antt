@@ -3,7 +3,7 @@ use Rattle.std.proofs.Common.{◌*◌, ◌-◌, [], ◌∷◌, ◌++◌, ap, ◌
 use Rattle.std.proofs.lemmas.List.{take_at}
 use Rattle.vob_block.specs.Packing.{unpacking}
 use Rattle.vob_block.proofs.PackingLemmas.{length-unpacking}
-use Rattle.vob_store.proofs.CutLemmas.{take-unpacking}
+use Rattle.vob_block.proofs.PackingLemmas.{take-unpacking}
 use Rattle.vob.proofs.CopyLemmas.{HasCopied, copied_here, written-is}
 use Rattle.vob.proofs.MovesLemmas.{own_blocks, own_inside}
 use Rattle.vob.proofs.WordsLemmas.{one_canonical}

@@ -1,6 +1,0 @@
--- Pull by pull.
-use Rattle.vob_walk.proofs.OnceLemmas.{given-once}
-use Rattle.vob.proofs.laws.each_is_given_once.Goals as goal
-
-pub returns : goal.returns
-returns c = given-once

@@ -1,6 +1,0 @@
--- Both have the same places, below the number of bits and above it.
-use Rattle.vob.proofs.PackingLawsLemmas.{loaded-stored}
-use Rattle.vob.proofs.laws.load_gives_stored.Goals as goal
-
-pub returns : goal.returns
-returns c = loaded-stored

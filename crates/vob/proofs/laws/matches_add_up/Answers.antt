@@ -1,6 +1,0 @@
--- By the indices, one after another.
-use Rattle.vob_walk.proofs.MatchesLemmas.{length-matches_both}
-use Rattle.vob.proofs.laws.matches_add_up.Goals as goal
-
-pub returns : goal.returns
-returns c = length-matches_both

@@ -1,6 +1,0 @@
--- By the bits, one after another.
-use Rattle.vob_walk.proofs.IndexLemmas.{matches-count}
-use Rattle.vob.proofs.laws.matches_are_counted.Goals as goal
-
-pub returns : goal.returns
-returns c = matches-count

@@ -1,6 +1,0 @@
--- All that matches is what was left at first.
-use Rattle.vob_walk.proofs.OnceLemmas.{matches-given_once}
-use Rattle.vob.proofs.laws.matches_are_given_once.Goals as goal
-
-pub returns : goal.returns
-returns c = matches-given_once

@@ -1,6 +1,0 @@
--- By the tests of the range and of the bit.
-use Rattle.vob_walk.proofs.IndexLemmas.{matches-exactly}
-use Rattle.vob.proofs.laws.matches_exactly.Goals as goal
-
-pub returns : goal.returns
-returns c = matches-exactly

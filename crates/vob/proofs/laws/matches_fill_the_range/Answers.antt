@@ -1,6 +1,0 @@
--- By what the bit at the index is.
-use Rattle.vob_walk.proofs.MatchesLemmas.{matches-combined}
-use Rattle.vob.proofs.laws.matches_fill_the_range.Goals as goal
-
-pub returns : goal.returns
-returns c = matches-combined

@@ -1,6 +1,0 @@
--- By what is in no list.
-use Rattle.vob_walk.proofs.IndexLemmas.{matches-none}
-use Rattle.vob.proofs.laws.no_match_is_none.Goals as goal
-
-pub returns : goal.returns
-returns c = matches-none

@@ -1,6 +1,0 @@
--- A pull that gives nothing is at an empty list.
-use Rattle.vob_walk.proofs.OnceLemmas as lemma
-use Rattle.vob.proofs.laws.none_comes_last.Goals as goal
-
-pub returns : goal.returns
-returns c = lemma.none_comes_last

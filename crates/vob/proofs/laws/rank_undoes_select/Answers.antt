@@ -1,6 +1,0 @@
--- The second fact of the index that is selected.
-use Rattle.std.proofs.Common.{refl}
-use Rattle.vob.proofs.laws.rank_undoes_select.Goals as goal
-
-pub returns : goal.returns
-returns c = λ bits k i selected. ((selected.some i).0 refl).below

@@ -1,6 +1,0 @@
--- A lemma on lists.
-use Rattle.std.proofs.lemmas.List.{reverse-reverse}
-use Rattle.vob.proofs.laws.reverse_twice.Goals as goal
-
-pub returns : goal.returns
-returns c = reverse-reverse

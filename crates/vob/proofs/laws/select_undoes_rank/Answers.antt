@@ -1,7 +1,0 @@
--- A set bit is of its own rank.
-use Rattle.std.proofs.Common.{refl}
-use Rattle.vob.proofs.laws.select_undoes_rank.Goals as goal
-
-pub returns : goal.returns
-returns c = λ bits i answer there selected.
-    (selected.some i).1 record { there = there; below = refl }

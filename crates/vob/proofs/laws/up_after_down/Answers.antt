@@ -1,6 +1,0 @@
--- The bits that are left stand before the unset ones that came in.
-use Rattle.vob.proofs.MoveLawsLemmas.{moved_up-moved_down}
-use Rattle.vob.proofs.laws.up_after_down.Goals as goal
-
-pub returns : goal.returns
-returns c = moved_up-moved_down

@@ -1,6 +1,0 @@
--- What is left is the list of the runs.
-use Rattle.vob.proofs.RunPullsLemmas.{AreRuns-walk_back}
-use Rattle.vob.proofs.laws.walk_back_gives_runs.Goals as goal
-
-pub returns : goal.returns
-returns c = AreRuns-walk_back

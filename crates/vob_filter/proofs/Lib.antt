@@ -1,0 +1,4 @@
+mod ColumnLemmas
+mod FilterLemmas
+mod PackedLemmas
+mod PageLemmas

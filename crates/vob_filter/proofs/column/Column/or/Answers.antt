@@ -1,0 +1,30 @@
+-- By index, of the bits that both columns have.
+use Rattle.std.proofs.Common.{arith}
+use Rattle.vob_filter.proofs.ColumnLemmas.{column_len, AreValuesCombined-or}
+use Rattle.vob_filter.proofs.column.Column.or.Goals as goal
+
+pub and-requires : goal.and-requires
+and-requires c =
+    let own = column_len c.self.inside.present.bits c.self.inside.value.bits _ c.self.invariant
+    c.self.view_is in
+    let others = column_len c.other.inside.present.bits c.other.inside.value.bits _
+    c.other.invariant
+    c.other.view_is in
+    omega (arith, own.0, others.0, c.requires)
+
+pub or-requires : goal.or-requires
+or-requires c =
+    let own = column_len c.self.inside.present.bits c.self.inside.value.bits _ c.self.invariant
+    c.self.view_is in
+    let others = column_len c.other.inside.present.bits c.other.inside.value.bits _
+    c.other.invariant
+    c.other.view_is in
+    omega (arith, own.1, others.1, c.requires)
+
+pub returns : goal.returns
+returns c =
+    rw (← c.self.view_is, ← c.other.view_is)
+    (AreValuesCombined-or c.self.inside.present.bits c.self.inside.value.bits c.self.invariant
+    c.other.inside.present.bits c.other.inside.value.bits c.other.invariant c.and.new.self.bits
+    c.or.new.self.bits c.or-2.new.self.bits c.and.ensures.each c.or.ensures.each
+    c.or-2.ensures.each)

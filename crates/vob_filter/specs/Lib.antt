@@ -1,0 +1,4 @@
+pub mod Columns
+pub mod Comparisons
+pub mod Filter
+pub mod Rows

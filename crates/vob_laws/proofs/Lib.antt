@@ -1,0 +1,5 @@
+mod ChangeLemmas
+mod MoveLawsLemmas
+mod OrderLawsLemmas
+mod PackingLawsLemmas
+mod RunPullsLemmas

@@ -1,0 +1,5 @@
+pub mod Laws
+pub mod MoveLaws
+pub mod OrderLaws
+pub mod PackingLaws
+pub mod SetLaws

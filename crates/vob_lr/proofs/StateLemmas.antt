@@ -1,0 +1,446 @@
+-- The states that were found, and the moves of each.
+use Rattle.std.proofs.Common.{◌≡◌, ◌≢◌, ℕ, suc, ◌+◌, ◌<◌, ◌≤◌, inl, inr, Bool, true, false, List, [], ◌∷◌, ◌++◌, length, get_or, map, replicate, refl, sym, ap, ◌∙◌, subst, arith}
+use Rattle.std.specs.List.{All, AllPairs, Any, Contains}
+use Rattle.std.specs.declared.ops.Bound.TheVariants.{Unbounded}
+use Rattle.std.proofs.lemmas.Bool.{cases_eq, cases_lt, false≢true}
+use Rattle.std.proofs.lemmas.List.{append-nil, append_assoc, ext_get_or, get_or-map, get_or_append_left, get_or_push, length-append, length-map, length_push, map-append}
+use Rattle.std.proofs.lemmas.Grind.{flat_map-append}
+use Rattle.std.proofs.lemmas.List.Concat.{flat_map-cons}
+use Rattle.std.proofs.lemmas.List.Elements.{All-head, All-nil, All-push, All-tail}
+use Rattle.std.proofs.lemmas.List.Quantifiers.{all_pairs_push}
+use Rattle.std.proofs.lemmas.Option.{get_or_from_slice_get, slice_get-get_or}
+use Rattle.vob_block.specs.Packing.{item}
+use Rattle.vob.specs.Bits.{IsWritten}
+use Rattle.vob.specs.Vob.{BitVector}
+use Rattle.vob.specs.Vobs.{bits_of}
+use Rattle.vob_block.proofs.PackingLemmas.{true_inside}
+use Rattle.vob_lr.specs.ItemSets.{InClosure, IsClosure, IsGoto, IsItemSet}
+use Rattle.vob_lr.specs.Items.{item_total}
+use Rattle.vob_lr.specs.Ahead.{AreAhead, symbol_with}
+use Rattle.vob_lr.specs.Rounds.{AreMovesBut, AreMovesFrom, AreRounds, AreSome, Extends, HasEntered}
+use Rattle.vob_lr.specs.States.{AreGiven, AreMoves, AreStates, IsAhead, IsMove, IsStart, IsState, Precedes, targets_of}
+use Rattle.vob_lr.specs.States.IsState.{start, after}
+use Rattle.vob_lr.specs.declared.grammar.Grammar.{Grammar}
+use Rattle.vob_lr.specs.declared.grammar.Rule.{Rule}
+use Rattle.vob_lr.specs.declared.grammar.Symbol.{Symbol}
+use Rattle.vob_lr.specs.declared.state.Move.{Move}
+use Rattle.vob_lr.proofs.AheadLemmas.{number_precedes}
+use Rattle.vob_lr.proofs.ClosureLemmas.{closure_as, none_true}
+use Rattle.vob_walk.specs.Left.{AreMatches, is_left}
+use Rattle.vob_walk.specs.Matches.{matches}
+use Rattle.vob_walk.proofs.IndexLemmas.{first_value, left_all, left_none, left_other, matches_after, matches_all, matches_rise}
+
+-- ---- sets of items
+
+same_bit : (a b : Bool) → (a ≡ true → b ≡ true) → (b ≡ true → a ≡ true) → a ≡ b
+same_bit true b to from = sym (to refl)
+same_bit false true to from = from refl
+same_bit false false to from = refl
+
+-- an element at another default
+at_default : (sets : List (List Bool)) (i : ℕ) (d : List Bool) → i < length sets →
+    get_or sets i d ≡ get_or sets i []
+at_default sets i d less =
+    get_or_from_slice_get sets i (get_or sets i []) d (slice_get-get_or sets i [] less)
+
+pub same_sets : (rules : List Rule) (P : ℕ → Type 0) (set other : List Bool) →
+    IsItemSet rules P set → IsItemSet rules P other → set ≡ other
+same_sets rules P set other h g =
+    ext_get_or false set other (h.len ∙ sym g.len)
+    (λ i less. same_bit (item set i) (item other i)
+    (λ there. (g.each i).1 ((h.each i).0 there)) (λ there. (h.each i).1 ((g.each i).0 there)))
+
+pub state_long : (rules : List Rule) {set : List Bool} → IsState rules set →
+    length set ≡ item_total rules
+state_long rules (start h) = h.len
+state_long rules (after x state ahead h) = h.len
+
+-- the closure of item 0 alone
+pub IsStart-closed : (rules : List Rule) (n : ℕ) (first set : List Bool) →
+    IsWritten (replicate n false) 0 true first → IsClosure rules first set → IsStart rules set
+IsStart-closed rules n first set w h = record {
+  len = h.len;
+  each = λ i. (
+    (λ there. closure_as (λ j own. elim (cases_eq j 0) [
+      | inl same ↦ same
+      | inr other ↦ absurd (none_true n j (sym (w.others j other) ∙ own))
+    ]) ((h.each i).0 there)),
+    (λ there. (h.each i).1 (closure_as (λ j same. ap (item first) same ∙ w.there) there)),
+  );
+}
+
+-- ---- more sets
+
+module _ (rules : List Rule) where
+  pub Extends-itself : (sets : List (List Bool)) → Extends sets sets
+  Extends-itself sets = ([], sym (append-nil sets))
+
+  Extends-both : (sets mid after : List (List Bool)) → Extends sets mid → Extends mid after →
+      Extends sets after
+  Extends-both sets mid more (xs, one) (ys, two) =
+      (xs ++ ys, two ∙ ap (λ zs. zs ++ ys) one ∙ append_assoc sets xs ys)
+
+  extended_at : (sets more : List (List Bool)) → Extends sets more → (i : ℕ) → i < length sets →
+      (i < length more) × (get_or more i [] ≡ get_or sets i [])
+  extended_at sets more (xs, is) i less = (
+    omega (arith, less, ap length is, length-append sets xs),
+    ap (λ zs. get_or zs i []) is ∙ get_or_append_left sets xs [] i less,
+  )
+
+  pub IsMove-extended : (sets more : List (List Bool)) → Extends sets more → (set : List Bool)
+      (move : Move) → IsMove rules sets set move → IsMove rules more set move
+  IsMove-extended sets more e set move h =
+      let at = extended_at sets more e move.state h.inside in record {
+        ahead = h.ahead;
+        inside = at.0;
+        goto = subst (λ (bits : List Bool). IsGoto rules set move.symbol bits) (sym at.1) h.goto;
+      }
+
+  pub AreMoves-extended : (sets more : List (List Bool)) → Extends sets more → (set : List Bool)
+      (moves : List Move) → AreMoves rules sets set moves → AreMoves rules more set moves
+  AreMoves-extended sets more e set moves h = record {
+    each = λ k d less. IsMove-extended sets more e set _ (h.each k d less);
+    all = h.all;
+    rise = h.rise;
+  }
+
+  -- a set that was entered
+  module _ (sets : List (List Bool)) (set : List Bool) (more : List (List Bool)) (p : ℕ)
+      (h : HasEntered sets set more p) where
+    Extends-entered : Extends sets more
+    Extends-entered = elim h.added [
+      | inl same ↦ ([], same ∙ sym (append-nil sets))
+      | inr new ↦ (set ∷ [], new.0)
+    ]
+
+    AreSome-entered : AreSome rules sets → IsState rules set → AreSome rules more
+    AreSome-entered some state = elim h.added [
+      | inl same ↦ subst (λ (xs : List (List Bool)). AreSome rules xs) (sym same) some
+      | inr new ↦ subst (λ (xs : List (List Bool)). AreSome rules xs) (sym new.0) record {
+        each = All-push (IsState rules) sets set some.each state;
+        once = all_pairs_push (λ one other. one ≢ other) sets set some.once
+            (λ k d less. new.1 k d less);
+      }
+    ]
+
+-- ---- numbers given one after another
+
+given_append : (n : ℕ) (ps : List ℕ) (m : ℕ) (qs : List ℕ) (k : ℕ) → AreGiven n ps m →
+    AreGiven m qs k → AreGiven n (ps ++ qs) k
+given_append n [] m qs k h g = subst (λ (j : ℕ). AreGiven j qs k) (sym h) g
+given_append n (p ∷ ps) m qs k h g = elim h [
+  | inl low ↦ inl (low.0, given_append n ps m qs k low.1 g)
+  | inr next ↦ inr (next.0, given_append (n + 1) ps m qs k next.1 g)
+]
+
+module _ (rules : List Rule) (sets : List (List Bool)) (set : List Bool) (more : List (List Bool))
+    (p : ℕ) (h : HasEntered sets set more p) where
+  entered_given : AreGiven (length sets) (p ∷ []) (length more)
+  entered_given = elim h.added [
+    | inl same ↦ inl (omega (arith, h.inside, ap length same), sym (ap length same))
+    | inr new ↦
+        let long = ap length new.0 ∙ length_push sets set in
+        let past : length sets ≤ p = elim (cases_lt p (length sets)) [
+          | inl low ↦
+              absurd (new.1 p [] low (sym (get_or_append_left sets (set ∷ []) [] p low)
+              ∙ (sym (ap (λ zs. get_or zs p []) new.0) ∙ h.there)))
+          | inr past ↦ past
+        ] in
+        inr (omega (arith, past, h.inside, long), sym long)
+  ]
+
+  -- the state that a move leads to is given
+  pub one_given : (n : ℕ) (moves : List Move) →
+      AreGiven n (map (λ move. move.state) moves) (length sets) → (move : Move) → move.state ≡ p →
+      AreGiven n (map (λ move. move.state) (moves ++ move ∷ [])) (length more)
+  one_given n moves given move is =
+      let whole = map-append (λ (m : Move). m.state) moves (move ∷ []) in
+      rw whole
+      (given_append n (map (λ (m : Move). m.state) moves) (length sets) (move.state ∷ []) (length more)
+      given (subst (λ (k : ℕ). AreGiven (length sets) (k ∷ []) (length more)) (sym is) entered_given))
+
+targets_more : (moves : List (List Move)) (row : List Move) →
+    targets_of (moves ++ row ∷ []) ≡ targets_of moves ++ map (λ move. move.state) row
+targets_more moves row =
+    flat_map-append (λ (ms : List Move). map (λ m. m.state) ms) moves (row ∷ [])
+    ∙ ap (λ zs. targets_of moves ++ zs)
+    (flat_map-cons (λ (ms : List Move). map (λ m. m.state) ms) row []
+    ∙ append-nil (map (λ (m : Move). m.state) row))
+
+-- the same of Vobs
+pub HasEntered-found : (sets : List BitVector) (bits : List Bool) (p : ℕ) → p < length sets →
+    get_or (bits_of sets) p [] ≡ bits → HasEntered (bits_of sets) bits (bits_of sets) p
+HasEntered-found sets bits p less there = record {
+  inside = omega (arith, less, length-map sets (λ v. v.bits));
+  there = there;
+  added = inl refl;
+}
+
+pub HasEntered-pushed : (sets : List BitVector) (set : BitVector) →
+    All (λ own. own ≢ set.bits) (bits_of sets) → (p : ℕ) → p ≡ length sets →
+    HasEntered (bits_of sets) set.bits (bits_of (sets ++ set ∷ [])) p
+HasEntered-pushed sets set none p last =
+    let whole = map-append (λ (v : BitVector). v.bits) sets (set ∷ []) in
+    let here : length (bits_of sets) ≡ p = omega (arith, last, length-map sets (λ v. v.bits)) in
+    rw whole record {
+      inside = omega (arith, here, length_push (bits_of sets) set.bits);
+      there = get_or_push (bits_of sets) set.bits [] p here;
+      added = inr (refl, none);
+    }
+
+pub still_there : (before sets : List BitVector) → Extends (bits_of before) (bits_of sets) →
+    (p : ℕ) → p < length before → p < length sets
+still_there before sets (more, is) p less =
+    omega (
+      arith,
+      less,
+      ap length is,
+      length-append (bits_of before) more,
+      length-map before (λ v. v.bits),
+      length-map sets (λ v. v.bits),
+    )
+
+-- a set that is read is a state, as it was before there were more
+pub state_read : (rules : List Rule) (before sets : List BitVector) →
+    AreSome rules (bits_of sets) → Extends (bits_of before) (bits_of sets) → (p : ℕ) →
+    p < length before → (set : BitVector) → set ≡ get_or sets p set →
+    (set.bits ≡ get_or (bits_of before) p []) × IsState rules (get_or (bits_of before) p [])
+    × (length set.bits ≡ item_total rules)
+state_read rules before sets some more p less set read =
+    let at = extended_at rules (bits_of before) (bits_of sets) more p
+    (omega (arith, less, length-map before (λ v. v.bits))) in
+    let low : p < length sets = omega (arith, at.0, length-map sets (λ v. v.bits)) in
+    let own = ap (λ (v : BitVector). v.bits) read
+    ∙ sym (get_or-map (λ (v : BitVector). v.bits) sets p set [] low) in
+    let state = some.each p [] at.0 in (
+      own ∙ at.1,
+      subst (λ (bits : List Bool). IsState rules bits) at.1 state,
+      state_long rules (subst (λ (bits : List Bool). IsState rules bits) (sym own) state),
+    )
+
+-- ---- the moves of a state
+
+Any-pushed : (P : Move → Type 0) (moves : List Move) (move : Move) → Any P moves →
+    Any P (moves ++ move ∷ [])
+Any-pushed P moves move (k, x, less, is, holds) = (
+  k,
+  x,
+  omega (arith, less, length_push moves move),
+  get_or_append_left moves (move ∷ []) x k less ∙ is,
+  holds,
+)
+
+Any-last : (P : Move → Type 0) (moves : List Move) (move : Move) → P move →
+    Any P (moves ++ move ∷ [])
+Any-last P moves move holds = (
+  length moves,
+  move,
+  omega (arith, length_push moves move),
+  get_or_push moves move move (length moves) refl,
+  holds,
+)
+
+module _ (grammar : Grammar) (set ahead : List Bool) (is : AreAhead grammar set ahead) where
+  pub AreMovesBut-start : (sets : List (List Bool)) (left : List ℕ) →
+      left ≡ matches ahead true Unbounded Unbounded →
+      AreMovesBut grammar sets set ahead left []
+  AreMovesBut-start sets left all = record {
+    matches = subst (λ (xs : List ℕ). AreMatches ahead true Unbounded Unbounded xs) (sym all)
+        (matches_all ahead true Unbounded Unbounded);
+    left_rises = subst (λ (xs : List ℕ). AllPairs (λ i j. i < j) xs) (sym all)
+        (matches_rise ahead true Unbounded Unbounded);
+    each = All-nil (IsMove grammar.rules.items sets set);
+    rise = λ i j d less low. absurd (omega (arith, less, low));
+    before = All-nil (λ (m : Move).
+        All (λ k. Precedes m.symbol (symbol_with grammar.terminals k)) left);
+    done = λ k there gone.
+        let here = left_all ahead true Unbounded Unbounded k (true_inside ahead k there) refl there in
+        absurd (false≢true (sym gone ∙ ap (λ (xs : List ℕ). is_left xs k) all ∙ here));
+  }
+
+  module _ (sets : List (List Bool)) (given : List ℕ) (k : ℕ) (left : List ℕ)
+      (e : given ≡ k ∷ left) (moves : List Move)
+      (h : AreMovesBut grammar sets set ahead given moves) where
+    now : AreMovesBut grammar sets set ahead (k ∷ left) moves
+    now = subst (λ (xs : List ℕ). AreMovesBut grammar sets set ahead xs moves) e h
+
+    -- the next symbol is ahead
+    next_ahead : IsAhead grammar.rules.items set (symbol_with grammar.terminals k)
+    next_ahead = is.only k (first_value ahead true Unbounded Unbounded k left now.matches)
+
+    next_state : IsState grammar.rules.items set → (next : List Bool) →
+        IsGoto grammar.rules.items set (symbol_with grammar.terminals k) next →
+        IsState grammar.rules.items next
+    next_state state next goto = after (symbol_with grammar.terminals k) state next_ahead goto
+
+    -- its move is one more
+    AreMovesBut-step : (next : List Bool) →
+        IsGoto grammar.rules.items set (symbol_with grammar.terminals k) next →
+        (more : List (List Bool)) (p : ℕ) → HasEntered sets next more p → (move : Move) →
+        move.symbol ≡ symbol_with grammar.terminals k → move.state ≡ p →
+        AreMovesBut grammar more set ahead left (moves ++ move ∷ [])
+    AreMovesBut-step next goto more p entered move symbol state =
+        let extends = Extends-entered grammar.rules.items sets next more p entered in
+        let own : IsMove grammar.rules.items more set move = record {
+          ahead = subst (λ (x : Symbol). IsAhead grammar.rules.items set x) (sym symbol) next_ahead;
+          inside = omega (arith, state, entered.inside);
+          goto = subst (λ (x : Symbol). IsGoto grammar.rules.items set x (get_or more move.state []))
+              (sym symbol)
+              (subst (λ (bits : List Bool).
+              IsGoto grammar.rules.items set (symbol_with grammar.terminals k) bits)
+              (sym (ap (λ n. get_or more n []) state ∙ entered.there)) goto);
+        } in record {
+          matches = matches_after ahead true Unbounded Unbounded k left now.matches;
+          left_rises = λ i j d less low.
+              now.left_rises (suc i) (suc j) d (omega (arith, less)) (omega (arith, low));
+          rise = all_pairs_push (λ (m n : Move). Precedes m.symbol n.symbol) moves move now.rise
+              (λ i d low. subst (λ (x : Symbol). Precedes (get_or moves i d).symbol x) (sym symbol)
+              (All-head (λ j. Precedes (get_or moves i d).symbol (symbol_with grammar.terminals j)) k
+              left (now.before i d low)));
+          before = All-push
+              (λ (m : Move). All (λ j. Precedes m.symbol (symbol_with grammar.terminals j)) left)
+              moves move
+              (λ i d low.
+              All-tail (λ j. Precedes (get_or moves i d).symbol (symbol_with grammar.terminals j)) k
+              left (now.before i d low))
+              (λ i d low.
+              subst (λ (x : Symbol). Precedes x (symbol_with grammar.terminals (get_or left i d)))
+              (sym symbol)
+              (number_precedes grammar.terminals k (get_or left i d)
+              (now.left_rises 0 (suc i) d (omega arith) (omega (arith, low)))));
+          each = All-push (IsMove grammar.rules.items more set) moves move
+              (λ i d less.
+              IsMove-extended grammar.rules.items sets more extends set _ (now.each i d less)) own;
+          done = λ j there gone. elim (cases_eq j k) [
+            | inl same ↦
+                Any-last (λ m. m.symbol ≡ symbol_with grammar.terminals j) moves move
+                (symbol ∙ ap (symbol_with grammar.terminals) (sym same))
+            | inr other ↦
+                Any-pushed (λ m. m.symbol ≡ symbol_with grammar.terminals j) moves move
+                (now.done j there (left_other k left j other ∙ gone))
+          ];
+        }
+
+  -- and what was found so far grows with it
+  module _ (before : List (List Bool)) (state : IsState grammar.rules.items set) where
+    pub moves_go_on : (sets : List (List Bool)) (given : List ℕ) (k : ℕ) (left : List ℕ) →
+        given ≡ k ∷ left → (moves : List Move) → AreSome grammar.rules.items sets →
+        Extends before sets → AreMovesBut grammar sets set ahead given moves →
+        (own : List Bool) → own ≡ set → (next : List Bool) (move : Move) →
+        IsGoto grammar.rules.items own move.symbol next →
+        (more : List (List Bool)) (p : ℕ) → HasEntered sets next more p →
+        move.symbol ≡ symbol_with grammar.terminals k → move.state ≡ p →
+        AreSome grammar.rules.items more × Extends before more
+        × AreMovesBut grammar more set ahead left (moves ++ move ∷ [])
+    moves_go_on sets given k left e moves some grown h own same next move to more p entered symbol at =
+        let goto = subst (λ (bits : List Bool).
+        IsGoto grammar.rules.items bits (symbol_with grammar.terminals k) next) same
+        (subst (λ (x : Symbol). IsGoto grammar.rules.items own x next) symbol to) in (
+          AreSome-entered grammar.rules.items sets next more p entered some
+              (next_state sets given k left e moves h state next goto),
+          Extends-both grammar.rules.items before sets more grown
+              (Extends-entered grammar.rules.items sets next more p entered),
+          AreMovesBut-step sets given k left e moves h next goto more p entered move symbol at,
+        )
+
+  pub AreMoves-whole : (sets : List (List Bool)) (left : List ℕ) → left ≡ [] →
+      (moves : List Move) → AreMovesBut grammar sets set ahead left moves →
+      AreMoves grammar.rules.items sets set moves
+  AreMoves-whole sets left none moves h = record {
+    each = h.each;
+    rise = h.rise;
+    all = λ x found.
+        let (k, there, named) = is.each x found in
+        let gone = ap (λ (xs : List ℕ). is_left xs k) none ∙ left_none k in
+        subst (λ (y : Symbol). Any (λ (m : Move). m.symbol ≡ y) moves) named (h.done k there gone);
+  }
+
+-- ---- one state after another
+
+module _ (rules : List Rule) where
+  pub AreRounds-start : (set : List Bool) → IsStart rules set → AreRounds rules (set ∷ []) []
+  AreRounds-start set h = record {
+    some = record {
+      each = All-push (IsState rules) [] set (All-nil (IsState rules)) (start h);
+      once = λ i j d less low. absurd (omega (arith, less, low));
+    };
+    inside = omega arith;
+    first = h;
+    count = omega arith;
+    given = refl;
+    moves_of = λ q less. absurd (omega (arith, less));
+  }
+
+module _ (grammar : Grammar) (sets : List (List Bool)) (moves : List (List Move))
+    (h : AreRounds grammar.rules.items sets moves) where
+  pub AreRounds-step : length moves < length sets → (more : List (List Bool)) (row : List Move) →
+      AreMovesFrom grammar sets (length moves) more row →
+      AreRounds grammar.rules.items more (moves ++ row ∷ [])
+  AreRounds-step low more row m =
+      let rules = grammar.rules.items in
+      let first = extended_at rules sets more m.more 0 h.inside in
+      let last = extended_at rules sets more m.more (length moves) low in record {
+        some = m.some;
+        inside = first.0;
+        first = subst (λ (bits : List Bool). IsStart rules bits) (sym first.1) h.first;
+        count = omega (arith, last.0, length_push moves row);
+        given = rw (targets_more moves row)
+            (given_append 1 (targets_of moves) (length sets) (map (λ (n : Move). n.state) row)
+            (length more) h.given m.given);
+        moves_of = λ q less. elim (cases_lt q (length moves)) [
+          | inl before ↦
+              let at = extended_at rules sets more m.more q (omega (arith, before, low)) in
+              subst (λ (bits : List Bool).
+              AreMoves rules more bits (get_or (moves ++ row ∷ []) q [])) (sym at.1)
+              (subst (λ (ms : List Move). AreMoves rules more (get_or sets q []) ms)
+              (sym (get_or_append_left moves (row ∷ []) [] q before))
+              (AreMoves-extended rules sets more m.more _ _ (h.moves_of q before)))
+          | inr past ↦
+              let here : length moves ≡ q = omega (arith, past, less, length_push moves row) in
+              subst (λ (n : ℕ).
+              AreMoves rules more (get_or more n []) (get_or (moves ++ row ∷ []) n [])) here
+              (subst (λ (bits : List Bool).
+              AreMoves rules more bits (get_or (moves ++ row ∷ []) (length moves) [])) (sym last.1)
+              (subst (λ (ms : List Move). AreMoves rules more (get_or sets (length moves) []) ms)
+              (sym (get_or_push moves row [] (length moves) refl)) m.moves_of))
+        ];
+      }
+
+module _ (rules : List Rule) (sets : List (List Bool)) (moves : List (List Move))
+    (h : AreRounds rules sets moves) (all : length sets ≤ length moves) where
+  -- each state is one of them
+  state_found : {set : List Bool} → IsState rules set → Contains sets set
+  state_found {set} (start first) = (
+    0,
+    h.inside,
+    at_default sets 0 set h.inside
+        ∙ same_sets rules (InClosure rules (λ i. i ≡ 0)) _ set h.first first,
+  )
+  state_found {set} (after {set = before} {next} x state ahead goto) =
+      let (q, low, is) = state_found state in
+      let row = h.moves_of q (omega (arith, low, all)) in
+      let own : get_or sets q [] ≡ before = sym (at_default sets q before low) ∙ is in
+      let there = subst (λ (bits : List Bool). IsAhead rules bits x) (sym own) ahead in
+      let (k, move, less, read, named) = row.all x there in
+      let m = subst (λ (z : Move). IsMove rules sets (get_or sets q []) z) read
+      (row.each k move less) in
+      let to = subst (λ (y : Symbol). IsGoto rules (get_or sets q []) y (get_or sets move.state []))
+      named m.goto in
+      let reach = subst (λ (bits : List Bool). IsGoto rules bits x (get_or sets move.state []))
+      own to in (
+        move.state,
+        m.inside,
+        at_default sets move.state next m.inside
+            ∙ same_sets rules _ _ next reach goto,
+      )
+
+  pub AreStates-whole : AreStates rules sets moves
+  AreStates-whole = record {
+    first = h.first;
+    each = h.some.each;
+    all = λ set state. state_found state;
+    once = h.some.once;
+    order = h.given;
+    count = omega (arith, h.count, all);
+    moves_of = λ q less. h.moves_of q (omega (arith, less, all));
+  }

@@ -1,0 +1,72 @@
+-- One step of a parser, as its parts take it.
+use Rattle.std.proofs.Common.{◌≡◌, ◌↔◌, ℕ, zero, suc, Bool, true, false, List, [], ◌∷◌, length, get_or, drop, None, Option, Some, slice_get, refl, sym, ap, ◌∙◌, subst, arith}
+use Rattle.std.proofs.lemmas.Option.{get_or_from_slice_get, none-some, same_Some}
+use Rattle.std.specs.Bool.{IsTrue}
+use Rattle.std.specs.Option.{option_eq}
+use mathlib.Core.Bool.{beq}
+use Rattle.std.proofs.lemmas.Bool.{false≢true}
+use Rattle.vob_block.specs.Packing.{item}
+use Rattle.vob_flow.specs.Draws.{IsIn}
+use Rattle.vob_lr.specs.Items.{Completes}
+use Rattle.vob_lr.specs.Lookaheads.{HasMove, Machine}
+use Rattle.vob_lr.specs.Parses.{Config, IsLast, IsReplaced, replaced, top}
+use Rattle.vob_lr.specs.declared.grammar.Rule.{Rule}
+use Rattle.vob_lr.specs.declared.grammar.Symbol.TheVariants.{Nonterminal}
+use Rattle.vob_lr.proofs.ItemLemmas.{one_complete}
+
+-- ---- a reduction: states are left first, and another is entered then
+
+module _ (m : Machine) (c mid : Config) (r n q : ℕ) (own : Rule) (found : Option ℕ)
+    (is : slice_get m.grammar.rules.items r ≡ Some own) (count : n ≡ length own.right.items)
+    (left : mid ≡ record { states = drop n c.states; read = c.read; reduced = c.reduced })
+    (at : q ≡ top mid.states)
+    (next : (p : ℕ) → (found ≡ Some p) ↔ HasMove m.moves q (Nonterminal own.left) p) where
+  -- the newest state that is left
+  uncovered : q ≡ top (drop (length own.right.items) c.states)
+  uncovered =
+      at ∙ ap (λ (e : Config). top e.states) left
+      ∙ ap (λ (k : ℕ). top (drop k c.states)) count
+
+  pub replaced_is : (p : ℕ) → found ≡ Some p → IsReplaced m r c (replaced r 0 p mid)
+  replaced_is p found_is = record {
+    rule = own;
+    is = is;
+    state = p;
+    move = subst (λ (k : ℕ). HasMove m.moves k (Nonterminal own.left) p) uncovered ((next p).0 found_is);
+    after = ap (replaced r 0 p) left ∙ ap (λ (k : ℕ). replaced r k p c) count;
+  }
+
+  pub replaced_none : found ≡ None → (d : Config) → ¬ IsReplaced m r c d
+  replaced_none none d = λ to.
+      let same = same_Some own to.rule (sym is ∙ to.is) in
+      let move = subst (λ (x : Rule).
+      HasMove m.moves (top (drop (length x.right.items) c.states)) (Nonterminal x.left) to.state)
+      (sym same) to.move in
+      let there = subst (λ (k : ℕ). HasMove m.moves k (Nonterminal own.left) to.state)
+      (sym uncovered) move in
+      none-some to.state (sym none ∙ (next to.state).1 there)
+
+-- ---- the state behind the end
+
+pub last_is : (m : Machine) (p count i : ℕ) (rule : Rule) →
+    Completes m.grammar.rules.items 0 i → rule ≡ get_or m.grammar.rules.items 0 rule →
+    length rule.right.items ≡ count → IsIn m.sets p i ↔ IsLast m p count
+last_is m p count i rule done read long = (
+  (λ there.
+      let own = subst (λ (s : ℕ). slice_get m.grammar.rules.items s ≡ Some done.is.rule) done.rule
+      done.is.is in
+      let same = get_or_from_slice_get m.grammar.rules.items 0 done.is.rule rule own in
+      let right = ap (λ (x : Rule). length x.right.items) (read ∙ same) in
+      record { item = i; completes = done; there = there; whole = omega (arith, done.dot, right, long) }),
+  (λ last.
+      subst (λ (k : ℕ). IsIn m.sets p k) (one_complete m.grammar.rules.items 0 last.item i last.completes done)
+      last.there),
+)
+
+-- a bit that is read
+pub bit_is : (bits : List Bool) (i : ℕ) →
+    IsTrue (option_eq beq (slice_get bits i) (Some true)) ↔ (item bits i ≡ true)
+bit_is [] i = ((λ h. absurd (false≢true h)), (λ h. h))
+bit_is (true ∷ bits) zero = ((λ h. refl), (λ h. refl))
+bit_is (false ∷ bits) zero = ((λ h. h), (λ h. h))
+bit_is (bit ∷ bits) (suc i) = bit_is bits i

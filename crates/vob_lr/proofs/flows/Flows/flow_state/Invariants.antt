@@ -1,0 +1,17 @@
+-- The items so far flow.
+use Rattle.std.proofs.Common.{◌≡◌, [], length, slice_index_or}
+use Rattle.vob.specs.Vobs.{bits_of}
+use Rattle.vob_lr.specs.Equations.{lists_of}
+use Rattle.vob_lr.specs.Flows.{FlowsFrom}
+use Rattle.vob_lr.specs.Walked.{GainWalked}
+use Rattle.vob_lr.proofs.flows.Flows.flow_state.Given as goal
+
+abbrev pub invariant-loop-number : goal.invariant-loop-number
+invariant-loop-number l = record {
+  can_next : (goal.iterator-loop-number).can_next l.number-iterator;
+  is_finite : (goal.iterator-loop-number).is_finite l.number-iterator;
+  len : length l.begins.bits ≡ length l.fn.begins.bits;
+  walked : GainWalked (FlowsFrom l.self l.state) (slice_index_or l.self.sets l.state [])
+      l.number-iterator.rest (bits_of l.fn.sets) (lists_of l.fn.lists) (bits_of l.sets)
+      (lists_of l.lists);
+}

@@ -1,0 +1,259 @@
+//! Sets of items: their closures, and what is left of them when the dot passes a symbol.
+ghost use Rattle.std.specs.Prelude.{◌≡◌, ◌≢◌, ◌↔◌, ℕ, ◌<◌, length, All, Err, IfOk, IsTrue, OnOk, Some};
+ghost use Rattle.vob.specs.Vobs.{AreOfLength, bits_of};
+ghost use Rattle.vob_lr.specs.Equations.{AreEquations, GainEach, GainsSymbols, lists_of};
+ghost use Rattle.vob_lr.specs.Expansions.{Advances, AreExpansions, Brings, Expands, Gains, HasOpening, HasRow, IsBrought, IsOpening};
+ghost use Rattle.vob_lr.specs.Faults.{IsBadRule, IsRuleOf};
+ghost use Rattle.vob_lr.specs.ItemSets.{IsAdvanced, IsClosure, IsGoto, IsItemSet};
+ghost use Rattle.vob_lr.specs.Items.{item_total};
+ghost use Rattle.vob_lr.specs.Ahead.{AreAhead};
+ghost use Rattle.vob_lr.specs.States.{IsStart};
+
+use crate::ahead::ahead_of;
+use crate::equations::{empty_lists, empty_sets, solve};
+use crate::grammar::{Grammar, GrammarError, Symbol, check_rules};
+use crate::items::Items;
+use std::alloc::{AllocError, Global};
+use std::marker::Model;
+use vob::Vob;
+
+/// Lets a set start with a rule's first item, and draw from that of the nonterminal behind its dot.
+fn open_rule(
+    first: usize,
+    right: &[Symbol],
+    starts: &mut Vob,
+    from: &mut Vec<usize>,
+) -> Result<(), AllocError>
+    requires { first < length starts.old.bits }
+    ensures { OnOk result (GainsSymbols (IsOpening first right.now)
+        starts.old.bits from.old.items starts.new.bits from.new.items) }
+{
+    starts.set(first, true);
+    if let Some(Symbol::Nonterminal(nonterminal)) = right.first() {
+        from.push(*nonterminal)?;
+    }
+    Ok(())
+}
+
+/// Does that for all rules, in the sets of their left sides.
+fn open_rules(
+    grammar: &Grammar,
+    items: &Items<'_>,
+    sets: &mut [Vob],
+    lists: &mut [Vec<usize>],
+) -> Result<(), AllocError>
+    requires items { items.now ≡ grammar.now }
+    requires rules { All (IsRuleOf grammar.now) grammar.now.rules.items }
+    requires sets { length sets.old ≡ grammar.now.nonterminals }
+    requires lists { length lists.old ≡ grammar.now.nonterminals }
+    requires long { AreOfLength (item_total grammar.now.rules.items) (bits_of sets.old) }
+    ensures { OnOk result
+        (GainEach (HasOpening grammar.now.rules.items (length grammar.now.rules.items))
+        (bits_of sets.old) (lists_of lists.old) (bits_of sets.new) (lists_of lists.new)) }
+{
+    for number in 0..grammar.rules.len() {
+        let rule = &grammar.rules[number];
+        open_rule(
+            items.first(number),
+            &rule.right,
+            &mut sets[rule.left],
+            &mut lists[rule.left],
+        )?;
+    }
+    Ok(())
+}
+
+/// Returns what each nonterminal brings at once, and from which others it draws.
+pub(crate) fn expansion_equations(
+    alloc: Global,
+    grammar: &Grammar,
+    items: &Items<'_>,
+) -> Result<(Vec<Vob>, Vec<Vec<usize>>), AllocError>
+    requires items { items.now ≡ grammar.now }
+    requires rules { All (IsRuleOf grammar.now) grammar.now.rules.items }
+    ensures { IfOk result (λ made.
+        AreEquations grammar.now.nonterminals (item_total grammar.now.rules.items)
+        (Expands grammar.now.rules.items) (bits_of made.0.items) (lists_of made.1.items)) }
+{
+    let mut sets = empty_sets(alloc, items.len(), grammar.nonterminals)?;
+    let mut lists = empty_lists(alloc, grammar.nonterminals)?;
+    open_rules(grammar, items, &mut sets, &mut lists)?;
+    Ok((sets, lists))
+}
+
+/// Returns for each nonterminal of a grammar with sound rules the items that it brings.
+fn expansions_of(
+    alloc: Global,
+    grammar: &Grammar,
+    items: &Items<'_>,
+) -> Result<Vec<Vob>, AllocError>
+    requires items { items.now ≡ grammar.now }
+    requires rules { All (IsRuleOf grammar.now) grammar.now.rules.items }
+    ensures { IfOk result (λ rows. AreExpansions grammar.now (bits_of rows.items)) }
+{
+    let (mut sets, lists) = expansion_equations(alloc, grammar, items)?;
+    solve(alloc, items.len(), &mut sets, &lists)?;
+    Ok(sets)
+}
+
+/// Adds to a set of items what a symbol behind a dot brings into its closure.
+fn bring_by(symbol: Symbol, expansions: &[Vob], made: &mut Vob)
+    requires row { HasRow (length expansions.now) (Some symbol) }
+    requires long { AreOfLength (length made.old.bits) (bits_of expansions.now) }
+    ensures { Gains (IsBrought (bits_of expansions.now) (Some symbol))
+        made.old.bits made.new.bits }
+{
+    match symbol {
+        Symbol::Terminal(_) => {}
+        Symbol::Nonterminal(nonterminal) => {
+            made.or(&expansions[nonterminal]);
+        }
+    }
+}
+
+/// Does that if there is one.
+fn bring(next: Option<Symbol>, expansions: &[Vob], made: &mut Vob)
+    requires row { HasRow (length expansions.now) next }
+    requires long { AreOfLength (length made.old.bits) (bits_of expansions.now) }
+    ensures { Gains (IsBrought (bits_of expansions.now) next) made.old.bits made.new.bits }
+{
+    match next {
+        None => {}
+        Some(symbol) => bring_by(symbol, expansions, made),
+    }
+}
+
+/// Whether this symbol stands behind a dot.
+fn stands_behind(next: Option<Symbol>, symbol: Symbol) -> bool
+    ensures { IsTrue result ↔ (next ≡ Some symbol) }
+{
+    next == Some(symbol)
+}
+
+/// The items of a grammar with sound rules, and what each nonterminal brings into a closure. A
+/// contract sees the grammar.
+#[derive(Drop)]
+pub struct Closures<'a> {
+    items: Items<'a>,
+    // A set for each nonterminal, with a bit for each item.
+    expansions: Vec<Vob>,
+}
+
+impl<'a> Model for Closures<'a> {
+    ghost use Rattle.vob_lr.specs.declared.grammar.Grammar.{Grammar as Seen};
+
+    ghost Value = { Seen };
+
+    ghost use Rattle.vob.specs.Vobs.{bits_of};
+    ghost use Rattle.vob_lr.specs.Expansions.{AreExpansions};
+
+    ghost view = { λ a. a.items };
+
+    ghost invariant = { λ a. AreExpansions a.items (bits_of a.expansions.items) };
+}
+
+impl<'a> Closures<'a> {
+    /// Numbers the items of a grammar, and finds what each nonterminal brings into a closure.
+    ///
+    /// Fails with the first rule that names a symbol that isn't there, or if memory runs out.
+    pub fn new(alloc: Global, grammar: &'a Grammar) -> Result<Closures<'a>, GrammarError>
+        ensures grammar { IfOk result (λ closures. closures ≡ grammar.now) }
+
+        // The rules are checked first.
+        ensures bad_symbol { (rule : ℕ)
+            → (result ≡ Err (GrammarError.BadSymbol rule)) ↔ IsBadRule grammar.now rule }
+        ensures no_rule { result ≢ Err GrammarError.NoRule }
+    {
+        check_rules(grammar)?;
+        let items = Items::new(alloc, grammar)?;
+        let expansions = expansions_of(alloc, grammar, &items)?;
+        Ok(Closures { items, expansions })
+    }
+
+    /// Returns the items, with their numbers.
+    pub fn items(&self) -> &Items<'a>
+        ensures { result.now ≡ self.now }
+    {
+        &self.items
+    }
+
+    /// Adds what the item with a number brings.
+    fn expand(&self, number: usize, made: &mut Vob)
+        requires number { number < item_total self.now.rules.items }
+        requires long { length made.old.bits ≡ item_total self.now.rules.items }
+        ensures { Gains (Brings self.now.rules.items number) made.old.bits made.new.bits }
+    {
+        bring(self.items.next(number), &self.expansions, made);
+    }
+
+    /// Returns the closure of a set of items, which must have a bit for each. Fails if memory runs
+    /// out.
+    pub fn closure(&self, set: &Vob) -> Result<Vob, AllocError>
+        requires { length set.now.bits ≡ item_total self.now.rules.items }
+        ensures { IfOk result (λ closure.
+            IsClosure self.now.rules.items set.now.bits closure.bits) }
+    {
+        let mut closure = set.clone()?;
+        for number in set.iter_set_bits(..) {
+            self.expand(number, &mut closure);
+        }
+        Ok(closure)
+    }
+
+    /// Adds the item behind the one with a number, if a symbol stands between their dots.
+    fn advance(&self, number: usize, symbol: Symbol, made: &mut Vob)
+        requires number { number < item_total self.now.rules.items }
+        requires long { length made.old.bits ≡ item_total self.now.rules.items }
+        ensures { Gains (Advances self.now.rules.items symbol number)
+            made.old.bits made.new.bits }
+    {
+        // The number of items is in the range of its type: a proof knows it from this read.
+        let _len = self.items.len();
+        if !stands_behind(self.items.next(number), symbol) {
+            return;
+        }
+        made.set(number + 1, true);
+    }
+
+    /// Returns the items of a set after their dots passed a symbol.
+    fn advanced(&self, alloc: Global, set: &Vob, symbol: Symbol) -> Result<Vob, AllocError>
+        requires { length set.now.bits ≡ item_total self.now.rules.items }
+        ensures { IfOk result (λ made. IsItemSet self.now.rules.items
+            (IsAdvanced self.now.rules.items set.now.bits symbol) made.bits) }
+    {
+        let mut made = Vob::from_elem(alloc, false, set.len())?;
+        for number in set.iter_set_bits(..) {
+            self.advance(number, symbol, &mut made);
+        }
+        Ok(made)
+    }
+
+    /// Returns the closure of the items of a set after their dots passed a symbol: no item if it
+    /// stands behind no dot. The set must have a bit for each item. Fails if memory runs out.
+    pub fn goto(&self, alloc: Global, set: &Vob, symbol: Symbol) -> Result<Vob, AllocError>
+        requires { length set.now.bits ≡ item_total self.now.rules.items }
+        ensures { IfOk result (λ next.
+            IsGoto self.now.rules.items set.now.bits symbol next.bits) }
+    {
+        let made = self.advanced(alloc, set, symbol)?;
+        self.closure(&made)
+    }
+
+    /// Returns the numbers of the symbols behind the dots of a set of items.
+    pub(crate) fn ahead(&self, alloc: Global, set: &Vob) -> Result<Vob, AllocError>
+        requires { length set.now.bits ≡ item_total self.now.rules.items }
+        ensures { IfOk result (λ ahead. AreAhead self.now set.now.bits ahead.bits) }
+    {
+        ahead_of(alloc, &self.items, set)
+    }
+
+    /// Returns the closure of item 0.
+    pub(crate) fn start(&self, alloc: Global) -> Result<Vob, AllocError>
+        requires { 0 < length self.now.rules.items }
+        ensures { IfOk result (λ set. IsStart self.now.rules.items set.bits) }
+    {
+        let mut first = Vob::from_elem(alloc, false, self.items.len())?;
+        first.set(0, true);
+        self.closure(&first)
+    }
+}

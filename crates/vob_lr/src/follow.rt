@@ -1,0 +1,222 @@
+//! Which terminals can follow the nonterminals of a grammar.
+ghost use Rattle.std.specs.Prelude.{◌≡◌, ◌≢◌, ◌↔◌, ◌⊎◌, ℕ, true, length, IsTrue, All, IfOk, IsOk, OnOk, Err};
+ghost use Rattle.vob_block.specs.Packing.{item};
+ghost use Rattle.vob.specs.Vobs.{AreOfLength, bits_of};
+ghost use Rattle.vob_lr.specs.Behind.{HasBehind, IsBehind, IsBelow, IsOfTrailer, IsStart};
+ghost use Rattle.vob_lr.specs.Equations.{AreEquations, GainEach, GainsSymbols, lists_of};
+ghost use Rattle.vob_lr.specs.Faults.{IsBadRule, IsRuleOf};
+ghost use Rattle.vob_lr.specs.Grammar.{AreFirst, AreFollow, AreNullable};
+ghost use Rattle.vob_lr.specs.Heads.{HasPlace};
+ghost use Rattle.vob_lr.specs.Passes.{IsNull};
+ghost use Rattle.vob_lr.specs.declared.grammar.Symbol.TheVariants.{Nonterminal};
+
+use crate::empty::{is_null, solve_nullable};
+use crate::equations::{empty_lists, empty_sets, solve};
+use crate::first::solve_first;
+use crate::grammar::{Grammar, GrammarError, Rule, Symbol, check_rules};
+use std::alloc::{AllocError, Global};
+use vob::Vob;
+
+/// Makes of what can begin some symbols what can begin them behind a nonterminal with this row.
+fn put_row(vanishes: bool, row: &Vob, begins: &mut Vob)
+    requires { length row.now.bits ≡ length begins.old.bits }
+    ensures len { length begins.new.bits ≡ length begins.old.bits }
+    ensures each { (t : ℕ) → (item begins.new.bits t ≡ true)
+        ↔ ((item row.now.bits t ≡ true) ⊎ (IsTrue vanishes × (item begins.old.bits t ≡ true))) }
+{
+    if !vanishes {
+        begins.set_all(false);
+    }
+    begins.or(row);
+}
+
+/// Makes of what can begin some symbols what can begin them behind another. Returns whether all can
+/// become empty, given whether they can.
+pub(crate) fn put_before(
+    nullable: &Vob,
+    first: &[Vob],
+    symbol: &Symbol,
+    begins: &mut Vob,
+    empty: bool,
+) -> bool
+    requires place { HasPlace (length begins.old.bits) symbol.now }
+    requires below { IsBelow (length first.now) symbol.now }
+    requires long { AreOfLength (length begins.old.bits) (bits_of first.now) }
+    ensures len { length begins.new.bits ≡ length begins.old.bits }
+    ensures each { (t : ℕ) → (item begins.new.bits t ≡ true)
+        ↔ (IsStart (bits_of first.now) symbol.now t
+        ⊎ (IsNull nullable.now.bits symbol.now × (item begins.old.bits t ≡ true))) }
+    ensures empty { IsTrue result ↔ (IsNull nullable.now.bits symbol.now × IsTrue empty) }
+{
+    let vanishes = is_null(nullable, symbol);
+    match symbol {
+        Symbol::Terminal(terminal) => {
+            begins.set_all(false);
+            begins.set(*terminal, true);
+        }
+        Symbol::Nonterminal(nonterminal) => put_row(vanishes, &first[*nonterminal], begins),
+    }
+    vanishes && empty
+}
+
+/// Lets a set start with what can begin the symbols behind a nonterminal, and draw from the left
+/// side where they can become empty.
+pub(crate) fn add_trailer(
+    left: usize,
+    begins: &Vob,
+    empty: bool,
+    starts: &mut Vob,
+    from: &mut Vec<usize>,
+) -> Result<(), AllocError>
+    requires { length begins.now.bits ≡ length starts.old.bits }
+    ensures { OnOk result (GainsSymbols (IsOfTrailer left begins.now.bits empty)
+        starts.old.bits from.old.items starts.new.bits from.new.items) }
+{
+    starts.or(begins);
+    if !empty {
+        return Ok(());
+    }
+    from.push(left)?;
+    Ok(())
+}
+
+/// Does that for the set of a symbol, if it is a nonterminal.
+fn add_behind(
+    left: usize,
+    symbol: &Symbol,
+    begins: &Vob,
+    empty: bool,
+    sets: &mut [Vob],
+    lists: &mut [Vec<usize>],
+) -> Result<(), AllocError>
+    requires lists { length lists.old ≡ length sets.old }
+    requires below { IsBelow (length sets.old) symbol.now }
+    requires long { AreOfLength (length begins.now.bits) (bits_of sets.old) }
+    ensures { OnOk result (GainEach
+        (λ a y. (symbol.now ≡ Nonterminal a) × IsOfTrailer left begins.now.bits empty y)
+        (bits_of sets.old) (lists_of lists.old) (bits_of sets.new) (lists_of lists.new)) }
+{
+    match symbol {
+        Symbol::Terminal(_) => Ok(()),
+        Symbol::Nonterminal(a) => add_trailer(left, begins, empty, &mut sets[*a], &mut lists[*a]),
+    }
+}
+
+/// Does that for the symbols of a right side, from the last one to the first.
+fn add_rule(
+    grammar: &Grammar,
+    nullable: &Vob,
+    first: &[Vob],
+    rule: &Rule,
+    begins: &mut Vob,
+    sets: &mut [Vob],
+    lists: &mut [Vec<usize>],
+) -> Result<(), AllocError>
+    requires rule { IsRuleOf grammar.now rule.now }
+    requires nullable { AreNullable grammar.now nullable.now.bits }
+    requires first { AreFirst grammar.now (bits_of first.now) }
+    requires begins { length begins.old.bits ≡ grammar.now.terminals }
+    requires sets { length sets.old ≡ grammar.now.nonterminals }
+    requires lists { length lists.old ≡ grammar.now.nonterminals }
+    requires long { AreOfLength grammar.now.terminals (bits_of sets.old) }
+    ensures begins { length begins.new.bits ≡ length begins.old.bits }
+    ensures behind { OnOk result
+        (GainEach (IsBehind grammar.now.rules.items rule.now.left rule.now.right.items)
+        (bits_of sets.old) (lists_of lists.old) (bits_of sets.new) (lists_of lists.new)) }
+{
+    begins.set_all(false);
+    let mut empty = true;
+    for back in 0..rule.right.len() {
+        let symbol = &rule.right[rule.right.len() - 1 - back];
+        add_behind(rule.left, symbol, begins, empty, sets, lists)?;
+        empty = put_before(nullable, first, symbol, begins, empty);
+    }
+    Ok(())
+}
+
+/// Does that for the right sides of all rules.
+fn add_rules(
+    grammar: &Grammar,
+    nullable: &Vob,
+    first: &[Vob],
+    begins: &mut Vob,
+    sets: &mut [Vob],
+    lists: &mut [Vec<usize>],
+) -> Result<(), AllocError>
+    requires rules { All (IsRuleOf grammar.now) grammar.now.rules.items }
+    requires nullable { AreNullable grammar.now nullable.now.bits }
+    requires first { AreFirst grammar.now (bits_of first.now) }
+    requires begins { length begins.old.bits ≡ grammar.now.terminals }
+    requires sets { length sets.old ≡ grammar.now.nonterminals }
+    requires lists { length lists.old ≡ grammar.now.nonterminals }
+    requires long { AreOfLength grammar.now.terminals (bits_of sets.old) }
+    ensures { OnOk result
+        (GainEach (HasBehind grammar.now.rules.items grammar.now.rules.items)
+        (bits_of sets.old) (lists_of lists.old) (bits_of sets.new) (lists_of lists.new)) }
+{
+    for rule in &grammar.rules {
+        add_rule(grammar, nullable, first, rule, begins, sets, lists)?;
+    }
+    Ok(())
+}
+
+/// Returns what the follow sets start with, and which others each draws from.
+fn follow_equations(
+    alloc: Global,
+    grammar: &Grammar,
+    nullable: &Vob,
+    first: &[Vob],
+) -> Result<(Vec<Vob>, Vec<Vec<usize>>), AllocError>
+    requires rules { All (IsRuleOf grammar.now) grammar.now.rules.items }
+    requires nullable { AreNullable grammar.now nullable.now.bits }
+    requires first { AreFirst grammar.now (bits_of first.now) }
+    ensures { IfOk result (λ made. AreEquations grammar.now.nonterminals grammar.now.terminals
+        (HasBehind grammar.now.rules.items grammar.now.rules.items)
+        (bits_of made.0.items) (lists_of made.1.items)) }
+{
+    let mut begins = Vob::from_elem(alloc, false, grammar.terminals)?;
+    let mut sets = empty_sets(alloc, grammar.terminals, grammar.nonterminals)?;
+    let mut lists = empty_lists(alloc, grammar.nonterminals)?;
+    add_rules(grammar, nullable, first, &mut begins, &mut sets, &mut lists)?;
+    Ok((sets, lists))
+}
+
+/// Returns the follow sets of a grammar with sound rules. No nonterminals take no memory.
+fn solve_follow(
+    alloc: Global,
+    grammar: &Grammar,
+    nullable: &Vob,
+    first: &[Vob],
+) -> Result<Vec<Vob>, AllocError>
+    requires rules { All (IsRuleOf grammar.now) grammar.now.rules.items }
+    requires nullable { AreNullable grammar.now nullable.now.bits }
+    requires first { AreFirst grammar.now (bits_of first.now) }
+    ensures follow { IfOk result (λ rows. AreFollow grammar.now (bits_of rows.items)) }
+    ensures nothing { grammar.now.nonterminals ≡ 0 → IsOk result }
+{
+    if grammar.nonterminals == 0 {
+        return Ok(Vec::new(alloc));
+    }
+    let (mut sets, lists) = follow_equations(alloc, grammar, nullable, first)?;
+    solve(alloc, grammar.terminals, &mut sets, &lists)?;
+    Ok(sets)
+}
+
+/// Returns a set for each nonterminal, of the terminals that can follow it where a nonterminal is
+/// derived from, whichever that is.
+///
+/// Fails with the first rule that names a symbol that isn't there, or if memory runs out.
+pub fn follow_sets(alloc: Global, grammar: &Grammar) -> Result<Vec<Vob>, GrammarError>
+    ensures follow { IfOk result (λ rows. AreFollow grammar.now (bits_of rows.items)) }
+
+    // The rules are checked first, and memory is asked for only if there are nonterminals.
+    ensures bad_symbol { (rule : ℕ)
+        → (result ≡ Err (GrammarError.BadSymbol rule)) ↔ IsBadRule grammar.now rule }
+    ensures memory { result ≡ Err GrammarError.Memory → grammar.now.nonterminals ≢ 0 }
+{
+    check_rules(grammar)?;
+    let nullable = solve_nullable(alloc, grammar)?;
+    let first = solve_first(alloc, grammar, &nullable)?;
+    let rows = solve_follow(alloc, grammar, &nullable, &first)?;
+    Ok(rows)
+}

@@ -1,0 +1,32 @@
+//! Sets over the symbols of a context-free grammar, the tables of its LALR(1) parser, and parsing.
+#![tactic(auto)]
+
+mod ahead;
+mod closure;
+mod empty;
+mod equations;
+mod first;
+mod flows;
+mod follow;
+mod grammar;
+mod items;
+pub mod laws;
+mod lookaheads;
+mod nodes;
+mod parse;
+mod precedence;
+mod rows;
+mod state;
+mod table;
+
+pub use closure::Closures;
+pub use empty::nullable;
+pub use first::first_sets;
+pub use follow::follow_sets;
+pub use grammar::{Grammar, GrammarError, Rule, Symbol};
+pub use items::{Item, Items};
+pub use lookaheads::Lookaheads;
+pub use parse::ParseError;
+pub use precedence::{Associativity, Precedence};
+pub use state::{Automaton, Move, states};
+pub use table::{Action, Cell, Conflict, Table};

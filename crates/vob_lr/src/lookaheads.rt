@@ -1,0 +1,162 @@
+//! The lookaheads of a grammar's states, by which a parser knows when an item is complete.
+ghost use Rattle.std.specs.Prelude.{◌≡◌, ◌≢◌, ◌↔◌, ℕ, [], All, Err, IfNone, IfOk, IfSome, IsTrue, Some};
+ghost use Rattle.vob.specs.Vobs.{bits_of};
+ghost use Rattle.vob_flow.specs.Draws.{IsIn};
+ghost use Rattle.vob_lr.specs.Faults.{IsBadRule, IsRuleOf};
+ghost use Rattle.vob_lr.specs.Flows.{HaveLookaheads};
+ghost use Rattle.vob_lr.specs.Lookaheads.{AreLookaheads, HasMove, Reduces, machine_of};
+ghost use Rattle.vob_lr.specs.Rounds.{rows_of};
+ghost use Rattle.vob_lr.specs.States.{AreStates};
+
+use crate::closure::expansion_equations;
+use crate::empty::solve_nullable;
+use crate::equations::solve;
+use crate::first::solve_first;
+use crate::flows::Flows;
+use crate::grammar::{Grammar, GrammarError, Symbol, check_rules};
+use crate::items::Items;
+use crate::nodes::{Nodes, offsets_of};
+use crate::state::{Automaton, find_move, states};
+use std::alloc::{AllocError, Global};
+use std::marker::Model;
+use vob::Vob;
+
+/// The states of a grammar, and for each item of each state its lookaheads: the terminals that may
+/// follow once it is complete. A contract sees the grammar, its states and their moves.
+#[derive(Drop)]
+pub struct Lookaheads<'a> {
+    items: Items<'a>,
+    automaton: Automaton,
+    // The number of the first node of each state.
+    offsets: Vec<usize>,
+    // A set for each node, with a bit for each terminal.
+    rows: Vec<Vob>,
+}
+
+impl<'a> Model for Lookaheads<'a> {
+    ghost use Rattle.vob.specs.Vobs.{bits_of};
+    ghost use Rattle.vob_lr.specs.Flows.{AreFilled};
+    ghost use Rattle.vob_lr.specs.Lookaheads.{Machine, machine_of};
+
+    ghost Value = { Machine };
+
+    ghost view = { λ a. machine_of a.items a.automaton };
+
+    ghost invariant = { λ a.
+        AreFilled (machine_of a.items a.automaton) a.offsets.items (bits_of a.rows.items) };
+}
+
+/// Returns the lookaheads of the nodes of a grammar with sound rules.
+fn solve_lookaheads(
+    alloc: Global,
+    items: &Items<'_>,
+    automaton: &Automaton,
+    nodes: &Nodes<'_>,
+) -> Result<Vec<Vob>, AllocError>
+    requires rules { All (IsRuleOf items.now) items.now.rules.items }
+    requires states { AreStates items.now.rules.items (bits_of automaton.now.sets.items)
+        (rows_of automaton.now.moves.items) }
+    requires nodes { nodes.now ≡ bits_of automaton.now.sets.items }
+    ensures { IfOk result (λ rows.
+        HaveLookaheads (machine_of items.now automaton.now) (bits_of rows.items)) }
+{
+    let grammar = items.grammar();
+    let nullable = solve_nullable(alloc, grammar)?;
+    let first = solve_first(alloc, grammar, &nullable)?;
+    let (opens, _) = expansion_equations(alloc, grammar, items)?;
+    let flows = Flows {
+        items,
+        nullable: &nullable,
+        first: &first,
+        opens: &opens,
+        nodes,
+        moves: &automaton.moves,
+    };
+    let (mut rows, lists) = flows.equations(alloc)?;
+    solve(alloc, grammar.terminals, &mut rows, &lists)?;
+    Ok(rows)
+}
+
+impl<'a> Lookaheads<'a> {
+    /// Finds the states of a grammar, and their lookaheads.
+    ///
+    /// Fails if there is no rule, with the first rule that names a symbol that isn't there, or if
+    /// memory runs out.
+    pub fn new(alloc: Global, grammar: &'a Grammar) -> Result<Lookaheads<'a>, GrammarError>
+        ensures grammar { IfOk result (λ made. made.grammar ≡ grammar.now) }
+
+        // The rules are checked first.
+        ensures no_rule { (result ≡ Err GrammarError.NoRule) ↔ (grammar.now.rules.items ≡ []) }
+        ensures bad_symbol { (rule : ℕ)
+            → (result ≡ Err (GrammarError.BadSymbol rule)) ↔ IsBadRule grammar.now rule }
+    {
+        let automaton = states(alloc, grammar)?;
+        check_rules(grammar)?;
+        let offsets = offsets_of(alloc, &automaton.sets)?;
+        let nodes = Nodes {
+            sets: &automaton.sets,
+            offsets: &offsets,
+        };
+        let items = Items::new(alloc, grammar)?;
+        let rows = solve_lookaheads(alloc, &items, &automaton, &nodes)?;
+        Ok(Lookaheads {
+            items,
+            automaton,
+            offsets,
+            rows,
+        })
+    }
+
+    /// Returns the items, with their numbers.
+    pub fn items(&self) -> &Items<'a>
+        ensures { result.now ≡ self.now.grammar }
+    {
+        &self.items
+    }
+
+    /// Returns the states.
+    pub fn automaton(&self) -> &Automaton
+        ensures machine { machine_of self.now.grammar result.now ≡ self.now }
+        ensures states { AreStates self.now.grammar.rules.items self.now.sets self.now.moves }
+    {
+        &self.automaton
+    }
+
+    /// Returns the state to which a state moves by a symbol, or `None` if it doesn't.
+    pub fn next(&self, state: usize, symbol: Symbol) -> Option<usize>
+        ensures { (p : ℕ) → (result ≡ Some p) ↔ HasMove self.now.moves state symbol p }
+    {
+        find_move(self.automaton.moves.get(state)?, symbol)
+    }
+
+    /// Returns the lookaheads of an item of a state, with a bit for each terminal, or `None` if the
+    /// state doesn't have the item.
+    pub fn of(&self, state: usize, item: usize) -> Option<&Vob>
+        ensures some { IfSome result (λ set. AreLookaheads self.now state item set.now.bits) }
+        ensures none { IfNone result (¬ IsIn self.now.sets state item) }
+    {
+        let set = self.automaton.sets.get(state)?;
+        if set.get(item) != Some(true) {
+            return None;
+        }
+        let nodes = Nodes {
+            sets: &self.automaton.sets,
+            offsets: &self.offsets,
+        };
+        Some(&self.rows[nodes.number(state, item)])
+    }
+
+    /// Returns whether a parser may reduce by a rule in a state if a terminal is ahead: whether it is
+    /// a lookahead of the rule's complete item.
+    pub fn reduces(&self, state: usize, terminal: usize, rule: usize) -> bool
+        ensures { IsTrue result ↔ Reduces self.now state terminal rule }
+    {
+        if rule >= self.items.grammar().rules.len() {
+            return false;
+        }
+        match self.of(state, self.items.complete(rule)) {
+            Some(set) => set.get(terminal) == Some(true),
+            None => false,
+        }
+    }
+}

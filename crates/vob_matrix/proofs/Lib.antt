@@ -1,0 +1,9 @@
+mod JoinLemmas
+mod MatrixLemmas
+mod PathLemmas
+mod ProductLemmas
+mod SameLemmas
+mod ShapeLemmas
+mod TileLemmas
+mod TurnLemmas
+mod UnionLemmas

@@ -1,0 +1,47 @@
+-- The row was free, so as many fewer are, and each slot below the least one stays taken.
+use Rattle.std.proofs.Common.{◌+◌, length, replicate, true, ap, ◌∙◌, arith}
+use Rattle.vob_slots.proofs.SlotsLemmas.{is_range, row_is, count-taken_run, below_taken_run}
+use Rattle.vob.specs.Ranges.{replaced}
+use Rattle.vob_slots.proofs.slots.Slots.alloc_run.Goals as goal
+
+pub overflow_sub-self : goal.overflow_sub-self
+overflow_sub-self c =
+    let start = c.in-Some.start in
+    let room = c.in-Some.ensures.room.there in
+    let fewer = count-taken_run c.self.inside.taken.bits c.set_range.new.self.bits start
+    c.args.count room
+    (c.set_range.ensures.bits tt start (start + c.args.count)
+    (is_range start (start + c.args.count) (length c.self.inside.taken.bits)
+    (omega arith) room.inside)) in
+    omega (arith, fewer, c.self.invariant.count)
+
+pub invariant_of-self : goal.invariant_of-self
+invariant_of-self c =
+    let start = c.in-Some.start in
+    let room = c.in-Some.ensures.room.there in
+    let fewer = count-taken_run c.self.inside.taken.bits c.set_range.new.self.bits start
+    c.args.count room
+    (c.set_range.ensures.bits tt start (start + c.args.count)
+    (is_range start (start + c.args.count) (length c.self.inside.taken.bits)
+    (omega arith) room.inside)) in
+    record {
+      count = omega (arith, fewer, c.self.invariant.count);
+      below = below_taken_run c.self.inside.taken.bits c.set_range.new.self.bits c.self.inside.first
+          start
+          (start + c.args.count) c.self.invariant.below (c.set_range.ensures.each tt);
+    }
+
+pub returns-clause-taken : goal.returns-clause-taken
+returns-clause-taken c =
+    let start = c.in-Some.start in
+    let room = c.in-Some.ensures.room.there in
+    row_is true c.self.inside.taken.bits c.set_range.new.self.bits start c.args.count
+    (c.set_range.ensures.bits tt start (start + c.args.count)
+    (is_range start (start + c.args.count) (length c.self.inside.taken.bits)
+    (omega arith) room.inside))
+    ∙ ap (λ bits. replaced start (start + c.args.count)
+    (replicate c.args.count true) bits) c.self.view_is
+
+pub returns-in_default-clause-first : goal.returns-in_default-clause-first
+returns-in_default-clause-first c =
+    λ i room. c.in_default.ensures.room i (rw c.self.view_is room)

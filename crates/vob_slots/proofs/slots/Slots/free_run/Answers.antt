@@ -1,0 +1,38 @@
+-- Those that were taken in the row are free now, and no slot below it changed.
+use Rattle.std.proofs.Common.{◌+◌, length, replicate, false, ap, ◌∙◌, arith}
+use Rattle.std.proofs.lemmas.List.Sums.{count_by-le-length}
+use Rattle.vob_walk.specs.Matches.{has_value}
+use Rattle.vob.specs.Ranges.{replaced}
+use Rattle.vob_slots.proofs.SlotsLemmas.{is_range, row_is, count-given_run, below_given_run}
+use Rattle.vob_slots.proofs.slots.Slots.free_run.Goals as goal
+
+pub overflow_add-self : goal.overflow_add-self
+overflow_add-self c =
+    let more = count-given_run c.self.inside.taken.bits c.set_range.new.self.bits c.args.start
+    (c.args.start + c.args.count) c.count-given.result (c.set_range.ensures.each tt)
+    (c.count-given.ensures ∙ ap length (c.iter_set_bits.ensures.fresh tt).whole.rest) in
+    let few = count_by-le-length (has_value false) c.set_range.new.self.bits in
+    omega (arith, more, few, c.self.invariant.count, c.set_range.ensures.len, c.len-len.ensures)
+
+pub invariant_of-self : goal.invariant_of-self
+invariant_of-self c =
+    let end = c.args.start + c.args.count in
+    let more = count-given_run c.self.inside.taken.bits c.set_range.new.self.bits c.args.start end
+    c.count-given.result (c.set_range.ensures.each tt)
+    (c.count-given.ensures ∙ ap length (c.iter_set_bits.ensures.fresh tt).whole.rest) in
+    record {
+      count = omega (arith, more, c.self.invariant.count);
+      below = below_given_run c.self.inside.taken.bits c.set_range.new.self.bits c.self.inside.first
+          c.args.start end c.min-self-inside.result c.self.invariant.below
+          (c.set_range.ensures.each tt)
+          (omega arith) (omega arith);
+    }
+
+pub returns : goal.returns
+returns c =
+    let end = c.args.start + c.args.count in
+    row_is false c.self.inside.taken.bits c.set_range.new.self.bits c.args.start c.args.count
+    (c.set_range.ensures.bits tt c.args.start end
+    (is_range c.args.start end (length c.self.inside.taken.bits) (omega arith)
+    (omega (arith, c.requires, ap length c.self.view_is))))
+    ∙ ap (λ bits. replaced c.args.start end (replicate c.args.count false) bits) c.self.view_is

@@ -1,0 +1,7 @@
+//! Slots and calendars, and loops over set bits: worked users of packed vectors of bits.
+#![tactic(auto)]
+
+pub mod calendar;
+pub mod loops;
+pub mod slots;
+pub mod take_slot;

@@ -1,6 +1,0 @@
--- The law, by derivations.
-use Rattle.vob_tables.proofs.DerivationLemmas.{beginning_derived}
-use Rattle.vob_tables.proofs.laws.beginning_is_derived.Goals as goal
-
-pub returns : goal.returns
-returns c = beginning_derived

@@ -1,6 +1,0 @@
--- The law, by derivations.
-use Rattle.vob_tables.proofs.DerivationLemmas.{empty_derived}
-use Rattle.vob_tables.proofs.laws.empty_is_derived.Goals as goal
-
-pub returns : goal.returns
-returns c = empty_derived

@@ -1,6 +1,0 @@
--- The law, by derivations.
-use Rattle.vob_tables.proofs.DerivationLemmas.{following_derived}
-use Rattle.vob_tables.proofs.laws.following_is_derived.Goals as goal
-
-pub returns : goal.returns
-returns c = following_derived

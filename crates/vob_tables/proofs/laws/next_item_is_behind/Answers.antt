@@ -1,6 +1,0 @@
--- The law, by the numbers of items.
-use Rattle.vob_tables.proofs.ItemLemmas.{next_item}
-use Rattle.vob_tables.proofs.laws.next_item_is_behind.Goals as goal
-
-pub returns : goal.returns
-returns c = next_item

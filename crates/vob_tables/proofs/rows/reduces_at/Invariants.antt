@@ -1,9 +1,0 @@
--- Those among the complete rules so far.
-use Rattle.vob_tables.specs.Lookaheads.{Reduces}
-use Rattle.vob_tables.specs.Those.{AreThose}
-use Rattle.vob_tables.proofs.TableLemmas.{Among}
-use Rattle.vob_tables.proofs.rows.reduces_at.Given as goal
-
-abbrev pub invariant-loop-place : goal.invariant-loop-place
-invariant-loop-place l =
-    AreThose (Among (Reduces l.lookaheads l.state l.terminal) l.complete l.place) l.rules.items

@@ -1,8 +1,0 @@
--- The table has the unions of the rows of the group, which are closed by then.
-use Rattle.vob_users.proofs.PathLemmas.{IsClosedThrough-linked}
-use Rattle.vob_users.proofs.closing.close_group.Goals as goal
-
-pub returns-clause-closed : goal.returns-clause-closed
-returns-clause-closed c =
-    IsClosedThrough-linked _ _ _ _ _ c.close_within.ensures
-    (c.link_rows.ensures _ c.fill_unions.ensures.each)

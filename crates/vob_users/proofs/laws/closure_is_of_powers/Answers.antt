@@ -1,6 +1,0 @@
--- A path has so many edges, and a path of so many edges is one.
-use Rattle.vob_users.proofs.ProductLemmas.{closure-of_powers}
-use Rattle.vob_users.proofs.laws.closure_is_of_powers.Goals as goal
-
-pub returns : goal.returns
-returns c = closure-of_powers
