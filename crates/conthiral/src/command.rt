@@ -1,11 +1,11 @@
 //! The words of the command line.
 
-use crate::analysis::{ANALYSES, Analysis};
-use crate::closure::Part;
 use crate::fault::Fault;
-use crate::filter::Shows;
 use clap::builder::ValueParser;
 use clap::{Arg, ArgAction, ArgMatches, Command};
+use files_filter::Shows;
+use files_flow::{ANALYSES, Analysis};
+use files_graph::Part;
 use std::alloc::{AllocError, Global};
 
 /// The name that stands for standard input.

@@ -1,13 +1,12 @@
 //! A run of the program: words, input, output and status.
 
-use crate::analysis::print_flow;
-use crate::closure::print_closure;
 use crate::command::{STANDARD_INPUT, Task, command, task_of};
 use crate::fault::{Fault, Report};
-use crate::filter::print_filter;
-use crate::grammar::print_grammar;
-use crate::parse::print_parse;
 use crate::progress::Watched;
+use files_filter::print_filter;
+use files_flow::print_flow;
+use files_grammar::{print_grammar, print_parse};
+use files_graph::print_closure;
 use std::io::{BufWriter, Read, Write};
 use std::process::ExitCode;
 use std::rt::{Env, Files};
@@ -34,7 +33,7 @@ fn perform<R: Files + Input + Print + Eprint + Clock + AllocGlobal>(
     says: bool,
 ) -> Result<u8, Fault> {
     let alloc = rt.alloc();
-    let text = read_input(rt, task.file()).map_err(Fault::Input)?;
+    let text = read_input(rt, task.file()).map_err(files_text::Fault::Input)?;
     let mut output = BufWriter::new(alloc, Watched::new(rt, says, text.len()))?;
     let status = match task {
         Task::Grammar { states, .. } => print_grammar(alloc, &text, *states, &mut output)?,

@@ -1,9 +1,0 @@
-pub mod ListLemmas
-pub mod PrintedLemmas
-pub mod NamesLemmas
-pub mod ClosureTextLemmas
-pub mod PathLemmas
-pub mod FilterTextLemmas
-pub mod LengthLemmas
-pub mod ProblemLemmas
-pub mod DefinitionLemmas

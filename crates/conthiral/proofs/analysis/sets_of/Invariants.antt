@@ -1,7 +1,0 @@
--- The sets so far are those of the lists so far.
-use Rattle.std.proofs.Common.{take}
-use Rattle.conthiral.specs.Problems.{AreSetsOf}
-use Rattle.conthiral.proofs.analysis.sets_of.Given as goal
-
-abbrev pub invariant-loop-list : goal.invariant-loop-list
-invariant-loop-list l = AreSetsOf l.places (take l.list-index l.lists) l.sets.items

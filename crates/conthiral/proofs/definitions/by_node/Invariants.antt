@@ -1,9 +1,0 @@
--- The definitions so far stand in the lists.
-use Rattle.std.proofs.Common.{map}
-use Rattle.conthiral.specs.Problems.{lists_of}
-use Rattle.conthiral.proofs.DefinitionLemmas.{AreGroupedBelow}
-use Rattle.conthiral.proofs.definitions.by_node.Given as goal
-
-abbrev pub invariant-loop-number : goal.invariant-loop-number
-invariant-loop-number l =
-    AreGroupedBelow l.nodes (map (λ made. made.0) l.definitions) l.number (lists_of l.lists.items)

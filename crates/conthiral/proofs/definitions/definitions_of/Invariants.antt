@@ -1,9 +1,0 @@
--- The definitions of the nodes so far.
-use Rattle.std.proofs.Common.{◌≡◌}
-use Rattle.std.specs.List.{flat_map, range_with_len}
-use Rattle.conthiral.specs.Definitions.{definitions_at, writes_of}
-use Rattle.conthiral.proofs.definitions.definitions_of.Given as goal
-
-abbrev pub invariant-loop-node : goal.invariant-loop-node
-invariant-loop-node l =
-    l.definitions.items ≡ flat_map (λ n. definitions_at n (writes_of l.nodes n)) (range_with_len 0 l.node)

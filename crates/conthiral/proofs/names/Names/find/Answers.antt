@@ -1,8 +1,0 @@
--- The place of the name that is equal to the one looked for.
-use Rattle.conthiral.proofs.NamesLemmas.{found_name}
-use Rattle.conthiral.proofs.names.Names.find.Goals as goal
-
-pub returns : goal.returns
-returns c =
-    rw (← c.self.view_is)
-    (found_name _ c.args.name c.get_index_of.result c.get_index_of.ensures.index)

@@ -1,7 +1,0 @@
--- So many lists were made.
-use Rattle.std.proofs.Common.{◌≡◌, [], replicate}
-use Rattle.conthiral.specs.Problems.{lists_of}
-use Rattle.conthiral.proofs.problem.empty_lists.Given as goal
-
-abbrev pub invariant-loop : goal.invariant-loop
-invariant-loop l = lists_of l.lists.items ≡ replicate l.counter []

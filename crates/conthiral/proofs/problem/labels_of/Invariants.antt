@@ -1,7 +1,0 @@
--- The names so far were copied.
-use Rattle.std.proofs.Common.{◌≡◌, take}
-use Rattle.conthiral.specs.Problems.{lists_of}
-use Rattle.conthiral.proofs.problem.labels_of.Given as goal
-
-abbrev pub invariant-loop-number : goal.invariant-loop-number
-invariant-loop-number l = lists_of l.labels.items ≡ take l.number l.names

@@ -1,6 +1,0 @@
-pub mod Printed
-pub mod ClosureText
-pub mod FilterText
-pub mod Problems
-pub mod FlowText
-pub mod Definitions

@@ -1,0 +1,82 @@
+//! Why no rows are written, and how that is said.
+
+use files_text::Fault;
+use std::alloc::{AllocError, AllocFailed};
+use std::{fmt, io};
+
+/// Why no rows are written. Lines and columns of a text are counted from 1.
+#[derive(Debug, Drop)]
+pub enum FilterFault {
+    /// A text can't be read or written.
+    Text(Fault),
+    /// A condition isn't in its form: before which column of it, and what was expected there.
+    Condition {
+        column: usize,
+        expected: &'static str,
+    },
+    /// The row that begins on a line has a number of cells, and not as many as the header.
+    Row {
+        line: u64,
+        cells: u64,
+        header: u64,
+    },
+    /// A cell of the row that begins on a line isn't a number: the one in the column with a name.
+    Cell {
+        line: u64,
+        name: String,
+    },
+    /// The rows of a table haven't the same length.
+    Columns,
+}
+
+impl FilterFault {
+    /// Writes what is wrong. `file` is what the file with the table is called. Fails if `f` does.
+    pub fn write<W: fmt::Write>(&self, f: &mut fmt::Formatter<W>, file: &str) -> fmt::Result {
+        match self {
+            FilterFault::Text(fault) => fault.write(f, file),
+            FilterFault::Condition { column, expected } => {
+                write!(f, "the condition:{column}: expected {expected}")
+            }
+            FilterFault::Row {
+                line,
+                cells,
+                header,
+            } => write!(f, "{file}:{line}: expected {header} cells, found {cells}"),
+            FilterFault::Cell { line, name } => {
+                write!(f, "{file}:{line}: expected a number in column {name}")
+            }
+            FilterFault::Columns => write!(f, "{file}: the rows differ in length"),
+        }
+    }
+}
+
+impl From<AllocError> for FilterFault {
+    fn from(_: AllocError) -> FilterFault {
+        FilterFault::Text(Fault::Memory)
+    }
+}
+
+impl<T: Drop> From<AllocFailed<T>> for FilterFault {
+    fn from(_: AllocFailed<T>) -> FilterFault {
+        FilterFault::Text(Fault::Memory)
+    }
+}
+
+impl From<io::Error> for FilterFault {
+    fn from(error: io::Error) -> FilterFault {
+        FilterFault::Text(Fault::Output(error))
+    }
+}
+
+/// What can go wrong as rows are written.
+impl From<csv::Error> for FilterFault {
+    fn from(error: csv::Error) -> FilterFault {
+        match error.into_kind() {
+            csv::ErrorKind::Io(error) if error.kind() == io::ErrorKind::OutOfMemory =>
+                FilterFault::Text(Fault::Memory),
+            csv::ErrorKind::Io(error) => FilterFault::Text(Fault::Output(error)),
+            csv::ErrorKind::UnequalLengths { .. } => FilterFault::Columns,
+            _ => FilterFault::Text(Fault::Memory),
+        }
+    }
+}

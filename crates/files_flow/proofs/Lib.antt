@@ -1,0 +1,2 @@
+pub mod ProblemLemmas
+pub mod DefinitionLemmas

@@ -1,0 +1,9 @@
+-- The definitions so far have their labels.
+use Rattle.std.proofs.Common.{◌≡◌, map, take}
+use Rattle.files_flow.specs.Definitions.{definition_label}
+use Rattle.files_flow.specs.Problems.{lists_of}
+use Rattle.files_flow.proofs.definitions.labels.Given as goal
+
+abbrev pub invariant-loop-number : goal.invariant-loop-number
+invariant-loop-number l =
+    lists_of l.labels.items ≡ map (definition_label l.names l.variables) (take l.number l.definitions)

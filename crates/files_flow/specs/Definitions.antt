@@ -1,0 +1,55 @@
+-- The definitions of a flow graph: what its nodes write.
+use Rattle.std.specs.Prelude.{◌≡◌, ◌↔◌, ℕ, ◌<◌, List, [], ◌++◌, codes, length, map, slice_get, slice_index_or, Some, Contains}
+use Rattle.std.specs.List.{flat_map, range_with_len}
+use Rattle.vob_flow.specs.declared.live.Flow.{Flow}
+use Rattle.files_flow.specs.declared.flow.FlowGraph.{FlowGraph}
+use Rattle.files_flow.specs.declared.problem.Kind.TheVariants.{ForwardMay}
+use Rattle.files_flow.specs.declared.problem.Problem.{Problem}
+use Rattle.files_text.specs.Printed.{name_at}
+use Rattle.files_flow.specs.Problems.{AreBefore, lists_of}
+
+-- the variables that a node writes
+abbrev pub writes_of : List Flow → ℕ → List ℕ
+writes_of nodes n = slice_index_or (map (λ node. node.writes.items) nodes) n []
+
+-- a definition is a node and a variable that it writes
+abbrev pub definitions_at : ℕ → List ℕ → List (ℕ × ℕ)
+definitions_at node writes = map (λ variable. (node, variable)) writes
+
+-- all definitions, node by node
+abbrev pub definitions_of : List Flow → List (ℕ × ℕ)
+definitions_of nodes =
+    flat_map (λ n. definitions_at n (writes_of nodes n)) (range_with_len 0 (length nodes))
+
+-- for each number below a count the places where it stands among keys
+pub record AreGrouped (count : ℕ) (keys : List ℕ) (lists : List (List ℕ)) : Type 0 where
+  pub many : length lists ≡ count
+  pub each : (n k : ℕ) → n < count →
+      Contains (slice_index_or lists n []) k ↔ (slice_get keys k ≡ Some n)
+
+-- all that the lists with some numbers have
+pub record AreGathered (lists : List (List ℕ)) (some numbers : List ℕ) : Type 0 where
+  pub each : (k : ℕ) → Contains numbers k
+      ↔ ((n : ℕ) × Contains some n × Contains (slice_index_or lists n []) k)
+
+-- for each node all that the lists of the variables have which it writes
+pub record AreKilled (nodes : List Flow) (lists kills : List (List ℕ)) : Type 0 where
+  pub count : length kills ≡ length nodes
+  pub each : (n : ℕ) → n < length nodes → AreGathered lists (writes_of nodes n) (slice_index_or kills n [])
+
+-- how a definition is called
+abbrev pub definition_label : List (List ℕ) → List (List ℕ) → ℕ × ℕ → List ℕ
+definition_label names variables made = name_at variables made.1 ++ codes "@" ++ name_at names made.0
+
+-- a node makes its definitions, and ends those of the variables that it writes
+pub record IsReachingProblem (graph : FlowGraph) (problem : Problem) : Type 0 where
+  pub kind : problem.kind ≡ ForwardMay
+  pub labels : lists_of problem.labels.items
+      ≡ map (definition_label graph.names graph.variables) (definitions_of graph.nodes.items)
+  pub generates : AreGrouped (length graph.nodes.items)
+      (map (λ made. made.0) (definitions_of graph.nodes.items)) (lists_of problem.generates.items)
+  pub by_variable : List (List ℕ)
+  pub grouped : AreGrouped (length graph.variables)
+      (map (λ made. made.1) (definitions_of graph.nodes.items)) by_variable
+  pub kills : AreKilled graph.nodes.items by_variable (lists_of problem.kills.items)
+  pub from : AreBefore graph.nodes.items (lists_of problem.from.items)

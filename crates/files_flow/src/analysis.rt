@@ -1,0 +1,307 @@
+//! What holds before and after each node of a flow graph.
+ghost use Rattle.std.specs.Prelude.{◌≡◌, [], length, slice_index_or, IfOk, OnOk};
+ghost use Rattle.std.specs.Io.KnownBytes.{Appends};
+ghost use Rattle.vob.specs.Vobs.{bits_of};
+ghost use Rattle.files_text.specs.Printed.{Writes};
+ghost use Rattle.files_flow.specs.Problems.{AreFlowsOf, AreSetsOf, IsSolved, lists_of};
+ghost use Rattle.files_flow.specs.FlowText.{ListsDominators, ListsLive, ListsReaching, ListsSolution, dominators_text, labels_text, set_text, sides_text};
+
+use crate::definitions::reaching_problem;
+use crate::fault::FlowFault;
+use crate::flow::{FlowGraph, read_flow};
+use crate::problem::{Kind, Problem, available_problem, busy_problem, labels_of, nodes_before};
+use files_text::{Fault, Names, end_line, put_name, put_next};
+use std::alloc::{AllocError, Global};
+use std::io;
+use std::io::Write;
+use vob::Vob;
+use vob_flow::live::liveness;
+use vob_flow::{
+    Draw, Mask, SolveError, available_expressions, dominators, reaching_definitions,
+    very_busy_expressions,
+};
+
+/// An analysis of a flow graph.
+#[derive(Clone, Copy, PartialEq, Eq)]
+pub enum Analysis {
+    /// The variables that may still be read.
+    Live,
+    /// The definitions that may still hold.
+    Reaching,
+    /// The expressions that were computed on all paths to here.
+    Available,
+    /// The expressions that will be computed on all paths from here.
+    Busy,
+    /// The nodes that all paths from the entry pass.
+    Dominators,
+}
+
+/// The names of the analyses.
+pub static ANALYSES: [&str; 5] = ["live", "reaching", "available", "busy", "dominators"];
+
+impl Analysis {
+    /// Returns the analysis with a name, one of `ANALYSES`, or `None` if there is none.
+    pub fn of(name: &str) -> Option<Analysis> {
+        match name {
+            "live" => Some(Analysis::Live),
+            "reaching" => Some(Analysis::Reaching),
+            "available" => Some(Analysis::Available),
+            "busy" => Some(Analysis::Busy),
+            "dominators" => Some(Analysis::Dominators),
+            _ => None,
+        }
+    }
+}
+
+/// The sets before and after each node, of the numbers of the places.
+#[derive(Drop)]
+struct Sides {
+    before: Vec<Vob>,
+    after: Vec<Vob>,
+}
+
+/// Returns the sets of the numbers in some lists.
+fn sets_of(alloc: Global, places: usize, lists: &[Vec<usize>]) -> Result<Vec<Vob>, FlowFault>
+    ensures { IfOk result (λ sets. AreSetsOf places lists.now sets.items) }
+{
+    let mut sets = Vec::new(alloc);
+    for list in lists {
+        match Vob::<usize>::from_indices(alloc, places, list) {
+            Ok(set) => sets.push(set)?,
+            Err(_) => return Err(FlowFault::Text(Fault::Memory)),
+        }
+    }
+    Ok(sets)
+}
+
+/// Returns the fault of lists that don't fit one another.
+fn no_fit(set: usize) -> FlowFault {
+    FlowFault::Sets(SolveError::BadLength { set })
+}
+
+/// Returns what each node draws from others: what isn't in its set of those that it kills.
+fn flows_of<'a>(
+    alloc: Global,
+    problem: &'a Problem,
+    kills: &'a [Vob],
+) -> Result<Vec<Draw<'a>>, FlowFault>
+    requires { AreSetsOf (length problem.now.labels.items) problem.now.kills.items kills.now }
+    ensures { IfOk result (λ flows. AreFlowsOf problem.now flows.items) }
+{
+    if kills.len() != problem.from.len() {
+        return Err(no_fit(kills.len()));
+    }
+    let mut flows = Vec::new(alloc);
+    for node in 0..kills.len() {
+        flows.push(Draw {
+            mask: Mask::Without(&kills[node]),
+            from: &problem.from[node],
+        })?;
+    }
+    Ok(flows)
+}
+
+/// Solves a problem: returns the least sets that meet its equations, or the greatest ones if it asks
+/// about all paths.
+fn solve(alloc: Global, problem: &Problem) -> Result<Sides, FlowFault>
+    ensures { IfOk result (λ sides.
+        IsSolved problem.now (bits_of sides.before.items) (bits_of sides.after.items)) }
+{
+    let places = problem.labels.len();
+    let kills = sets_of(alloc, places, &problem.kills)?;
+    let flows = flows_of(alloc, problem, &kills)?;
+    let mut sets = sets_of(alloc, places, &problem.generates)?;
+    if flows.len() != sets.len() {
+        return Err(no_fit(flows.len()));
+    }
+    match problem.kind {
+        Kind::ForwardMay => {
+            let before = reaching_definitions(alloc, places, &mut sets, &flows)?;
+            Ok(Sides {
+                before,
+                after: sets,
+            })
+        }
+        Kind::ForwardMust => {
+            let before = available_expressions(alloc, places, &mut sets, &flows)?;
+            Ok(Sides {
+                before,
+                after: sets,
+            })
+        }
+        Kind::BackwardMust => {
+            let after = very_busy_expressions(alloc, places, &mut sets, &flows)?;
+            Ok(Sides {
+                before: sets,
+                after,
+            })
+        }
+    }
+}
+
+/// Returns the label of a place, or nothing if there is none.
+fn label_at(labels: &[Vec<u8>], place: usize) -> &[u8]
+    ensures { result.now ≡ slice_index_or (lists_of labels.now) place [] }
+{
+    match labels.get(place) {
+        Some(label) => label,
+        None => b"",
+    }
+}
+
+/// Writes the labels of the places in a set, a space before each.
+fn put_labels<W: Write>(output: &mut W, labels: &[Vec<u8>], set: &Vob) -> io::Result<()>
+    ensures { OnOk result (Appends (W.contents output.old) (W.contents output.new)
+        (labels_text (lists_of labels.now) set.now.bits)) }
+{
+    for place in set.iter_set_bits(..) {
+        put_next(output, label_at(labels, place))?;
+    }
+    Ok(())
+}
+
+/// Writes the labels of the set of a node, if it has one.
+fn put_set<W: Write>(
+    output: &mut W,
+    labels: &[Vec<u8>],
+    sets: &[Vob],
+    node: usize,
+) -> io::Result<()>
+    ensures { OnOk result (Appends (W.contents output.old) (W.contents output.new)
+        (set_text (lists_of labels.now) (bits_of sets.now) node)) }
+{
+    if node < sets.len() {
+        put_labels(output, labels, &sets[node])?;
+    }
+    Ok(())
+}
+
+/// Writes what holds before and after each node, a node a line.
+fn put_sides<W: Write>(
+    output: &mut W,
+    names: &Names<'_>,
+    labels: &[Vec<u8>],
+    sides: &Sides,
+) -> io::Result<()>
+    ensures { OnOk result (Appends (W.contents output.old) (W.contents output.new)
+        (sides_text names.now (lists_of labels.now)
+        (bits_of sides.now.before.items) (bits_of sides.now.after.items))) }
+{
+    for node in 0..names.len() {
+        put_name(output, names.name(node))?;
+        output.write_all(b": before")?;
+        put_set(output, labels, &sides.before, node)?;
+        output.write_all(b"; after")?;
+        put_set(output, labels, &sides.after, node)?;
+        end_line(output)?;
+    }
+    Ok(())
+}
+
+/// Writes the dominators of each node, a node a line. The labels are the names.
+fn put_dominators<W: Write>(
+    output: &mut W,
+    names: &Names<'_>,
+    labels: &[Vec<u8>],
+    sets: &[Vob],
+) -> io::Result<()>
+    requires { lists_of labels.now ≡ names.now }
+    ensures { OnOk result (Appends (W.contents output.old) (W.contents output.new)
+        (dominators_text names.now (bits_of sets.now))) }
+{
+    for node in 0..names.len() {
+        put_name(output, names.name(node))?;
+        output.write_all(b": dominators")?;
+        put_set(output, labels, sets, node)?;
+        end_line(output)?;
+    }
+    Ok(())
+}
+
+/// Writes the variables that may still be read before and after each node.
+fn print_live<W: Write>(
+    alloc: Global,
+    graph: &FlowGraph<'_>,
+    output: &mut W,
+) -> Result<(), FlowFault>
+    ensures { OnOk result (Writes (W.contents output.old) (W.contents output.new)
+        (ListsLive graph.now)) }
+{
+    let live = liveness(alloc, graph.variables.len(), &graph.nodes)?;
+    let labels = labels_of(alloc, &graph.variables)?;
+    let sides = Sides {
+        before: live.before,
+        after: live.after,
+    };
+    put_sides(output, &graph.names, &labels, &sides)?;
+    Ok(())
+}
+
+/// Writes the solution of a problem before and after each node with a name.
+fn print_solution<W: Write>(
+    alloc: Global,
+    names: &Names<'_>,
+    problem: &Problem,
+    output: &mut W,
+) -> Result<(), FlowFault>
+    ensures { OnOk result (Writes (W.contents output.old) (W.contents output.new)
+        (ListsSolution names.now problem.now)) }
+{
+    let sides = solve(alloc, problem)?;
+    put_sides(output, names, &problem.labels, &sides)?;
+    Ok(())
+}
+
+/// Writes the definitions that may still hold before and after each node.
+fn print_reaching<W: Write>(
+    alloc: Global,
+    graph: &FlowGraph<'_>,
+    output: &mut W,
+) -> Result<(), FlowFault>
+    ensures { OnOk result (Writes (W.contents output.old) (W.contents output.new)
+        (ListsReaching graph.now)) }
+{
+    let problem = reaching_problem(alloc, graph)?;
+    print_solution(alloc, &graph.names, &problem, output)?;
+    Ok(())
+}
+
+/// Writes the nodes that all paths from the first node to each pass.
+fn print_dominators<W: Write>(
+    alloc: Global,
+    graph: &FlowGraph<'_>,
+    output: &mut W,
+) -> Result<(), FlowFault>
+    ensures { OnOk result (Writes (W.contents output.old) (W.contents output.new)
+        (ListsDominators graph.now)) }
+{
+    let before = nodes_before(alloc, &graph.nodes)?;
+    let sets = dominators(alloc, 0, &before)?;
+    let labels = labels_of(alloc, &graph.names)?;
+    put_dominators(output, &graph.names, &labels, &sets)?;
+    Ok(())
+}
+
+/// Reads a flow graph, and writes what an analysis finds at each node. Returns the status, 0.
+///
+/// Fails at the first word of the text that can't stand where it does. Nothing is written then.
+/// Fails too if memory runs out, or if the output can't be written.
+pub fn print_flow<W: Write>(
+    alloc: Global,
+    text: &[u8],
+    analysis: Analysis,
+    output: &mut W,
+) -> Result<u8, FlowFault> {
+    let graph = read_flow(alloc, text)?;
+    let names = &graph.names;
+    match analysis {
+        Analysis::Live => print_live(alloc, &graph, output)?,
+        Analysis::Reaching => print_reaching(alloc, &graph, output)?,
+        Analysis::Available => {
+            print_solution(alloc, names, &available_problem(alloc, &graph)?, output)?;
+        }
+        Analysis::Busy => print_solution(alloc, names, &busy_problem(alloc, &graph)?, output)?,
+        Analysis::Dominators => print_dominators(alloc, &graph, output)?,
+    }
+    Ok(0)
+}

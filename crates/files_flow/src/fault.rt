@@ -1,0 +1,71 @@
+//! Why no analysis is written, and how that is said.
+
+use files_text::Fault;
+use std::alloc::{AllocError, AllocFailed};
+use std::{fmt, io};
+use vob_flow::SolveError;
+use vob_flow::live::LiveError;
+
+/// Why no analysis is written.
+#[derive(Debug, Drop)]
+pub enum FlowFault {
+    /// A text can't be read or written.
+    Text(Fault),
+    /// The sets of the flow graph weren't found.
+    Sets(SolveError),
+    /// The live variables of the flow graph weren't found.
+    Live(LiveError),
+}
+
+impl FlowFault {
+    /// Writes what is wrong. `file` is what the file with the flow graph is called. Fails if `f` does.
+    pub fn write<W: fmt::Write>(&self, f: &mut fmt::Formatter<W>, file: &str) -> fmt::Result {
+        match self {
+            FlowFault::Text(fault) => fault.write(f, file),
+            FlowFault::Sets(error) => write!(f, "{file}: {error}"),
+            FlowFault::Live(error) => write!(f, "{file}: {error}"),
+        }
+    }
+}
+
+impl From<Fault> for FlowFault {
+    fn from(fault: Fault) -> FlowFault {
+        FlowFault::Text(fault)
+    }
+}
+
+impl From<AllocError> for FlowFault {
+    fn from(_: AllocError) -> FlowFault {
+        FlowFault::Text(Fault::Memory)
+    }
+}
+
+impl<T: Drop> From<AllocFailed<T>> for FlowFault {
+    fn from(_: AllocFailed<T>) -> FlowFault {
+        FlowFault::Text(Fault::Memory)
+    }
+}
+
+impl From<io::Error> for FlowFault {
+    fn from(error: io::Error) -> FlowFault {
+        FlowFault::Text(Fault::Output(error))
+    }
+}
+
+impl From<SolveError> for FlowFault {
+    fn from(error: SolveError) -> FlowFault {
+        match error {
+            SolveError::Memory => FlowFault::Text(Fault::Memory),
+            _ => FlowFault::Sets(error),
+        }
+    }
+}
+
+impl From<LiveError> for FlowFault {
+    fn from(error: LiveError) -> FlowFault {
+        match error {
+            LiveError::Memory => FlowFault::Text(Fault::Memory),
+            _ => FlowFault::Live(error),
+        }
+    }
+}

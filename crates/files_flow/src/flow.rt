@@ -1,0 +1,193 @@
+//! Flow graphs whose nodes stand in a text, one a line: `name: reads a b; writes c; next n m`.
+
+use files_text::{Fault, Names, Word, words_of};
+use std::alloc::Global;
+use vob_flow::live::Flow;
+
+/// A flow graph, and the names of its nodes and of its variables. The first node is the entry.
+#[derive(Drop)]
+pub struct FlowGraph<'a> {
+    pub names: Names<'a>,
+    pub variables: Names<'a>,
+    pub nodes: Vec<Flow>,
+}
+
+/// What the next word of a line can be.
+#[derive(Clone, Copy, PartialEq, Eq)]
+enum Wants {
+    Name,
+    Colon,
+    Part,
+    Reads,
+    Writes,
+    Next,
+}
+
+/// A graph as it is read: what is wanted next, the last word, and the names after `next`, each with
+/// the number of its node.
+#[derive(Drop)]
+struct Reader<'a> {
+    graph: FlowGraph<'a>,
+    wants: Wants,
+    last: Word<'a>,
+    next: Vec<(usize, Word<'a>)>,
+}
+
+/// The fault of a word in the place of something else.
+fn at(word: &Word<'_>, expected: &'static str) -> Fault {
+    Fault::Line {
+        line: word.line,
+        column: word.column,
+        expected,
+    }
+}
+
+/// Whether a word is a mark.
+fn is_mark(word: &Word<'_>) -> bool {
+    word.text == b":".as_slice() || word.text == b";".as_slice()
+}
+
+/// Adds a number to a list that doesn't have it.
+fn add_new(numbers: &mut Vec<usize>, number: usize) -> Result<(), Fault> {
+    if !numbers.contains(&number) {
+        numbers.push(number)?;
+    }
+    Ok(())
+}
+
+impl<'a> Reader<'a> {
+    /// Begins to read.
+    fn new(alloc: Global) -> Reader<'a> {
+        Reader {
+            graph: FlowGraph {
+                names: Names::new(alloc),
+                variables: Names::new(alloc),
+                nodes: Vec::new(alloc),
+            },
+            wants: Wants::Name,
+            last: Word {
+                text: b"",
+                line: 0,
+                column: 1,
+            },
+            next: Vec::new(alloc),
+        }
+    }
+
+    /// Ends a line. Fails if it has a name alone.
+    fn end_line(&mut self) -> Result<(), Fault> {
+        if self.wants == Wants::Colon {
+            return Err(Fault::Line {
+                line: self.last.line,
+                column: self.last.end(),
+                expected: "`:`",
+            });
+        }
+        self.wants = Wants::Name;
+        Ok(())
+    }
+
+    /// Takes the name of a node, which must be new.
+    fn take_name(&mut self, alloc: Global, word: &Word<'a>) -> Result<(), Fault> {
+        if is_mark(word) {
+            return Err(at(word, "the name of a node"));
+        }
+        if self.graph.names.find(word.text).is_some() {
+            return Err(at(word, "a name that no node before has"));
+        }
+        self.graph.names.number(word.text)?;
+        self.graph.nodes.push(Flow {
+            reads: Vec::new(alloc),
+            writes: Vec::new(alloc),
+            next: Vec::new(alloc),
+        })?;
+        self.wants = Wants::Colon;
+        Ok(())
+    }
+
+    /// Takes the first word of a part, or the end of an empty one.
+    fn take_part(&mut self, word: &Word<'a>) -> Result<(), Fault> {
+        self.wants = match word.text {
+            b"reads" => Wants::Reads,
+            b"writes" => Wants::Writes,
+            b"next" => Wants::Next,
+            b";" => Wants::Part,
+            _ => return Err(at(word, "`reads`, `writes`, `next` or `;`")),
+        };
+        Ok(())
+    }
+
+    /// Takes a name of a part, or the mark that ends it.
+    fn take_member(&mut self, word: &Word<'a>) -> Result<(), Fault> {
+        if word.text == b";".as_slice() {
+            self.wants = Wants::Part;
+            return Ok(());
+        }
+        if is_mark(word) {
+            return Err(at(word, "a name or `;`"));
+        }
+        if self.wants == Wants::Next {
+            let node = self.graph.nodes.len().saturating_sub(1);
+            self.next.push((node, *word))?;
+            return Ok(());
+        }
+        let variable = self.graph.variables.number(word.text)?;
+        let is_read = self.wants == Wants::Reads;
+        match self.graph.nodes.last_mut() {
+            Some(node) if is_read => add_new(&mut node.reads, variable),
+            Some(node) => add_new(&mut node.writes, variable),
+            None => Ok(()),
+        }
+    }
+
+    /// Takes a word.
+    fn take(&mut self, alloc: Global, word: &Word<'a>) -> Result<(), Fault> {
+        if word.line != self.last.line {
+            self.end_line()?;
+        }
+        self.last = *word;
+        match self.wants {
+            Wants::Name => self.take_name(alloc, word),
+            Wants::Colon if word.text == b":".as_slice() => {
+                self.wants = Wants::Part;
+                Ok(())
+            }
+            Wants::Colon => Err(at(word, "`:`")),
+            Wants::Part => self.take_part(word),
+            Wants::Reads | Wants::Writes | Wants::Next => self.take_member(word),
+        }
+    }
+
+    /// Lets the names after `next` be nodes. Fails at the first that no node has.
+    fn link(self) -> Result<FlowGraph<'a>, Fault> {
+        let Reader {
+            mut graph,
+            next,
+            ..
+        } = self;
+        for (node, word) in next.iter() {
+            let Some(to) = graph.names.find(word.text) else {
+                return Err(at(word, "the name of a node"));
+            };
+            if let Some(flow) = graph.nodes.get_mut(*node) {
+                add_new(&mut flow.next, to)?;
+            }
+        }
+        Ok(graph)
+    }
+}
+
+/// Reads a flow graph. A line is a node: its name, a colon, and parts that begin with `reads`,
+/// `writes` or `next`, with `;` between them.
+///
+/// Fails at the first word that can't stand where it does, as the name of a node that another has.
+/// Fails then at the first name after `next` that no node has.
+pub fn read_flow(alloc: Global, text: &[u8]) -> Result<FlowGraph<'_>, Fault> {
+    let words = words_of(alloc, text, b":;")?;
+    let mut reader = Reader::new(alloc);
+    for word in words.iter() {
+        reader.take(alloc, word)?;
+    }
+    reader.end_line()?;
+    reader.link()
+}

@@ -1,0 +1,11 @@
+//! Flow graphs whose nodes stand in a text, and what is written of their analyses.
+#![tactic(auto)]
+
+mod analysis;
+mod definitions;
+mod fault;
+mod flow;
+mod problem;
+
+pub use analysis::{ANALYSES, Analysis, print_flow};
+pub use fault::FlowFault;

@@ -1,0 +1,290 @@
+//! Dataflow problems of a flow graph.
+ghost use Rattle.std.specs.Prelude.{◌≡◌, ◌∷◌, [], replicate, slice_index_or, IfOk, OnOk};
+ghost use Rattle.files_flow.specs.Problems.{AreBefore, IsAddedTo, lists_of};
+ghost use Rattle.files_flow.specs.Definitions.{AreGathered, AreKilled};
+
+use crate::fault::FlowFault;
+use crate::flow::FlowGraph;
+use files_text::{Names, all_below};
+use std::alloc::{AllocError, Global};
+use vob_flow::live::Flow;
+use vob_flow::reach;
+
+/// Which paths a problem asks about.
+#[derive(Clone, Copy)]
+pub enum Kind {
+    /// Some path to a node.
+    ForwardMay,
+    /// All paths to a node.
+    ForwardMust,
+    /// All paths from a node.
+    BackwardMust,
+}
+
+/// A dataflow problem: what the places are called, which of them each node generates and kills, and
+/// the nodes from which each draws.
+#[derive(Drop)]
+pub struct Problem {
+    pub kind: Kind,
+    pub labels: Vec<Vec<u8>>,
+    pub generates: Vec<Vec<usize>>,
+    pub kills: Vec<Vec<usize>>,
+    pub from: Vec<Vec<usize>>,
+}
+
+/// Returns copies of names.
+pub fn labels_of(alloc: Global, names: &Names<'_>) -> Result<Vec<Vec<u8>>, AllocError>
+    ensures { IfOk result (λ labels. lists_of labels.items ≡ names.now) }
+{
+    let mut labels = Vec::new(alloc);
+    for number in 0..names.len() {
+        labels.push(names.name(number).to_vec(alloc)?)?;
+    }
+    Ok(labels)
+}
+
+/// Returns the given number of empty lists.
+pub fn empty_lists(alloc: Global, count: usize) -> Result<Vec<Vec<usize>>, AllocError>
+    ensures { IfOk result (λ lists. lists_of lists.items ≡ replicate count []) }
+{
+    let mut lists = Vec::new(alloc);
+    for _ in 0..count {
+        lists.push(Vec::new(alloc))?;
+    }
+    Ok(lists)
+}
+
+/// Adds a number to the list with another number, if there is one.
+pub fn add_to(lists: &mut [Vec<usize>], list: usize, number: usize) -> Result<(), AllocError>
+    ensures { OnOk result (IsAddedTo (list ∷ []) number (lists_of lists.old) (lists_of lists.new)) }
+{
+    if list < lists.len() {
+        lists[list].push(number)?;
+    }
+    Ok(())
+}
+
+/// Adds a number to the lists with some numbers.
+fn add_to_each(lists: &mut [Vec<usize>], some: &[usize], number: usize) -> Result<(), AllocError>
+    ensures { OnOk result (IsAddedTo some.now number (lists_of lists.old) (lists_of lists.new)) }
+{
+    for list in some {
+        add_to(lists, *list, number)?;
+    }
+    Ok(())
+}
+
+/// Returns the list with a number, or an empty one if there is none.
+fn list_at(lists: &[Vec<usize>], list: usize) -> &[usize]
+    ensures { result.now ≡ slice_index_or (lists_of lists.now) list [] }
+{
+    match lists.get(list) {
+        Some(numbers) => numbers,
+        None => &[],
+    }
+}
+
+/// Returns all that the lists with some numbers have.
+fn gathered(alloc: Global, lists: &[Vec<usize>], some: &[usize]) -> Result<Vec<usize>, AllocError>
+    ensures { IfOk result (λ numbers. AreGathered (lists_of lists.now) some.now numbers.items) }
+{
+    let mut numbers = Vec::new(alloc);
+    for list in some {
+        numbers.extend_from_slice(list_at(lists, *list))?;
+    }
+    Ok(numbers)
+}
+
+/// Returns for each node the nodes that come before it.
+pub fn nodes_before(alloc: Global, nodes: &[Flow]) -> Result<Vec<Vec<usize>>, AllocError>
+    ensures { IfOk result (λ before. AreBefore nodes.now (lists_of before.items)) }
+{
+    let mut before = empty_lists(alloc, nodes.len())?;
+    for number in 0..nodes.len() {
+        add_to_each(&mut before, &nodes[number].next, number)?;
+    }
+    Ok(before)
+}
+
+/// Returns for each node the nodes that come next.
+fn nodes_next(alloc: Global, nodes: &[Flow]) -> Result<Vec<Vec<usize>>, AllocError> {
+    let mut next = Vec::new(alloc);
+    for node in nodes {
+        next.push(node.next.clone()?)?;
+    }
+    Ok(next)
+}
+
+/// Returns for each node those that come before it and that a path from the entry reaches.
+fn reached_before(alloc: Global, nodes: &[Flow]) -> Result<Vec<Vec<usize>>, FlowFault> {
+    let next = nodes_next(alloc, nodes)?;
+    let mut before = empty_lists(alloc, nodes.len())?;
+    let entry = [0];
+    if !all_below(&entry, next.len()) {
+        return Ok(before);
+    }
+    let reached = reach(alloc, &next, &entry)?;
+    for (number, node) in nodes.iter().enumerate() {
+        if reached.get(number) == Some(true) {
+            add_to_each(&mut before, &node.next, number)?;
+        }
+    }
+    Ok(before)
+}
+
+/// Returns for each node the places that the variables have which it writes, by lists of them.
+pub fn killed(
+    alloc: Global,
+    nodes: &[Flow],
+    by_variable: &[Vec<usize>],
+) -> Result<Vec<Vec<usize>>, AllocError>
+    ensures { IfOk result (λ kills. AreKilled nodes.now (lists_of by_variable.now) (lists_of kills.items)) }
+{
+    let mut kills = Vec::new(alloc);
+    for node in 0..nodes.len() {
+        kills.push(gathered(alloc, by_variable, &nodes[node].writes)?)?;
+    }
+    Ok(kills)
+}
+
+/// Returns how an expression is called: `(a b)` for one that reads a and b.
+fn expression_label(
+    alloc: Global,
+    variables: &Names<'_>,
+    reads: &[usize],
+) -> Result<Vec<u8>, AllocError> {
+    let mut label = b"(".to_vec(alloc)?;
+    for (place, variable) in reads.iter().enumerate() {
+        if place > 0 {
+            label.push(b' ')?;
+        }
+        label.extend_from_slice(variables.name(*variable))?;
+    }
+    label.push(b')')?;
+    Ok(label)
+}
+
+/// Returns how the expression of each node is called.
+fn expression_labels(alloc: Global, graph: &FlowGraph<'_>) -> Result<Vec<Vec<u8>>, AllocError> {
+    let mut labels = Vec::new(alloc);
+    for node in graph.nodes.iter() {
+        labels.push(expression_label(alloc, &graph.variables, &node.reads)?)?;
+    }
+    Ok(labels)
+}
+
+/// Returns the number of a node's expression, if the node reads anything. A new one is added to the
+/// lists of its variables.
+fn add_expression<'a>(
+    alloc: Global,
+    node: &Flow,
+    label: &'a [u8],
+    names: &mut Names<'a>,
+    by_variable: &mut [Vec<usize>],
+) -> Result<Vec<usize>, AllocError> {
+    let mut numbers = Vec::new(alloc);
+    if node.reads.is_empty() {
+        return Ok(numbers);
+    }
+    let count = names.len();
+    let number = names.number(label)?;
+    if number == count {
+        add_to_each(by_variable, &node.reads, number)?;
+    }
+    numbers.push(number)?;
+    Ok(numbers)
+}
+
+/// Returns a problem of expressions. A node computes what it reads, before it writes, and ends all
+/// that read what it writes. Nodes that read the same variables in the same order share one.
+fn expressions(
+    alloc: Global,
+    graph: &FlowGraph<'_>,
+    kind: Kind,
+    from: Vec<Vec<usize>>,
+) -> Result<Problem, AllocError> {
+    let own = expression_labels(alloc, graph)?;
+    let mut names = Names::new(alloc);
+    let mut generates = Vec::new(alloc);
+    let mut by_variable = empty_lists(alloc, graph.variables.len())?;
+    for (node, label) in graph.nodes.iter().zip(own.iter()) {
+        generates.push(add_expression(alloc, node, label, &mut names, &mut by_variable)?)?;
+    }
+    let kills = killed(alloc, &graph.nodes, &by_variable)?;
+    let labels = labels_of(alloc, &names)?;
+    Ok(Problem {
+        kind,
+        labels,
+        generates,
+        kills,
+        from,
+    })
+}
+
+/// Returns the numbers of a list that another doesn't have.
+fn without(alloc: Global, numbers: &[usize], others: &[usize]) -> Result<Vec<usize>, AllocError> {
+    let mut kept = Vec::new(alloc);
+    for number in numbers {
+        if !others.contains(number) {
+            kept.push(*number)?;
+        }
+    }
+    Ok(kept)
+}
+
+/// Returns what each node generates and doesn't kill.
+fn lasting(alloc: Global, problem: &Problem) -> Result<Vec<Vec<usize>>, AllocError> {
+    let mut lists = Vec::new(alloc);
+    for (own, kills) in problem.generates.iter().zip(problem.kills.iter()) {
+        lists.push(without(alloc, own, kills)?)?;
+    }
+    Ok(lists)
+}
+
+/// Returns the nodes that come after each. After a node with none comes `border`.
+fn nodes_after(
+    alloc: Global,
+    nodes: &[Flow],
+    border: usize,
+) -> Result<Vec<Vec<usize>>, AllocError> {
+    let mut after = Vec::new(alloc);
+    for node in nodes {
+        if node.next.is_empty() {
+            after.push(vec![in alloc; border]?)?;
+        } else {
+            after.push(node.next.clone()?)?;
+        }
+    }
+    Ok(after)
+}
+
+impl Problem {
+    /// Adds a last node, at which nothing holds: it generates nothing, kills all, and draws from none.
+    fn add_border(&mut self, alloc: Global) -> Result<(), AllocError> {
+        let all: Vec<usize> = (0..self.labels.len()).collect(alloc)?;
+        self.generates.push(Vec::new(alloc))?;
+        self.kills.push(all)?;
+        self.from.push(Vec::new(alloc))?;
+        Ok(())
+    }
+}
+
+/// Returns the problem of the expressions that were computed on all paths to a node. Before the
+/// entry there are none.
+pub fn available_problem(alloc: Global, graph: &FlowGraph<'_>) -> Result<Problem, FlowFault> {
+    let mut from = reached_before(alloc, &graph.nodes)?;
+    add_to(&mut from, 0, graph.nodes.len())?;
+    let mut problem = expressions(alloc, graph, Kind::ForwardMust, from)?;
+    problem.generates = lasting(alloc, &problem)?;
+    problem.add_border(alloc)?;
+    Ok(problem)
+}
+
+/// Returns the problem of the expressions that will be computed on all paths from a node. After a
+/// node with no next one there are none.
+pub fn busy_problem(alloc: Global, graph: &FlowGraph<'_>) -> Result<Problem, AllocError> {
+    let from = nodes_after(alloc, &graph.nodes, graph.nodes.len())?;
+    let mut problem = expressions(alloc, graph, Kind::BackwardMust, from)?;
+    problem.add_border(alloc)?;
+    Ok(problem)
+}

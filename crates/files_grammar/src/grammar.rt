@@ -1,0 +1,402 @@
+//! The sets and the states of a grammar, as text.
+
+use crate::fault::GrammarFault;
+use files_text::{put_name, put_next};
+use std::alloc::Global;
+use std::io;
+use std::io::Write;
+use vob::Vob;
+use vob_lr::{
+    Cell, Grammar, Item, Lookaheads, Move, Precedence, Rule, Symbol, Table, first_sets,
+    follow_sets, nullable,
+};
+use vob_yacc::{GrammarText, grammar_of};
+
+/// How the file calls the symbols.
+#[derive(Drop)]
+pub struct SymbolNames {
+    pub terminals: Vec<Vec<u8>>,
+    nonterminals: Vec<Vec<u8>>,
+}
+
+/// How many cells of a table have a shift and a reduction, and how many reductions are too many in
+/// cells, as bison counts conflicts.
+#[derive(Clone, Copy, PartialEq, Eq)]
+struct Conflicts {
+    shift_reduce: usize,
+    reduce_reduce: usize,
+}
+
+/// Tells actions within rules apart by a number, as in bison: `$@1`, `$@2`.
+fn number_actions(alloc: Global, names: &mut [Vec<u8>]) -> Result<(), GrammarFault> {
+    let mut actions = 0usize;
+    for name in names.iter_mut() {
+        if name.as_slice() == b"$@".as_slice() {
+            actions = actions.saturating_add(1);
+            let number = format!(in alloc; "{actions}")?;
+            name.extend_from_slice(number.as_bytes())?;
+        }
+    }
+    Ok(())
+}
+
+impl SymbolNames {
+    /// Returns the name of a symbol.
+    fn of(&self, symbol: Symbol) -> &[u8] {
+        match symbol {
+            Symbol::Terminal(number) => name_at(&self.terminals, number),
+            Symbol::Nonterminal(number) => name_at(&self.nonterminals, number),
+        }
+    }
+}
+
+/// Returns the name with a number, or nothing if there is none.
+fn name_at(names: &[Vec<u8>], number: usize) -> &[u8] {
+    match names.get(number) {
+        Some(name) => name.as_slice(),
+        None => b"",
+    }
+}
+
+impl Conflicts {
+    /// Counts the conflicts of a table.
+    fn of(alloc: Global, table: &Table<'_>) -> Result<Conflicts, GrammarFault> {
+        let mut conflicts = Conflicts {
+            shift_reduce: 0,
+            reduce_reduce: 0,
+        };
+        for conflict in table.conflicts(alloc)?.iter() {
+            if let Some(cell) = table.cell(conflict.state, conflict.terminal) {
+                conflicts.count(cell);
+            }
+        }
+        Ok(conflicts)
+    }
+
+    /// Counts the conflicts of a cell that has one.
+    fn count(&mut self, cell: &Cell) {
+        if cell.shift.is_some() {
+            self.shift_reduce = self.shift_reduce.saturating_add(1);
+        }
+        let more = cell.reduces.len().saturating_sub(1);
+        self.reduce_reduce = self.reduce_reduce.saturating_add(more);
+    }
+
+    /// Returns whether these are those that a grammar file expects: none if it says nothing.
+    fn are(&self, expected: (Option<usize>, Option<usize>)) -> bool {
+        self.shift_reduce == expected.0.unwrap_or(0)
+            && self.reduce_reduce == expected.1.unwrap_or(0)
+    }
+}
+
+/// Writes how many symbols, rules, states and conflicts there are.
+fn put_counts<W: Write>(
+    output: &mut W,
+    grammar: &Grammar,
+    states: usize,
+    conflicts: Conflicts,
+) -> io::Result<()> {
+    let terminals = grammar.terminals;
+    let nonterminals = grammar.nonterminals;
+    let rules = grammar.rules.len();
+    writeln!(output, "terminals {terminals}")?;
+    writeln!(output, "nonterminals {nonterminals}")?;
+    writeln!(output, "rules {rules}")?;
+    writeln!(output, "states {states}")?;
+    let Conflicts {
+        shift_reduce,
+        reduce_reduce,
+    } = conflicts;
+    writeln!(
+        output,
+        "conflicts {shift_reduce} shift/reduce, {reduce_reduce} reduce/reduce"
+    )
+}
+
+/// Writes the names of some terminals, each after a space.
+fn put_terminals<W: Write>(output: &mut W, names: &SymbolNames, set: &Vob) -> io::Result<()> {
+    for terminal in set.iter_set_bits(..) {
+        put_next(output, name_at(&names.terminals, terminal))?;
+    }
+    Ok(())
+}
+
+/// Writes a line: a word, and the names of some terminals.
+fn put_set<W: Write>(
+    output: &mut W,
+    word: &[u8],
+    names: &SymbolNames,
+    set: Option<&Vob>,
+) -> io::Result<()> {
+    output.write_all(word)?;
+    if let Some(set) = set {
+        put_terminals(output, names, set)?;
+    }
+    output.write_all(b"\n")
+}
+
+/// The sets of a grammar's nonterminals.
+#[derive(Drop)]
+struct Sets {
+    nullable: Vob,
+    first: Vec<Vob>,
+    follow: Vec<Vob>,
+}
+
+impl Sets {
+    /// Finds the sets.
+    fn new(alloc: Global, grammar: &Grammar) -> Result<Sets, GrammarFault> {
+        Ok(Sets {
+            nullable: nullable(alloc, grammar)?,
+            first: first_sets(alloc, grammar)?,
+            follow: follow_sets(alloc, grammar)?,
+        })
+    }
+}
+
+/// Writes the sets of a nonterminal.
+fn put_nonterminal<W: Write>(
+    output: &mut W,
+    names: &SymbolNames,
+    sets: &Sets,
+    number: usize,
+) -> io::Result<()> {
+    output.write_all(b"\n")?;
+    put_name(output, name_at(&names.nonterminals, number))?;
+    if sets.nullable.get(number) == Some(true) {
+        output.write_all(b"\n  nullable yes\n")?;
+    } else {
+        output.write_all(b"\n  nullable no\n")?;
+    }
+    put_set(output, b"  FIRST", names, sets.first.get(number))?;
+    put_set(output, b"  FOLLOW", names, sets.follow.get(number))
+}
+
+/// Writes a rule.
+pub fn put_rule<W: Write>(output: &mut W, names: &SymbolNames, rule: &Rule) -> io::Result<()> {
+    put_name(output, name_at(&names.nonterminals, rule.left))?;
+    output.write_all(b":")?;
+    for symbol in rule.right.iter() {
+        put_next(output, names.of(*symbol))?;
+    }
+    output.write_all(b"\n")
+}
+
+/// Writes an item: its rule, with a point for the dot.
+fn put_item<W: Write>(
+    output: &mut W,
+    names: &SymbolNames,
+    rule: &Rule,
+    dot: usize,
+) -> io::Result<()> {
+    output.write_all(b"  ")?;
+    put_name(output, name_at(&names.nonterminals, rule.left))?;
+    output.write_all(b":")?;
+    for (place, symbol) in rule.right.iter().enumerate() {
+        if place == dot {
+            output.write_all(b" .")?;
+        }
+        put_next(output, names.of(*symbol))?;
+    }
+    if dot >= rule.right.len() {
+        output.write_all(b" .")?;
+    }
+    Ok(())
+}
+
+/// Writes the lookaheads of an item in brackets.
+fn put_ahead<W: Write>(output: &mut W, names: &SymbolNames, ahead: Option<&Vob>) -> io::Result<()> {
+    if let Some(set) = ahead {
+        output.write_all(b"  [")?;
+        put_terminals(output, names, set)?;
+        output.write_all(b" ]")?;
+    }
+    Ok(())
+}
+
+/// Returns whether an item is of a kernel: its dot is after a symbol, or it is the start.
+fn is_kernel(item: Item) -> bool {
+    item.dot > 0 || item.rule == 0
+}
+
+/// Writes the item with a number, if it is of a kernel or complete, and its lookaheads if it is
+/// complete.
+fn put_if_shown<W: Write>(
+    output: &mut W,
+    names: &SymbolNames,
+    states: &Lookaheads<'_>,
+    state: usize,
+    number: usize,
+) -> io::Result<()> {
+    let items = states.items();
+    if number >= items.len() {
+        return Ok(());
+    }
+    let item = items.item(number);
+    let Some(rule) = items.grammar().rules.get(item.rule) else {
+        return Ok(());
+    };
+    let is_complete = item.dot >= rule.right.len();
+    if !is_complete && !is_kernel(item) {
+        return Ok(());
+    }
+    put_item(output, names, rule, item.dot)?;
+    if is_complete && item.rule > 0 {
+        put_ahead(output, names, states.of(state, number))?;
+    }
+    output.write_all(b"\n")
+}
+
+/// Writes the items of a state that are of its kernel or complete.
+fn put_items<W: Write>(
+    output: &mut W,
+    names: &SymbolNames,
+    states: &Lookaheads<'_>,
+    state: usize,
+    set: &Vob,
+) -> io::Result<()> {
+    for number in set.iter_set_bits(..) {
+        put_if_shown(output, names, states, state, number)?;
+    }
+    Ok(())
+}
+
+/// Writes what a parser may do if a terminal is ahead, the action that it takes first.
+fn put_cell<W: Write>(output: &mut W, name: &[u8], cell: &Cell) -> io::Result<()> {
+    if cell.action().is_none() {
+        return Ok(());
+    }
+    output.write_all(b" ")?;
+    put_next(output, name)?;
+    let mut comma = "";
+    if let Some(state) = cell.shift {
+        write!(output, " shift {state}")?;
+        comma = ",";
+    }
+    for rule in cell.reduces.iter() {
+        write!(output, "{comma} reduce {rule}")?;
+        comma = ",";
+    }
+    output.write_all(b"\n")
+}
+
+/// Writes what a parser may do in a state.
+fn put_cells<W: Write>(
+    output: &mut W,
+    names: &SymbolNames,
+    table: &Table<'_>,
+    state: usize,
+) -> io::Result<()> {
+    for (terminal, name) in names.terminals.iter().enumerate() {
+        if let Some(cell) = table.cell(state, terminal) {
+            put_cell(output, name, cell)?;
+        }
+    }
+    Ok(())
+}
+
+/// Writes the states that follow a state once a nonterminal is read.
+fn put_gotos<W: Write>(output: &mut W, names: &SymbolNames, moves: &[Move]) -> io::Result<()> {
+    for own in moves {
+        if let Symbol::Nonterminal(number) = own.symbol {
+            let state = own.state;
+            output.write_all(b" ")?;
+            put_next(output, name_at(&names.nonterminals, number))?;
+            writeln!(output, " goto {state}")?;
+        }
+    }
+    Ok(())
+}
+
+/// Writes the rules with their numbers.
+fn put_rules<W: Write>(output: &mut W, names: &SymbolNames, rules: &[Rule]) -> io::Result<()> {
+    output.write_all(b"\n")?;
+    for (number, rule) in rules.iter().enumerate() {
+        write!(output, "rule {number} ")?;
+        put_rule(output, names, rule)?;
+    }
+    Ok(())
+}
+
+/// Writes the states: the items of each, and what a parser may do.
+fn put_states<W: Write>(output: &mut W, names: &SymbolNames, table: &Table<'_>) -> io::Result<()> {
+    let states = table.lookaheads();
+    let automaton = states.automaton();
+    for (state, set) in automaton.sets.iter().enumerate() {
+        writeln!(output, "\nstate {state}")?;
+        put_items(output, names, states, state, set)?;
+        put_cells(output, names, table, state)?;
+        if let Some(moves) = automaton.moves.get(state) {
+            put_gotos(output, names, moves)?;
+        }
+    }
+    Ok(())
+}
+
+/// A grammar file as it was read, with actions within rules told apart.
+#[derive(Drop)]
+pub struct File {
+    pub grammar: Grammar,
+    pub names: SymbolNames,
+    precedences: Vec<Option<Precedence>>,
+    rule_precedences: Vec<Option<Precedence>>,
+    expected: (Option<usize>, Option<usize>),
+}
+
+impl File {
+    /// Reads a grammar file. Fails at the first word that can't stand where it does.
+    pub fn read(alloc: Global, text: &[u8]) -> Result<File, GrammarFault> {
+        let GrammarText {
+            grammar,
+            terminals,
+            mut nonterminals,
+            precedences,
+            rule_precedences,
+            expected,
+        } = grammar_of(alloc, text)?;
+        number_actions(alloc, &mut nonterminals)?;
+        Ok(File {
+            grammar,
+            names: SymbolNames {
+                terminals,
+                nonterminals,
+            },
+            precedences,
+            rule_precedences,
+            expected,
+        })
+    }
+
+    /// Makes the table of the grammar.
+    pub fn table(&self, alloc: Global) -> Result<Table<'_>, GrammarFault> {
+        let states = Lookaheads::new(alloc, &self.grammar)?;
+        Ok(Table::new(alloc, states, &self.precedences, &self.rule_precedences)?)
+    }
+}
+
+/// Writes the counts of a grammar and the sets of its nonterminals, and its rules and states if they
+/// are wanted. Returns the status: 1 if there are other conflicts than the file expects, else 0.
+///
+/// Fails at the first word of the text that can't stand where it does. Nothing is written then.
+/// Fails too if memory runs out, or if the output can't be written.
+pub fn print_grammar<W: Write>(
+    alloc: Global,
+    text: &[u8],
+    wants_states: bool,
+    output: &mut W,
+) -> Result<u8, GrammarFault> {
+    let file = File::read(alloc, text)?;
+    let sets = Sets::new(alloc, &file.grammar)?;
+    let table = file.table(alloc)?;
+    let conflicts = Conflicts::of(alloc, &table)?;
+    let states = table.lookaheads().automaton().sets.len();
+    put_counts(output, &file.grammar, states, conflicts)?;
+    for number in 0..file.grammar.nonterminals {
+        put_nonterminal(output, &file.names, &sets, number)?;
+    }
+    if wants_states {
+        put_rules(output, &file.names, &file.grammar.rules)?;
+        put_states(output, &file.names, &table)?;
+    }
+    Ok(if conflicts.are(file.expected) { 0 } else { 1 })
+}

@@ -1,0 +1,10 @@
+//! Grammars in the text of yacc, and what is written of their sets, states and derivations.
+#![tactic(auto)]
+
+mod fault;
+mod grammar;
+mod parse;
+
+pub use fault::GrammarFault;
+pub use grammar::print_grammar;
+pub use parse::print_parse;

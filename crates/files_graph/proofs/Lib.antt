@@ -1,0 +1,3 @@
+pub mod ClosureTextLemmas
+pub mod PathLemmas
+pub mod LengthLemmas

@@ -1,0 +1,15 @@
+-- The lines are those of the nodes that were found.
+use Rattle.files_graph.proofs.ClosureTextLemmas.{lists_nodes}
+use Rattle.files_graph.proofs.closure.print_nodes.Goals as goal
+
+pub returns : goal.returns
+returns g c =
+    let found = c.in_ok-nodes.ensures in (
+      found.0,
+      found.1,
+      (
+        _,
+        c.in_ok-put_nodes.ensures,
+        lists_nodes c.in_ok-nodes.nodes.bits c.args.graph.now.names _ found.2,
+      ),
+    )

@@ -1,0 +1,12 @@
+-- The lines of the nodes that are left are still to be written.
+use Rattle.files_text.specs.Printed.{members, name_line}
+use Rattle.files_text.proofs.PrintedLemmas.{AppendsItems}
+use Rattle.files_graph.proofs.closure.put_nodes.Given as goal
+
+abbrev pub invariant-loop-node : goal.invariant-loop-node
+invariant-loop-node g l = record {
+  can_next : (goal.iterator-loop-node g).can_next l.node-iterator;
+  is_finite : (goal.iterator-loop-node g).is_finite l.node-iterator;
+  wrote : AppendsItems (name_line l.names) (g.W.Write.contents l.fn.output)
+      (g.W.Write.contents l.output) (members l.set.bits) l.node-iterator.rest;
+}

@@ -1,0 +1,36 @@
+-- What is printed of the closure of a graph.
+use Rattle.std.specs.Prelude.{◌≡◌, ◌↔◌, ◌⊎◌, ℕ, ◌<◌, Bool, List, [], ◌++◌, length, map, codes, slice_index_or, AllPairs, Contains}
+use Rattle.std.specs.List.{flat_map, range_with_len}
+use Rattle.vob_flow.specs.Closure.{IsEdge, Leads}
+use Rattle.files_text.specs.Printed.{line_end, members, name_at, name_line}
+
+-- the line of an edge from one node to another
+abbrev pub edge_line : List (List ℕ) → ℕ × ℕ → List ℕ
+edge_line names edge = name_at names edge.0 ++ (codes " " ++ name_at names edge.1) ++ line_end
+
+-- an edge comes before another: its first node does, or its second if they share the first
+abbrev pub IsBefore : ℕ × ℕ → ℕ × ℕ → Type 0
+IsBefore edge other = (edge.0 < other.0) ⊎ ((edge.0 ≡ other.0) × (edge.1 < other.1))
+
+-- a line for each edge of which P holds, once, in the order of the nodes
+pub record ListsEdges (names : List (List ℕ)) (P : ℕ → ℕ → Type 0) (text : List ℕ) : Type 0 where
+  pub edges : List (ℕ × ℕ)
+  pub lines : text ≡ flat_map (edge_line names) edges
+  pub each : (n m : ℕ) → Contains edges (n, m) ↔ P n m
+  pub order : AllPairs IsBefore edges
+
+-- a line for each node of which P holds, once, in the order of the nodes
+pub record ListsNodes (names : List (List ℕ)) (P : ℕ → Type 0) (text : List ℕ) : Type 0 where
+  pub nodes : List ℕ
+  pub lines : text ≡ flat_map (name_line names) nodes
+  pub each : (n : ℕ) → Contains nodes n ↔ P n
+  pub order : AllPairs (λ n m. n < m) nodes
+
+-- the edges from one node to those in its set
+abbrev pub edges_from : ℕ → List Bool → List (ℕ × ℕ)
+edges_from node set = map (λ to. (node, to)) (members set)
+
+-- the edges from each node, of some number of nodes from one on
+abbrev pub edges_of : List (List Bool) → ℕ → ℕ → List (ℕ × ℕ)
+edges_of sets node count =
+    flat_map (λ n. edges_from n (slice_index_or sets n [])) (range_with_len node count)

@@ -1,0 +1,154 @@
+//! The closure of a graph: its edges, what one node leads to, and the fewest edges with the same
+//! closure.
+ghost use Rattle.std.specs.Prelude.{◌≡◌, ◌↔◌, ℕ, true, length, map, slice_get, Some, IfOk, OnOk};
+ghost use Rattle.std.specs.List.{flat_map};
+ghost use Rattle.std.specs.Io.KnownBytes.{Appends};
+ghost use Rattle.vob.specs.Vobs.{bits_of};
+ghost use Rattle.vob_block.specs.Packing.{item};
+ghost use Rattle.vob_flow.specs.Closure.{Leads};
+ghost use Rattle.files_text.specs.Printed.{Writes, members, name_line};
+ghost use Rattle.files_graph.specs.ClosureText.{ListsEdges, ListsNodes, edge_line, edges_from, edges_of};
+
+use crate::fault::GraphFault;
+use crate::graph::{Graph, read_graph};
+use crate::reduction::reduction;
+use files_text::{Names, all_below, end_line, put_name, put_next};
+use std::alloc::{AllocError, Global};
+use std::io;
+use std::io::Write;
+use vob::Vob;
+use vob_flow::{closure, reach};
+
+/// What is printed of a closure.
+#[derive(Clone, Copy)]
+pub enum Part<'a> {
+    /// Its edges.
+    Edges,
+    /// The nodes to which the node with a name leads.
+    From(&'a str),
+    /// The fewest edges that have the same closure.
+    Fewest,
+}
+
+/// Writes the line of an edge.
+fn put_edge<W: Write>(output: &mut W, names: &Names<'_>, from: usize, to: usize) -> io::Result<()>
+    ensures { OnOk result (Appends (W.contents output.old) (W.contents output.new)
+        (edge_line names.now (from, to))) }
+{
+    put_name(output, names.name(from))?;
+    put_next(output, names.name(to))?;
+    end_line(output)
+}
+
+/// Writes the edges from a node to those in a set, one a line.
+fn put_edges<W: Write>(output: &mut W, names: &Names<'_>, from: usize, set: &Vob) -> io::Result<()>
+    ensures { OnOk result (Appends (W.contents output.old) (W.contents output.new)
+        (flat_map (edge_line names.now) (edges_from from set.now.bits))) }
+{
+    for node in set.iter_set_bits(..) {
+        put_edge(output, names, from, node)?;
+    }
+    Ok(())
+}
+
+/// Writes the edges from each node to those in its set, one a line.
+fn put_sets<W: Write>(output: &mut W, names: &Names<'_>, sets: &[Vob]) -> io::Result<()>
+    ensures { OnOk result (Appends (W.contents output.old) (W.contents output.new)
+        (flat_map (edge_line names.now) (edges_of (bits_of sets.now) 0 (length sets.now)))) }
+{
+    for from in 0..sets.len() {
+        put_edges(output, names, from, &sets[from])?;
+    }
+    Ok(())
+}
+
+/// Writes the names of the nodes in a set, one a line.
+fn put_nodes<W: Write>(output: &mut W, names: &Names<'_>, set: &Vob) -> io::Result<()>
+    ensures { OnOk result (Appends (W.contents output.old) (W.contents output.new)
+        (flat_map (name_line names.now) (members set.now.bits))) }
+{
+    for node in set.iter_set_bits(..) {
+        put_name(output, names.name(node))?;
+        end_line(output)?;
+    }
+    Ok(())
+}
+
+/// Writes the edges of the closure of a graph. An edge of it stands for a path of one edge or more.
+fn print_edges<W: Write>(alloc: Global, graph: &Graph<'_>, output: &mut W) -> Result<(), GraphFault>
+    ensures { OnOk result (Writes (W.contents output.old) (W.contents output.new)
+        (ListsEdges graph.now.names (Leads (map (λ list. list.items) graph.now.next.items)))) }
+{
+    let sets = closure(alloc, &graph.next)?;
+    put_sets(output, &graph.names, &sets)?;
+    Ok(())
+}
+
+/// Returns the fault of a name that no node has.
+fn no_node(alloc: Global, name: &str) -> Result<GraphFault, AllocError> {
+    Ok(GraphFault::Name(String::from_str(alloc, name)?))
+}
+
+/// Returns the nodes to which a path of one edge or more leads from the node with a name.
+fn nodes_from(alloc: Global, graph: &Graph<'_>, from: &str) -> Result<Vob, GraphFault>
+    ensures { IfOk result (λ set. (node : ℕ) × (slice_get graph.now.names node ≡ Some from.now)
+        × ((n : ℕ) → (item set.bits n ≡ true)
+        ↔ Leads (map (λ list. list.items) graph.now.next.items) node n)) }
+{
+    let Some(node) = graph.names.find(from.as_bytes()) else {
+        return Err(no_node(alloc, from)?);
+    };
+    match graph.next.get(node) {
+        Some(nodes) if all_below(nodes, graph.next.len()) => {
+            Ok(reach(alloc, &graph.next, nodes)?)
+        }
+        _ => Err(no_node(alloc, from)?),
+    }
+}
+
+/// Writes the nodes to which a path of one edge or more leads from the node with a name.
+fn print_nodes<W: Write>(
+    alloc: Global,
+    graph: &Graph<'_>,
+    from: &str,
+    output: &mut W,
+) -> Result<(), GraphFault>
+    ensures { OnOk result ((node : ℕ) × (slice_get graph.now.names node ≡ Some from.now)
+        × Writes (W.contents output.old) (W.contents output.new) (ListsNodes graph.now.names
+        (Leads (map (λ list. list.items) graph.now.next.items) node))) }
+{
+    let nodes = nodes_from(alloc, graph, from)?;
+    put_nodes(output, &graph.names, &nodes)?;
+    Ok(())
+}
+
+/// Writes the fewest edges that have the same closure as a graph.
+fn print_fewest<W: Write>(
+    alloc: Global,
+    graph: &Graph<'_>,
+    output: &mut W,
+) -> Result<(), GraphFault> {
+    let sets = closure(alloc, &graph.next)?;
+    let fewest = reduction(alloc, sets)?;
+    put_sets(output, &graph.names, &fewest)?;
+    Ok(())
+}
+
+/// Reads a graph, and writes a part of its closure. Returns the status, 0.
+///
+/// Fails at the first line that isn't an edge, or if the graph has no node with the name. Nothing
+/// is written then. Fails too if memory runs out, or if the output can't be written.
+pub fn print_closure<W: Write>(
+    alloc: Global,
+    text: &[u8],
+    part: Part<'_>,
+    output: &mut W,
+) -> Result<u8, GraphFault> {
+    let graph = read_graph(alloc, text)?;
+    match part {
+        Part::Edges => print_edges(alloc, &graph, output)?,
+        Part::From(from) => print_nodes(alloc, &graph, from, output)?,
+        Part::Fewest => print_fewest(alloc, &graph, output)?,
+    }
+    Ok(0)
+}

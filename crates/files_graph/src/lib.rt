@@ -1,0 +1,10 @@
+//! Graphs whose edges stand in a text, and what is written of their closures.
+#![tactic(auto)]
+
+mod closure;
+mod fault;
+mod graph;
+mod reduction;
+
+pub use closure::{Part, print_closure};
+pub use fault::GraphFault;

@@ -1,0 +1,15 @@
+//! Texts that name things: their words, the names, lines of names that are written, and why a text
+//! can't be read.
+#![tactic(auto)]
+
+mod fault;
+mod names;
+mod numbers;
+mod put;
+mod words;
+
+pub use fault::Fault;
+pub use names::Names;
+pub use numbers::all_below;
+pub use put::{end_line, put_name, put_next};
+pub use words::{Word, words_of};
