@@ -57,7 +57,7 @@ words=(--extern "std=$kit/rlibs/std.rlib" -L "dependency=$kit/rlibs")
 for library in $(sed -n "s/^vob_bench staticlib://p" ../crates.txt); do
     words+=(--extern "$library=../$library/out/rlib/$library.rlib")
 done
-for library in $(../tools/below vob_bench); do
+for library in $(../tools/run/below vob_bench); do
     words+=(-L "dependency=../$library/out/rlib")
 done
 (

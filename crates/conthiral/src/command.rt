@@ -19,7 +19,7 @@ Conflicts that precedence leaves are decided for the shift, or else for the
 rule that comes first, as in bison.
 
 Example:
-  echo 'NUMBER - NUMBER' | ./conthiral parse examples/grammars/minus.y";
+  echo 'NUMBER - NUMBER' | ./conthiral parse examples/files/grammars/minus.y";
 
 /// What the help of `closure` says of its input and of --reduce.
 const CLOSURE_HELP: &str = "\
@@ -32,7 +32,7 @@ which the file first names them. Between such groups an edge joins the nodes
 that are named first.
 
 Example:
-  ./conthiral closure --from curl examples/edges.txt";
+  ./conthiral closure --from curl examples/files/edges.txt";
 
 /// What the help of `flow` says of its input and of its output.
 const FLOW_HELP: &str = "\
@@ -48,7 +48,7 @@ An expression is what a node reads: (i n) above. A node that no path reaches
 has all expressions available, and all nodes dominate it.
 
 Example:
-  ./conthiral flow examples/flow.txt --analysis live";
+  ./conthiral flow examples/files/flow.txt --analysis live";
 
 /// What the help of `filter` says of conditions.
 const FILTER_HELP: &str = "\
@@ -60,7 +60,7 @@ missing, and so is each comparison with it, as in SQL: a row is kept if the
 condition is true, and not if it is false or missing. A page has 20 rows.
 
 Example:
-  ./conthiral filter examples/cities.csv 'coastal = yes & !(elevation > 5)'";
+  ./conthiral filter examples/files/cities.csv 'coastal=yes & !(elevation>5)'";
 
 /// What the words ask for. Each task names the file that it reads.
 #[derive(Clone, Copy)]
@@ -123,7 +123,7 @@ fn grammar_command<'a>(alloc: Global) -> Result<Command<'a>, AllocError> {
     );
     Command::new(alloc, "grammar")
         .about("Print the sets of a grammar: nullable, FIRST and FOLLOW")
-        .after_help("Example:\n  ./conthiral grammar --states examples/grammars/sums.y")
+        .after_help("Example:\n  ./conthiral grammar --states examples/files/grammars/sums.y")
         .arg(states)?
         .arg(file)
 }

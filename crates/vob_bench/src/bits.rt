@@ -1,6 +1,6 @@
 //! Workloads on one bit after another, and on slices of bits.
 
-use crate::checksum::{sample, touch};
+use crate::checksum::{checksum, sample, touch};
 use crate::rounds::{Missing, each_round};
 use std::alloc::Global;
 use vob::{Vob, VobError};
@@ -60,6 +60,89 @@ fn grown(alloc: Global, indices: &[usize]) -> Result<Vob, VobError> {
     Ok(vob)
 }
 
+/// Pushes all bits.
+#[inline(never)]
+fn push(alloc: Global, mut vob: Vob, bits: &[bool], rounds: usize) -> Result<u64, Missing> {
+    each_round!(vob, rounds, |round| {
+        vob = pushed(alloc, bits)?;
+        sample(&vob, round) as u64
+    })
+}
+
+/// Makes a Vob of all bits.
+#[inline(never)]
+fn from_slice(alloc: Global, mut vob: Vob, bits: &[bool], rounds: usize) -> Result<u64, Missing> {
+    each_round!(vob, rounds, |round| {
+        vob = Vob::from_slice(alloc, bits)?;
+        sample(&vob, round) as u64
+    })
+}
+
+/// Appends all bits to the first 13 of them, in the room that the first round made.
+#[inline(never)]
+fn extend_from_slice(mut vob: Vob, bits: &[bool], rounds: usize) -> Result<u64, Missing> {
+    each_round!(vob, rounds, |round| {
+        vob.truncate(13);
+        vob.extend_from_slice(bits)?;
+        sample(&vob, round) as u64
+    })
+}
+
+/// Reads bits.
+#[inline(never)]
+fn get(mut vob: Vob, indices: &[usize], rounds: usize) -> Result<u64, Missing> {
+    each_round!(vob, rounds, |round| {
+        touch(&mut vob, round);
+        true_at(&vob, indices)
+    })
+}
+
+/// Writes bits.
+#[inline(never)]
+fn set(mut vob: Vob, indices: &[usize], rounds: usize) -> Result<u64, Missing> {
+    each_round!(vob, rounds, |round| write_at(&mut vob, indices, round))
+}
+
+/// Negates bits.
+#[inline(never)]
+fn flip(mut vob: Vob, indices: &[usize], rounds: usize) -> Result<u64, Missing> {
+    each_round!(vob, rounds, |round| {
+        flip_at(&mut vob, indices);
+        sample(&vob, round) as u64
+    })
+}
+
+/// Sets the bits of a Vob that grows.
+#[inline(never)]
+fn grow_and_set(
+    alloc: Global,
+    mut vob: Vob,
+    indices: &[usize],
+    rounds: usize,
+) -> Result<u64, Missing> {
+    each_round!(vob, rounds, |round| {
+        vob = grown(alloc, indices)?;
+        sample(&vob, round) as u64
+    })
+}
+
+/// Makes a Vob of indices, if they are below the length.
+#[inline(never)]
+fn from_indices(
+    alloc: Global,
+    mut vob: Vob,
+    indices: &[usize],
+    rounds: usize,
+) -> Result<u64, Missing> {
+    let len = vob.len();
+    each_round!(vob, rounds, |round| {
+        if let Ok(made) = Vob::from_indices(alloc, len, indices) {
+            vob = made;
+        }
+        sample(&vob, round) as u64
+    })
+}
+
 /// Runs the workload of a name.
 pub(crate) fn run(
     alloc: Global,
@@ -70,41 +153,15 @@ pub(crate) fn run(
     rounds: usize,
 ) -> Result<u64, Missing> {
     let vob = Vob::from_bytes(alloc, bytes)?;
-    let len = vob.len();
     match name {
-        b"Push" => each_round(vob, rounds, |vob, round| {
-            *vob = pushed(alloc, bits)?;
-            Ok(sample(vob, round) as u64)
-        }),
-        b"FromSlice" => each_round(vob, rounds, |vob, round| {
-            *vob = Vob::from_slice(alloc, bits)?;
-            Ok(sample(vob, round) as u64)
-        }),
-        // All bits appended to the first 13 of them, in the room that the first round made.
-        b"ExtendFromSlice" => each_round(vob, rounds, |vob, round| {
-            vob.truncate(13);
-            vob.extend_from_slice(bits)?;
-            Ok(sample(vob, round) as u64)
-        }),
-        b"Get" => each_round(vob, rounds, |vob, round| {
-            touch(vob, round);
-            Ok(true_at(vob, indices))
-        }),
-        b"Set" => each_round(vob, rounds, |vob, round| Ok(write_at(vob, indices, round))),
-        b"Flip" => each_round(vob, rounds, |vob, round| {
-            flip_at(vob, indices);
-            Ok(sample(vob, round) as u64)
-        }),
-        b"GrowAndSet" => each_round(vob, rounds, |vob, round| {
-            *vob = grown(alloc, indices)?;
-            Ok(sample(vob, round) as u64)
-        }),
-        b"FromIndices" => each_round(vob, rounds, |vob, round| {
-            if let Ok(made) = Vob::from_indices(alloc, len, indices) {
-                *vob = made;
-            }
-            Ok(sample(vob, round) as u64)
-        }),
+        b"Push" => push(alloc, vob, bits, rounds),
+        b"FromSlice" => from_slice(alloc, vob, bits, rounds),
+        b"ExtendFromSlice" => extend_from_slice(vob, bits, rounds),
+        b"Get" => get(vob, indices, rounds),
+        b"Set" => set(vob, indices, rounds),
+        b"Flip" => flip(vob, indices, rounds),
+        b"GrowAndSet" => grow_and_set(alloc, vob, indices, rounds),
+        b"FromIndices" => from_indices(alloc, vob, indices, rounds),
         _ => Err(Missing::Name),
     }
 }

@@ -1,6 +1,6 @@
 //! Workloads on two Vobs, which are as long. If they aren't, nothing is done.
 
-use crate::checksum::{clear, flip, sample, touch};
+use crate::checksum::{checksum, clear, flip, sample, touch};
 use crate::rounds::{Missing, each_round};
 use std::alloc::Global;
 use vob::Vob;
@@ -15,58 +15,63 @@ fn copy_bits(vob: &mut Vob, at: usize, other: &Vob, bounds: (usize, usize)) {
 }
 
 /// `is_subset` of a Vob whose bits another has in each round.
-fn subset(vob: Vob, mut other: Vob, rounds: usize) -> Result<u64, Missing> {
+#[inline(never)]
+fn subset(mut vob: Vob, mut other: Vob, rounds: usize) -> Result<u64, Missing> {
     if other.len() == vob.len() {
         other.or(&vob);
     }
-    each_round(vob, rounds, |vob, round| {
-        touch(vob, round);
+    each_round!(vob, rounds, |round| {
+        touch(&mut vob, round);
         touch(&mut other, round);
-        Ok((vob.len() == other.len() && vob.is_subset(&other)) as u64)
+        (vob.len() == other.len() && vob.is_subset(&other)) as u64
     })
 }
 
 /// `is_superset` of a Vob whose bits this one has in each round.
+#[inline(never)]
 fn superset(mut vob: Vob, mut other: Vob, rounds: usize) -> Result<u64, Missing> {
     if other.len() == vob.len() {
         vob.or(&other);
     }
-    each_round(vob, rounds, |vob, round| {
-        touch(vob, round);
+    each_round!(vob, rounds, |round| {
+        touch(&mut vob, round);
         touch(&mut other, round);
-        Ok((vob.len() == other.len() && vob.is_superset(&other)) as u64)
+        (vob.len() == other.len() && vob.is_superset(&other)) as u64
     })
 }
 
 /// `is_disjoint` with a Vob that has none of the bits in each round.
-fn disjoint(vob: Vob, mut other: Vob, rounds: usize) -> Result<u64, Missing> {
+#[inline(never)]
+fn disjoint(mut vob: Vob, mut other: Vob, rounds: usize) -> Result<u64, Missing> {
     if other.len() == vob.len() {
         other.and_not(&vob);
     }
-    each_round(vob, rounds, |vob, round| {
-        touch(vob, round);
+    each_round!(vob, rounds, |round| {
+        touch(&mut vob, round);
         clear(&mut other, round);
-        Ok((vob.len() == other.len() && vob.is_disjoint(&other)) as u64)
+        (vob.len() == other.len() && vob.is_disjoint(&other)) as u64
     })
 }
 
 /// `==` of two Vobs that are equal in each round.
-fn equal(vob: Vob, rounds: usize) -> Result<u64, Missing> {
+#[inline(never)]
+fn equal(mut vob: Vob, rounds: usize) -> Result<u64, Missing> {
     let mut other = vob.clone()?;
-    each_round(vob, rounds, |vob, round| {
-        touch(vob, round);
+    each_round!(vob, rounds, |round| {
+        touch(&mut vob, round);
         touch(&mut other, round);
-        Ok((*vob == other) as u64)
+        (vob == other) as u64
     })
 }
 
 /// `<` of two Vobs that are equal in each round, so that no bit decides.
-fn before(vob: Vob, rounds: usize) -> Result<u64, Missing> {
+#[inline(never)]
+fn before(mut vob: Vob, rounds: usize) -> Result<u64, Missing> {
     let mut other = vob.clone()?;
-    each_round(vob, rounds, |vob, round| {
-        touch(vob, round);
+    each_round!(vob, rounds, |round| {
+        touch(&mut vob, round);
         touch(&mut other, round);
-        Ok((*vob < other) as u64)
+        (vob < other) as u64
     })
 }
 
@@ -82,99 +87,157 @@ fn both(vob: &Vob, other: &Vob) -> u64 {
     sum
 }
 
+/// A walk a round over the indices that both have, of which one changes before.
+#[inline(never)]
+fn intersection(mut vob: Vob, other: &Vob, rounds: usize) -> Result<u64, Missing> {
+    each_round!(vob, rounds, |round| {
+        flip(&mut vob, round);
+        both(&vob, other)
+    })
+}
+
 /// A new Vob a round of the bits that one has and another hasn't.
-fn minus(vob: Vob, other: &Vob, rounds: usize) -> Result<u64, Missing> {
-    each_round(vob, rounds, |vob, round| {
-        touch(vob, round);
-        if vob.len() != other.len() {
-            return Ok(0);
+#[inline(never)]
+fn minus(mut vob: Vob, other: &Vob, rounds: usize) -> Result<u64, Missing> {
+    each_round!(vob, rounds, |round| {
+        touch(&mut vob, round);
+        if vob.len() == other.len() {
+            let made = &vob - other;
+            sample(&made?, round) as u64
+        } else {
+            0
         }
-        let made = &*vob - other;
-        Ok(sample(&made?, round) as u64)
     })
 }
 
 /// The others appended to the first `at` bits, in the room that the first round made.
-fn extend(vob: Vob, other: &Vob, at: usize, rounds: usize) -> Result<u64, Missing> {
-    each_round(vob, rounds, |vob, round| {
+#[inline(never)]
+fn extend(mut vob: Vob, other: &Vob, at: usize, rounds: usize) -> Result<u64, Missing> {
+    each_round!(vob, rounds, |round| {
         vob.truncate(at);
         vob.extend_from_vob(other)?;
-        Ok(sample(vob, round) as u64)
+        sample(&vob, round) as u64
     })
 }
 
 /// The rows that two columns keep and a third doesn't, and how many they are.
-fn filter(vob: Vob, other: &Vob, rounds: usize) -> Result<u64, Missing> {
+#[inline(never)]
+fn filter(mut vob: Vob, other: &Vob, rounds: usize) -> Result<u64, Missing> {
     let mut without = other.clone()?;
     if without.len() == vob.len() {
         without.xor(&vob);
     }
-    each_round(vob, rounds, |vob, round| {
-        touch(vob, round);
-        if vob.len() != other.len() || vob.len() != without.len() {
-            return Ok(0);
+    each_round!(vob, rounds, |round| {
+        touch(&mut vob, round);
+        if vob.len() == other.len() && vob.len() == without.len() {
+            count_rows(&select(&vob, other, &without)?) as u64
+        } else {
+            0
         }
-        Ok(count_rows(&select(vob, other, &without)?) as u64)
     })
 }
 
-/// Runs a count of the name over two Vobs.
-fn count(name: &[u8], vob: Vob, other: &Vob, rounds: usize) -> Result<u64, Missing> {
-    match name {
-        b"CountAnd" => each_round(vob, rounds, |vob, round| {
-            touch(vob, round);
-            let fits = vob.len() == other.len();
-            Ok(if fits { vob.count_and(other) } else { 0 } as u64)
-        }),
-        b"CountOr" => each_round(vob, rounds, |vob, round| {
-            touch(vob, round);
-            let fits = vob.len() == other.len();
-            Ok(if fits { vob.count_or(other) } else { 0 } as u64)
-        }),
-        b"CountAndNot" => each_round(vob, rounds, |vob, round| {
-            touch(vob, round);
-            let fits = vob.len() == other.len();
-            Ok(if fits { vob.count_and_not(other) } else { 0 } as u64)
-        }),
-        b"CountXor" => each_round(vob, rounds, |vob, round| {
-            touch(vob, round);
-            let fits = vob.len() == other.len();
-            Ok(if fits { vob.count_xor(other) } else { 0 } as u64)
-        }),
-        _ => Err(Missing::Name),
-    }
+/// The bits from index 13 on, but for the last ones, written over those from index 29 on.
+#[inline(never)]
+fn copy_range(mut vob: Vob, other: &Vob, rounds: usize) -> Result<u64, Missing> {
+    each_round!(vob, rounds, |round| {
+        copy_bits(&mut vob, 29, other, (13, other.len().saturating_sub(64)),);
+        sample(&vob, round) as u64
+    })
 }
 
-/// Runs a workload of the name that combines two Vobs in place, or else a count.
-fn combine(name: &[u8], vob: Vob, other: &Vob, rounds: usize) -> Result<u64, Missing> {
-    match name {
-        b"And" => each_round(vob, rounds, |vob, _| {
-            Ok((vob.len() == other.len() && vob.and(other)) as u64)
-        }),
-        b"Or" => each_round(vob, rounds, |vob, _| {
-            Ok((vob.len() == other.len() && vob.or(other)) as u64)
-        }),
-        b"Xor" => each_round(vob, rounds, |vob, _| {
-            Ok((vob.len() == other.len() && vob.xor(other)) as u64)
-        }),
-        b"AndNot" => each_round(vob, rounds, |vob, _| {
-            Ok((vob.len() == other.len() && vob.and_not(other)) as u64)
-        }),
-        // Without a look at what is returned.
-        b"OrDropped" => each_round(vob, rounds, |vob, _| {
-            if vob.len() == other.len() {
-                vob.or(other);
-            }
-            Ok(0)
-        }),
-        b"AndNotDropped" => each_round(vob, rounds, |vob, _| {
-            if vob.len() == other.len() {
-                vob.and_not(other);
-            }
-            Ok(0)
-        }),
-        _ => count(name, vob, other, rounds),
-    }
+/// `and` a round.
+#[inline(never)]
+fn and(mut vob: Vob, other: &Vob, rounds: usize) -> Result<u64, Missing> {
+    each_round!(vob, rounds, |_round| {
+        (vob.len() == other.len() && vob.and(other)) as u64
+    })
+}
+
+/// `or` a round.
+#[inline(never)]
+fn or(mut vob: Vob, other: &Vob, rounds: usize) -> Result<u64, Missing> {
+    each_round!(vob, rounds, |_round| {
+        (vob.len() == other.len() && vob.or(other)) as u64
+    })
+}
+
+/// `xor` a round.
+#[inline(never)]
+fn xor(mut vob: Vob, other: &Vob, rounds: usize) -> Result<u64, Missing> {
+    each_round!(vob, rounds, |_round| {
+        (vob.len() == other.len() && vob.xor(other)) as u64
+    })
+}
+
+/// `and_not` a round.
+#[inline(never)]
+fn and_not(mut vob: Vob, other: &Vob, rounds: usize) -> Result<u64, Missing> {
+    each_round!(vob, rounds, |_round| {
+        (vob.len() == other.len() && vob.and_not(other)) as u64
+    })
+}
+
+/// `or` a round, without a look at what is returned.
+#[inline(never)]
+fn or_dropped(mut vob: Vob, other: &Vob, rounds: usize) -> Result<u64, Missing> {
+    each_round!(vob, rounds, |_round| {
+        if vob.len() == other.len() {
+            vob.or(other);
+        }
+        0
+    })
+}
+
+/// `and_not` a round, without a look at what is returned.
+#[inline(never)]
+fn and_not_dropped(mut vob: Vob, other: &Vob, rounds: usize) -> Result<u64, Missing> {
+    each_round!(vob, rounds, |_round| {
+        if vob.len() == other.len() {
+            vob.and_not(other);
+        }
+        0
+    })
+}
+
+/// `count_and` a round.
+#[inline(never)]
+fn count_and(mut vob: Vob, other: &Vob, rounds: usize) -> Result<u64, Missing> {
+    each_round!(vob, rounds, |round| {
+        touch(&mut vob, round);
+        let fits = vob.len() == other.len();
+        if fits { vob.count_and(other) } else { 0 } as u64
+    })
+}
+
+/// `count_or` a round.
+#[inline(never)]
+fn count_or(mut vob: Vob, other: &Vob, rounds: usize) -> Result<u64, Missing> {
+    each_round!(vob, rounds, |round| {
+        touch(&mut vob, round);
+        let fits = vob.len() == other.len();
+        if fits { vob.count_or(other) } else { 0 } as u64
+    })
+}
+
+/// `count_and_not` a round.
+#[inline(never)]
+fn count_and_not(mut vob: Vob, other: &Vob, rounds: usize) -> Result<u64, Missing> {
+    each_round!(vob, rounds, |round| {
+        touch(&mut vob, round);
+        let fits = vob.len() == other.len();
+        if fits { vob.count_and_not(other) } else { 0 } as u64
+    })
+}
+
+/// `count_xor` a round.
+#[inline(never)]
+fn count_xor(mut vob: Vob, other: &Vob, rounds: usize) -> Result<u64, Missing> {
+    each_round!(vob, rounds, |round| {
+        touch(&mut vob, round);
+        let fits = vob.len() == other.len();
+        if fits { vob.count_xor(other) } else { 0 } as u64
+    })
 }
 
 /// Runs the workload of a name.
@@ -194,18 +257,28 @@ pub(crate) fn run(
         b"Equal" => equal(vob, rounds),
         b"Order" => before(vob, rounds),
         b"Minus" => minus(vob, &other, rounds),
-        b"Intersection" => each_round(vob, rounds, |vob, round| {
-            flip(vob, round);
-            Ok(both(vob, &other))
-        }),
+        b"Intersection" => intersection(vob, &other, rounds),
         b"ExtendAligned" => extend(vob, &other, 64, rounds),
         b"ExtendShifted" => extend(vob, &other, 64 + 13, rounds),
         b"Filter" => filter(vob, &other, rounds),
-        // The bits from index 13 on, but for the last ones, written over those from index 29 on.
-        b"CopyRange" => each_round(vob, rounds, |vob, round| {
-            copy_bits(vob, 29, &other, (13, other.len().saturating_sub(64)));
-            Ok(sample(vob, round) as u64)
-        }),
+        b"CopyRange" => copy_range(vob, &other, rounds),
         _ => combine(name, vob, &other, rounds),
+    }
+}
+
+/// Runs the workload of a name that combines two Vobs in place, or counts what both have.
+fn combine(name: &[u8], vob: Vob, other: &Vob, rounds: usize) -> Result<u64, Missing> {
+    match name {
+        b"And" => and(vob, other, rounds),
+        b"Or" => or(vob, other, rounds),
+        b"Xor" => xor(vob, other, rounds),
+        b"AndNot" => and_not(vob, other, rounds),
+        b"OrDropped" => or_dropped(vob, other, rounds),
+        b"AndNotDropped" => and_not_dropped(vob, other, rounds),
+        b"CountAnd" => count_and(vob, other, rounds),
+        b"CountOr" => count_or(vob, other, rounds),
+        b"CountAndNot" => count_and_not(vob, other, rounds),
+        b"CountXor" => count_xor(vob, other, rounds),
+        _ => Err(Missing::Name),
     }
 }

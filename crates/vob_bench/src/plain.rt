@@ -14,21 +14,42 @@ fn plain_of(alloc: Global, bytes: &[u8]) -> Result<Vob<u64>, Missing> {
     Ok(made)
 }
 
-/// Calls once a round, and returns the checksum of how often a bit changed and of the Vob that is left.
+/// The checksum of how often a bit changed and of the Vob that is left.
+fn checksum_of(alloc: Global, vob: &Vob<u64>, times: u64) -> Result<u64, Missing> {
+    Ok(checksum(&Vob::from_iter(alloc, vob.iter())?, times))
+}
+
+/// `and` of Vobs that are as long.
 #[inline(never)]
-fn each_round<F: FnMut(&mut Vob<u64>) -> bool>(
-    alloc: Global,
-    mut vob: Vob<u64>,
-    rounds: usize,
-    mut call: F,
-) -> Result<u64, Missing>
-    requires { F.IsAlwaysCallable call }
-{
+fn and(alloc: Global, mut vob: Vob<u64>, other: &Vob<u64>, rounds: usize) -> Result<u64, Missing> {
     let mut times: u64 = 0;
     for _ in 0..rounds {
-        times = times.wrapping_add(call(&mut vob) as u64);
+        let changed = vob.len() == other.len() && vob.and(other);
+        times = times.wrapping_add(changed as u64);
     }
-    Ok(checksum(&Vob::from_iter(alloc, vob.iter())?, times))
+    checksum_of(alloc, &vob, times)
+}
+
+/// `or` of Vobs that are as long.
+#[inline(never)]
+fn or(alloc: Global, mut vob: Vob<u64>, other: &Vob<u64>, rounds: usize) -> Result<u64, Missing> {
+    let mut times: u64 = 0;
+    for _ in 0..rounds {
+        let changed = vob.len() == other.len() && vob.or(other);
+        times = times.wrapping_add(changed as u64);
+    }
+    checksum_of(alloc, &vob, times)
+}
+
+/// `xor` of Vobs that are as long.
+#[inline(never)]
+fn xor(alloc: Global, mut vob: Vob<u64>, other: &Vob<u64>, rounds: usize) -> Result<u64, Missing> {
+    let mut times: u64 = 0;
+    for _ in 0..rounds {
+        let changed = vob.len() == other.len() && vob.xor(other);
+        times = times.wrapping_add(changed as u64);
+    }
+    checksum_of(alloc, &vob, times)
 }
 
 /// Runs the workload of a name. If the Vobs aren't as long, nothing is done.
@@ -42,24 +63,9 @@ pub(crate) fn run(
     let vob = plain_of(alloc, bytes)?;
     let other = plain_of(alloc, others)?;
     match name {
-        b"And" => each_round(
-            alloc,
-            vob,
-            rounds,
-            |vob| vob.len() == other.len() && vob.and(&other),
-        ),
-        b"Or" => each_round(
-            alloc,
-            vob,
-            rounds,
-            |vob| vob.len() == other.len() && vob.or(&other),
-        ),
-        b"Xor" => each_round(
-            alloc,
-            vob,
-            rounds,
-            |vob| vob.len() == other.len() && vob.xor(&other),
-        ),
+        b"And" => and(alloc, vob, &other, rounds),
+        b"Or" => or(alloc, vob, &other, rounds),
+        b"Xor" => xor(alloc, vob, &other, rounds),
         _ => Err(Missing::Name),
     }
 }

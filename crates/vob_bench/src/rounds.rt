@@ -1,8 +1,7 @@
 //! The loop of the workloads.
 
-use crate::checksum::checksum;
 use std::alloc::AllocError;
-use vob::{Vob, VobError};
+use vob::VobError;
 
 /// Why a workload has no checksum.
 #[derive(Clone, Copy, Debug)]
@@ -23,19 +22,17 @@ impl From<VobError> for Missing {
     }
 }
 
-/// Calls once a round, and returns the checksum of the sum of what the calls return and of the Vob that
-/// is left.
-#[inline(never)]
-pub(crate) fn each_round<F: FnMut(&mut Vob, usize) -> Result<u64, Missing>>(
-    mut vob: Vob,
-    rounds: usize,
-    mut call: F,
-) -> Result<u64, Missing>
-    requires { F.IsAlwaysCallable call }
-{
-    let mut sum: u64 = 0;
-    for round in 0..rounds {
-        sum = sum.wrapping_add(call(&mut vob, round)?);
-    }
-    Ok(checksum(&vob, sum))
+/// Finds a value once a round, and gives the checksum of the sum of these values and of the Vob that is
+/// left. What reads as a closure is the body of a loop, which takes less to prove.
+macro_rules! each_round {
+    ($vob:ident, $rounds:ident, |$round:ident| $value:expr) => {{
+        let mut sum: u64 = 0;
+        for $round in 0..$rounds {
+            let value: u64 = $value;
+            sum = sum.wrapping_add(value);
+        }
+        Ok(checksum(&$vob, sum))
+    }};
 }
+
+pub(crate) use each_round;

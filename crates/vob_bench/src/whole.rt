@@ -1,6 +1,6 @@
 //! Workloads on all bits of a Vob, or on a range of them.
 
-use crate::checksum::{index_of, sample, touch};
+use crate::checksum::{checksum, index_of, sample, touch};
 use crate::rounds::{Missing, each_round};
 use std::alloc::Global;
 use std::hash::{DefaultHasher, Hash, Hasher};
@@ -24,43 +24,143 @@ fn hashed(vob: &Vob) -> u64 {
     state.finish()
 }
 
-/// `count` bits from place `from` of a block in the middle drained, and joined again after the others.
-fn drain(vob: Vob, rounds: usize, from: usize, count: usize) -> Result<u64, Missing> {
-    let start = (vob.len() / 128 * 64).saturating_add(from);
-    each_round(vob, rounds, |vob, round| {
-        let part = vob.drain(start..start.saturating_add(count))?;
-        vob.extend_from_vob(&part)?;
-        Ok(sample(vob, round) as u64)
+/// Makes a Vob of bytes.
+#[inline(never)]
+fn from_bytes(alloc: Global, mut vob: Vob, bytes: &[u8], rounds: usize) -> Result<u64, Missing> {
+    each_round!(vob, rounds, |round| {
+        vob = Vob::from_bytes(alloc, bytes)?;
+        sample(&vob, round) as u64
     })
 }
 
-/// A hash a round. Hashes differ between libraries, so how often one is as the last is counted.
-fn hash(vob: Vob, rounds: usize) -> Result<u64, Missing> {
+/// Walks over all bits.
+#[inline(never)]
+fn iterate(mut vob: Vob, rounds: usize) -> Result<u64, Missing> {
+    each_round!(vob, rounds, |round| {
+        touch(&mut vob, round);
+        walked(&vob)
+    })
+}
+
+/// Cuts a Vob to 13 bits, and lets it grow again by true ones, in the room that there is.
+#[inline(never)]
+fn resize(mut vob: Vob, rounds: usize) -> Result<u64, Missing> {
+    let len = vob.len();
+    each_round!(vob, rounds, |round| {
+        vob.truncate(13);
+        vob.resize(len, true)?;
+        sample(&vob, round) as u64
+    })
+}
+
+/// Copies the range without 13 bits at the front and 29 at the back.
+#[inline(never)]
+fn slice(mut vob: Vob, rounds: usize) -> Result<u64, Missing> {
+    let end = vob.len().saturating_sub(29);
+    each_round!(vob, rounds, |round| {
+        touch(&mut vob, round);
+        sample(&vob.slice(13..end)?, round) as u64
+    })
+}
+
+/// Clones a Vob.
+#[inline(never)]
+fn clone(mut vob: Vob, rounds: usize) -> Result<u64, Missing> {
+    each_round!(vob, rounds, |round| {
+        touch(&mut vob, round);
+        sample(&vob.clone()?, round) as u64
+    })
+}
+
+/// Hashes a Vob. Hashes differ between libraries, so how often one is as the last is counted.
+#[inline(never)]
+fn hash(mut vob: Vob, rounds: usize) -> Result<u64, Missing> {
     let mut last: u64 = 0;
-    each_round(vob, rounds, |vob, round| {
-        touch(vob, round);
-        let now = hashed(vob);
+    each_round!(vob, rounds, |round| {
+        touch(&mut vob, round);
+        let now = hashed(&vob);
         let same = now == last;
         last = now;
-        Ok(same as u64)
+        same as u64
+    })
+}
+
+/// Cuts the first 13 bits off: the others move down, into a new Vob.
+#[inline(never)]
+fn split_off(mut vob: Vob, rounds: usize) -> Result<u64, Missing> {
+    each_round!(vob, rounds, |round| {
+        vob = vob.split_off(13)?;
+        sample(&vob, round) as u64
+    })
+}
+
+/// Drains `count` bits from place `from` of a block in the middle, and appends them to the others.
+#[inline(never)]
+fn drain(mut vob: Vob, rounds: usize, from: usize, count: usize) -> Result<u64, Missing> {
+    let start = (vob.len() / 128 * 64).saturating_add(from);
+    each_round!(vob, rounds, |round| {
+        let part = vob.drain(start..start.saturating_add(count))?;
+        vob.extend_from_vob(&part)?;
+        sample(&vob, round) as u64
     })
 }
 
 /// The bytes of a Vob, of which one is looked at.
-fn to_bytes(alloc: Global, vob: &mut Vob, round: usize) -> Result<u64, Missing> {
+fn bytes_of(alloc: Global, vob: &mut Vob, round: usize) -> Result<u64, Missing> {
     touch(vob, round);
     let made = vob.to_bytes(alloc)?;
     let byte = made.get(index_of(vob, round) / 8).copied();
     Ok(byte.unwrap_or(0) as u64)
 }
 
-/// A change a round, and then a look at a bit.
-fn change<F: Fn(&mut Vob)>(vob: Vob, rounds: usize, call: F) -> Result<u64, Missing>
-    requires { F.IsAlwaysCallable call }
-{
-    each_round(vob, rounds, |vob, round| {
-        call(vob);
-        Ok(sample(vob, round) as u64)
+/// Makes bytes of a Vob.
+#[inline(never)]
+fn to_bytes(alloc: Global, mut vob: Vob, rounds: usize) -> Result<u64, Missing> {
+    each_round!(vob, rounds, |round| bytes_of(alloc, &mut vob, round)?)
+}
+
+/// Sets or unsets all bits.
+#[inline(never)]
+fn set_all(mut vob: Vob, rounds: usize) -> Result<u64, Missing> {
+    each_round!(vob, rounds, |round| {
+        vob.set_all(round % 2 == 1);
+        sample(&vob, round) as u64
+    })
+}
+
+/// Negates all bits.
+#[inline(never)]
+fn negate(mut vob: Vob, rounds: usize) -> Result<u64, Missing> {
+    each_round!(vob, rounds, |round| {
+        vob.negate();
+        sample(&vob, round) as u64
+    })
+}
+
+/// Reverses a Vob.
+#[inline(never)]
+fn reverse(mut vob: Vob, rounds: usize) -> Result<u64, Missing> {
+    each_round!(vob, rounds, |round| {
+        vob.reverse();
+        sample(&vob, round) as u64
+    })
+}
+
+/// Rotates a Vob by 13.
+#[inline(never)]
+fn rotate(mut vob: Vob, rounds: usize) -> Result<u64, Missing> {
+    each_round!(vob, rounds, |round| {
+        vob.rotate_left(13);
+        sample(&vob, round) as u64
+    })
+}
+
+/// Shifts a Vob by 13.
+#[inline(never)]
+fn shift_up(mut vob: Vob, rounds: usize) -> Result<u64, Missing> {
+    each_round!(vob, rounds, |round| {
+        vob.shl(13);
+        sample(&vob, round) as u64
     })
 }
 
@@ -74,66 +174,54 @@ fn insert_and_remove(vob: &mut Vob, round: usize) -> Result<u64, Missing> {
     Ok(sample(vob, round) as u64)
 }
 
-/// Runs a workload of the name that changes all bits, or those without 13 at the front and 29 at the
-/// back.
-fn change_by(name: &[u8], vob: Vob, rounds: usize) -> Result<u64, Missing> {
+/// Inserts a bit, and removes one.
+#[inline(never)]
+fn insert_remove(mut vob: Vob, rounds: usize) -> Result<u64, Missing> {
+    each_round!(vob, rounds, |round| insert_and_remove(&mut vob, round)?)
+}
+
+/// Sets or unsets all bits but 13 at the front and 29 at the back.
+#[inline(never)]
+fn set_range(mut vob: Vob, rounds: usize) -> Result<u64, Missing> {
     let end = vob.len().saturating_sub(29);
-    match name {
-        b"SetAll" => each_round(vob, rounds, |vob, round| {
-            vob.set_all(round % 2 == 1);
-            Ok(sample(vob, round) as u64)
-        }),
-        b"Negate" => change(vob, rounds, |vob| vob.negate()),
-        b"Reverse" => change(vob, rounds, |vob| vob.reverse()),
-        b"Rotate" => change(vob, rounds, |vob| vob.rotate_left(13)),
-        b"ShiftUp" => change(vob, rounds, |vob| vob.shl(13)),
-        b"InsertRemove" => each_round(vob, rounds, insert_and_remove),
-        b"SetRange" => each_round(vob, rounds, |vob, round| {
-            vob.set_range(13..end, round % 2 == 1);
-            Ok(sample(vob, round) as u64)
-        }),
-        b"NegateRange" => change(vob, rounds, |vob| vob.negate_range(13..end)),
-        _ => Err(Missing::Name),
-    }
+    each_round!(vob, rounds, |round| {
+        vob.set_range(13..end, round % 2 == 1);
+        sample(&vob, round) as u64
+    })
+}
+
+/// Negates the same.
+#[inline(never)]
+fn negate_range(mut vob: Vob, rounds: usize) -> Result<u64, Missing> {
+    let end = vob.len().saturating_sub(29);
+    each_round!(vob, rounds, |round| {
+        vob.negate_range(13..end);
+        sample(&vob, round) as u64
+    })
 }
 
 /// Runs the workload of a name.
 pub(crate) fn run(alloc: Global, name: &[u8], bytes: &[u8], rounds: usize) -> Result<u64, Missing> {
     let vob = Vob::from_bytes(alloc, bytes)?;
-    let len = vob.len();
     match name {
-        b"FromBytes" => each_round(vob, rounds, |vob, round| {
-            *vob = Vob::from_bytes(alloc, bytes)?;
-            Ok(sample(vob, round) as u64)
-        }),
-        b"Iterate" => each_round(vob, rounds, |vob, round| {
-            touch(vob, round);
-            Ok(walked(vob))
-        }),
-        // Cut to 13 bits and grown again by true ones, in the room that there is.
-        b"Resize" => each_round(vob, rounds, |vob, round| {
-            vob.truncate(13);
-            vob.resize(len, true)?;
-            Ok(sample(vob, round) as u64)
-        }),
-        // The range without 13 bits at the front and 29 at the back.
-        b"Slice" => each_round(vob, rounds, |vob, round| {
-            touch(vob, round);
-            Ok(sample(&vob.slice(13..len.saturating_sub(29))?, round) as u64)
-        }),
-        b"Clone" => each_round(vob, rounds, |vob, round| {
-            touch(vob, round);
-            Ok(sample(&vob.clone()?, round) as u64)
-        }),
+        b"FromBytes" => from_bytes(alloc, vob, bytes, rounds),
+        b"Iterate" => iterate(vob, rounds),
+        b"Resize" => resize(vob, rounds),
+        b"Slice" => slice(vob, rounds),
+        b"Clone" => clone(vob, rounds),
         b"Hash" => hash(vob, rounds),
-        // The first 13 bits cut off: the others move down, into a new Vob.
-        b"SplitOff" => each_round(vob, rounds, |vob, round| {
-            *vob = vob.split_off(13)?;
-            Ok(sample(vob, round) as u64)
-        }),
+        b"SplitOff" => split_off(vob, rounds),
         b"DrainAligned" => drain(vob, rounds, 0, 64),
         b"DrainShifted" => drain(vob, rounds, 13, 29),
-        b"ToBytes" => each_round(vob, rounds, |vob, round| to_bytes(alloc, vob, round)),
-        _ => change_by(name, vob, rounds),
+        b"ToBytes" => to_bytes(alloc, vob, rounds),
+        b"SetAll" => set_all(vob, rounds),
+        b"Negate" => negate(vob, rounds),
+        b"Reverse" => reverse(vob, rounds),
+        b"Rotate" => rotate(vob, rounds),
+        b"ShiftUp" => shift_up(vob, rounds),
+        b"InsertRemove" => insert_remove(vob, rounds),
+        b"SetRange" => set_range(vob, rounds),
+        b"NegateRange" => negate_range(vob, rounds),
+        _ => Err(Missing::Name),
     }
 }

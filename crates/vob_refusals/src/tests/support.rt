@@ -8,7 +8,7 @@ use vob::{Vob, VobError};
 use vob_block::Block;
 
 /// How many requests are made before those of a test, where the first of these are refused:
-/// `tools/refuse` refuses the next four in turn. A test whose calls make more requests is there
+/// `tools/check/refuse` refuses the next four in turn. A test whose calls make more requests is there
 /// more often, each time after four fewer.
 pub const FIRST: usize = 70;
 
