@@ -34,7 +34,7 @@ pub fn closure<B: Bits>(input: &Input, rounds: usize) -> u64 {
     checksum_all(&last, times)
 }
 
-/// The rows that two columns keep and a third doesn't, as `vob_users::rows` selects and counts them.
+/// The rows that two columns keep and a third doesn't, as `vob_filter::rows` selects and counts them.
 pub fn filter<B: Bits>(input: &Input, rounds: usize) -> u64 {
     let mut times = 0;
     let mut first = B::from_bytes(&input.bytes);
@@ -48,7 +48,7 @@ pub fn filter<B: Bits>(input: &Input, rounds: usize) -> u64 {
     checksum(&first, times)
 }
 
-/// Adds row `from` to row `into`, as `vob_users::matrix` does.
+/// Adds row `from` to row `into`, as `vob_matrix::matrix` does.
 fn or_row<B: Bits>(rows: &mut [B], into: usize, from: usize) {
     if into < from {
         let (low, high) = rows.split_at_mut(from);
