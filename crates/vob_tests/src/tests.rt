@@ -1,4 +1,5 @@
 //! Rows worked out by hand, and patterns against lists of bits; refusals apart.
+mod block_types;
 mod constructors;
 mod copies;
 mod draining;

@@ -1,4 +1,5 @@
 //! Rows worked out by hand, and patterns against one bit after another; refusals apart.
+mod block_types;
 mod combined;
 mod counts;
 mod reads;

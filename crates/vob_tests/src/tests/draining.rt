@@ -6,7 +6,6 @@ use std::ops::Bound::{Excluded, Included, Unbounded};
 use std::ops::RangeBounds;
 use std::process::Abort;
 use vob::Vob;
-use vob_block::Block;
 
 #[test]
 fn bits_are_drained_from_among_others_and_from_the_end(rt: HostRuntime) {
@@ -68,9 +67,9 @@ fn without(rt: &(impl Abort + AllocGlobal), len: usize, from: usize, to: usize) 
 }
 
 /// A range of such a pattern: its bits are drained, and the others left.
-fn check_drain<T: Block>(
+fn check_drain(
     rt: &(impl Abort + AllocGlobal),
-    whole: &Vob<T>,
+    whole: &Vob<u8>,
     len: usize,
     from: usize,
     to: usize,
@@ -82,8 +81,8 @@ fn check_drain<T: Block>(
 }
 
 /// The ranges from one index on that end at `first` or later.
-fn check_drains<T: Block>(rt: &(impl Abort + AllocGlobal), len: usize, from: usize, first: usize) {
-    let whole = pattern::<T>(rt, len, len);
+fn check_drains(rt: &(impl Abort + AllocGlobal), len: usize, from: usize, first: usize) {
+    let whole = pattern::<u8>(rt, len, len);
     for to in first..len.saturating_add(1) {
         check_drain(rt, &whole, len, from, to);
     }
@@ -93,11 +92,10 @@ fn check_drains<T: Block>(rt: &(impl Abort + AllocGlobal), len: usize, from: usi
 fn drains_give_what_the_list_has_and_leave_what_pushes_leave(rt: HostRuntime) {
     for len in 0..70 {
         for from in 0..len + 1 {
-            check_drains::<u8>(&rt, len, from, from);
-            check_drains::<usize>(&rt, len, from, from);
+            check_drains(&rt, len, from, from);
         }
     }
     for from in 0..20 {
-        check_drains::<usize>(&rt, 130, from, 60);
+        check_drains(&rt, 130, from, 60);
     }
 }

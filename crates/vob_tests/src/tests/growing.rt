@@ -5,7 +5,6 @@ use super::support::{
 };
 use std::process::Abort;
 use vob::{Vob, VobError};
-use vob_block::Block;
 
 #[test]
 fn bits_behind_others_and_all_bits_become_true(rt: HostRuntime) {
@@ -72,7 +71,7 @@ fn joined_bits_are_cut_apart_again_and_not_past_the_end(rt: HostRuntime) {
 }
 
 /// Appends the blocks of another Vob.
-fn append<T: Block>(rt: &impl Abort, vob: &mut Vob<T>, other: &Vob<T>) {
+fn append(rt: &impl Abort, vob: &mut Vob<u8>, other: &Vob<u8>) {
     let more = other.len();
     vob.reserve(more).expect(rt, "memory");
     vob.append_blocks(&mut other.blocks(), more);
@@ -80,7 +79,7 @@ fn append<T: Block>(rt: &impl Abort, vob: &mut Vob<T>, other: &Vob<T>) {
 
 /// Two Vobs that are joined, or whose blocks are appended, are what pushes leave; cut apart, they are
 /// both again.
-fn check_join<T: Block>(rt: &impl Abort, one: &Vob<T>, two: &Vob<T>, pushed: &Vob<T>) {
+fn check_join(rt: &impl Abort, one: &Vob<u8>, two: &Vob<u8>, pushed: &Vob<u8>) {
     let mut appended = copy_of(rt, one);
     append(rt, &mut appended, two);
     check_same(rt, &appended, pushed);
@@ -93,9 +92,9 @@ fn check_join<T: Block>(rt: &impl Abort, one: &Vob<T>, two: &Vob<T>, pushed: &Vo
 }
 
 /// A pattern joined with each of the patterns of the lengths below `end`.
-fn check_joins<T: Block>(rt: &(impl Abort + AllocGlobal), seed: usize, first: usize, end: usize) {
-    let one = pattern::<T>(rt, seed, first);
-    let mut two = vob_of::<T>(rt, "");
+fn check_joins(rt: &(impl Abort + AllocGlobal), seed: usize, first: usize, end: usize) {
+    let one = pattern::<u8>(rt, seed, first);
+    let mut two = vob_of::<u8>(rt, "");
     let mut pushed = copy_of(rt, &one);
     for second in 0..end {
         check_join(rt, &one, &two, &pushed);
@@ -108,25 +107,15 @@ fn check_joins<T: Block>(rt: &(impl Abort + AllocGlobal), seed: usize, first: us
 #[test]
 fn joins_leave_what_pushes_leave(rt: HostRuntime) {
     for seed in 0..3 {
-        for first in 0..128 {
-            check_joins::<usize>(&rt, seed, first, 128);
+        for first in 0..130 {
+            check_joins(&rt, seed, first, 130);
         }
-    }
-    for first in 0..130 {
-        check_joins::<u8>(&rt, 0, first, 130);
-        check_joins::<u64>(&rt, 1, first, 130);
-        check_joins::<u128>(&rt, 2, first, 130);
     }
 }
 
 /// A pattern with items appended, by a slice and by an iterator, is what pushes leave.
-fn check_growth<T: Block>(
-    rt: &(impl Abort + AllocGlobal),
-    seed: usize,
-    first: usize,
-    items: &[bool],
-) {
-    let mut pushed = pattern::<T>(rt, seed, first);
+fn check_growth(rt: &(impl Abort + AllocGlobal), seed: usize, first: usize, items: &[bool]) {
+    let mut pushed = pattern::<u8>(rt, seed, first);
     let mut sliced = copy_of(rt, &pushed);
     let mut extended = copy_of(rt, &pushed);
     for bit in items {
@@ -155,9 +144,9 @@ fn lengthened(
 }
 
 /// Equal bits come after a pattern; cut off, what was there is left.
-fn check_resize<T: Block>(rt: &(impl Abort + AllocGlobal), value: bool, first: usize, more: usize) {
+fn check_resize(rt: &(impl Abort + AllocGlobal), value: bool, first: usize, more: usize) {
     let bits = lengthened(rt, value, first, more);
-    let mut vob = pattern::<T>(rt, 1, first);
+    let mut vob = pattern::<u8>(rt, 1, first);
     resize(rt, &mut vob, bits.len(), value);
     check_list(rt, &vob, &bits);
     resize(rt, &mut vob, first, !value);
@@ -168,19 +157,12 @@ fn check_resize<T: Block>(rt: &(impl Abort + AllocGlobal), value: bool, first: u
 fn growth_leaves_the_bits_of_both(rt: HostRuntime) {
     let mut items = Vec::new(rt.alloc());
     for count in 0..150 {
-        for first in 0..40 {
-            if count < 40 {
-                check_growth::<u8>(&rt, 0, first, &items);
-                check_growth::<u16>(&rt, 1, first, &items);
-                check_growth::<u128>(&rt, 2, first, &items);
-                check_resize::<u8>(&rt, true, first, count);
-                check_resize::<u16>(&rt, false, first, count);
+        for first in 0..68 {
+            if first < 40 && count < 40 || first >= 60 {
+                check_growth(&rt, first % 3, first, &items);
+                check_resize(&rt, true, first, count);
+                check_resize(&rt, false, first, count);
             }
-        }
-        for first in 60..68 {
-            check_growth::<usize>(&rt, 2, first, &items);
-            check_resize::<usize>(&rt, true, first, count);
-            check_resize::<u64>(&rt, false, first, count);
         }
         items.push(count % 5 < 2).expect(&rt, "memory");
     }

@@ -3,7 +3,6 @@
 use super::support::{check_bits, check_list, moved, pattern, pattern_list, same, vob_of};
 use std::process::Abort;
 use vob::{IndicesError, Vob};
-use vob_block::Block;
 
 /// The bits of pattern 1 of this length, `n` indices up.
 fn shifted_up(rt: &(impl Abort + AllocGlobal), len: usize, n: usize) -> Vec<bool> {
@@ -19,11 +18,11 @@ fn shifted_down(rt: &(impl Abort + AllocGlobal), len: usize, n: usize) -> Vec<bo
     )
 }
 
-fn check_shifts<T: Block>(rt: &(impl Abort + AllocGlobal), len: usize, n: usize) {
-    let mut vob = pattern::<T>(rt, 1, len);
+fn check_shifts(rt: &(impl Abort + AllocGlobal), len: usize, n: usize) {
+    let mut vob = pattern::<u8>(rt, 1, len);
     vob.shl(n);
     check_list(rt, &vob, &shifted_up(rt, len, n));
-    let mut vob = pattern::<T>(rt, 1, len);
+    let mut vob = pattern::<u8>(rt, 1, len);
     vob.shr(n);
     check_list(rt, &vob, &shifted_down(rt, len, n));
 }
@@ -32,9 +31,7 @@ fn check_shifts<T: Block>(rt: &(impl Abort + AllocGlobal), len: usize, n: usize)
 fn bits_are_shifted_both_ways(rt: HostRuntime) {
     for len in [0, 1, 7, 8, 9, 63, 64, 65, 127, 128, 129] {
         for n in [0, 1, 3, 8, 9, 63, 64, 65, 128, usize::MAX] {
-            check_shifts::<u8>(&rt, len, n);
-            check_shifts::<u64>(&rt, len, n);
-            check_shifts::<u128>(&rt, len, n);
+            check_shifts(&rt, len, n);
         }
     }
 }
@@ -49,8 +46,8 @@ fn inserted(rt: &(impl Abort + AllocGlobal), len: usize, index: usize) -> Vec<bo
 }
 
 /// Puts a bit in and takes it out again.
-fn check_insert<T: Block>(rt: &(impl Abort + AllocGlobal), len: usize, index: usize) {
-    let mut vob = pattern::<T>(rt, 1, len);
+fn check_insert(rt: &(impl Abort + AllocGlobal), len: usize, index: usize) {
+    let mut vob = pattern::<u8>(rt, 1, len);
     if index > vob.len() {
         return;
     }
@@ -66,15 +63,13 @@ fn check_insert<T: Block>(rt: &(impl Abort + AllocGlobal), len: usize, index: us
 fn a_bit_is_put_in_and_taken_out_at_every_index(rt: HostRuntime) {
     for len in [0, 1, 8, 63, 64, 65, 129] {
         for index in 0..131 {
-            check_insert::<u8>(&rt, len, index);
-            check_insert::<u64>(&rt, len, index);
-            check_insert::<u128>(&rt, len, index);
+            check_insert(&rt, len, index);
         }
     }
 }
 
 /// `copy_within` of the bits from `start` to below `end`, if they are there and fit.
-fn copy<T: Block>(vob: &mut Vob<T>, at: usize, start: usize, end: usize) -> bool {
+fn copy(vob: &mut Vob<u8>, at: usize, start: usize, end: usize) -> bool {
     let len = vob.len();
     if start <= end && end <= len && at <= len && end - start <= len - at {
         vob.copy_within(start..end, at);
@@ -98,8 +93,8 @@ fn copied(
 }
 
 /// Copies a part of a Vob of 130 bits over another part of it.
-fn check_within<T: Block>(rt: &(impl Abort + AllocGlobal), at: usize, start: usize, count: usize) {
-    let mut vob = pattern::<T>(rt, 1, 130);
+fn check_within(rt: &(impl Abort + AllocGlobal), at: usize, start: usize, count: usize) {
+    let mut vob = pattern::<u8>(rt, 1, 130);
     if copy(&mut vob, at, start, start.saturating_add(count)) {
         check_list(rt, &vob, &copied(rt, 130, at, start, count));
     }
@@ -110,9 +105,7 @@ fn parts_are_copied_over_others_that_they_overlap(rt: HostRuntime) {
     for at in [0, 1, 5, 8, 63, 64, 65, 100] {
         for start in [0, 1, 3, 8, 62, 64, 67] {
             for count in [0, 1, 8, 9, 30, 64] {
-                check_within::<u8>(&rt, at, start, count);
-                check_within::<u64>(&rt, at, start, count);
-                check_within::<u128>(&rt, at, start, count);
+                check_within(&rt, at, start, count);
             }
         }
     }
@@ -160,8 +153,8 @@ fn single_bits_change_places(rt: HostRuntime) {
 }
 
 /// The Vob of `1001000001`, made by indices that are set past the end.
-fn grown<T: Block>(rt: &(impl Abort + AllocGlobal)) -> Vob<T> {
-    let mut vob = vob_of::<T>(rt, "1");
+fn grown(rt: &(impl Abort + AllocGlobal)) -> Vob<u8> {
+    let mut vob = vob_of::<u8>(rt, "1");
     vob.grow_and_set(9).expect(rt, "memory");
     check_bits(rt, &vob, "1000000001");
     vob.grow_and_set(3).expect(rt, "memory");
@@ -172,8 +165,8 @@ fn grown<T: Block>(rt: &(impl Abort + AllocGlobal)) -> Vob<T> {
 }
 
 /// Sets indices at once, or none of them.
-fn check_set<T: Block>(rt: &(impl Abort + AllocGlobal)) {
-    let mut vob = grown::<T>(rt);
+fn check_set(rt: &(impl Abort + AllocGlobal)) {
+    let mut vob = grown(rt);
     vob.set_indices(&[1, 8, 1])
         .expect(rt, "each is below the length");
     check_bits(rt, &vob, "1101000011");
@@ -185,7 +178,5 @@ fn check_set<T: Block>(rt: &(impl Abort + AllocGlobal)) {
 
 #[test]
 fn indices_are_set_past_the_end_and_at_once(rt: HostRuntime) {
-    check_set::<u8>(&rt);
-    check_set::<u64>(&rt);
-    check_set::<u128>(&rt);
+    check_set(&rt);
 }

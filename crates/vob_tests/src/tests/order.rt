@@ -2,16 +2,15 @@
 use super::support::{check_bits, pattern, pattern_bit, same, vob_of};
 use std::cmp::Ordering;
 use std::process::Abort;
-use vob_block::Block;
 
 /// How the Vobs of these digits compare: one with the other, the other way round, and by `<`.
-fn order_of<T: Block>(
+fn order_of(
     rt: &(impl Abort + AllocGlobal),
     digits: &str,
     others: &str,
 ) -> (Ordering, Ordering, bool) {
-    let vob = vob_of::<T>(rt, digits);
-    let other = vob_of::<T>(rt, others);
+    let vob = vob_of::<u8>(rt, digits);
+    let other = vob_of::<u8>(rt, others);
     (vob.cmp(&other), other.cmp(&vob), vob < other)
 }
 
@@ -35,17 +34,15 @@ fn vobs_come_in_the_order_of_their_lists(rt: HostRuntime) {
     ];
     for digits in rows {
         for others in rows {
-            check_order(&rt, digits, others, order_of::<u8>(&rt, digits, others));
-            check_order(&rt, digits, others, order_of::<u64>(&rt, digits, others));
-            check_order(&rt, digits, others, order_of::<u128>(&rt, digits, others));
+            check_order(&rt, digits, others, order_of(&rt, digits, others));
         }
     }
 }
 
 /// One bit of a pattern of this length negated.
-fn check_difference<T: Block>(rt: &(impl Abort + AllocGlobal), len: usize, at: usize) {
-    let vob = pattern::<T>(rt, 1, len);
-    let mut other = pattern::<T>(rt, 1, 131);
+fn check_difference(rt: &(impl Abort + AllocGlobal), len: usize, at: usize) {
+    let vob = pattern::<u8>(rt, 1, len);
+    let mut other = pattern::<u8>(rt, 1, 131);
     same(rt, "no difference", len, vob.first_difference(&other), None);
     if at < other.len() {
         other.flip(at);
@@ -59,19 +56,17 @@ fn check_difference<T: Block>(rt: &(impl Abort + AllocGlobal), len: usize, at: u
 fn the_first_bit_that_differs_is_found(rt: HostRuntime) {
     for len in [0, 1, 8, 63, 64, 65, 129] {
         for at in [0, 1, 7, 8, 62, 63, 64, 65, 127, 128, 130] {
-            check_difference::<u8>(&rt, len, at);
-            check_difference::<u64>(&rt, len, at);
-            check_difference::<u128>(&rt, len, at);
+            check_difference(&rt, len, at);
         }
     }
 }
 
 /// Patterns 1, 2 and 4 of this length.
-fn check_added<T: Block>(rt: &(impl Abort + AllocGlobal), len: usize) {
-    let first = pattern::<T>(rt, 2, len);
-    let second = pattern::<T>(rt, 4, len);
-    let mut both = pattern::<T>(rt, 1, len);
-    let mut rest = pattern::<T>(rt, 1, len);
+fn check_added(rt: &(impl Abort + AllocGlobal), len: usize) {
+    let first = pattern::<u8>(rt, 2, len);
+    let second = pattern::<u8>(rt, 4, len);
+    let mut both = pattern::<u8>(rt, 1, len);
+    let mut rest = pattern::<u8>(rt, 1, len);
     if first.len() == both.len() && second.len() == both.len() && rest.len() == both.len() {
         both.or_and(&first, &second);
         let changed = rest.or_and_not(&first, &second);
@@ -90,9 +85,7 @@ fn check_added<T: Block>(rt: &(impl Abort + AllocGlobal), len: usize) {
 #[test]
 fn what_two_share_is_added_to_a_third(rt: HostRuntime) {
     for len in 0..131 {
-        check_added::<u8>(&rt, len);
-        check_added::<u64>(&rt, len);
-        check_added::<u128>(&rt, len);
+        check_added(&rt, len);
     }
 }
 

@@ -6,7 +6,6 @@ use std::ops::Bound::{Excluded, Included, Unbounded};
 use std::ops::RangeBounds;
 use std::process::Abort;
 use vob::{IndicesError, Vob};
-use vob_block::Block;
 
 /// The bits of the pattern of a length, with those of a range made a value or, with none, negated.
 /// Returns whether one changed too.
@@ -29,14 +28,14 @@ fn changed_bits(
 }
 
 /// A range made a value, which may change bits once and never again; or negated.
-fn check_changed<T: Block>(
+fn check_changed(
     rt: &(impl Abort + AllocGlobal),
     len: usize,
     (start, stop): (usize, usize),
     value: Option<bool>,
 ) {
     let (wanted, changed) = changed_bits(rt, len, (start, stop), value);
-    let mut vob = pattern::<T>(rt, len, len);
+    let mut vob = pattern::<u8>(rt, len, len);
     let room = vob.capacity();
     if let Some(value) = value {
         let answer = vob.set_range(start..stop, value);
@@ -57,9 +56,7 @@ fn ranges_change_as_pushes_do(rt: HostRuntime) {
         for start in 0..len + 2 {
             let range = (start, (start * 7 + len) % (len + 3));
             for value in [Some(true), Some(false), None] {
-                check_changed::<u8>(&rt, len, range, value);
-                check_changed::<u64>(&rt, len, range, value);
-                check_changed::<u128>(&rt, len, range, value);
+                check_changed(&rt, len, range, value);
             }
         }
     }
@@ -101,12 +98,12 @@ fn every_pair_of_bounds_is_changed(rt: HostRuntime) {
 }
 
 /// The Vob of these indices, or the position of the first one that was refused.
-fn made_of<T: Block>(
+fn made_of(
     rt: &(impl Abort + AllocGlobal),
     len: usize,
     indices: &[usize],
-) -> Result<Vob<T>, usize> {
-    match Vob::<T>::from_indices(rt.alloc(), len, indices) {
+) -> Result<Vob<u8>, usize> {
+    match Vob::<u8>::from_indices(rt.alloc(), len, indices) {
         Ok(vob) => Ok(vob),
         Err(IndicesError::OutOfRange { position }) => Err(position),
         Err(IndicesError::Memory) => Err(usize::MAX),
@@ -125,16 +122,16 @@ fn pattern_indices(rt: &(impl Abort + AllocGlobal), len: usize) -> Vec<usize> {
 }
 
 /// The indices of such a pattern give the pattern back.
-fn check_indices_of<T: Block>(rt: &(impl Abort + AllocGlobal), len: usize) {
-    let made = made_of::<T>(rt, len, &pattern_indices(rt, len)).expect(rt, "a Vob");
+fn check_indices_of(rt: &(impl Abort + AllocGlobal), len: usize) {
+    let made = made_of(rt, len, &pattern_indices(rt, len)).expect(rt, "a Vob");
     check_same(rt, &made, &pattern(rt, len, len));
 }
 
 #[test]
 fn indices_give_a_vob_or_the_first_one_past_the_end(rt: HostRuntime) {
-    let made = made_of::<u8>(&rt, 10, &[9, 0, 9, 3]).expect(&rt, "a Vob");
+    let made = made_of(&rt, 10, &[9, 0, 9, 3]).expect(&rt, "a Vob");
     check_bits(&rt, &made, "1001000001");
-    let none = made_of::<u8>(&rt, 9, &[]).expect(&rt, "a Vob");
+    let none = made_of(&rt, 9, &[]).expect(&rt, "a Vob");
     check_same(&rt, &none, &filled::<u8>(&rt, false, 9));
     for (len, indices, position) in [
         (10, [9, 10, 11].as_slice(), 1),
@@ -143,12 +140,10 @@ fn indices_give_a_vob_or_the_first_one_past_the_end(rt: HostRuntime) {
         (9, &[0, 1, 2, 3, 9], 4),
         (9, &[0, 1, 2, 3, 4, 9, 5, 9], 5),
     ] {
-        let refused = made_of::<u8>(&rt, len, indices).err();
+        let refused = made_of(&rt, len, indices).err();
         same(&rt, "refused", len, refused, Some(position));
     }
     for len in 0..130 {
-        check_indices_of::<u8>(&rt, len);
-        check_indices_of::<u64>(&rt, len);
-        check_indices_of::<u128>(&rt, len);
+        check_indices_of(&rt, len);
     }
 }

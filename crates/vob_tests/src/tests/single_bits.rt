@@ -1,105 +1,10 @@
 //! Single bits: rows and patterns of pushes, reads, writes and cuts.
+use super::block_types::{reads, write_unchecked};
 use super::support::{
-    check_bits, check_blocks, check_same, filled, listed, pattern, pattern_bit, push, same, vob_of,
-    write,
+    check_blocks, check_same, filled, listed, pattern, pattern_bit, push, same, vob_of, write,
 };
 use std::process::Abort;
 use vob::Vob;
-use vob_block::Block;
-
-/// `set_unchecked`, with the length tested first.
-fn write_unchecked<T: Block>(vob: &mut Vob<T>, index: usize, value: bool) -> Option<bool> {
-    if index < vob.len() {
-        Some(vob.set_unchecked(index, value))
-    } else {
-        None
-    }
-}
-
-/// Compares the bits, and the blocks as they print.
-fn check_row<T: Block>(rt: &(impl Abort + AllocGlobal), digits: &str, blocks: &str) {
-    let vob = vob_of::<T>(rt, digits);
-    check_bits(rt, &vob, digits);
-    let found = vob.get(digits.len());
-    same(rt, "past the end", digits.len(), found, None);
-    let text = format!(in rt.alloc(); "{:?}", vob.get_storage()).expect(rt, "memory");
-    same(rt, digits, 0, text.as_str(), blocks);
-}
-
-#[test]
-fn each_block_type_takes_as_many_blocks_as_its_width_needs(rt: HostRuntime) {
-    check_row::<u8>(&rt, "101", "[5]");
-    check_row::<u16>(&rt, "101", "[5]");
-    check_row::<u32>(&rt, "101", "[5]");
-    check_row::<u64>(&rt, "101", "[5]");
-    check_row::<u128>(&rt, "101", "[5]");
-    check_row::<usize>(&rt, "101", "[5]");
-    // Ten bits take one block or two bytes.
-    check_row::<u8>(&rt, "1011011101", "[237, 2]");
-    check_row::<u16>(&rt, "1011011101", "[749]");
-    check_row::<u32>(&rt, "1011011101", "[749]");
-    check_row::<u64>(&rt, "1011011101", "[749]");
-    check_row::<u128>(&rt, "1011011101", "[749]");
-    check_row::<usize>(&rt, "1011011101", "[749]");
-    check_row::<u8>(&rt, "111111111", "[255, 1]");
-    // One bit more than two words takes one more block.
-    let ones = "111111111111111111111111111111111111111111111111111111111111111111111111111111\
-        111111111111111111111111111111111111111111111111111";
-    let bytes =
-        "[255, 255, 255, 255, 255, 255, 255, 255, 255, 255, 255, 255, 255, 255, 255, 255, 1]";
-    check_row::<u8>(&rt, ones, bytes);
-    let halves = "[65535, 65535, 65535, 65535, 65535, 65535, 65535, 65535, 1]";
-    check_row::<u16>(&rt, ones, halves);
-    let quarters = "[4294967295, 4294967295, 4294967295, 4294967295, 1]";
-    check_row::<u32>(&rt, ones, quarters);
-    let words = "[18446744073709551615, 18446744073709551615, 1]";
-    check_row::<u64>(&rt, ones, words);
-    check_row::<u128>(&rt, ones, "[340282366920938463463374607431768211455, 1]");
-    check_row::<usize>(&rt, ones, words);
-}
-
-/// Compares what `get` reads, and within the length `get_unchecked` and an index too.
-fn reads<T: Block>(rt: &impl Abort, vob: &Vob<T>, index: usize, wanted: Option<bool>) {
-    same(rt, "bit", index, vob.get(index), wanted);
-    if index < vob.len() {
-        same(rt, "bit", index, Some(vob.get_unchecked(index)), wanted);
-        same(rt, "bit", index, Some(vob[index]), wanted);
-    }
-}
-
-/// As many true bits as a block has places, `width`, and one more in a block of its own.
-fn check_word<T: Block>(rt: &(impl Abort + AllocGlobal), width: u8) {
-    let next = width as usize;
-    let last = next.saturating_sub(1);
-    let before = next.saturating_sub(2);
-    let mut vob = vob_of::<T>(rt, "");
-    for _ in 0..width {
-        push(rt, &mut vob, true);
-    }
-    reads(rt, &vob, 0, Some(true));
-    reads(rt, &vob, last, Some(true));
-    reads(rt, &vob, next, None);
-    same(rt, "blocks of bits", next, vob.get_storage().len(), 1);
-    push(rt, &mut vob, true);
-    same(rt, "blocks behind", next, vob.get_storage().len(), 2);
-    // The first bit of its block is written, and no bit before it.
-    reads(rt, &vob, next, Some(true));
-    reads(rt, &vob, next.saturating_add(1), None);
-    same(rt, "clears", next, write(&mut vob, next, false), Some(true));
-    reads(rt, &vob, next, Some(false));
-    same(rt, "sets", next, write(&mut vob, next, true), Some(true));
-    same(rt, "stays", next, write(&mut vob, next, true), Some(false));
-    reads(rt, &vob, last, Some(true));
-    reads(rt, &vob, before, Some(true));
-    let changed = write_unchecked(&mut vob, before, true);
-    same(rt, "true stays", before, changed, Some(false));
-}
-
-#[test]
-fn a_full_block_and_one_bit_more(rt: HostRuntime) {
-    check_word::<u8>(&rt, 8);
-    check_word::<usize>(&rt, 64);
-}
 
 #[test]
 fn a_popped_bit_leaves_no_trace(rt: HostRuntime) {
@@ -124,8 +29,8 @@ fn a_popped_bit_leaves_no_trace(rt: HostRuntime) {
 }
 
 /// 129 true bits, cut at their length, past it and at 0.
-fn check_cuts<T: Block>(rt: &(impl Abort + AllocGlobal), blocks: &[T]) {
-    let mut many = filled::<T>(rt, true, 129);
+fn check_cuts(rt: &(impl Abort + AllocGlobal), blocks: &[usize]) {
+    let mut many = filled::<usize>(rt, true, 129);
     many.truncate(129);
     check_blocks(rt, &many, 129, blocks);
     many.truncate(193);
@@ -148,15 +53,14 @@ fn truncated_bits_are_gone_from_the_blocks(rt: HostRuntime) {
         vob.truncate(index);
         check_blocks(&rt, &vob, len, blocks);
     }
-    check_cuts::<usize>(&rt, &[usize::MAX, usize::MAX, 1]);
-    check_cuts::<u64>(&rt, &[u64::MAX, u64::MAX, 1]);
+    check_cuts(&rt, &[usize::MAX, usize::MAX, 1]);
 }
 
 /// Both calls write a value at an index of two equal Vobs, and say whether the bit changed.
-fn check_write<T: Block>(
+fn check_write(
     rt: &impl Abort,
-    one: &mut Vob<T>,
-    other: &mut Vob<T>,
+    one: &mut Vob<u8>,
+    other: &mut Vob<u8>,
     index: usize,
     value: bool,
     changed: bool,
@@ -169,9 +73,9 @@ fn check_write<T: Block>(
 }
 
 /// Two equal Vobs by the pattern: each index read, and written by both calls.
-fn check_pattern<T: Block>(rt: &(impl Abort + AllocGlobal), seed: usize, len: usize) {
-    let mut one = pattern::<T>(rt, seed, len);
-    let mut other = pattern::<T>(rt, seed, len);
+fn check_pattern(rt: &(impl Abort + AllocGlobal), seed: usize, len: usize) {
+    let mut one = pattern::<u8>(rt, seed, len);
+    let mut other = pattern::<u8>(rt, seed, len);
     for index in 0..len {
         let bit = pattern_bit(seed, index);
         reads(rt, &one, index, Some(bit));
@@ -184,8 +88,7 @@ fn check_pattern<T: Block>(rt: &(impl Abort + AllocGlobal), seed: usize, len: us
 fn both_ways_of_writing_agree(rt: HostRuntime) {
     for len in 0..128 {
         for seed in 0..3 {
-            check_pattern::<usize>(&rt, seed, len);
-            check_pattern::<u8>(&rt, seed, len);
+            check_pattern(&rt, seed, len);
         }
     }
 }

@@ -49,11 +49,7 @@ pub fn join<T: Block>(rt: &impl Abort, vob: &mut Vob<T>, other: &Vob<T>) {
 }
 
 /// The bits of a range, which leave the Vob.
-pub fn drained<T: Block, R: RangeBounds<usize>>(
-    rt: &impl Abort,
-    vob: &mut Vob<T>,
-    range: R,
-) -> Vob<T> {
+pub fn drained<R: RangeBounds<usize>>(rt: &impl Abort, vob: &mut Vob<u8>, range: R) -> Vob<u8> {
     vob.drain(range).expect(rt, "memory")
 }
 
@@ -158,8 +154,8 @@ pub fn check_same<T: Block>(rt: &impl Abort, vob: &Vob<T>, wanted: &Vob<T>) {
 }
 
 /// Compares the length and the blocks with those of the Vob of these bits.
-pub fn check_list<T: Block>(rt: &(impl Abort + AllocGlobal), vob: &Vob<T>, bits: &[bool]) {
-    let mut wanted = vob_of::<T>(rt, "");
+pub fn check_list(rt: &(impl Abort + AllocGlobal), vob: &Vob<u8>, bits: &[bool]) {
+    let mut wanted = vob_of::<u8>(rt, "");
     for bit in bits {
         push(rt, &mut wanted, *bit);
     }

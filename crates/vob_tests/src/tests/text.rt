@@ -5,17 +5,16 @@ use std::alloc::Global;
 use std::fmt::Display;
 use std::process::Abort;
 use vob::{DigitsError, IndicesError, Vob, VobError};
-use vob_block::Block;
 
 /// A pattern of each length up to 130 is written as its digits, which are read back.
-fn check_digits<T: Block>(rt: &(impl Abort + AllocGlobal)) {
+fn check_digits(rt: &(impl Abort + AllocGlobal)) {
     for len in 0..131 {
-        let vob = pattern::<T>(rt, 1, len);
+        let vob = pattern::<u8>(rt, 1, len);
         let digits = pattern_digits(rt, 1, len);
         let text = format!(in rt.alloc(); "{vob} {vob:?}").expect(rt, "memory");
         let wanted = format!(in rt.alloc(); "{digits} Vob[{digits}]").expect(rt, "memory");
         same(rt, "as text", len, text.as_str(), wanted.as_str());
-        let read = Vob::<T>::from_digits(rt.alloc(), digits.as_str()).expect(rt, "digits");
+        let read = Vob::<u8>::from_digits(rt.alloc(), digits.as_str()).expect(rt, "digits");
         check_same(rt, &read, &vob);
     }
 }
@@ -32,9 +31,7 @@ fn check_bytes(rt: &(impl Abort + AllocGlobal), vob: &Vob) {
 
 #[test]
 fn digits_and_bytes_are_read_back(rt: HostRuntime) {
-    check_digits::<u8>(&rt);
-    check_digits::<u64>(&rt);
-    check_digits::<u128>(&rt);
+    check_digits(&rt);
     for len in 0..200 {
         check_bytes(&rt, &pattern(&rt, 2, len));
     }

@@ -2,7 +2,6 @@
 use super::support::{listed, pattern, pattern_bit, same, vob_of};
 use std::process::Abort;
 use vob::{End, Vob, deal};
-use vob_block::Block;
 
 /// How bits of two Vobs are combined.
 #[derive(Clone, Copy)]
@@ -50,10 +49,10 @@ fn pulls_at(
 }
 
 /// What pulls at the walk of a call over two Vobs of one length give.
-fn pulled<T: Block>(
+fn pulled(
     rt: &(impl Abort + AllocGlobal),
     call: Call,
-    (vob, other): (&Vob<T>, &Vob<T>),
+    (vob, other): (&Vob<u8>, &Vob<u8>),
     pulls: &[End],
 ) -> Vec<Option<usize>> {
     assert!(rt; vob.len() == other.len());
@@ -69,7 +68,7 @@ fn pulled<T: Block>(
 }
 
 /// How many indices the walk of a call over two Vobs of one length gives.
-fn counted<T: Block>(rt: &impl Abort, call: Call, vob: &Vob<T>, other: &Vob<T>) -> usize {
+fn counted(rt: &impl Abort, call: Call, vob: &Vob<u8>, other: &Vob<u8>) -> usize {
     assert!(rt; vob.len() == other.len());
     match call {
         Call::And => vob.intersection(other).count(),
@@ -81,11 +80,11 @@ fn counted<T: Block>(rt: &impl Abort, call: Call, vob: &Vob<T>, other: &Vob<T>) 
 
 /// The walk of a call over two Vobs of one length gives these indices from either end and from both,
 /// and counts them.
-fn check_walk<T: Block>(
+fn check_walk(
     rt: &(impl Abort + AllocGlobal),
     call: Call,
-    vob: &Vob<T>,
-    other: &Vob<T>,
+    vob: &Vob<u8>,
+    other: &Vob<u8>,
     wanted: &[usize],
 ) {
     for backs in 0..4 {
@@ -98,12 +97,7 @@ fn check_walk<T: Block>(
 }
 
 /// The walk of a call over patterns of `len` bits, against the bits one by one.
-fn check_patterns<T: Block>(
-    rt: &(impl Abort + AllocGlobal),
-    call: Call,
-    seeds: (usize, usize),
-    len: usize,
-) {
+fn check_patterns(rt: &(impl Abort + AllocGlobal), call: Call, seeds: (usize, usize), len: usize) {
     let (left, right) = seeds;
     let mut wanted = Vec::new(rt.alloc());
     for index in 0..len {
@@ -111,7 +105,7 @@ fn check_patterns<T: Block>(
             wanted.push(index).expect(rt, "memory");
         }
     }
-    let vob = pattern::<T>(rt, left, len);
+    let vob = pattern::<u8>(rt, left, len);
     check_walk(rt, call, &vob, &pattern(rt, right, len), &wanted);
 }
 
@@ -120,9 +114,7 @@ fn patterns_are_walked_together_as_lists(rt: HostRuntime) {
     for call in CALLS {
         for seeds in [(0, 0), (0, 1), (3, 1), (2, 4)] {
             for len in 0..131 {
-                check_patterns::<u8>(&rt, call, seeds, len);
-                check_patterns::<u64>(&rt, call, seeds, len);
-                check_patterns::<u128>(&rt, call, seeds, len);
+                check_patterns(&rt, call, seeds, len);
             }
         }
     }
@@ -138,20 +130,8 @@ fn indices_of_both_are_given(rt: HostRuntime) {
         (Call::AndNot, "0000000000", "1111111111", &[]),
         (Call::Or, "", "", &[]),
     ] {
-        check_walk(
-            &rt,
-            call,
-            &vob_of::<u8>(&rt, left),
-            &vob_of(&rt, right),
-            wanted,
-        );
-        check_walk(
-            &rt,
-            call,
-            &vob_of::<u64>(&rt, left),
-            &vob_of(&rt, right),
-            wanted,
-        );
+        let vob = vob_of::<u8>(&rt, left);
+        check_walk(&rt, call, &vob, &vob_of(&rt, right), wanted);
     }
 }
 

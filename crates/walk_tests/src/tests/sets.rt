@@ -2,10 +2,9 @@
 use super::support::{filled, pattern, same, write};
 use std::process::Abort;
 use vob::{End, Vob};
-use vob_block::Block;
 
 /// The next index at or above `from` whose bit has the value, or the previous one at or below it.
-fn neighbour<T: Block>(vob: &Vob<T>, value: bool, side: End, from: usize) -> Option<usize> {
+fn neighbour(vob: &Vob<u8>, value: bool, side: End, from: usize) -> Option<usize> {
     match (value, side) {
         (true, End::Front) => vob.next_set(from),
         (true, End::Back) => vob.previous_set(from),
@@ -15,7 +14,7 @@ fn neighbour<T: Block>(vob: &Vob<T>, value: bool, side: End, from: usize) -> Opt
 }
 
 /// The first and the last one.
-fn ends_of<T: Block>(vob: &Vob<T>, value: bool) -> (Option<usize>, Option<usize>) {
+fn ends_of(vob: &Vob<u8>, value: bool) -> (Option<usize>, Option<usize>) {
     if value {
         (vob.first_set(), vob.last_set())
     } else {
@@ -24,7 +23,7 @@ fn ends_of<T: Block>(vob: &Vob<T>, value: bool) -> (Option<usize>, Option<usize>
 }
 
 /// The indices of the bits of one value, from each index up to two past the end.
-fn check_neighbours<T: Block>(rt: &impl Abort, vob: &Vob<T>, value: bool) {
+fn check_neighbours(rt: &impl Abort, vob: &Vob<u8>, value: bool) {
     let past = vob.len().saturating_add(2);
     let mut last = None;
     for index in 0..past {
@@ -52,7 +51,7 @@ fn check_neighbours<T: Block>(rt: &impl Abort, vob: &Vob<T>, value: bool) {
 
 /// The rank of each index up to one past the end, whether bits are set, and where those of one
 /// value are.
-fn check_found<T: Block>(rt: &impl Abort, vob: &Vob<T>, value: bool) {
+fn check_found(rt: &impl Abort, vob: &Vob<u8>, value: bool) {
     check_neighbours(rt, vob, value);
     let len = vob.len();
     let mut below: usize = 0;
@@ -70,17 +69,17 @@ fn check_found<T: Block>(rt: &impl Abort, vob: &Vob<T>, value: bool) {
 }
 
 /// Bits that are all one value but one: it alone is found, and whole blocks are passed over.
-fn check_single<T: Block>(rt: &(impl Abort + AllocGlobal), index: usize) {
+fn check_single(rt: &(impl Abort + AllocGlobal), index: usize) {
     for value in [true, false] {
-        let mut vob = filled::<T>(rt, !value, 130);
+        let mut vob = filled::<u8>(rt, !value, 130);
         write(&mut vob, index, value);
         check_found(rt, &vob, value);
     }
 }
 
 /// A pattern of this length, and its bits of both values.
-fn check_pattern<T: Block>(rt: &(impl Abort + AllocGlobal), seed: usize, len: usize) {
-    let vob = pattern::<T>(rt, seed, len);
+fn check_pattern(rt: &(impl Abort + AllocGlobal), seed: usize, len: usize) {
+    let vob = pattern::<u8>(rt, seed, len);
     for value in [true, false] {
         check_found(rt, &vob, value);
     }
@@ -89,20 +88,18 @@ fn check_pattern<T: Block>(rt: &(impl Abort + AllocGlobal), seed: usize, len: us
 #[test]
 fn bits_of_patterns_and_single_bits_are_found(rt: HostRuntime) {
     for len in 0..130 {
-        check_pattern::<u8>(&rt, 1, len);
-        check_pattern::<u64>(&rt, 2, len);
-        check_pattern::<u128>(&rt, 4, len);
+        check_pattern(&rt, 1, len);
+        check_pattern(&rt, 2, len);
+        check_pattern(&rt, 4, len);
     }
     for index in 0..13 {
-        check_single::<u8>(&rt, index * 10);
-        check_single::<u64>(&rt, index * 10);
-        check_single::<u128>(&rt, index * 10);
+        check_single(&rt, index * 10);
     }
 }
 
 /// How many indices are set in both of two Vobs of one length, in the first alone, and in the other
 /// alone.
-fn plain_counts<T: Block>(vob: &Vob<T>, other: &Vob<T>) -> (usize, usize, usize) {
+fn plain_counts(vob: &Vob<u8>, other: &Vob<u8>) -> (usize, usize, usize) {
     let (mut both, mut first, mut second) = (0usize, 0usize, 0usize);
     for index in 0..vob.len() {
         match (vob.get(index), other.get(index)) {
@@ -116,7 +113,7 @@ fn plain_counts<T: Block>(vob: &Vob<T>, other: &Vob<T>) -> (usize, usize, usize)
 }
 
 /// Two Vobs of one length, in their order, against one bit after another.
-fn check_ordered<T: Block>(rt: &(impl Abort + AllocGlobal), vob: &Vob<T>, other: &Vob<T>) {
+fn check_ordered(rt: &(impl Abort + AllocGlobal), vob: &Vob<u8>, other: &Vob<u8>) {
     let len = vob.len();
     if other.len() != len {
         return;
@@ -135,10 +132,10 @@ fn check_ordered<T: Block>(rt: &(impl Abort + AllocGlobal), vob: &Vob<T>, other:
 }
 
 /// What is left without the bits of another, bit by bit, and whether that is a change.
-fn check_difference<T: Block>(
+fn check_difference(
     rt: &(impl Abort + AllocGlobal),
-    vob: &Vob<T>,
-    other: &Vob<T>,
+    vob: &Vob<u8>,
+    other: &Vob<u8>,
     changed: bool,
 ) {
     let mut left = vob.clone().expect(rt, "memory");
@@ -155,9 +152,9 @@ fn check_difference<T: Block>(
 }
 
 /// Two patterns of a length, a pattern and a part of it, and one and its complement.
-fn check_pairs<T: Block>(rt: &(impl Abort + AllocGlobal), seed: usize, len: usize) {
-    let vob = pattern::<T>(rt, seed, len);
-    let mut other = pattern::<T>(rt, len, len);
+fn check_pairs(rt: &(impl Abort + AllocGlobal), seed: usize, len: usize) {
+    let vob = pattern::<u8>(rt, seed, len);
+    let mut other = pattern::<u8>(rt, len, len);
     check_ordered(rt, &vob, &other);
     if other.len() == vob.len() {
         other.and(&vob);
@@ -170,9 +167,9 @@ fn check_pairs<T: Block>(rt: &(impl Abort + AllocGlobal), seed: usize, len: usiz
 #[test]
 fn pairs_are_counted_and_compared(rt: HostRuntime) {
     for len in 0..130 {
-        check_pairs::<u8>(&rt, 1, len);
-        check_pairs::<u64>(&rt, 2, len);
-        check_pairs::<u128>(&rt, 4, len);
+        check_pairs(&rt, 1, len);
+        check_pairs(&rt, 2, len);
+        check_pairs(&rt, 4, len);
     }
     // More blocks than a chunk, with one bit in common, or one that the other hasn't.
     for index in [0, 511, 512, 1023, 1024, 1099] {

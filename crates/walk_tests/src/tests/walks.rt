@@ -146,13 +146,13 @@ fn answers_come_behind_those_of_earlier_deals(rt: HostRuntime) {
 }
 
 /// What a walk gives at the front, at the front and at the back.
-fn three_items<T: Block>(walk: &mut IterSetBits<'_, T>) -> [Option<usize>; 3] {
+fn three_items(walk: &mut IterSetBits<'_, u8>) -> [Option<usize>; 3] {
     [walk.next(), walk.next(), walk.next_back()]
 }
 
 /// A walk of a Vob without a match gives None, again and from both ends.
-fn check_nothing<T: Block>(rt: &(impl Abort + AllocGlobal), len: usize) {
-    let vob = filled::<T>(rt, false, len);
+fn check_nothing(rt: &(impl Abort + AllocGlobal), len: usize) {
+    let vob = filled::<u8>(rt, false, len);
     let mut walk = vob.iter_set_bits(..);
     same(rt, "hint at false bits", len, walk.size_hint(), (0, None));
     same(rt, "false bits", len, three_items(&mut walk), [None; 3]);
@@ -164,7 +164,7 @@ fn check_nothing<T: Block>(rt: &(impl Abort + AllocGlobal), len: usize) {
 #[test]
 fn a_walk_at_its_end_stays_there(rt: HostRuntime) {
     for len in [0, 1, 24, 100, 256] {
-        at_each_block_type!(check_nothing(&rt, len));
+        check_nothing(&rt, len);
     }
     let empty = Vob::new(rt.alloc());
     check_walk(&rt, &empty, (false, ..), "FB", "none none");
@@ -189,8 +189,8 @@ fn blocks_are_walked_up_to_a_length(rt: HostRuntime) {
 }
 
 /// As many bits of one value as `len`, whose walk gives all indices.
-fn check_all<T: Block>(rt: &(impl Abort + AllocGlobal), value: bool, len: usize) {
-    let vob = filled::<T>(rt, value, len);
+fn check_all(rt: &(impl Abort + AllocGlobal), value: bool, len: usize) {
+    let vob = filled::<u8>(rt, value, len);
     let indices = listed(rt, 0..len);
     check_indices(rt, &vob, value, ALL, &indices);
     check_indices(rt, &vob, !value, ALL, &[]);
@@ -199,8 +199,8 @@ fn check_all<T: Block>(rt: &(impl Abort + AllocGlobal), value: bool, len: usize)
 #[test]
 fn bits_of_one_value_are_all_found(rt: HostRuntime) {
     for value in [false, true] {
-        at_each_block_type!(check_all(&rt, value, 24));
-        at_each_block_type!(check_all(&rt, value, 131));
+        check_all(&rt, value, 24);
+        check_all(&rt, value, 131);
     }
     let mut three = vob_of::<usize>(&rt, "010");
     same(&rt, "bit", 2, write(&mut three, 2, true), Some(true));
