@@ -1,4 +1,5 @@
-//! Runs over many lengths where memory is there: no command is refused, and the room asked for is made.
+//! Runs over many lengths, at each block type, where memory is there: no command is refused, and the
+//! room asked for is made.
 use super::support::same;
 use std::alloc::{AllocError, Global};
 use std::ops::Bound::{Excluded, Included, Unbounded};
@@ -143,6 +144,9 @@ fn no_length_is_refused_where_memory_is_there(rt: HostRuntime) {
     }
     for len in [1, 2, 63, 64, 65, 128, 192, 193, 256, 257, 512, 1000, 4097] {
         check_length::<u16>(&rt, len);
+        check_length::<u32>(&rt, len);
+        check_length::<u64>(&rt, len);
+        check_length::<u128>(&rt, len);
         check_length::<usize>(&rt, len);
         check_words(&rt, len);
     }
