@@ -1,5 +1,5 @@
-//! What the tests share: what is compared. Proofs of assertions and of calls with long contracts take long.
-//! So most tests assert by these.
+//! What the tests share: what is compared. Proofs of assertions and of calls with long contracts
+//! take long. So most tests assert by these.
 use std::fmt::Debug;
 use std::process::Abort;
 

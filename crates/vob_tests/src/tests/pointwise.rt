@@ -8,7 +8,7 @@ use std::process::Abort;
 use vob::Vob;
 use vob_block::Block;
 
-#[derive(Clone, Copy, Debug)]
+#[derive(Clone, Copy)]
 pub(super) enum Call {
     And,
     Or,
@@ -35,7 +35,7 @@ pub(super) fn combine<T: Block>(
     vob: &mut Vob<T>,
     other: &Vob<T>,
 ) -> bool {
-    assert!(rt; vob.len() == other.len(), "{call:?}");
+    assert!(rt; vob.len() == other.len());
     match call {
         Call::And => vob.and(other),
         Call::Or => vob.or(other),

@@ -20,7 +20,7 @@ fn indices_and_digits_are_made_or_refused(rt: HostRuntime) {
     let set = is_first_and_last(&rt, given(&rt, set, IndicesError::Memory));
     let digits = Vob::from_digits(rt.alloc(), "110000001");
     let digits = is_first_and_last(&rt, given(&rt, digits, DigitsError::Memory));
-    // named whether its memory is refused, as in the third run, or not
+    // named whether its memory is refused, as in the third copy of the test, or not
     let outside = Vob::<u8>::from_indices(rt.alloc(), 9, &[8, 9, 10]).err();
     let first = IndicesError::OutOfRange { position: 1 };
     same(&rt, "an index past the end", 0, outside, Some(first));
