@@ -1,0 +1,5 @@
+//! Tests of the sets of grammars, their tables, parsers and texts; and worked values of the sets.
+#![tactic(auto)]
+
+#[cfg(test)]
+mod tests;

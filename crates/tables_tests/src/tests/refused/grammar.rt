@@ -1,0 +1,92 @@
+//! The sets of a grammar: each request for memory is refused in turn, or they are whole.
+use crate::tests::support::{FIRST, request, same, tell};
+use std::alloc::{AllocError, Global};
+use std::process::Abort;
+use vob::Vob;
+use vob_lr::{Grammar, GrammarError, Rule, Symbol, first_sets, follow_sets, nullable};
+
+/// One nonterminal that becomes nothing, or itself around terminal 1 of two.
+fn grammar(alloc: Global) -> Result<Grammar, AllocError> {
+    let symbols = [
+        Symbol::Nonterminal(0),
+        Symbol::Terminal(1),
+        Symbol::Nonterminal(0),
+    ];
+    let mut rules = Vec::with_capacity(alloc, 2)?;
+    rules.push(Rule {
+        left: 0,
+        right: symbols.to_vec(alloc)?,
+    })?;
+    rules.push(Rule {
+        left: 0,
+        right: Vec::new(alloc),
+    })?;
+    Ok(Grammar {
+        terminals: 2,
+        nonterminals: 1,
+        rules,
+    })
+}
+
+/// Whether sets were given, which then are one with terminal 1 alone.
+fn are_given(rt: &impl Abort, sets: Result<Vec<Vob>, GrammarError>) -> bool {
+    match sets {
+        Ok(sets) => {
+            same(rt, "the sets", 0, sets.len(), 1);
+            for set in &sets {
+                same(rt, "a terminal", 0, set.get(0), Some(false));
+                same(rt, "a terminal", 0, set.get(1), Some(true));
+            }
+            true
+        }
+        Err(refusal) => {
+            same(rt, "the refusal", 0, refusal, GrammarError::Memory);
+            false
+        }
+    }
+}
+
+/// Whether the first sets were found, whole, behind so many requests.
+fn are_first(rt: &(impl Abort + AllocGlobal), behind: usize) -> bool {
+    request(rt, behind);
+    let Ok(grammar) = grammar(rt.alloc()) else {
+        return false;
+    };
+    are_given(rt, first_sets(rt.alloc(), &grammar))
+}
+
+/// Whether the follow sets were found, whole, behind so many requests.
+fn are_follow(rt: &(impl Abort + AllocGlobal), behind: usize) -> bool {
+    request(rt, behind);
+    let Ok(grammar) = grammar(rt.alloc()) else {
+        return false;
+    };
+    are_given(rt, follow_sets(rt.alloc(), &grammar))
+}
+
+#[test]
+fn nullables_are_found_by_one_request(rt: HostRuntime) {
+    request(&rt, FIRST - 2);
+    let grammar = grammar(rt.alloc()).expect(&rt, "memory");
+    let found = match nullable(rt.alloc(), &grammar) {
+        Ok(set) => {
+            same(&rt, "nullable", 0, set.get(0), Some(true));
+            true
+        }
+        Err(refusal) => {
+            same(&rt, "the refusal", 0, refusal, GrammarError::Memory);
+            false
+        }
+    };
+    tell(&rt, found);
+}
+
+#[test]
+fn first_sets_are_found_or_refused(rt: HostRuntime) {
+    tell(&rt, are_first(&rt, FIRST));
+}
+
+#[test]
+fn follow_sets_are_found_or_refused(rt: HostRuntime) {
+    tell(&rt, are_follow(&rt, FIRST));
+}

@@ -1,0 +1,21 @@
+//! Rows worked out by hand, and patterns against lists of bits; refusals apart.
+mod block_types;
+mod constructors;
+mod copies;
+mod draining;
+mod examples;
+mod growing;
+mod hints;
+mod lanes;
+mod low_bytes;
+mod moves;
+mod order;
+mod paths;
+mod pointwise;
+mod ranges;
+mod raw;
+mod refused;
+mod single_bits;
+mod support;
+mod text;
+mod turned;

@@ -1,0 +1,2 @@
+mod WorkedBits
+mod WorkedWalks
