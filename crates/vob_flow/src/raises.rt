@@ -3,9 +3,11 @@ ghost use Rattle.std.specs.Prelude.{◌≡◌, length, OnErr, OnOk};
 ghost use Rattle.vob.specs.Vobs.{bits_of};
 ghost use Rattle.vob_flow.specs.Draws.{AreLeast};
 
+use crate::draw::Draw;
+use crate::faults::SolveError;
+use crate::solver::least;
 use std::alloc::Global;
 use vob::Vob;
-use vob_flow::{Draw, SolveError, least};
 
 /// Adds to the errors that each function raises those that come from the functions that it calls
 /// and that it doesn't handle. `calls` says of each which errors it handles, by `Mask::Without`, and
