@@ -4,7 +4,7 @@ use Rattle.vob.proofs.BitsLemmas.{length-bits_within}
 use Rattle.vob_tests.proofs.tests.moves.copy.Goals as goal
 
 pub copy_within-requires : goal.copy_within-requires
-copy_within-requires g c =
+copy_within-requires c =
     let few = length-bits_within c.args.vob.now.bits c.args.start c.args.end
     c.if-start-end.true (omega (arith, c.if-end-len.true, c.len-len.ensures.len)) in
     record {
