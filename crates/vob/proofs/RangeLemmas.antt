@@ -11,6 +11,7 @@ use Rattle.vob_block.specs.Packing.{item, unpacking, IsCanonical}
 use Rattle.vob_block.proofs.PackingLemmas.{length-unpacking, bit_at-is_item}
 use Rattle.vob_store.specs.Range.{IsRanged}
 use Rattle.vob_walk.specs.Matches.{within, ForSomeRange, IsRangeOf}
+use Rattle.vob_walk.proofs.MatchesLemmas.{there, within-there, within-before, within-behind}
 use Rattle.vob.specs.Ranges.{replaced, IsChangedWithin}
 
 -- changed blocks hold the list changed
