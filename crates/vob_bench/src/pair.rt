@@ -206,7 +206,7 @@ fn count_and(mut vob: Vob, other: &Vob, rounds: usize) -> Result<u64, Missing> {
     each_round!(vob, rounds, |round| {
         touch(&mut vob, round);
         let fits = vob.len() == other.len();
-        if fits { vob.count_and(other) } else { 0 } as u64
+        (if fits { vob.count_and(other) } else { 0 }) as u64
     })
 }
 
@@ -216,7 +216,7 @@ fn count_or(mut vob: Vob, other: &Vob, rounds: usize) -> Result<u64, Missing> {
     each_round!(vob, rounds, |round| {
         touch(&mut vob, round);
         let fits = vob.len() == other.len();
-        if fits { vob.count_or(other) } else { 0 } as u64
+        (if fits { vob.count_or(other) } else { 0 }) as u64
     })
 }
 
@@ -226,7 +226,7 @@ fn count_and_not(mut vob: Vob, other: &Vob, rounds: usize) -> Result<u64, Missin
     each_round!(vob, rounds, |round| {
         touch(&mut vob, round);
         let fits = vob.len() == other.len();
-        if fits { vob.count_and_not(other) } else { 0 } as u64
+        (if fits { vob.count_and_not(other) } else { 0 }) as u64
     })
 }
 
@@ -236,7 +236,7 @@ fn count_xor(mut vob: Vob, other: &Vob, rounds: usize) -> Result<u64, Missing> {
     each_round!(vob, rounds, |round| {
         touch(&mut vob, round);
         let fits = vob.len() == other.len();
-        if fits { vob.count_xor(other) } else { 0 } as u64
+        (if fits { vob.count_xor(other) } else { 0 }) as u64
     })
 }
 
