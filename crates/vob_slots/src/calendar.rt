@@ -9,7 +9,7 @@ use std::alloc::{AllocError, Global};
 use std::marker::Model;
 use std::ops::Range;
 use vob::Vob;
-use vob::laws::runs_are_maximal;
+use vob_laws::sets::runs_are_maximal;
 
 /// The slots of a day or a week, in order. Contracts see the list of whether each is booked.
 #[derive(Drop)]
