@@ -53,7 +53,7 @@ AreSetsOf places lists sets = AllZip (λ list set. IsMadeOf places list.items se
 -- the sets before and after each node that a kind of problem asks for
 abbrev pub Solve : Kind → ℕ → List Draw → List (List Bool) → List (List Bool) → List (List Bool) → Type 0
 Solve ForwardMay places flows gens before after = AreReaching flows gens before after
-Solve ForwardMust places flows gens before after = AreAvailable places flows gens before after
+Solve ForwardMust places flows gens before after = AreAvailable places 0 flows gens before after
 Solve BackwardMust places flows gens before after = AreVeryBusy places flows gens before after
 
 -- the sets that solve a problem

@@ -123,7 +123,7 @@ fn solve(alloc: Global, problem: &Problem) -> Result<Sides, FlowFault>
             })
         }
         Kind::ForwardMust => {
-            let before = available_expressions(alloc, places, &mut sets, &flows)?;
+            let before = available_expressions(alloc, places, 0, &mut sets, &flows)?;
             Ok(Sides {
                 before,
                 after: sets,

@@ -15,7 +15,7 @@ use vob_flow::reach;
 pub enum Kind {
     /// Some path to a node.
     ForwardMay,
-    /// All paths to a node.
+    /// All paths to a node from the first one.
     ForwardMust,
     /// All paths from a node.
     BackwardMust,
@@ -269,14 +269,11 @@ impl Problem {
     }
 }
 
-/// Returns the problem of the expressions that were computed on all paths to a node. Before the
-/// entry there are none.
+/// Returns the problem of the expressions that were computed on all paths from the entry to a node.
 pub fn available_problem(alloc: Global, graph: &FlowGraph<'_>) -> Result<Problem, FlowFault> {
-    let mut from = reached_before(alloc, &graph.nodes)?;
-    add_to(&mut from, 0, graph.nodes.len())?;
+    let from = reached_before(alloc, &graph.nodes)?;
     let mut problem = expressions(alloc, graph, Kind::ForwardMust, from)?;
     problem.generates = lasting(alloc, &problem)?;
-    problem.add_border(alloc)?;
     Ok(problem)
 }
 

@@ -114,6 +114,8 @@ pub(crate) fn available(
     let mut times: u64 = 0;
     let mut last = Vec::new(alloc);
     let before = nodes_before(alloc, numbers)?;
+    let none_before = before.iter().enumerate().find(|(_, from)| from.is_empty());
+    let entry = none_before.map_or(0, |(node, _)| node);
     let none = Vob::from_elem(alloc, false, expressions)?;
     for _ in 0..rounds {
         let kills = sets_at(alloc, numbers, 1, expressions)?;
@@ -122,7 +124,7 @@ pub(crate) fn available(
         if draws.len() != ends.len() {
             return Err(Missing::Name);
         }
-        if available_expressions(alloc, expressions, &mut ends, &draws).is_err() {
+        if available_expressions(alloc, expressions, entry, &mut ends, &draws).is_err() {
             return Err(Missing::Memory);
         }
         times = times.wrapping_add(1);

@@ -8,7 +8,7 @@ use Rattle.vob.specs.Vob.{BitVector}
 use Rattle.vob.specs.Vobs.{AreOfLength, bits_of}
 use Rattle.vob_flow.specs.declared.draw.Draw.{Draw}
 use Rattle.vob_flow.specs.declared.faults.SolveError.{SolveError}
-use Rattle.vob_flow.specs.declared.faults.SolveError.TheVariants.{Memory, BadLength, BadSet}
+use Rattle.vob_flow.specs.declared.faults.SolveError.TheVariants.{Memory, BadLength, BadSet, BadEntry}
 use Rattle.vob_flow.specs.Draws.{FitsMask, DrawsInside}
 use Rattle.vob_flow.proofs.UnderwayLemmas.{same_at}
 use Rattle.vob_flow.specs.SolveFaults.{IsLongAt, IsSoundAt, AreSound, IsBadLength, IsBadSet, IsFault}
@@ -91,6 +91,7 @@ module _ (places : ℕ) (sets : List (List Bool)) (draws : List Draw) where
         (λ sound. is.bad sound.long) (λ sound. h.bad sound.long))),
   )
   refuses_length (BadSet m) is n = ((λ e. cc), (λ h. absurd (one_fault n m h is)))
+  refuses_length BadEntry is n = absurd is
 
   pub refuses_set : {T : Type 0} (fault : SolveError) → IsFault places sets draws fault →
       (n : ℕ) → ◌≡◌ {A = Result T SolveError} (Err fault) (Err (BadSet n))
@@ -102,3 +103,4 @@ module _ (places : ℕ) (sets : List (List Bool)) (draws : List Draw) where
     (λ h. ap (λ k. Err (BadSet k)) (one_first (IsSoundAt places sets draws) m n is.lower h.lower
         (λ sound. is.bad sound.inside) (λ sound. h.bad sound.inside))),
   )
+  refuses_set BadEntry is n = absurd is

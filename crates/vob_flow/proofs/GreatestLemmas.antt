@@ -23,7 +23,7 @@ use Rattle.vob_flow.proofs.UnderwayLemmas.{same_at}
 use Rattle.vob_flow.proofs.PassLemmas.{shape_long}
 
 -- a mask lets a place through or doesn't
-kept_or : (mask : Mask) (v : ℕ) → IsKept mask v ⊎ (¬ IsKept mask v)
+pub kept_or : (mask : Mask) (v : ℕ) → IsKept mask v ⊎ (¬ IsKept mask v)
 kept_or Everything v = inl tt
 kept_or (Keep set) v = elim (cases_Bool (item set.now.bits v)) [
   | inl on ↦ inl on
@@ -116,21 +116,6 @@ module _ (places : ℕ) (draws : List Draw) (starts lacking : List (List Bool))
   lacking_all k d less =
       let inside : k < length starts = omega (arith, less, first.count) in
       ap length (get_or_default lacking k d [] less) ∙ lacking_long k inside
-
-  -- as many passes as places are lacked, and one more
-  pub IsPassCount-lacking : (lacks sets : List (List Bool)) (passes : ℕ) →
-      HaveShape lacking lacks → TakePasses lacking lacks passes →
-      AreNegated lacks sets (length lacks) → IsPassCount places starts sets passes
-  IsPassCount-lacking lacks sets passes shape takes last =
-      let all = total-negated places lacks sets last.count (λ n less. last.below n less less)
-      (shape_long places lacking lacks shape lacking_all) in
-      let same = shape.count ∙ first.count in
-      let fit = subst (λ n. total_count lacks + total_count sets ≡ n * places) same all in
-      record {
-        most = omega (arith, takes.most, fit);
-        no_pass = λ none. nil_from_length starts
-            (sym first.count ∙ ap length (takes.no_pass none));
-      }
 
 module _ (places : ℕ) (draws : List Draw) (starts lacking lacks sets : List (List Bool))
     (turned : List Draw) (count : length draws ≡ length starts)

@@ -12,8 +12,10 @@ mod GatherLemmas
 mod GreatestLemmas
 mod LawLemmas
 mod LiveLemmas
+mod LosingLemmas
 mod OrderLemmas
 mod PassLemmas
 mod ReachLemmas
 mod ReachingLemmas
+mod TurnsLemmas
 mod UnderwayLemmas

@@ -1,6 +1,6 @@
 -- Liveness as sets that draw from one another.
 use Rattle.std.proofs.Common.{◌≡◌, ◌↔◌, ℕ, ◌*◌, ◌<◌, ◌≤◌, Bool, false, inl, inr}
-use Rattle.std.proofs.Common.{List, length, get_or, Some, slice_get, sym, ap, ◌∙◌, subst, arith}
+use Rattle.std.proofs.Common.{List, length, get_or, Some, slice_get, refl, sym, ap, ◌∙◌, subst, arith}
 use Rattle.std.specs.List.{All, Any, Contains}
 use Rattle.std.proofs.lemmas.Bool.{false≢true, false_from_ne_true}
 use Rattle.std.proofs.lemmas.List.{length-map, nil_from_length}
@@ -15,17 +15,18 @@ use Rattle.vob.proofs.VobsLemmas.{beside_all, beside_length, beside_of, bits_of_
 use Rattle.vob_flow.specs.declared.draw.Draw.{Draw}
 use Rattle.vob_flow.specs.declared.live.Flow.{Flow}
 use Rattle.vob_flow.specs.declared.live.Live.{Live}
-use Rattle.vob_flow.specs.Draws.{Comes, DrawsInside, FitsMask, IsIn, IsInSome, TakePasses}
+use Rattle.vob_flow.specs.Draws.{Comes, DrawsInside, FitsMask, IsIn, IsInSome, IsTurn, TakePasses}
 use Rattle.vob_flow.specs.Draws.Comes.{starts_in, drawn}
 use Rattle.vob_flow.specs.Draws as Solved
 use Rattle.vob_flow.specs.FlowFaults.{IsSound}
 use Rattle.vob_flow.specs.Gathered.{AreGathered}
-use Rattle.vob_flow.specs.Live.{bits_of, AreWithin, AreLive, IsLive, IsLiveNext, IsLiveHere, IsSolution}
+use Rattle.vob_flow.specs.Live.{bits_of, AreWithin, AreLive, IsLive, IsLiveNext, IsLiveHere, IsLiveTurn, IsSolution}
 use Rattle.vob_flow.specs.LiveDraws.{AreReads, AreDraws, IsDrawOf}
 use Rattle.vob_flow.proofs.AnyLemmas.{Any-map}
 use Rattle.vob_flow.proofs.FirstLemmas.{all_at}
 use Rattle.vob_flow.proofs.LawLemmas.{element_at}
 use Rattle.vob_flow.proofs.PassLemmas.{shape_long}
+use Rattle.vob_flow.proofs.TurnsLemmas.{ArePasses-map}
 
 -- a node keeps what it doesn't write
 pub kept_without : (vars : ℕ) (flow : Flow) (set : List Bool) →
@@ -73,6 +74,31 @@ module _ (vars : ℕ) (nodes : List Flow) (reads : List BitVector) (draws : List
   read_is n flow is v =
       let set = beside_of (λ flow set. IsMadeOf vars flow.reads.items set.bits) nodes reads n flow r is in
       rw (bits_of_at reads n set.0 set.1) (set.2.each v)
+
+  live_turn : (n : ℕ) {sets others : List (List Bool)} → IsTurn draws n sets others →
+      IsLiveTurn nodes n sets others
+  live_turn n {sets} {others} turn = record {
+    shape = turn.shape;
+    here = λ v flow is.
+        let draw = beside_of (IsDrawOf vars) nodes draws n flow d is in
+        let here = turn.here v draw.0 draw.1 in (
+          (λ e. elim (here.0 e) [
+            | inl old ↦ inl old
+            | inr new ↦ inr (
+              subst (λ (xs : List ℕ). IsInSome sets xs v) draw.2.from new.1,
+              (draw.2.kept v).0 new.0,
+            )
+          ]),
+          (λ either. here.1 (elim either [
+            | inl old ↦ inl old
+            | inr new ↦ inr (
+              (draw.2.kept v).1 new.1,
+              subst (λ (xs : List ℕ). IsInSome sets xs v) (sym draw.2.from) new.0,
+            )
+          ])),
+        );
+    others = turn.others;
+  }
 
   bits_count : length (bits_of reads) ≡ length nodes
   bits_count = length-map reads (λ set. set.bits) ∙ reads_count vars nodes reads r
@@ -143,7 +169,7 @@ module _ (vars : ℕ) (nodes : List Flow) (reads : List BitVector) (draws : List
     before_count = least.solution.shape.count ∙ bits_count
 
     pub AreLive-least : (live : Live) → AreOfLength vars after →
-        TakePasses (bits_of reads) before live.rounds → bits_of live.before.items ≡ before →
+        TakePasses draws (bits_of reads) before live.rounds → bits_of live.before.items ≡ before →
         bits_of live.after.items ≡ after → AreLive vars nodes live
     AreLive-least live after_long passes b a =
         let most = total_count_at_most vars before before_long in
@@ -165,4 +191,14 @@ module _ (vars : ℕ) (nodes : List Flow) (reads : List BitVector) (draws : List
               (sym bits_count ∙ ap length (passes.no_pass none));
           one_round = λ one. rw (b, passes.one_pass one)
               (λ n flow is v live. (read_is n flow is v).0 live);
+          count = λ some. rw b record {
+            reads = bits_of reads;
+            are_reads = record {
+              are_sets = record { count = bits_count; long = reads_long vars nodes reads r };
+              each = read_is;
+            };
+            passes = ArePasses-map (λ sets. sets) (λ _. Unit {0}) (λ n sets others p turn. tt)
+                (λ n sets others p turn. live_turn n turn) (λ sets others p q e. e) tt refl
+                (passes.count some);
+          };
         }

@@ -11,7 +11,8 @@ use Rattle.vob.specs.Bits.{IsWritten, count_of, one_of}
 use Rattle.vob_block.proofs.PackingLemmas.{true_inside}
 use Rattle.vob.proofs.BitsLemmas.{item_false}
 use Rattle.vob_flow.specs.declared.order.Visit.{Visit}
-use Rattle.vob_flow.specs.Order.{IsOrder, IsVisited, root_of, sets_of}
+use Rattle.vob_flow.specs.Order.{IsVisited, root_of, sets_of}
+use Rattle.vob_flow.specs.Turns.{IsOrder}
 
 -- a place for x
 abbrev moved : (ℕ → ℕ) → ℕ → ℕ → ℕ → ℕ

@@ -1,6 +1,6 @@
 -- The turns of a pass, one after another.
 use Rattle.std.proofs.Common.{◌≡◌, ◌≢◌, ◌↔◌, ℕ, ◌+◌, ◌*◌, ◌^◌, ◌-◌, ◌<◌, ◌≤◌, Bool, true, false, inl, inr}
-use Rattle.std.proofs.Common.{List, [], length, get_or, Some, slice_get, refl, sym, ap, ◌∙◌, arith}
+use Rattle.std.proofs.Common.{List, [], length, get_or, Some, slice_get, refl, sym, ap, subst, ◌∙◌, arith}
 use Rattle.std.proofs.Common.{mul-le-mul_left}
 use Rattle.std.proofs.lemmas.Bool.{cases_eq, false≢true, false_from_ne_true}
 use Rattle.std.proofs.lemmas.List.{length-map, get_or_default}
@@ -11,11 +11,12 @@ use Rattle.vob.specs.Vobs.{AreOfLength, bits_of, total_count}
 use Rattle.vob_block.proofs.PackingLemmas.{true_inside}
 use Rattle.vob.proofs.VobsLemmas.{of_length_at, total_count_at_most}
 use Rattle.vob_flow.specs.declared.draw.Draw.{Draw}
-use Rattle.vob_flow.specs.Draws.{HaveShape}
-use Rattle.vob_flow.specs.Order.{IsOrder}
+use Rattle.vob_flow.specs.Draws.{HaveShape, IsTurn}
+use Rattle.vob_flow.specs.Turns.{IsOrder, TakeTurns}
+use Rattle.vob_flow.specs.Turns.TakeTurns.{no_turn, one_more}
 use Rattle.vob_flow.specs.Gains.{HadTurn, HasGained}
 use Rattle.vob_flow.specs.Passes.{AreMore, HadPass, HadTurns}
-use Rattle.vob_flow.proofs.UnderwayLemmas.{HaveShape-refl, HaveShape-trans, AreUnderway-turn, AreUnderway-again, place_inside, place_other}
+use Rattle.vob_flow.proofs.UnderwayLemmas.{HaveShape-refl, HaveShape-trans, AreUnderway-turn, AreUnderway-again, IsTurn-underway, place_inside, place_other}
 
 -- ---- as many sets, as long as before
 
@@ -72,7 +73,7 @@ product_fits n places few small =
 module _ {count : ℕ} {order : List ℕ} (one : IsOrder count order) {draws : List Draw} {first : Bool}
     {sets : List (List Bool)} {grown : List Bool} {mid : List (List Bool)} {grown_mid : List Bool}
     {i n : ℕ} {draw : Draw} {after : List (List Bool)} {grown' : List Bool}
-    (h : HadTurns one.place draws first sets grown mid grown_mid i)
+    (h : HadTurns one.place order draws first sets grown mid grown_mid i)
     (few : length draws ≡ count) (bits : length grown ≡ count) (less : i < length order)
     (named : get_or order i 0 ≡ n) (at : slice_get draws n ≡ Some draw)
     (t : HadTurn mid grown_mid n draw first after grown') where
@@ -105,22 +106,28 @@ module _ {count : ℕ} {order : List ℕ} (one : IsOrder count order) {draws : L
       ∙ h.same (λ m low. sym (t.written.others m (λ e. omega (arith, ap one.place e, here, low)))
       ∙ none m (omega (arith, low)))
 
-  pub HadTurns-more : HadTurns one.place draws first sets grown after grown' (i + 1)
+  pub HadTurns-more : HadTurns one.place order draws first sets grown after grown' (i + 1)
   HadTurns-more = record {
     sets_more = AreMore-trans h.sets_more (AreMore-gained t.drawn);
     len = t.written.len ∙ h.len;
     underway = λ starts u. AreUnderway-turn draw (h.underway starts u) at here
         (λ k inside. apart k (omega (arith, inside, few))) t.drawn t.written;
+    turns = λ starts u. one_more (h.turns starts u)
+        (subst (λ k. IsTurn draws k mid after) (sym named)
+        (IsTurn-underway draw (h.underway starts u) at here
+        (λ k inside. apart k (omega (arith, inside, few))) t.drawn t.written));
     more = turns_more (AreMore-gained t.drawn) t.drawn.more;
     same = turns_same t.drawn.same;
   }
 
-pub HadTurns-start : (place : ℕ → ℕ) (draws : List Draw) (first : Bool) (sets : List (List Bool))
-    (grown : List Bool) → HadTurns place draws first sets grown sets grown 0
-HadTurns-start place draws first sets grown = record {
+pub HadTurns-start : (place : ℕ → ℕ) (order : List ℕ) (draws : List Draw) (first : Bool)
+    (sets : List (List Bool)) (grown : List Bool) →
+    HadTurns place order draws first sets grown sets grown 0
+HadTurns-start place order draws first sets grown = record {
   sets_more = AreMore-refl sets;
   len = refl;
   underway = λ starts u. u;
+  turns = λ starts u. no_turn;
   more = λ m less. absurd (omega (arith, less));
   same = λ none. refl;
 }
@@ -130,9 +137,9 @@ HadTurns-start place draws first sets grown = record {
 pub HadPass-whole : {count : ℕ} {order : List ℕ} (one : IsOrder count order) {draws : List Draw}
     {first : Bool} {sets : List (List Bool)} {grown : List Bool} {after : List (List Bool)}
     {grown' : List Bool} {i : ℕ} (any : Bool) →
-    HadTurns one.place draws first sets grown after grown' i → length order ≤ i →
+    HadTurns one.place order draws first sets grown after grown' i → i ≡ length order →
     length draws ≡ count → length grown ≡ count → ((any ≡ true) ↔ HasBit true grown') →
-    HadPass one.place draws first sets grown after grown' any
+    HadPass one.place order draws first sets grown after grown' any
 HadPass-whole {count} {order} one {draws} {first} {sets} {grown} {after} {grown'} {i} any h past few
     bits answer =
     let inside : (k : ℕ) → k < count → one.place k < i =
@@ -145,6 +152,8 @@ HadPass-whole {count} {order} one {draws} {first} {sets} {grown} {after} {grown'
       len = h.len;
       underway = λ starts u. AreUnderway-again (h.underway starts u)
           (λ k less. inside k (omega (arith, less, few)));
+      turns = λ starts u. subst (λ k. TakeTurns (IsTurn draws) order sets k after) past
+          (h.turns starts u);
       more = λ up.
           let there = answer.0 up in
           h.more there.0 (inside there.0 (omega (arith, there.1, h.len, bits))) there.2;

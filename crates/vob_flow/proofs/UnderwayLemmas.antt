@@ -1,5 +1,5 @@
 -- Sets on the way to the least ones, turn after turn.
-use Rattle.std.proofs.Common.{◌≡◌, ◌≢◌, ℕ, ◌+◌, ◌<◌, ◌⊎◌, Bool, true, false, inl, inr}
+use Rattle.std.proofs.Common.{◌≡◌, ◌≢◌, ℕ, ◌↔◌, ◌+◌, ◌<◌, ◌⊎◌, Bool, true, false, inl, inr}
 use Rattle.std.proofs.Common.{List, [], length, get_or, Some, slice_get, refl, sym, ap, ◌∙◌, subst, arith}
 use Rattle.std.specs.List.{Contains}
 use Rattle.std.proofs.lemmas.Bool.{cases_eq, cases_lt, cases_Bool, false≢true}
@@ -8,9 +8,9 @@ use Rattle.std.proofs.lemmas.Option.{slice_get_within, same_Some}
 use Rattle.vob_block.specs.Packing.{item}
 use Rattle.vob.specs.Bits.{IsWritten}
 use Rattle.vob_flow.specs.declared.draw.Draw.{Draw}
-use Rattle.vob_flow.specs.Draws.{IsIn, IsDrawn, Comes, HaveShape, AreLeast}
+use Rattle.vob_flow.specs.Draws.{IsIn, IsDrawn, IsTurn, Comes, HaveShape, AreLeast}
 use Rattle.vob_flow.specs.Draws.Comes.{starts_in, drawn}
-use Rattle.vob_flow.specs.Order.{IsOrder}
+use Rattle.vob_flow.specs.Turns.{IsOrder}
 use Rattle.vob_flow.specs.Gains.{HasGained, HasNews, IsNews, IsSomeNews}
 use Rattle.vob_flow.specs.Passes.{HasAllOf, IsSince, IsWaiting, AreUnderway}
 use Rattle.vob_flow.proofs.AnyLemmas.{Any-contained}
@@ -101,6 +101,32 @@ module _ {place : ℕ → ℕ} {draws : List Draw} {starts sets after : List (Li
               (news_of m waiting, (through.0, other_in m v other through.1))))
         ]
   ]
+
+  -- what it draws without news it has, so it had its turn
+  turn_here : (v : ℕ) → IsIn after n v ↔ (IsIn sets n v ⊎ IsDrawn sets draw v)
+  turn_here v = (
+    (λ e. elim ((d.here v).0 e) [
+      | inl old ↦ inl old
+      | inr new ↦
+          let of = new.4 in
+          inr (of.1.0, (new.0, new.1, new.2, new.3, of.1.1))
+    ]),
+    (λ either. elim either [
+      | inl old ↦ kept_in n v old
+      | inr new ↦
+          let of = new.1 in
+          done_here of.1 (of.0, of.2, of.3) v (new.0, kept_in of.1 v of.4)
+    ]),
+  )
+
+  pub IsTurn-underway : IsTurn draws n sets after
+  IsTurn-underway = record {
+    shape = d.shape;
+    here = λ v there is.
+        subst (λ (x : Draw). IsIn after n v ↔ (IsIn sets n v ⊎ IsDrawn sets x v))
+        (same_at draws n n draw there refl at is) (turn_here v);
+    others = d.others;
+  }
 
   -- another one that had all of set m has so still, or is to draw from it
   module _ (k m : ℕ) (there : Draw) (is : slice_get draws k ≡ Some there) (other : k ≢ n) where

@@ -1,10 +1,11 @@
 -- Sets that draw from one another, and the least such sets.
-use Rattle.std.specs.Prelude.{◌≡◌, ◌↔◌, ◌⊎◌, ℕ, ◌+◌, ◌<◌, ◌≤◌, Bool, true, false, List, [], length, slice_index_or, slice_get, Some, All, Any, Contains}
+use Rattle.std.specs.Prelude.{◌≡◌, ◌≢◌, ◌↔◌, ◌⊎◌, ℕ, ◌+◌, ◌<◌, ◌≤◌, Bool, true, false, List, [], length, slice_index_or, slice_get, Some, All, Any, Contains}
 use Rattle.vob_block.specs.Packing.{item}
 use Rattle.vob.specs.Vobs.{total_count}
 use Rattle.vob_flow.specs.declared.draw.Draw.{Draw}
 use Rattle.vob_flow.specs.declared.draw.Mask.{Mask}
 use Rattle.vob_flow.specs.declared.draw.Mask.TheVariants.{All as Everything, Keep, Without}
+use Rattle.vob_flow.specs.Turns.{ArePasses}
 
 -- place v is in set n
 abbrev pub IsIn : List (List Bool) → ℕ → ℕ → Type 0
@@ -64,9 +65,18 @@ pub record AreLeast (draws : List Draw) (starts sets : List (List Bool)) : Type 
   pub solution : IsSolution draws starts sets
   pub least : (n v : ℕ) → IsIn sets n v → Comes draws starts n v
 
--- how many passes over all sets added what they have more: none only where there are no sets, one
--- only where nothing was added, and each but the last one added something
-pub record TakePasses (starts sets : List (List Bool)) (passes : ℕ) : Type 0 where
+-- set n has its turn: it gets what it draws from the sets as they are, and no other set changes
+pub record IsTurn (draws : List Draw) (n : ℕ) (sets after : List (List Bool)) : Type 0 where
+  pub shape : HaveShape sets after
+  pub here : (v : ℕ) (draw : Draw) → slice_get draws n ≡ Some draw →
+      IsIn after n v ↔ (IsIn sets n v ⊎ IsDrawn sets draw v)
+  pub others : (k : ℕ) → k ≢ n → slice_index_or after k [] ≡ slice_index_or sets k []
+
+-- how many passes over all sets added what they have more: none only if there are no sets, one only
+-- if nothing was added, and each but the last one added something
+pub record TakePasses (draws : List Draw) (starts sets : List (List Bool)) (passes : ℕ)
+    : Type 0 where
   pub most : passes + total_count starts ≤ 1 + total_count sets
   pub no_pass : passes ≡ 0 → starts ≡ []
   pub one_pass : passes ≡ 1 → sets ≡ starts
+  pub count : passes ≢ 0 → ArePasses (IsTurn draws) starts sets passes

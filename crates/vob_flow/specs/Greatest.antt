@@ -1,8 +1,9 @@
 -- Sets that have what all of others have, and the greatest such sets.
-use Rattle.std.specs.Prelude.{◌≡◌, ◌↔◌, ◌⊎◌, ℕ, ◌+◌, ◌*◌, ◌<◌, ◌≤◌, Bool, List, [], length, slice_get, Some, All, Contains}
+use Rattle.std.specs.Prelude.{◌≡◌, ◌≢◌, ◌↔◌, ◌⊎◌, ℕ, ◌+◌, ◌*◌, ◌<◌, ◌≤◌, Bool, List, [], length, slice_get, slice_index_or, Some, All, Contains}
 use Rattle.vob.specs.Vobs.{total_count}
 use Rattle.vob_flow.specs.declared.draw.Draw.{Draw}
 use Rattle.vob_flow.specs.Draws.{IsIn, IsKept, HaveShape}
+use Rattle.vob_flow.specs.Turns.{ArePasses}
 
 -- v is in each of some sets; in each of none is everything
 abbrev pub IsInAll : List (List Bool) → List ℕ → ℕ → Type 0
@@ -32,8 +33,33 @@ pub record AreGreatest (places : ℕ) (draws : List Draw) (starts sets : List (L
   pub greatest : (n v : ℕ) → n < length sets → v < places → ¬ IsIn sets n v →
       Misses draws starts n v
 
+-- sets that have what they start with, and all that their masks let through
+pub record HaveMost (places : ℕ) (draws : List Draw) (starts sets : List (List Bool))
+    : Type 0 where
+  pub shape : HaveShape starts sets
+  pub each : (n v : ℕ) (draw : Draw) → v < places → slice_get draws n ≡ Some draw →
+      IsIn sets n v ↔ (IsIn starts n v ⊎ IsKept draw.mask v)
+
+-- set n has its turn: it loses what one that it draws from lacks, but for what it starts with, and
+-- no other set changes
+pub record IsLosingTurn (places : ℕ) (draws : List Draw) (starts : List (List Bool)) (n : ℕ)
+    (sets after : List (List Bool)) : Type 0 where
+  pub shape : HaveShape sets after
+  pub here : (v : ℕ) (draw : Draw) → v < places → slice_get draws n ≡ Some draw →
+      IsIn after n v ↔ (IsIn sets n v × (IsIn starts n v ⊎ IsInAll sets draw.from.now v))
+  pub others : (k : ℕ) → k ≢ n → slice_index_or after k [] ≡ slice_index_or sets k []
+
+-- so many passes, from the most that each set can have on
+pub record AreLosingPasses (places : ℕ) (draws : List Draw) (starts sets : List (List Bool))
+    (passes : ℕ) : Type 0 where
+  pub most : List (List Bool)
+  pub are_most : HaveMost places draws starts most
+  pub passes_are : ArePasses (IsLosingTurn places draws starts) most sets passes
+
 -- how many passes over all sets: none only if there are no sets, and each but the last one found a
 -- place that the sets lack
-pub record IsPassCount (places : ℕ) (starts sets : List (List Bool)) (passes : ℕ) : Type 0 where
+pub record IsPassCount (places : ℕ) (draws : List Draw) (starts sets : List (List Bool))
+    (passes : ℕ) : Type 0 where
   pub most : passes + total_count sets ≤ 1 + length starts * places
   pub no_pass : passes ≡ 0 → starts ≡ []
+  pub count : passes ≢ 0 → AreLosingPasses places draws starts sets passes

@@ -18,3 +18,4 @@ pub mod Reach
 pub mod Reaching
 pub mod SolveFaults
 pub mod Turned
+pub mod Turns

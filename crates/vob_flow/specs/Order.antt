@@ -21,13 +21,6 @@ abbrev pub root_of : Bool → ℕ → ℕ → ℕ
 root_of true n k = n - (k + 1)
 root_of false n k = k
 
--- each of the first n numbers once, and the place of each
-pub record IsOrder (n : ℕ) (order : List ℕ) : Type 0 where
-  pub inside : All (λ k. k < n) order
-  pub whole : (k : ℕ) → k < n → Contains order k
-  pub place : ℕ → ℕ
-  pub places : (j : ℕ) → j < length order → place (slice_index_or order j 0) ≡ j
-
 -- the sets that were seen are in the order or wait, and each has one place; those of the sets that
 -- wait are past all others
 pub record IsVisited (n : ℕ) (seen : List Bool) (waiting order : List ℕ) : Type 0 where

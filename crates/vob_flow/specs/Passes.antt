@@ -4,8 +4,9 @@ use Rattle.vob_block.specs.Packing.{item}
 use Rattle.vob.specs.Vobs.{total_count}
 use Rattle.vob_flow.specs.declared.draw.Draw.{Draw}
 use Rattle.vob_flow.specs.declared.draw.Mask.{Mask}
-use Rattle.vob_flow.specs.Draws.{IsIn, Comes, HaveShape}
+use Rattle.vob_flow.specs.Draws.{IsIn, Comes, HaveShape, IsTurn}
 use Rattle.vob_flow.specs.Gains.{IsLetThrough}
+use Rattle.vob_flow.specs.Turns.{TakeTurns}
 
 -- set k has all that a mask lets through of set m
 abbrev pub HasAllOf : List (List Bool) → ℕ → Mask → ℕ → Type 0
@@ -36,24 +37,29 @@ pub record AreMore (sets after : List (List Bool)) : Type 0 where
   pub total : total_count sets ≤ total_count after
 
 -- the sets at the first i places had their turn
-pub record HadTurns (place : ℕ → ℕ) (draws : List Draw) (first : Bool) (sets : List (List Bool))
-    (grown : List Bool) (after : List (List Bool)) (grown' : List Bool) (i : ℕ) : Type 0 where
+pub record HadTurns (place : ℕ → ℕ) (order : List ℕ) (draws : List Draw) (first : Bool)
+    (sets : List (List Bool)) (grown : List Bool) (after : List (List Bool)) (grown' : List Bool)
+    (i : ℕ) : Type 0 where
   pub sets_more : AreMore sets after
   pub len : length grown' ≡ length grown
   pub underway : (starts : List (List Bool)) → AreUnderway place draws starts sets first grown 0 →
       AreUnderway place draws starts after first grown' i
+  pub turns : (starts : List (List Bool)) → AreUnderway place draws starts sets first grown 0 →
+      TakeTurns (IsTurn draws) order sets i after
   pub more : (m : ℕ) → place m < i → item grown' m ≡ true →
       total_count sets < total_count after
   pub same : ((m : ℕ) → place m < i → item grown' m ≡ false) → after ≡ sets
 
 -- all sets had their turn, and some grew or none
-pub record HadPass (place : ℕ → ℕ) (draws : List Draw) (first : Bool) (sets : List (List Bool))
-    (grown : List Bool) (after : List (List Bool)) (grown' : List Bool) (grew : Bool)
-    : Type 0 where
+pub record HadPass (place : ℕ → ℕ) (order : List ℕ) (draws : List Draw) (first : Bool)
+    (sets : List (List Bool)) (grown : List Bool) (after : List (List Bool)) (grown' : List Bool)
+    (grew : Bool) : Type 0 where
   pub sets_more : AreMore sets after
   pub len : length grown' ≡ length grown
   pub underway : (starts : List (List Bool)) → AreUnderway place draws starts sets first grown 0 →
       AreUnderway place draws starts after false grown' 0
+  pub turns : (starts : List (List Bool)) → AreUnderway place draws starts sets first grown 0 →
+      TakeTurns (IsTurn draws) order sets (length order) after
   pub more : grew ≡ true → total_count sets < total_count after
   pub none : grew ≡ false → (m : ℕ) → item grown' m ≡ false
   pub same : grew ≡ false → after ≡ sets

@@ -1,10 +1,10 @@
 -- What can be wrong with sets that draw from one another, and which is the first with a fault.
-use Rattle.std.specs.Prelude.{◌≡◌, ℕ, ◌<◌, Bool, List, [], ◌++◌, length, slice_index_or, slice_get, Some, codes}
+use Rattle.std.specs.Prelude.{◌≡◌, ℕ, ◌<◌, ◌≤◌, Bool, List, [], ◌++◌, length, slice_index_or, slice_get, Some, codes}
 use Rattle.std.specs.Fmt.{decimal}
 use Rattle.vob_flow.specs.Draws.{FitsMask, DrawsInside}
 use Rattle.vob_flow.specs.declared.draw.Draw.{Draw}
 use Rattle.vob_flow.specs.declared.faults.SolveError.{SolveError}
-use Rattle.vob_flow.specs.declared.faults.SolveError.TheVariants.{Memory, BadLength, BadSet}
+use Rattle.vob_flow.specs.declared.faults.SolveError.TheVariants.{Memory, BadLength, BadSet, BadEntry}
 
 -- set n and its mask have a bit for each of the places
 pub record IsLongAt (places : ℕ) (sets : List (List Bool)) (draws : List Draw) (n : ℕ)
@@ -47,9 +47,22 @@ abbrev pub IsFault : ℕ → List (List Bool) → List Draw → SolveError → T
 IsFault places sets draws Memory = ⊥
 IsFault places sets draws (BadLength n) = IsBadLength places sets draws n
 IsFault places sets draws (BadSet n) = IsBadSet places sets draws n
+IsFault places sets draws BadEntry = ⊥
+
+-- an entry that is none of some nodes
+abbrev pub IsNoNode : ℕ → ℕ → Type 0
+IsNoNode nodes entry = (0 < nodes) × (nodes ≤ entry)
+
+-- what is wrong with an entry
+abbrev pub IsEntryFault : ℕ → ℕ → SolveError → Type 0
+IsEntryFault nodes entry Memory = ⊥
+IsEntryFault nodes entry (BadLength n) = ⊥
+IsEntryFault nodes entry (BadSet n) = ⊥
+IsEntryFault nodes entry BadEntry = IsNoNode nodes entry
 
 -- the text of a refusal
 abbrev pub solve_error_text : SolveError → List ℕ
 solve_error_text Memory = codes "out of memory"
 solve_error_text (BadLength n) = codes "set " ++ decimal n ++ codes " has another length"
 solve_error_text (BadSet n) = codes "set " ++ decimal n ++ codes " draws from no set"
+solve_error_text BadEntry = codes "the entry is no node"

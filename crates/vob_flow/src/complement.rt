@@ -81,7 +81,7 @@ fn solve_turned(
     ensures greatest { OnOk result
         (AreGreatest places draws.now (bits_of sets.old) (bits_of sets.new)) }
     ensures passes { IfOk result
-        (IsPassCount places (bits_of sets.old) (bits_of sets.new)) }
+        (IsPassCount places draws.now (bits_of sets.old) (bits_of sets.new)) }
     ensures err { OnErr result (sets.new ≡ sets.old) }
 {
     let order = postorder(alloc, turned)?;
@@ -109,7 +109,7 @@ pub(crate) fn solve_beside(
     ensures greatest { OnOk result
         (AreGreatest places draws.now (bits_of sets.old) (bits_of sets.new)) }
     ensures passes { IfOk result
-        (IsPassCount places (bits_of sets.old) (bits_of sets.new)) }
+        (IsPassCount places draws.now (bits_of sets.old) (bits_of sets.new)) }
     ensures err { OnErr result (sets.new ≡ sets.old) }
     ensures nothing { sets.old ≡ [] → IsOk result }
 {
@@ -140,7 +140,7 @@ pub(crate) fn solve_greatest(
     ensures greatest { OnOk result
         (AreGreatest places draws.now (bits_of sets.old) (bits_of sets.new)) }
     ensures passes { IfOk result
-        (IsPassCount places (bits_of sets.old) (bits_of sets.new)) }
+        (IsPassCount places draws.now (bits_of sets.old) (bits_of sets.new)) }
     ensures err { OnErr result (sets.new ≡ sets.old) }
     ensures nothing { sets.old ≡ [] → IsOk result }
 {
@@ -163,7 +163,7 @@ pub fn greatest(
     ensures greatest { OnOk result
         (AreGreatest places draws.now (bits_of sets.old) (bits_of sets.new)) }
     ensures passes { IfOk result
-        (IsPassCount places (bits_of sets.old) (bits_of sets.new)) }
+        (IsPassCount places draws.now (bits_of sets.old) (bits_of sets.new)) }
     ensures err { OnErr result (sets.new ≡ sets.old) }
 
     // The sets are checked first, and memory is asked for only if there are sets.
@@ -172,6 +172,7 @@ pub fn greatest(
         ↔ IsBadLength places (bits_of sets.old) draws.now n }
     ensures bad_set { (n : ℕ) → (result ≡ Err (SolveError.BadSet n))
         ↔ IsBadSet places (bits_of sets.old) draws.now n }
+    ensures no_entry { result ≢ Err SolveError.BadEntry }
     ensures memory { result ≡ Err SolveError.Memory → sets.old ≢ [] }
 {
     check_sets(places, sets, draws)?;

@@ -2,7 +2,7 @@
 ghost use Rattle.std.specs.Prelude.{◌≡◌, ◌↔◌, ◌<◌, length, All, IsTrue, IfErr, OnOk};
 ghost use Rattle.vob.specs.Vobs.{bits_of};
 ghost use Rattle.vob_flow.specs.Draws.{FitsMask};
-ghost use Rattle.vob_flow.specs.SolveFaults.{AreSound, IsFault};
+ghost use Rattle.vob_flow.specs.SolveFaults.{AreSound, IsEntryFault, IsFault};
 
 use crate::draw::{Draw, Mask};
 use std::alloc::AllocError;
@@ -18,6 +18,8 @@ pub enum SolveError {
     BadLength { set: usize },
     /// A set draws from a set that isn't there.
     BadSet { set: usize },
+    /// There are nodes, and the entry isn't one.
+    BadEntry,
 }
 
 impl fmt::Display for SolveError {
@@ -31,6 +33,7 @@ impl fmt::Display for SolveError {
             SolveError::Memory => f.write_str("out of memory"),
             SolveError::BadLength { set } => write!(f, "set {set} has another length"),
             SolveError::BadSet { set } => write!(f, "set {set} draws from no set"),
+            SolveError::BadEntry => f.write_str("the entry is no node"),
         }
     }
 }
@@ -64,6 +67,17 @@ pub(crate) fn all_below(numbers: &[usize], end: usize) -> bool
     ensures { IsTrue result ↔ All (λ number. number < end) numbers.now }
 {
     numbers.iter().all(|number| *number < end)
+}
+
+/// Fails if there are nodes and the entry isn't one.
+pub(crate) fn check_entry(nodes: usize, entry: usize) -> Result<(), SolveError>
+    ensures ok { OnOk result (0 < nodes → entry < nodes) }
+    ensures err { IfErr result (IsEntryFault nodes entry) }
+{
+    if nodes > 0 && entry >= nodes {
+        return Err(SolveError::BadEntry);
+    }
+    Ok(())
 }
 
 /// Returns what is wrong with the first set at fault. Each set and its mask must have a bit for each

@@ -4,7 +4,8 @@ ghost use Rattle.std.specs.Prelude.{◌≡◌, ◌+◌, ◌<◌, [], ◌∷◌, 
 ghost use Rattle.vob.specs.Bits.{IsWritten};
 ghost use Rattle.vob_block.specs.Packing.{item};
 ghost use Rattle.vob_flow.specs.Draws.{DrawsInside};
-ghost use Rattle.vob_flow.specs.Order.{IsOrder, IsVisited, SeesMore, root_of, sets_of, steps_left};
+ghost use Rattle.vob_flow.specs.Order.{IsVisited, SeesMore, root_of, sets_of, steps_left};
+ghost use Rattle.vob_flow.specs.Turns.{IsOrder};
 
 use crate::draw::Draw;
 use std::alloc::{AllocError, Global};

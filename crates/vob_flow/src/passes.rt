@@ -4,8 +4,8 @@ ghost use Rattle.std.specs.Prelude.{◌≡◌, ◌↔◌, ◌<◌, length, All, 
 ghost use Rattle.vob.specs.Vobs.{AreOfLength, bits_of};
 ghost use Rattle.vob_flow.specs.Draws.{AreLeast, DrawsInside, FitsMask, TakePasses};
 ghost use Rattle.vob_flow.specs.Gains.{HadTurn, HasGained, HasNews, IsAdded, IsLetThrough, IsNews, IsSomeNews};
-ghost use Rattle.vob_flow.specs.Order.{IsOrder};
 ghost use Rattle.vob_flow.specs.Passes.{HadPass};
+ghost use Rattle.vob_flow.specs.Turns.{IsOrder};
 
 use crate::draw::{Draw, Mask};
 use vob::Vob;
@@ -147,7 +147,7 @@ fn pass(
     requires long { AreOfLength places (bits_of sets.old) }
     requires order { IsOrder (length draws.now) order.now }
     requires grown { length grown.old.bits ≡ length sets.old }
-    ensures { (one : IsOrder (length draws.now) order.now) → HadPass one.place draws.now first
+    ensures { (one : IsOrder (length draws.now) order.now) → HadPass one.place order.now draws.now first
         (bits_of sets.old) grown.old.bits (bits_of sets.new) grown.new.bits result }
 {
     for set in order {
@@ -171,7 +171,7 @@ pub(crate) fn settle(
     requires order { IsOrder (length draws.now) order.now }
     requires grown { length grown.old.bits ≡ length sets.old }
     ensures least { AreLeast draws.now (bits_of sets.old) (bits_of sets.new) }
-    ensures passes { TakePasses (bits_of sets.old) (bits_of sets.new) result }
+    ensures passes { TakePasses draws.now (bits_of sets.old) (bits_of sets.new) result }
 {
     let mut passes = 1;
     let mut first = true;

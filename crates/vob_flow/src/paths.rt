@@ -70,6 +70,7 @@ pub fn closure(alloc: Global, next: &[Vec<usize>]) -> Result<Vec<Vob>, SolveErro
     ensures bad_set { (n : ℕ) → (result ≡ Err (SolveError.BadSet n))
         ↔ IsBadList (map (λ list. list.items) next.now) n }
     ensures bad_length { (n : ℕ) → result ≢ Err (SolveError.BadLength n) }
+    ensures no_entry { result ≢ Err SolveError.BadEntry }
     ensures memory { result ≡ Err SolveError.Memory → next.now ≢ [] }
 {
     check_lists(next)?;
@@ -118,6 +119,7 @@ pub fn reach(alloc: Global, next: &[Vec<usize>], from: &[usize]) -> Result<Vob, 
     ensures bad_set { (n : ℕ) → (result ≡ Err (SolveError.BadSet n))
         ↔ IsBadList (map (λ list. list.items) next.now) n }
     ensures bad_length { (n : ℕ) → result ≢ Err (SolveError.BadLength n) }
+    ensures no_entry { result ≢ Err SolveError.BadEntry }
 {
     check_lists(next)?;
     let set = reach_from(alloc, next, from)?;

@@ -31,6 +31,7 @@ pub fn reaching_definitions(
         ↔ IsBadLength definitions (bits_of ends.old) flows.now n }
     ensures bad_set { (n : ℕ) → (result ≡ Err (SolveError.BadSet n))
         ↔ IsBadSet definitions (bits_of ends.old) flows.now n }
+    ensures no_entry { result ≢ Err SolveError.BadEntry }
     ensures memory { result ≡ Err SolveError.Memory → ends.old ≢ [] }
 {
     check_sets(definitions, ends, flows)?;

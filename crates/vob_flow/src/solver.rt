@@ -23,7 +23,7 @@ pub(crate) fn solve(
     requires from { All (DrawsInside (length sets.old)) draws.now }
     requires long { AreOfLength places (bits_of sets.old) }
     ensures least { OnOk result (AreLeast draws.now (bits_of sets.old) (bits_of sets.new)) }
-    ensures passes { IfOk result (TakePasses (bits_of sets.old) (bits_of sets.new)) }
+    ensures passes { IfOk result (TakePasses draws.now (bits_of sets.old) (bits_of sets.new)) }
     ensures err { OnErr result (sets.new ≡ sets.old) }
     ensures nothing { sets.old ≡ [] → IsOk result }
 {
@@ -50,7 +50,7 @@ pub fn least(
 ) -> Result<u128, SolveError>
     requires { length draws.now ≡ length sets.old }
     ensures least { OnOk result (AreLeast draws.now (bits_of sets.old) (bits_of sets.new)) }
-    ensures passes { IfOk result (TakePasses (bits_of sets.old) (bits_of sets.new)) }
+    ensures passes { IfOk result (TakePasses draws.now (bits_of sets.old) (bits_of sets.new)) }
     ensures err { OnErr result (sets.new ≡ sets.old) }
 
     // The sets are checked first, and memory is asked for only if there are sets.
@@ -59,6 +59,7 @@ pub fn least(
         ↔ IsBadLength places (bits_of sets.old) draws.now n }
     ensures bad_set { (n : ℕ) → (result ≡ Err (SolveError.BadSet n))
         ↔ IsBadSet places (bits_of sets.old) draws.now n }
+    ensures no_entry { result ≢ Err SolveError.BadEntry }
     ensures memory { result ≡ Err SolveError.Memory → sets.old ≢ [] }
 {
     check_sets(places, sets, draws)?;

@@ -3,7 +3,8 @@ use Rattle.std.proofs.Common.{◌∙◌, sym, subst}
 use Rattle.std.specs.List.{All}
 use Rattle.std.proofs.lemmas.List.{length-map}
 use Rattle.vob_flow.specs.Draws.{DrawsInside}
-use Rattle.vob_flow.proofs.GreatestLemmas.{AreGreatest-turned, IsPassCount-lacking, lacking_all, masks_beside, turned_from, turned_masks}
+use Rattle.vob_flow.proofs.GreatestLemmas.{AreGreatest-turned, lacking_all, masks_beside, turned_from, turned_masks}
+use Rattle.vob_flow.proofs.LosingLemmas.{IsPassCount-lacking}
 use Rattle.vob_flow.proofs.complement.solve_turned.Goals as goal
 
 pub postorder-requires : goal.postorder-requires
@@ -40,6 +41,8 @@ returns-clause-greatest c =
     c.settle-passes.ensures.least c.negate_each.ensures
 
 pub returns-clause-passes : goal.returns-clause-passes
-returns-clause-passes c = IsPassCount-lacking _ _ _ _ (c.requires.count ∙ sym (length-map _ _))
-    c.requires.long c.turn_starts.ensures _ _ _ c.settle-passes.ensures.least.solution.shape
+returns-clause-passes c =
+    let same = length-map c.args.sets.now (λ v. v.bits) in
+    IsPassCount-lacking _ _ _ _ _ (c.requires.count ∙ sym same) c.requires.long
+    (rw same c.requires.from) c.turn_starts.ensures c.requires.turned _ _ _ c.settle-passes.ensures.least.solution.shape
     c.settle-passes.ensures.passes c.negate_each.ensures

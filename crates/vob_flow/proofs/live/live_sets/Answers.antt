@@ -55,6 +55,6 @@ returns-clause-live c =
     let shape = rw c.deref_mut-2.ensures.value at c.gather_each.ensures.shape in
     AreLive-least _ _ _ _ c.in_ok-before.ensures c.in_ok-draws.ensures _ _ (least at) gathered _
     (shape_long _ _ _ shape (empty_long _ _ _ c.in_ok-after.ensures.sets))
-    (rw c.deref_mut.ensures.value at c.in_ok-rounds.ensures.passes)
+    (rw (c.deref-2.ensures.value, c.deref_mut.ensures.value) at c.in_ok-rounds.ensures.passes)
     (ap bits_of (sym c.deref-4.ensures.value ∙ solved at)) (ap bits_of (with_items_is
     c.in_ok-after.after _ (c.gather_each.auto.sums ∙ c.deref_mut-2.ensures.len)))

@@ -2,8 +2,11 @@
 use Rattle.std.proofs.Common.{◌∙◌, refl, sym, arith}
 use Rattle.std.proofs.lemmas.Option.{slice_get_read}
 use Rattle.vob.specs.Vobs.{bits_of}
-use Rattle.vob_flow.proofs.PassLemmas.{HadTurns-more, HadPass-whole, shape_long}
+use Rattle.vob_flow.proofs.PassLemmas.{HadTurns-more, HadTurns-start, HadPass-whole, shape_long}
 use Rattle.vob_flow.proofs.passes.pass.Goals as goal
+
+pub loop-set-init : goal.loop-set-init
+loop-set-init c = λ one. HadTurns-start _ _ _ _ _ _
 
 pub turn-requires-clause-long : goal.turn-requires-clause-long
 turn-requires-clause-long c =

@@ -1,7 +1,8 @@
 -- The sets are on the way to the least ones, and each pass added to them.
 use Rattle.std.proofs.Common.{◌≡◌, ◌+◌, ◌-◌, ◌*◌, ◌≤◌, length}
 use Rattle.vob.specs.Vobs.{bits_of, total_count}
-use Rattle.vob_flow.specs.Order.{IsOrder}
+use Rattle.vob_flow.specs.Turns.{ChangeInPasses, IsOrder}
+use Rattle.vob_flow.specs.Draws.{IsTurn}
 use Rattle.vob_flow.specs.Passes.{AreMore, AreUnderway}
 use Rattle.vob_flow.proofs.passes.settle.Given as goal
 
@@ -14,6 +15,8 @@ invariant-passes l =
           (bits_of l.fn.sets) (bits_of l.sets) l.first l.grown.bits 0;
       most : l.passes + total_count (bits_of l.fn.sets) ≤ 1 + total_count (bits_of l.sets);
       one_more : 1 ≤ l.passes;
+      change : (one : IsOrder (length l.draws) l.order) → ChangeInPasses (IsTurn l.draws) l.order
+          (bits_of l.fn.sets) (l.passes - 1) (bits_of l.sets);
       one_pass : l.passes ≡ 1 → bits_of l.sets ≡ bits_of l.fn.sets;
     }
 
