@@ -20,6 +20,7 @@ mod MoveLemmas
 mod NodeLemmas
 mod ParseLemmas
 mod PrecedenceLemmas
+mod SidesLemmas
 mod SolvedLemmas
 mod SoundLemmas
 mod StateLemmas

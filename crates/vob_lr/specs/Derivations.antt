@@ -36,6 +36,15 @@ pub record IsParse (rules : List Rule) (tokens parsed : List ℕ) : Type 0 where
   pub then_end : rule.right.items ≡ symbols ++ Terminal 0 ∷ []
   pub derives : DerivesBy rules tokens symbols (reverse parsed)
 
+-- a rule as its symbols: the nonterminal on its left side, and those on its right side
+abbrev pub sides : Rule → ℕ × List Symbol
+sides rule = (rule.left, rule.right.items)
+
+-- rules with the same symbols have the same parses
+abbrev pub ParsesAreOfSymbols : Type 0
+ParsesAreOfSymbols = (rules others : List Rule) → map sides rules ≡ map sides others →
+    (tokens parsed : List ℕ) → IsParse rules tokens parsed → IsParse others tokens parsed
+
 -- symbols can become empty exactly if they derive nothing
 abbrev pub EmptyIsDerived : Type 0
 EmptyIsDerived = (rules : List Rule) (xs : List Symbol) →

@@ -1,7 +1,7 @@
 //! What the sets of a grammar mean by derivations, and which item stands behind another. Each
 //! function does nothing: its contract is the law.
 ghost use Rattle.vob_lr.specs.Becoming.{ParsesAreFound, TablesDoAll};
-ghost use Rattle.vob_lr.specs.Derivations.{BeginningIsDerived, EmptyIsDerived, FollowingIsDerived, RightmostIsDerived};
+ghost use Rattle.vob_lr.specs.Derivations.{BeginningIsDerived, EmptyIsDerived, FollowingIsDerived, ParsesAreOfSymbols, RightmostIsDerived};
 ghost use Rattle.vob_lr.specs.Items.{NextItemIsBehind};
 
 /// Symbols can become empty exactly if they derive nothing. So `nullable` finds the nonterminals
@@ -32,6 +32,12 @@ pub fn next_item_is_behind()
 /// what the grammar derives.
 pub fn rightmost_is_derived()
     ensures { RightmostIsDerived }
+{}
+
+/// Rules with the same symbols have the same parses. So a parse by the rules of a table is one by
+/// those that its grammar was made of.
+pub fn parses_are_of_symbols()
+    ensures { ParsesAreOfSymbols }
 {}
 
 /// If the table says each action that a parser may do, tokens with a rightmost derivation are never

@@ -1,5 +1,5 @@
 //! The lookaheads of a grammar's states, by which a parser knows when an item is complete.
-ghost use Rattle.std.specs.Prelude.{◌≡◌, ◌≢◌, ◌↔◌, ℕ, [], All, Err, IfNone, IfOk, IfSome, IsTrue, Some};
+ghost use Rattle.std.specs.Prelude.{◌≡◌, ◌≢◌, ◌↔◌, ℕ, [], All, Err, IfNone, IfOk, IfSome, IsTrue, OnOk, Some};
 ghost use Rattle.vob.specs.Vobs.{bits_of};
 ghost use Rattle.vob_flow.specs.Draws.{IsIn};
 ghost use Rattle.vob_lr.specs.Faults.{IsBadRule, IsRuleOf};
@@ -84,6 +84,7 @@ impl<'a> Lookaheads<'a> {
     /// memory runs out.
     pub fn new(alloc: Global, grammar: &'a Grammar) -> Result<Lookaheads<'a>, GrammarError>
         ensures grammar { IfOk result (λ made. made.grammar ≡ grammar.now) }
+        ensures sound { OnOk result (All (IsRuleOf grammar.now) grammar.now.rules.items) }
 
         // The rules are checked first.
         ensures no_rule { (result ≡ Err GrammarError.NoRule) ↔ (grammar.now.rules.items ≡ []) }
