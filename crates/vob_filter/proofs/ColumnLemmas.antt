@@ -8,7 +8,7 @@ use Rattle.vob_block.proofs.PointwiseLemmas.{item-pointwise}
 use Rattle.vob.specs.Bits as Bits
 use Rattle.std.specs.Prelude.{ℤ}
 use Rattle.std.specs.Option.{is_some, unwrap_or}
-use Rattle.std.proofs.lemmas.List.{length-map, get_or-map, get_or_past}
+use Rattle.std.proofs.lemmas.List.{ext_get_or, length-map, get_or-map, get_or_past}
 use Rattle.vob_filter.specs.Comparisons.{compared, holds_known}
 use Rattle.vob_filter.specs.declared.compare.Comparison.{Comparison}
 use Rattle.vob_filter.specs.Columns.{value_of, values_of, AreColumn, value_at, sql_and, sql_or, sql_not, AreValuesChanged, AreValuesCombined}
@@ -36,6 +36,35 @@ values_of-set (w ∷ present) [] i v x same = absurd (omega (arith, same))
 values_of-set (w ∷ present) (y ∷ value) zero v x same = refl
 values_of-set (w ∷ present) (y ∷ value) (suc i) v x same =
     ap (λ xs. value_of w y ∷ xs) (values_of-set present value i v x (omega (arith, same)))
+
+-- ---- values that aren't present say nothing
+
+masked_value : (v x : Bool) → value_of v (x && v) ≡ value_of v x
+masked_value true true = refl
+masked_value true false = refl
+masked_value false true = refl
+masked_value false false = refl
+
+pub values_of-masked : (present value after : List Bool) → length present ≡ length value →
+    Bits.AreCombined ◌&&◌ value present after → values_of present after ≡ values_of present value
+values_of-masked present value after same h =
+    let long = same ∙ sym h.len in
+    ext_get_or None (values_of present after) (values_of present value)
+    (length-values_of present after long ∙ sym (length-values_of present value same)) (λ i less.
+    value_at-values_of present after long i ∙ ap (value_of (item present i)) (h.each i)
+    ∙ masked_value (item present i) (item value i) ∙ sym (value_at-values_of present value same i))
+
+masked_true : (v x : Bool) → x && v ≡ true → v ≡ true
+masked_true true x e = refl
+masked_true false true e = e
+masked_true false false e = e
+
+pub AreColumn-masked : (present value after : List Bool) → length present ≡ length value →
+    Bits.AreCombined ◌&&◌ value present after → AreColumn present after
+AreColumn-masked present value after same h = record {
+  same = same ∙ sym h.len;
+  only = λ i e. masked_true (item present i) (item value i) (sym (h.each i) ∙ e);
+}
 
 -- ---- one value
 

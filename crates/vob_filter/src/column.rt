@@ -35,6 +35,16 @@ pub(crate) fn column_of(present: Vob, value: Vob) -> Column
 }
 
 impl Column {
+    /// Makes the column of values that are true or false, as `value` says, if `present` says so, and
+    /// missing if not. The lengths must be equal. Takes no memory.
+    pub fn from_bits(present: Vob, mut value: Vob) -> Column
+        requires { length present.bits ≡ length value.bits }
+        ensures { result ≡ values_of present.bits value.bits }
+    {
+        value.and(&present);
+        column_of(present, value)
+    }
+
     /// Makes a column of `len` missing values.
     pub fn missing(alloc: Global, len: usize) -> Result<Column, AllocError>
         ensures len { IfOk result (λ column. length column ≡ len) }
