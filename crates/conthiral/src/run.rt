@@ -56,7 +56,12 @@ fn perform<R: Files + Input + Print + Eprint + Clock + AllocGlobal>(
         }
         Task::Parse { grammar, .. } => {
             let read = fs::read(rt, grammar).map_err(Fault::GrammarInput)?;
-            print_parse(alloc, &read_grammar(rt, &read, grammar)?, &text, &mut output)?
+            print_parse(
+                alloc,
+                &read_grammar(rt, &read, grammar)?,
+                &text,
+                &mut output,
+            )?
         }
         Task::Closure { part, .. } => print_closure(alloc, &text, *part, &mut output)?,
         Task::Flow { analysis, .. } => print_flow(alloc, &text, *analysis, &mut output)?,

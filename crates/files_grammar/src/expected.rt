@@ -75,7 +75,10 @@ impl<'a> Stack<'a> {
     fn limit(&self) -> usize {
         let states = self.table.lookaheads();
         let rules = states.items().grammar().rules.len();
-        let depth = self.states.len().saturating_add(states.automaton().sets.len());
+        let depth = self
+            .states
+            .len()
+            .saturating_add(states.automaton().sets.len());
         depth.saturating_mul(rules.saturating_add(1))
     }
 

@@ -108,6 +108,16 @@ impl GrammarFile {
         })
     }
 
+    /// Returns the precedence of a terminal, if it has one.
+    pub fn precedence(&self, terminal: usize) -> Option<Precedence> {
+        self.precedences.get(terminal).copied().flatten()
+    }
+
+    /// Returns the precedence of a rule, if it has one.
+    pub fn rule_precedence(&self, rule: usize) -> Option<Precedence> {
+        self.rule_precedences.get(rule).copied().flatten()
+    }
+
     /// Makes the table of the grammar.
     pub fn table(&self, alloc: Global) -> Result<Table<'_>, GrammarFault> {
         let states = Lookaheads::new(alloc, &self.grammar)?;
@@ -136,8 +146,15 @@ impl GrammarFile {
         let rules = self.left_out.rules.len();
         let others = self.grammar.nonterminals;
         let other_rules = self.grammar.rules.len();
-        let ends = (plural(nonterminals), plural(rules), plural(others), plural(other_rules));
+        let ends = (
+            plural(nonterminals),
+            plural(rules),
+            plural(others),
+            plural(other_rules),
+        );
         let (one, two, three, four) = ends;
-        format!(in alloc; "{file}: left out: {nonterminals} nonterminal{one}, {rules} rule{two}; {others} nonterminal{three}, {other_rules} rule{four} remain")
+        format!(in alloc;
+            "{file}: left out: {nonterminals} nonterminal{one}, {rules} rule{two}; {others} nonterminal{three}, {other_rules} rule{four} remain"
+        )
     }
 }

@@ -1,5 +1,6 @@
 //! The sets and the states of a grammar, as text.
 
+use crate::conflicts::{Conflicts, put_actions};
 use crate::fault::GrammarFault;
 use crate::file::{GrammarFile, SymbolNames};
 use files_text::{put_name, put_next};
@@ -8,55 +9,15 @@ use std::io;
 use std::io::Write;
 use vob::Vob;
 use vob_lr::{
-    Cell, Conflict, Grammar, Item, Lookaheads, Move, Rule, Symbol, Table, first_sets, follow_sets,
-    nullable,
+    Cell, Grammar, Item, Lookaheads, Move, Rule, Symbol, Table, first_sets, follow_sets, nullable,
 };
-
-/// How many cells of a table have a shift and a reduction, and how many reductions are too many in
-/// cells, as bison counts conflicts.
-#[derive(Clone, Copy, PartialEq, Eq)]
-struct Conflicts {
-    shift_reduce: usize,
-    reduce_reduce: usize,
-}
-
-impl Conflicts {
-    /// Counts the conflicts of a table, which are in some of its cells.
-    fn of(table: &Table<'_>, cells: &[Conflict]) -> Conflicts {
-        let mut conflicts = Conflicts {
-            shift_reduce: 0,
-            reduce_reduce: 0,
-        };
-        for conflict in cells.iter() {
-            if let Some(cell) = table.cell(conflict.state, conflict.terminal) {
-                conflicts.count(cell);
-            }
-        }
-        conflicts
-    }
-
-    /// Counts the conflicts of a cell that has one.
-    fn count(&mut self, cell: &Cell) {
-        if cell.shift.is_some() {
-            self.shift_reduce = self.shift_reduce.saturating_add(1);
-        }
-        let more = cell.reduces.len().saturating_sub(1);
-        self.reduce_reduce = self.reduce_reduce.saturating_add(more);
-    }
-
-    /// Returns whether these are those that a grammar file expects: none if it says nothing.
-    fn are(&self, expected: (Option<usize>, Option<usize>)) -> bool {
-        self.shift_reduce == expected.0.unwrap_or(0)
-            && self.reduce_reduce == expected.1.unwrap_or(0)
-    }
-}
 
 /// Writes how many symbols, rules, states and conflicts there are.
 fn put_counts<W: Write>(
     output: &mut W,
     grammar: &Grammar,
     states: usize,
-    conflicts: Conflicts,
+    conflicts: &Conflicts,
 ) -> io::Result<()> {
     let terminals = grammar.terminals;
     let nonterminals = grammar.nonterminals;
@@ -68,29 +29,12 @@ fn put_counts<W: Write>(
     let Conflicts {
         shift_reduce,
         reduce_reduce,
+        ..
     } = conflicts;
     writeln!(
         output,
         "conflicts {shift_reduce} shift/reduce, {reduce_reduce} reduce/reduce"
     )
-}
-
-/// Writes the conflicts, one a line: the state, the terminal, and what a parser may do.
-fn put_conflicts<W: Write>(
-    output: &mut W,
-    names: &SymbolNames,
-    table: &Table<'_>,
-    conflicts: &[Conflict],
-) -> io::Result<()> {
-    for conflict in conflicts.iter() {
-        let Conflict { state, terminal } = *conflict;
-        if let Some(cell) = table.cell(state, terminal) {
-            write!(output, "state {state}:")?;
-            put_next(output, names.terminal(terminal))?;
-            put_actions(output, cell, " or")?;
-        }
-    }
-    Ok(())
 }
 
 /// Writes the names of some terminals, each after a space.
@@ -248,21 +192,7 @@ fn put_cell<W: Write>(output: &mut W, name: &[u8], cell: &Cell) -> io::Result<()
     }
     output.write_all(b" ")?;
     put_next(output, name)?;
-    put_actions(output, cell, ",")
-}
-
-/// Writes the actions of a cell, with a word between them, and the end of the line.
-fn put_actions<W: Write>(output: &mut W, cell: &Cell, between: &str) -> io::Result<()> {
-    let mut before = "";
-    if let Some(state) = cell.shift {
-        write!(output, " shift {state}")?;
-        before = between;
-    }
-    for rule in cell.reduces.iter() {
-        write!(output, "{before} reduce {rule}")?;
-        before = between;
-    }
-    output.write_all(b"\n")
+    put_actions(output, cell.shift, &cell.reduces, ",")
 }
 
 /// Writes what a parser may do in a state.
@@ -331,11 +261,10 @@ pub fn print_grammar<W: Write>(
 ) -> Result<u8, GrammarFault> {
     let sets = Sets::new(alloc, &file.grammar)?;
     let table = file.table(alloc)?;
-    let cells = table.conflicts(alloc)?;
-    let conflicts = Conflicts::of(&table, &cells);
+    let conflicts = Conflicts::of(alloc, file, &table)?;
     let states = table.lookaheads().automaton().sets.len();
-    put_counts(output, &file.grammar, states, conflicts)?;
-    put_conflicts(output, &file.names, &table, &cells)?;
+    put_counts(output, &file.grammar, states, &conflicts)?;
+    conflicts.put(output, file)?;
     for number in 0..file.grammar.nonterminals {
         put_nonterminal(output, &file.names, &sets, number)?;
     }

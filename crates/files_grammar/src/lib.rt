@@ -1,6 +1,7 @@
 //! Grammars in the text of yacc, and what is written of their sets, states and derivations.
 #![tactic(auto)]
 
+mod conflicts;
 mod expected;
 mod fault;
 mod file;

@@ -30,7 +30,11 @@ fn terminals_of<'a>(
 }
 
 /// Returns the numbers of some tokens. Fails at the first that is no terminal.
-fn tokens_of(alloc: Global, file: &GrammarFile, words: &[Word<'_>]) -> Result<Vec<usize>, GrammarFault> {
+fn tokens_of(
+    alloc: Global,
+    file: &GrammarFile,
+    words: &[Word<'_>],
+) -> Result<Vec<usize>, GrammarFault> {
     let terminals = terminals_of(alloc, &file.names.terminals)?;
     let mut tokens = Vec::with_capacity(alloc, words.len())?;
     for word in words.iter() {

@@ -87,7 +87,12 @@ impl<'a> Reader<'a> {
     }
 
     /// Takes a word.
-    pub(crate) fn take(&mut self, alloc: Global, name: &'a [u8], token: &Token) -> Result<(), Stop> {
+    pub(crate) fn take(
+        &mut self,
+        alloc: Global,
+        name: &'a [u8],
+        token: &Token,
+    ) -> Result<(), Stop> {
         if token.kind == Kind::Text && !is_right(name) {
             return Err(refused(token, TextFault::BadCharacter));
         }

@@ -73,7 +73,12 @@ fn note(has: &mut bool, token: &Token) -> Result<(), Stop> {
 
 impl<'a> Reader<'a> {
     /// Takes a word of the second part.
-    pub(crate) fn rule(&mut self, alloc: Global, name: &'a [u8], token: &Token) -> Result<(), Stop> {
+    pub(crate) fn rule(
+        &mut self,
+        alloc: Global,
+        name: &'a [u8],
+        token: &Token,
+    ) -> Result<(), Stop> {
         if self.directive.declares != Declares::Nothing {
             return self.declaration_among_rules(alloc, name, token);
         }

@@ -42,6 +42,8 @@ pub(crate) struct Token {
 enum Mode {
     Between,
     Word(Kind),
+    Underscore,
+    Translated { begins: bool },
     Quoted { kind: Kind, escaped: bool },
     Tag { depth: usize, dash: bool },
     Bracket,
@@ -63,7 +65,7 @@ enum Code {
 }
 
 /// The words so far. `start` is where the one at hand begins, and `inner` where a comment, or a quote
-/// within code, does.
+/// within code, does. `is_translated` says that a text stands within `_()`.
 #[derive(Drop)]
 struct Scanner {
     tokens: Vec<Token>,
@@ -71,6 +73,7 @@ struct Scanner {
     code: Code,
     start: usize,
     inner: usize,
+    is_translated: bool,
     sections: usize,
 }
 
@@ -195,7 +198,8 @@ impl Scanner {
             b':' | b'|' | b';' | b'=' => self.add_mark(byte, end)?,
             b',' => {}
             b'0'..=b'9' => self.mode = Mode::Word(Kind::Number),
-            b'a'..=b'z' | b'A'..=b'Z' | b'_' | b'.' => self.mode = Mode::Word(Kind::Name),
+            b'_' => self.mode = Mode::Underscore,
+            b'a'..=b'z' | b'A'..=b'Z' | b'.' => self.mode = Mode::Word(Kind::Name),
             _ => return Err(bad(at)),
         }
         Ok(())
@@ -266,11 +270,33 @@ impl Scanner {
         Ok(())
     }
 
+    /// Takes a byte of `_("text")` that is no byte of the text.
+    fn translated(&mut self, at: usize, byte: u8, begins: bool) -> Result<(), Stop> {
+        self.is_translated = begins;
+        match byte {
+            b'"' if begins => {
+                self.start = at;
+                self.inner = at;
+                self.mode = Mode::Quoted {
+                    kind: Kind::Text,
+                    escaped: false,
+                };
+            }
+            b')' if !begins => self.mode = Mode::Between,
+            _ => return Err(bad(at)),
+        }
+        Ok(())
+    }
+
     /// Takes a byte between quotes, which stand on one line. In code a line goes on behind `\`.
     fn quoted(&mut self, end: usize, byte: u8, kind: Kind, escaped: bool) -> Result<(), Stop> {
         let quote = if kind == Kind::Text { b'"' } else { b'\'' };
         if byte == quote && !escaped {
-            return self.add(kind, end);
+            self.add(kind, end)?;
+            if self.is_translated {
+                self.mode = Mode::Translated { begins: false };
+            }
+            return Ok(());
         }
         if byte == b'\n' && !(escaped && self.code != Code::Outside) {
             return Err(unclosed(self.inner));
@@ -315,10 +341,17 @@ impl Scanner {
         match self.mode {
             Mode::Between => self.begin(at, end, byte)?,
             Mode::Word(_) if is_in_name(byte) => {}
+            Mode::Underscore if byte == b'(' => self.mode = Mode::Translated { begins: true },
+            Mode::Underscore if is_in_name(byte) => self.mode = Mode::Word(Kind::Name),
+            Mode::Underscore => {
+                self.add(Kind::Name, at)?;
+                self.begin(at, end, byte)?;
+            }
             Mode::Word(kind) => {
                 self.add(kind, at)?;
                 self.begin(at, end, byte)?;
             }
+            Mode::Translated { begins } => self.translated(at, byte, begins)?,
             Mode::Quoted { kind, escaped } => self.quoted(end, byte, kind, escaped)?,
             Mode::Tag { depth, dash } => self.tag(end, byte, depth, dash)?,
             Mode::Bracket if byte == b']' => self.mode = Mode::Between,
@@ -344,6 +377,7 @@ impl Scanner {
     fn finish(&mut self, end: usize) -> Result<(), Stop> {
         match self.mode {
             Mode::Word(kind) => self.add(kind, end),
+            Mode::Underscore => self.add(Kind::Name, end),
             Mode::Slash | Mode::Comment { .. } | Mode::Quoted { .. } => Err(unclosed(self.inner)),
             Mode::Between | Mode::Line { .. } | Mode::Epilogue if self.code == Code::Outside => {
                 Ok(())
@@ -362,6 +396,7 @@ pub(crate) fn scan(alloc: Global, text: &[u8]) -> Result<Vec<Token>, Stop> {
         code: Code::Outside,
         start: 0,
         inner: 0,
+        is_translated: false,
         sections: 0,
     };
     for at in 0..text.len() {

@@ -240,7 +240,12 @@ impl<'a> Symbols<'a> {
     /// Lets a terminal go by a quoted text too, which it is shown as. A text that another terminal has
     /// stays with that one, and a terminal keeps the first of two texts. Fails where the second
     /// precedence is declared if both have one.
-    pub(crate) fn add_text(&mut self, alloc: Global, entry: usize, text: usize) -> Result<(), Stop> {
+    pub(crate) fn add_text(
+        &mut self,
+        alloc: Global,
+        entry: usize,
+        text: usize,
+    ) -> Result<(), Stop> {
         let entry = self.own(entry);
         if self.own(text) == entry || self.has_text(entry) || self.has_text(text) {
             return Ok(());

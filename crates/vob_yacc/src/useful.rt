@@ -144,7 +144,10 @@ impl Useful {
     /// Whether a rule is in some derivation of a text from the start.
     fn has_rule(&self, rule: &Rule) -> bool {
         self.reached.get(rule.left) == Some(true)
-            && rule.right.iter().all(|symbol| has(&self.productive, symbol))
+            && rule
+                .right
+                .iter()
+                .all(|symbol| has(&self.productive, symbol))
     }
 
     /// Returns why a nonterminal is of no use, if it is of none.
