@@ -14,7 +14,8 @@ enum Class {
     Nonterminal,
 }
 
-/// A symbol: the name by which it is shown, where it is named first, and what the file says of it. One
+/// A symbol: the name by which it is shown, where it is declared or else named first, and what the file
+/// says of it. One
 /// with two names may have had two entries: then `same` is the number of the one that counts.
 #[derive(Drop)]
 struct Entry {
@@ -121,7 +122,10 @@ impl<'a> Symbols<'a> {
     /// Makes a symbol a terminal or a nonterminal, if it isn't yet. Fails if it is the other.
     fn classify(&mut self, entry: usize, class: Class, at: usize) -> Result<(), Stop> {
         match self.entry(entry) {
-            Some(own) if own.class == Class::Unknown => own.class = class,
+            Some(own) if own.class == Class::Unknown => {
+                own.class = class;
+                own.at = at;
+            }
             Some(own) if own.class != class => {
                 return Err(refused(at, TextFault::NotANonterminal));
             }

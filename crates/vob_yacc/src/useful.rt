@@ -14,7 +14,7 @@ pub enum Useless {
     Unreachable,
 }
 
-/// A nonterminal that is left out: its name, where that first stands, and why.
+/// A nonterminal that is left out: its name, where it is declared or has its first rule, and why.
 #[derive(Drop)]
 pub struct LeftNonterminal {
     pub name: Vec<u8>,
