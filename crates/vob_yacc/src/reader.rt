@@ -203,7 +203,8 @@ impl<'a> Reader<'a> {
                 self.declare_operator(alloc, name, token, associativity)?;
             }
             Declares::Nonterminals if kind == Kind::Name => {
-                self.symbols.nonterminal(alloc, name, token.start)?;
+                let symbol = self.symbols.nonterminal(alloc, name, token.start)?;
+                self.symbols.note_declaration(symbol, token.start, false);
             }
             Declares::Types | Declares::CodeFor if is_symbol(kind) => {
                 self.symbol(alloc, name, token)?;
@@ -263,6 +264,7 @@ impl<'a> Reader<'a> {
             }
             _ => {
                 let symbol = self.terminal(alloc, name, token)?;
+                self.symbols.note_declaration(symbol, token.start, false);
                 self.directive.symbol = (symbol, token.start);
                 Ok(())
             }

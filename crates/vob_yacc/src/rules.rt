@@ -124,6 +124,7 @@ impl<'a> Reader<'a> {
     fn begin_rule(&mut self, alloc: Global, name: &'a [u8], token: &Token) -> Result<(), Stop> {
         self.end_alternative(token.start)?;
         let left = self.symbols.nonterminal(alloc, name, token.start)?;
+        self.symbols.note_declaration(left, token.start, true);
         self.left = Some(left);
         self.first = self.first.or(Some((left, token.start)));
         self.wants = Wants::Colon;

@@ -1,10 +1,13 @@
-//! The symbols that a grammar file names, in the order in which they become terminals and nonterminals.
+//! The symbols that a grammar file names, in the order of their declarations.
 
 use crate::literal::character_name;
 use crate::text_error::{Stop, TextFault};
 use indexmap::IndexMap;
 use std::alloc::Global;
 use vob_lr::{Precedence, Symbol};
+
+/// How many entries each grammar has: the end, `error`, and the nonterminal above the start.
+const PREDEFINED: usize = 3;
 
 /// What a symbol is.
 #[derive(Clone, Copy, PartialEq, Eq)]
@@ -25,6 +28,8 @@ struct Entry {
     same: usize,
     has_text: bool,
     is_used: bool,
+    is_declared: bool,
+    has_rule: bool,
     precedence: Option<(Precedence, usize)>,
     code: Option<usize>,
 }
@@ -36,8 +41,6 @@ pub(crate) struct Symbols<'a> {
     by_character: IndexMap<u8, usize>,
     by_code: IndexMap<usize, usize>,
     entries: Vec<Entry>,
-    terminals: Vec<usize>,
-    nonterminals: Vec<usize>,
     actions: usize,
     end: usize,
 }
@@ -66,8 +69,6 @@ impl<'a> Symbols<'a> {
             by_character: IndexMap::new(alloc),
             by_code: IndexMap::new(alloc),
             entries: Vec::new(alloc),
-            terminals: Vec::new(alloc),
-            nonterminals: Vec::new(alloc),
             actions: 0,
             end: 0,
         };
@@ -98,6 +99,8 @@ impl<'a> Symbols<'a> {
             same: number,
             has_text: false,
             is_used: false,
+            is_declared: false,
+            has_rule: false,
             precedence: None,
             code: None,
         })?;
@@ -122,21 +125,29 @@ impl<'a> Symbols<'a> {
     /// Makes a symbol a terminal or a nonterminal, if it isn't yet. Fails if it is the other.
     fn classify(&mut self, entry: usize, class: Class, at: usize) -> Result<(), Stop> {
         match self.entry(entry) {
-            Some(own) if own.class == Class::Unknown => {
-                own.class = class;
-                own.at = at;
-            }
+            Some(own) if own.class == Class::Unknown => own.class = class,
             Some(own) if own.class != class => {
                 return Err(refused(at, TextFault::NotANonterminal));
             }
-            _ => return Ok(()),
-        }
-        if class == Class::Terminal {
-            self.terminals.push(entry)?;
-        } else {
-            self.nonterminals.push(entry)?;
+            _ => {}
         }
         Ok(())
+    }
+
+    /// Notes that a symbol is declared at `at`. Its first declaration counts for its place, and for a
+    /// nonterminal its first rule.
+    pub(crate) fn note_declaration(&mut self, entry: usize, at: usize, is_rule: bool) {
+        if let Some(own) = self.entry(entry) {
+            let has_place = if is_rule {
+                &mut own.has_rule
+            } else {
+                &mut own.is_declared
+            };
+            if !*has_place {
+                *has_place = true;
+                own.at = at;
+            }
+        }
     }
 
     /// Returns the terminal with a name.
@@ -283,39 +294,27 @@ impl<'a> Symbols<'a> {
         }
     }
 
-    /// Makes symbols that are named, and are nothing else, nonterminals. Fails at the first that a rule
-    /// has.
-    fn classify_others(&mut self) -> Result<(), Stop> {
-        for (number, entry) in self.entries.iter_mut().enumerate() {
-            if entry.class == Class::Unknown {
-                if entry.is_used {
-                    return Err(refused(entry.at, TextFault::Undefined));
-                }
-                entry.class = Class::Nonterminal;
-                self.nonterminals.push(number)?;
-            }
-        }
-        Ok(())
-    }
-
-    /// Returns the entries of terminals in the order of their numbers, the end first. Some come twice.
-    fn terminals_in_order(&self, alloc: Global) -> Result<Vec<usize>, Stop> {
-        let end = self.own(self.end);
+    /// Returns the entries in the order of their places, those that each grammar has first. Makes symbols
+    /// that are named, and are nothing else, nonterminals. Fails at the first of them that a rule has.
+    fn in_order(&mut self, alloc: Global) -> Result<Vec<usize>, Stop> {
         let mut order = Vec::new(alloc);
-        order.push(end)?;
-        for entry in self.terminals.iter() {
-            // The end that each grammar has is no terminal if the file names another.
-            if *entry > 0 {
-                order.push(self.own(*entry))?;
+        for (number, entry) in self.entries.iter().enumerate() {
+            // The place is the second key, so that those of each grammar stay first.
+            order.push((number >= PREDEFINED, entry.at, number))?;
+        }
+        order.sort()?;
+        for (_, _, number) in order.iter() {
+            if let Some(entry) = self.entries.get_mut(*number) {
+                entry.settle()?;
             }
         }
-        Ok(order)
+        Ok(order.iter().map(|(_, _, number)| *number).collect(alloc)?)
     }
 
-    /// Numbers terminals, and nonterminals, in the order in which they became such. Fails at the first
-    /// symbol of a rule that is neither.
+    /// Numbers terminals, and nonterminals, in the order of their places; the end is the first terminal.
+    /// Fails at the first symbol of a rule that is neither.
     pub(crate) fn numbered(mut self, alloc: Global) -> Result<Numbered, Stop> {
-        self.classify_others()?;
+        let order = self.in_order(alloc)?;
         let mut numbered = Numbered {
             symbols: Vec::new(alloc),
             terminals: Vec::new(alloc),
@@ -324,27 +323,29 @@ impl<'a> Symbols<'a> {
             precedences: Vec::new(alloc),
         };
         numbered.symbols.resize(self.entries.len(), None)?;
-        for entry in self.terminals_in_order(alloc)? {
-            if let Some(own) = self.entries.get(entry) {
-                numbered.add_terminal(alloc, entry, own)?;
-            }
-        }
-        self.number_others(alloc, &mut numbered)?;
-        Ok(numbered)
-    }
-
-    /// Numbers nonterminals, and then the entries that others count for.
-    fn number_others(&self, alloc: Global, numbered: &mut Numbered) -> Result<(), Stop> {
-        for entry in self.nonterminals.iter() {
-            if let Some(own) = self.entries.get(*entry) {
-                numbered.add_nonterminal(alloc, *entry, own)?;
+        let end = self.own(self.end);
+        numbered.add(alloc, end, &self.entries)?;
+        for number in order {
+            // The end that each grammar has is no terminal if the file names another.
+            if number > 0 {
+                numbered.add(alloc, self.own(number), &self.entries)?;
             }
         }
         for (number, entry) in self.entries.iter().enumerate() {
-            let symbol = numbered.symbol(entry.same);
-            if let Some(slot) = numbered.symbols.get_mut(number) {
-                *slot = symbol;
+            numbered.repeat(entry.same, number);
+        }
+        Ok(numbered)
+    }
+}
+
+impl Entry {
+    /// Makes the symbol a nonterminal if it is nothing else. Fails if a rule has it.
+    fn settle(&mut self) -> Result<(), Stop> {
+        if self.class == Class::Unknown {
+            if self.is_used {
+                return Err(refused(self.at, TextFault::Undefined));
             }
+            self.class = Class::Nonterminal;
         }
         Ok(())
     }
@@ -356,25 +357,40 @@ impl Numbered {
         self.symbols.get(entry).copied().flatten()
     }
 
-    /// Adds a terminal, unless it has a number.
-    fn add_terminal(&mut self, alloc: Global, number: usize, entry: &Entry) -> Result<(), Stop> {
-        match self.symbols.get_mut(number) {
-            Some(slot) if slot.is_none() => *slot = Some(Symbol::Terminal(self.terminals.len())),
-            _ => return Ok(()),
+    /// Numbers an entry, unless it has a number.
+    fn add(&mut self, alloc: Global, number: usize, entries: &[Entry]) -> Result<(), Stop> {
+        let Some(entry) = entries.get(number) else {
+            return Ok(());
+        };
+        if self.symbol(number).is_some() {
+            return Ok(());
         }
-        self.terminals.push(entry.name.to_vec(alloc)?)?;
-        self.precedences
-            .push(entry.precedence.map(|(precedence, _)| precedence))?;
+        let name = entry.name.to_vec(alloc)?;
+        let symbol = if entry.class == Class::Terminal {
+            let precedence = entry.precedence.map(|(precedence, _)| precedence);
+            self.precedences.push(precedence)?;
+            self.terminals.push(name)?;
+            Symbol::Terminal(self.terminals.len().saturating_sub(1))
+        } else {
+            self.places.push(entry.at)?;
+            self.nonterminals.push(name)?;
+            Symbol::Nonterminal(self.nonterminals.len().saturating_sub(1))
+        };
+        self.put(number, symbol);
         Ok(())
     }
 
-    /// Adds a nonterminal.
-    fn add_nonterminal(&mut self, alloc: Global, number: usize, entry: &Entry) -> Result<(), Stop> {
+    /// Gives an entry a number.
+    fn put(&mut self, number: usize, symbol: Symbol) {
         if let Some(slot) = self.symbols.get_mut(number) {
-            *slot = Some(Symbol::Nonterminal(self.nonterminals.len()));
+            *slot = Some(symbol);
         }
-        self.nonterminals.push(entry.name.to_vec(alloc)?)?;
-        self.places.push(entry.at)?;
-        Ok(())
+    }
+
+    /// Gives an entry the number of the one that counts for it.
+    fn repeat(&mut self, own: usize, number: usize) {
+        if let Some(symbol) = self.symbol(own) {
+            self.put(number, symbol);
+        }
     }
 }

@@ -10,8 +10,8 @@ use std::alloc::Global;
 use vob_lr::{Grammar, Precedence, Rule, Symbol};
 
 /// What a grammar file says. The end is terminal 0, and rule 0 derives the start symbol and the end from
-/// nonterminal 0. Other symbols follow in the order in which the file makes them terminals or
-/// nonterminals: `error` first, unless it is the end. Symbols and rules have their order in bison.
+/// nonterminal 0. Other symbols follow, `error` first, unless it is the end. All have their order in
+/// bison: terminals that of their declarations, nonterminals and rules that of the rules.
 #[derive(Drop)]
 pub struct GrammarText {
     pub grammar: Grammar,

@@ -1,9 +1,12 @@
 //! Declarations of grammar files. What is wanted is what bison reports.
+use super::support::same;
 use super::text::{Row, check_rows};
+use std::process::Abort;
+use vob_yacc::grammar_of;
 
 /// Files that declare tokens, nonterminals and precedences.
 #[rattlefmt::skip]
-const DECLARATIONS: [Row; 12] = [
+const DECLARATIONS: [Row; 15] = [
     // Nonterminals are numbered as they are declared.
     ("%nterm <t> b a\n%token C\n%%\na: C b; b: C\n",
      "$end error C",
@@ -24,6 +27,18 @@ const DECLARATIONS: [Row; 12] = [
     ("%token A A\n%token A 300\n%token A 300\n%%\ns: A\n",
      "$end error A",
      "\n $accept : s $end\n s : A"),
+    // Terminals are numbered as %token declares them, or else as they come first.
+    ("%left X\n%token B\n%token X\n%%\na: X B\n",
+     "$end error B X:l1",
+     "\n $accept : a $end\n a : X B"),
+    // Other directives give them no place.
+    ("%type <x> X\n%left B\n%left X\n%%\na: X B\n",
+     "$end error X:l2 B:l1",
+     "\n $accept : a $end\n a : X B"),
+    // The first place of a name and of its text counts.
+    ("%type <x> \"x\"\n%token B\n%token X \"x\"\n%%\na: X B\n",
+     "$end error \"x\" B",
+     "\n $accept : a $end\n a : \"x\" B"),
     // The token with number 0 is the end.
     ("%token A B END 0 \"end\" C\n%%\ns: A B C\n",
      "\"end\" error A B C",
@@ -61,4 +76,34 @@ const DECLARATIONS: [Row; 12] = [
 #[test]
 fn declarations_say_what_they_do_in_bison(rt: HostRuntime) {
     check_rows(&rt, &DECLARATIONS);
+}
+
+/// Files, and their nonterminals in order: that of their first rules.
+#[rattlefmt::skip]
+const NONTERMINALS: [(&str, &[&str]); 2] = [
+    ("%nterm <t> b a\n%token C\n%%\na: C b; b: C\n", &["$accept", "a", "b"]),
+    ("%start t %type <x> r\n%%\ns: { a } r 'a'; t: { b } s { c } r; r: t | 'b'; s: 'c'\n",
+     &["$accept", "s", "$@1", "t", "$@2", "$@3", "r"]),
+];
+
+/// Compares the nonterminals of a file.
+fn check_nonterminals(rt: &(impl Abort + AllocGlobal), at: usize, file: &str, names: &[&str]) {
+    let read = grammar_of(rt.alloc(), file.as_bytes()).expect(rt, "a grammar");
+    same(
+        rt,
+        "the nonterminals",
+        at,
+        read.nonterminals.len(),
+        names.len(),
+    );
+    for (own, name) in read.nonterminals.iter().zip(names) {
+        same(rt, "a nonterminal", at, own.as_slice(), name.as_bytes());
+    }
+}
+
+#[test]
+fn nonterminals_are_numbered_as_in_bison(rt: HostRuntime) {
+    for (at, (file, names)) in NONTERMINALS.iter().enumerate() {
+        check_nonterminals(&rt, at, file, names);
+    }
 }
