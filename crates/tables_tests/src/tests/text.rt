@@ -98,7 +98,7 @@ const LEVELS: [(&str, &[usize]); 6] = [
      &[0, 1, 2, 4, 3, 0, 0]),
     // The last terminal counts, with a precedence or without.
     ("%left '+'\n%left '*'\n%token C\n%%\ne: e '+' e '*' e | e '*' '+' e | e '*' e C e | C { a }",
-     &[0, 2, 1, 0, 0, 0]),
+     &[0, 2, 1, 0, 0]),
     // A token of %prec without a precedence gives none.
     ("%left '+'\n%%\ne: e '+' e %prec N | '+' { a } %prec '+' | 'n'", &[0, 0, 1, 0]),
     // What is declared behind the rules counts too.
