@@ -29,21 +29,21 @@ pub struct Conflicts {
 
 /// What precedence leaves of a shift and a rule.
 #[derive(Clone, Copy, PartialEq, Eq)]
-enum Left {
+enum Decided {
     One,
     Both,
     Neither,
 }
 
 /// Returns what precedence leaves of a shift and a rule.
-fn left(rule: Option<Precedence>, terminal: Option<Precedence>) -> Left {
+fn decide(rule: Option<Precedence>, terminal: Option<Precedence>) -> Decided {
     let (Some(rule), Some(terminal)) = (rule, terminal) else {
-        return Left::Both;
+        return Decided::Both;
     };
     match terminal.associativity {
-        Associativity::Neither if rule.level == terminal.level => Left::Neither,
-        Associativity::Unstated if rule.level == terminal.level => Left::Both,
-        _ => Left::One,
+        Associativity::Neither if rule.level == terminal.level => Decided::Neither,
+        Associativity::Unstated if rule.level == terminal.level => Decided::Both,
+        _ => Decided::One,
     }
 }
 
@@ -63,9 +63,9 @@ fn left_by_error(
         if !states.reduces(state, terminal, rule) {
             continue;
         }
-        match left(file.rule_precedence(rule), file.precedence(terminal)) {
-            Left::Neither if !is_error => is_error = true,
-            Left::One if !is_error => {}
+        match decide(file.rule_precedence(rule), file.precedence(terminal)) {
+            Decided::Neither if !is_error => is_error = true,
+            Decided::One if !is_error => {}
             _ => rules.push(rule)?,
         }
     }

@@ -78,9 +78,10 @@ fn rule_note(alloc: Global, file: &str, own: &LeftRule) -> Result<String, AllocE
     format!(in alloc; "{file}:{line}:{column}: rule left out: {text}")
 }
 
-/// Returns the ending of a noun that counts so many.
-fn plural(count: usize) -> &'static str {
-    if count == 1 { "" } else { "s" }
+/// Returns a count with its noun.
+fn counted(alloc: Global, count: usize, noun: &str) -> Result<String, AllocError> {
+    let end = if count == 1 { "" } else { "s" };
+    format!(in alloc; "{count} {noun}{end}")
 }
 
 impl GrammarFile {
@@ -142,19 +143,12 @@ impl GrammarFile {
 
     /// Returns the note on how much is left out, and how much remains.
     fn sum(&self, alloc: Global, file: &str) -> Result<String, AllocError> {
-        let nonterminals = self.left_out.nonterminals.len();
-        let rules = self.left_out.rules.len();
-        let others = self.grammar.nonterminals;
-        let other_rules = self.grammar.rules.len();
-        let ends = (
-            plural(nonterminals),
-            plural(rules),
-            plural(others),
-            plural(other_rules),
-        );
-        let (one, two, three, four) = ends;
+        let nonterminals = counted(alloc, self.left_out.nonterminals.len(), "nonterminal")?;
+        let rules = counted(alloc, self.left_out.rules.len(), "rule")?;
+        let others = counted(alloc, self.grammar.nonterminals, "nonterminal")?;
+        let other_rules = counted(alloc, self.grammar.rules.len(), "rule")?;
         format!(in alloc;
-            "{file}: left out: {nonterminals} nonterminal{one}, {rules} rule{two}; {others} nonterminal{three}, {other_rules} rule{four} remain"
+            "{file}: left out: {nonterminals}, {rules}; {others}, {other_rules} remain"
         )
     }
 }

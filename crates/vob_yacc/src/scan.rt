@@ -127,7 +127,7 @@ impl Scanner {
     }
 
     /// Opens a brace.
-    fn open(&mut self) {
+    fn open_brace(&mut self) {
         self.mode = Mode::Between;
         self.code = match self.code {
             Code::Outside => Code::Braces { depth: 1 },
@@ -139,7 +139,7 @@ impl Scanner {
     }
 
     /// Closes a brace, and adds the code if it was the outermost.
-    fn close(&mut self, at: usize, end: usize) -> Result<(), Stop> {
+    fn close_brace(&mut self, at: usize, end: usize) -> Result<(), Stop> {
         self.mode = Mode::Between;
         match self.code {
             Code::Outside => Err(bad(at)),
@@ -174,8 +174,8 @@ impl Scanner {
             },
             b'/' => self.mode = Mode::Slash,
             b'%' => self.mode = Mode::Percent,
-            b'{' => self.open(),
-            b'}' => self.close(at, end)?,
+            b'{' => self.open_brace(),
+            b'}' => self.close_brace(at, end)?,
             b'<' if self.code != Code::Outside => self.mode = Mode::Less,
             _ => {
                 self.mode = Mode::Between;
@@ -242,7 +242,7 @@ impl Scanner {
     /// Takes a byte between `%?` and its code.
     fn predicate(&mut self, byte: u8) -> Result<(), Stop> {
         match byte {
-            b'{' => self.open(),
+            b'{' => self.open_brace(),
             _ if is_blank(byte) => {}
             _ => return Err(bad(self.start)),
         }
@@ -263,7 +263,7 @@ impl Scanner {
     /// Takes the byte behind a `<` in code. `<%` opens a brace, and `<<` is a word of its own.
     fn less(&mut self, at: usize, end: usize, byte: u8) -> Result<(), Stop> {
         match byte {
-            b'%' => self.open(),
+            b'%' => self.open_brace(),
             b'<' => self.mode = Mode::Between,
             _ => self.begin(at, end, byte)?,
         }

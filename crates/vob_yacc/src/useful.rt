@@ -136,8 +136,15 @@ impl Useful {
     fn reach_by_rules(&mut self, rules: &[PlacedRule]) {
         for own in rules.iter() {
             if self.has_rule(&own.rule) {
-                own.rule.right.iter().for_each(|symbol| self.reach(symbol));
+                self.reach_all(&own.rule.right);
             }
+        }
+    }
+
+    /// Adds the symbols of a right side.
+    fn reach_all(&mut self, right: &[Symbol]) {
+        for symbol in right.iter() {
+            self.reach(symbol);
         }
     }
 

@@ -47,7 +47,8 @@ fn add_precedence(text: &mut Vec<u8>, precedence: Option<Precedence>) -> Result<
         Associativity::Neither => b":n",
         Associativity::Unstated => b":p",
     })?;
-    text.push(b'0'.saturating_add(precedence.level.min(9) as u8))?;
+    let level = u8::try_from(precedence.level).unwrap_or(9);
+    text.push(b'0'.saturating_add(level))?;
     Ok(())
 }
 
