@@ -287,6 +287,15 @@ pub fn task_of<'a>(matches: &ArgMatches<'a>) -> Option<Task<'a>> {
     }
 }
 
+/// Returns what messages call a file.
+pub fn shown_name(file: &str) -> &str {
+    if file == STANDARD_INPUT {
+        "standard input"
+    } else {
+        file
+    }
+}
+
 impl<'a> Task<'a> {
     /// Returns what messages call the file with a fault.
     pub fn file_name(&self, fault: &Fault) -> &'a str {
@@ -294,11 +303,7 @@ impl<'a> Task<'a> {
             Task::Parse { grammar, .. } if fault.is_of_grammar() => grammar,
             _ => self.file(),
         };
-        if file == STANDARD_INPUT {
-            "standard input"
-        } else {
-            file
-        }
+        shown_name(file)
     }
 
     /// Returns the name of the file that the task reads.

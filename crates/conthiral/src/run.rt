@@ -1,11 +1,11 @@
 //! A run of the program: words, input, output and status.
 
-use crate::command::{STANDARD_INPUT, Task, command, task_of};
+use crate::command::{STANDARD_INPUT, Task, command, shown_name, task_of};
 use crate::fault::{Fault, Report};
 use crate::progress::Watched;
 use files_filter::print_filter;
 use files_flow::print_flow;
-use files_grammar::{print_grammar, print_parse};
+use files_grammar::{GrammarFile, print_grammar, print_parse};
 use files_graph::print_closure;
 use std::io::{BufWriter, Read, Write};
 use std::process::ExitCode;
@@ -26,6 +26,20 @@ fn read_input<R: Files + Input + AllocGlobal>(rt: &R, file: &str) -> io::Result<
     Ok(text)
 }
 
+/// Reads a grammar, and says on standard error what is left out of it.
+fn read_grammar<R: Eprint + AllocGlobal>(
+    rt: &R,
+    text: &[u8],
+    file: &str,
+) -> Result<GrammarFile, Fault> {
+    let alloc = rt.alloc();
+    let grammar = GrammarFile::read(alloc, text)?;
+    for note in grammar.notes(alloc, shown_name(file))?.iter() {
+        let _ = eprintln!(rt; "conthiral: {note}");
+    }
+    Ok(grammar)
+}
+
 /// Reads the input of a task, and writes what it asks for. Returns the status.
 fn perform<R: Files + Input + Print + Eprint + Clock + AllocGlobal>(
     rt: &R,
@@ -36,10 +50,18 @@ fn perform<R: Files + Input + Print + Eprint + Clock + AllocGlobal>(
     let text = read_input(rt, task.file()).map_err(files_text::Fault::Input)?;
     let mut output = BufWriter::new(alloc, Watched::new(rt, says, text.len()))?;
     let status = match task {
-        Task::Grammar { states, .. } => print_grammar(alloc, &text, *states, &mut output)?,
+        Task::Grammar { file, states } => {
+            let grammar = read_grammar(rt, &text, file)?;
+            print_grammar(alloc, &grammar, *states, &mut output)?
+        }
         Task::Parse { grammar, .. } => {
-            let grammar = fs::read(rt, grammar).map_err(Fault::GrammarInput)?;
-            print_parse(alloc, &grammar, &text, &mut output)?
+            let read = fs::read(rt, grammar).map_err(Fault::GrammarInput)?;
+            print_parse(
+                alloc,
+                &read_grammar(rt, &read, grammar)?,
+                &text,
+                &mut output,
+            )?
         }
         Task::Closure { part, .. } => print_closure(alloc, &text, *part, &mut output)?,
         Task::Flow { analysis, .. } => print_flow(alloc, &text, *analysis, &mut output)?,

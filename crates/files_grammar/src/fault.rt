@@ -15,11 +15,13 @@ pub enum GrammarFault {
     Grammar(TextError),
     /// The sets of the grammar weren't found.
     Rules(GrammarError),
-    /// A token doesn't fit: the line and the column where it stands, counted from 1, and what it is.
+    /// A token, or the end, doesn't fit: the line and the column where it stands, counted from 1, what it
+    /// is, and what would fit there.
     Token {
         line: usize,
         column: usize,
         name: String,
+        expected: String,
     },
     /// The tokens need too many reductions.
     Cycle,
@@ -40,8 +42,17 @@ impl GrammarFault {
             GrammarFault::Text(fault) => fault.write(f, file),
             GrammarFault::Grammar(error) => write_grammar(f, file, error),
             GrammarFault::Rules(error) => write!(f, "{file}: {error}"),
-            GrammarFault::Token { line, column, name } => {
-                write!(f, "{file}:{line}:{column}: unexpected {name}")
+            GrammarFault::Token {
+                line,
+                column,
+                name,
+                expected,
+            } => {
+                write!(f, "{file}:{line}:{column}: unexpected {name}")?;
+                if expected.is_empty() {
+                    return Ok(());
+                }
+                write!(f, "; expected {expected}")
             }
             GrammarFault::Cycle => write!(f, "{file}: the grammar derives some symbol from itself"),
         }

@@ -1,100 +1,23 @@
 //! The sets and the states of a grammar, as text.
 
+use crate::conflicts::{Conflicts, put_actions};
 use crate::fault::GrammarFault;
+use crate::file::{GrammarFile, SymbolNames};
 use files_text::{put_name, put_next};
 use std::alloc::Global;
 use std::io;
 use std::io::Write;
 use vob::Vob;
 use vob_lr::{
-    Cell, Grammar, Item, Lookaheads, Move, Precedence, Rule, Symbol, Table, first_sets,
-    follow_sets, nullable,
+    Cell, Grammar, Item, Lookaheads, Move, Rule, Symbol, Table, first_sets, follow_sets, nullable,
 };
-use vob_yacc::{GrammarText, grammar_of};
-
-/// How the file calls the symbols.
-#[derive(Drop)]
-pub struct SymbolNames {
-    pub terminals: Vec<Vec<u8>>,
-    nonterminals: Vec<Vec<u8>>,
-}
-
-/// How many cells of a table have a shift and a reduction, and how many reductions are too many in
-/// cells, as bison counts conflicts.
-#[derive(Clone, Copy, PartialEq, Eq)]
-struct Conflicts {
-    shift_reduce: usize,
-    reduce_reduce: usize,
-}
-
-/// Tells actions within rules apart by a number, as in bison: `$@1`, `$@2`.
-fn number_actions(alloc: Global, names: &mut [Vec<u8>]) -> Result<(), GrammarFault> {
-    let mut actions = 0usize;
-    for name in names.iter_mut() {
-        if name.as_slice() == b"$@".as_slice() {
-            actions = actions.saturating_add(1);
-            let number = format!(in alloc; "{actions}")?;
-            name.extend_from_slice(number.as_bytes())?;
-        }
-    }
-    Ok(())
-}
-
-impl SymbolNames {
-    /// Returns the name of a symbol.
-    fn of(&self, symbol: Symbol) -> &[u8] {
-        match symbol {
-            Symbol::Terminal(number) => name_at(&self.terminals, number),
-            Symbol::Nonterminal(number) => name_at(&self.nonterminals, number),
-        }
-    }
-}
-
-/// Returns the name with a number, or nothing if there is none.
-fn name_at(names: &[Vec<u8>], number: usize) -> &[u8] {
-    match names.get(number) {
-        Some(name) => name.as_slice(),
-        None => b"",
-    }
-}
-
-impl Conflicts {
-    /// Counts the conflicts of a table.
-    fn of(alloc: Global, table: &Table<'_>) -> Result<Conflicts, GrammarFault> {
-        let mut conflicts = Conflicts {
-            shift_reduce: 0,
-            reduce_reduce: 0,
-        };
-        for conflict in table.conflicts(alloc)?.iter() {
-            if let Some(cell) = table.cell(conflict.state, conflict.terminal) {
-                conflicts.count(cell);
-            }
-        }
-        Ok(conflicts)
-    }
-
-    /// Counts the conflicts of a cell that has one.
-    fn count(&mut self, cell: &Cell) {
-        if cell.shift.is_some() {
-            self.shift_reduce = self.shift_reduce.saturating_add(1);
-        }
-        let more = cell.reduces.len().saturating_sub(1);
-        self.reduce_reduce = self.reduce_reduce.saturating_add(more);
-    }
-
-    /// Returns whether these are those that a grammar file expects: none if it says nothing.
-    fn are(&self, expected: (Option<usize>, Option<usize>)) -> bool {
-        self.shift_reduce == expected.0.unwrap_or(0)
-            && self.reduce_reduce == expected.1.unwrap_or(0)
-    }
-}
 
 /// Writes how many symbols, rules, states and conflicts there are.
 fn put_counts<W: Write>(
     output: &mut W,
     grammar: &Grammar,
     states: usize,
-    conflicts: Conflicts,
+    conflicts: &Conflicts,
 ) -> io::Result<()> {
     let terminals = grammar.terminals;
     let nonterminals = grammar.nonterminals;
@@ -106,6 +29,7 @@ fn put_counts<W: Write>(
     let Conflicts {
         shift_reduce,
         reduce_reduce,
+        ..
     } = conflicts;
     writeln!(
         output,
@@ -116,7 +40,7 @@ fn put_counts<W: Write>(
 /// Writes the names of some terminals, each after a space.
 fn put_terminals<W: Write>(output: &mut W, names: &SymbolNames, set: &Vob) -> io::Result<()> {
     for terminal in set.iter_set_bits(..) {
-        put_next(output, name_at(&names.terminals, terminal))?;
+        put_next(output, names.terminal(terminal))?;
     }
     Ok(())
 }
@@ -162,7 +86,7 @@ fn put_nonterminal<W: Write>(
     number: usize,
 ) -> io::Result<()> {
     output.write_all(b"\n")?;
-    put_name(output, name_at(&names.nonterminals, number))?;
+    put_name(output, names.nonterminal(number))?;
     if sets.nullable.get(number) == Some(true) {
         output.write_all(b"\n  nullable yes\n")?;
     } else {
@@ -174,7 +98,7 @@ fn put_nonterminal<W: Write>(
 
 /// Writes a rule.
 pub fn put_rule<W: Write>(output: &mut W, names: &SymbolNames, rule: &Rule) -> io::Result<()> {
-    put_name(output, name_at(&names.nonterminals, rule.left))?;
+    put_name(output, names.nonterminal(rule.left))?;
     output.write_all(b":")?;
     for symbol in rule.right.iter() {
         put_next(output, names.of(*symbol))?;
@@ -190,7 +114,7 @@ fn put_item<W: Write>(
     dot: usize,
 ) -> io::Result<()> {
     output.write_all(b"  ")?;
-    put_name(output, name_at(&names.nonterminals, rule.left))?;
+    put_name(output, names.nonterminal(rule.left))?;
     output.write_all(b":")?;
     for (place, symbol) in rule.right.iter().enumerate() {
         if place == dot {
@@ -268,16 +192,7 @@ fn put_cell<W: Write>(output: &mut W, name: &[u8], cell: &Cell) -> io::Result<()
     }
     output.write_all(b" ")?;
     put_next(output, name)?;
-    let mut comma = "";
-    if let Some(state) = cell.shift {
-        write!(output, " shift {state}")?;
-        comma = ",";
-    }
-    for rule in cell.reduces.iter() {
-        write!(output, "{comma} reduce {rule}")?;
-        comma = ",";
-    }
-    output.write_all(b"\n")
+    put_actions(output, cell.shift, &cell.reduces, ",")
 }
 
 /// Writes what a parser may do in a state.
@@ -301,7 +216,7 @@ fn put_gotos<W: Write>(output: &mut W, names: &SymbolNames, moves: &[Move]) -> i
         if let Symbol::Nonterminal(number) = own.symbol {
             let state = own.state;
             output.write_all(b" ")?;
-            put_next(output, name_at(&names.nonterminals, number))?;
+            put_next(output, names.nonterminal(number))?;
             writeln!(output, " goto {state}")?;
         }
     }
@@ -333,64 +248,23 @@ fn put_states<W: Write>(output: &mut W, names: &SymbolNames, table: &Table<'_>) 
     Ok(())
 }
 
-/// A grammar file as it was read, with actions within rules told apart.
-#[derive(Drop)]
-pub struct File {
-    pub grammar: Grammar,
-    pub names: SymbolNames,
-    precedences: Vec<Option<Precedence>>,
-    rule_precedences: Vec<Option<Precedence>>,
-    expected: (Option<usize>, Option<usize>),
-}
-
-impl File {
-    /// Reads a grammar file. Fails at the first word that can't stand where it does.
-    pub fn read(alloc: Global, text: &[u8]) -> Result<File, GrammarFault> {
-        let GrammarText {
-            grammar,
-            terminals,
-            mut nonterminals,
-            precedences,
-            rule_precedences,
-            expected,
-        } = grammar_of(alloc, text)?;
-        number_actions(alloc, &mut nonterminals)?;
-        Ok(File {
-            grammar,
-            names: SymbolNames {
-                terminals,
-                nonterminals,
-            },
-            precedences,
-            rule_precedences,
-            expected,
-        })
-    }
-
-    /// Makes the table of the grammar.
-    pub fn table(&self, alloc: Global) -> Result<Table<'_>, GrammarFault> {
-        let states = Lookaheads::new(alloc, &self.grammar)?;
-        Ok(Table::new(alloc, states, &self.precedences, &self.rule_precedences)?)
-    }
-}
-
-/// Writes the counts of a grammar and the sets of its nonterminals, and its rules and states if they
-/// are wanted. Returns the status: 1 if there are other conflicts than the file expects, else 0.
+/// Writes the counts of a grammar, its conflicts, and the sets of its nonterminals. Writes its rules and
+/// states too if they are wanted. Returns the status: 1 if there are other conflicts than the file
+/// expects, else 0.
 ///
-/// Fails at the first word of the text that can't stand where it does. Nothing is written then.
-/// Fails too if memory runs out, or if the output can't be written.
+/// Fails if memory runs out, or if the output can't be written.
 pub fn print_grammar<W: Write>(
     alloc: Global,
-    text: &[u8],
+    file: &GrammarFile,
     wants_states: bool,
     output: &mut W,
 ) -> Result<u8, GrammarFault> {
-    let file = File::read(alloc, text)?;
     let sets = Sets::new(alloc, &file.grammar)?;
     let table = file.table(alloc)?;
-    let conflicts = Conflicts::of(alloc, &table)?;
+    let conflicts = Conflicts::of(alloc, file, &table)?;
     let states = table.lookaheads().automaton().sets.len();
-    put_counts(output, &file.grammar, states, conflicts)?;
+    put_counts(output, &file.grammar, states, &conflicts)?;
+    conflicts.put(output, file)?;
     for number in 0..file.grammar.nonterminals {
         put_nonterminal(output, &file.names, &sets, number)?;
     }

@@ -1,10 +1,14 @@
 //! Grammars in the text of yacc, and what is written of their sets, states and derivations.
 #![tactic(auto)]
 
+mod conflicts;
+mod expected;
 mod fault;
+mod file;
 mod grammar;
 mod parse;
 
 pub use fault::GrammarFault;
+pub use file::GrammarFile;
 pub use grammar::print_grammar;
 pub use parse::print_parse;

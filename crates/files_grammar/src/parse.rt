@@ -1,13 +1,15 @@
 //! The derivation of tokens by a grammar, as text.
 
+use crate::expected::{END, expected_after};
 use crate::fault::GrammarFault;
-use crate::grammar::{File, put_rule};
+use crate::file::GrammarFile;
+use crate::grammar::put_rule;
 use files_text::{Fault, Word, words_of};
 use indexmap::IndexMap;
 use std::alloc::{AllocError, Global};
 use std::io;
 use std::io::Write;
-use vob_lr::ParseError;
+use vob_lr::{ParseError, Table};
 
 /// Returns the terminals of a grammar file by their names. Those of one quoted character also go by
 /// the character.
@@ -28,7 +30,11 @@ fn terminals_of<'a>(
 }
 
 /// Returns the numbers of some tokens. Fails at the first that is no terminal.
-fn tokens_of(alloc: Global, file: &File, words: &[Word<'_>]) -> Result<Vec<usize>, GrammarFault> {
+fn tokens_of(
+    alloc: Global,
+    file: &GrammarFile,
+    words: &[Word<'_>],
+) -> Result<Vec<usize>, GrammarFault> {
     let terminals = terminals_of(alloc, &file.names.terminals)?;
     let mut tokens = Vec::with_capacity(alloc, words.len())?;
     for word in words.iter() {
@@ -46,11 +52,13 @@ fn tokens_of(alloc: Global, file: &File, words: &[Word<'_>]) -> Result<Vec<usize
     Ok(tokens)
 }
 
-/// Returns the fault of tokens that aren't parsed: where the first that doesn't fit stands.
+/// Returns the fault of tokens that aren't parsed: where the first that doesn't fit stands, and what would
+/// fit there.
 fn not_parsed(
     alloc: Global,
     words: &[Word<'_>],
     error: ParseError,
+    expected: String,
 ) -> Result<GrammarFault, AllocError> {
     let ParseError::Unexpected { at } = error else {
         return Ok(match error {
@@ -58,28 +66,42 @@ fn not_parsed(
             _ => GrammarFault::Text(Fault::Memory),
         });
     };
-    match words.get(at) {
-        Some(word) => Ok(GrammarFault::Token {
-            line: word.line,
-            column: word.column,
-            name: String::from_utf8_lossy(alloc, word.text)?,
-        }),
-        None => Ok(GrammarFault::Text(end_of(words))),
-    }
-}
-
-/// Returns the fault of tokens that end too early.
-fn end_of(words: &[Word<'_>]) -> Fault {
-    let (line, column) = words.last().map_or((1, 1), |word| (word.line, word.end()));
-    Fault::Line {
+    let (line, column, name) = match words.get(at) {
+        Some(word) => (
+            word.line,
+            word.column,
+            String::from_utf8_lossy(alloc, word.text)?,
+        ),
+        None => {
+            let (line, column) = words.last().map_or((1, 1), |word| (word.line, word.end()));
+            (line, column, String::from_str(alloc, END)?)
+        }
+    };
+    Ok(GrammarFault::Token {
         line,
         column,
-        expected: "more tokens",
-    }
+        name,
+        expected,
+    })
+}
+
+/// Returns what a parser expects behind the tokens that it took before it failed.
+fn expected_at(
+    alloc: Global,
+    file: &GrammarFile,
+    table: &Table<'_>,
+    tokens: &[usize],
+    error: &ParseError,
+) -> Result<String, AllocError> {
+    let ParseError::Unexpected { at } = error else {
+        return Ok(String::new(alloc));
+    };
+    let taken = tokens.get(..*at).unwrap_or_default();
+    expected_after(alloc, table, &file.names, taken)
 }
 
 /// Writes some rules, the last one first.
-fn put_derivation<W: Write>(output: &mut W, file: &File, rules: &[usize]) -> io::Result<()> {
+fn put_derivation<W: Write>(output: &mut W, file: &GrammarFile, rules: &[usize]) -> io::Result<()> {
     for number in rules.iter().rev() {
         if let Some(rule) = file.grammar.rules.get(*number) {
             put_rule(output, &file.names, rule)?;
@@ -92,19 +114,17 @@ fn put_derivation<W: Write>(output: &mut W, file: &File, rules: &[usize]) -> io:
 /// line. Conflicts that precedence leaves are decided as in bison: for the shift, or else for the
 /// rule that comes first. Returns the status, 0.
 ///
-/// Fails at the first word of the grammar that can't stand where it does, and then at the first
-/// token that is no terminal or doesn't fit. Nothing is written then. Fails too if memory runs out,
-/// or if the output can't be written.
+/// Fails at the first token that is no terminal or doesn't fit. Nothing is written then. Fails too if
+/// memory runs out, or if the output can't be written.
 pub fn print_parse<W: Write>(
     alloc: Global,
-    grammar: &[u8],
+    file: &GrammarFile,
     text: &[u8],
     output: &mut W,
 ) -> Result<u8, GrammarFault> {
-    let file = File::read(alloc, grammar)?;
     let table = file.table(alloc)?;
     let words = words_of(alloc, text, b"")?;
-    let tokens = tokens_of(alloc, &file, &words)?;
+    let tokens = tokens_of(alloc, file, &words)?;
     // Without a cycle a rule is needed but a few times between two tokens.
     let steps = tokens
         .len()
@@ -112,8 +132,11 @@ pub fn print_parse<W: Write>(
         .saturating_mul(file.grammar.rules.len())
         .saturating_mul(8);
     match table.parse(alloc, &tokens, steps) {
-        Ok(rules) => put_derivation(output, &file, &rules)?,
-        Err(error) => return Err(not_parsed(alloc, &words, error)?),
+        Ok(rules) => put_derivation(output, file, &rules)?,
+        Err(error) => {
+            let expected = expected_at(alloc, file, &table, &tokens, &error)?;
+            return Err(not_parsed(alloc, &words, error, expected)?);
+        }
     }
     Ok(0)
 }

@@ -1,9 +1,14 @@
 //! Grammars worked by hand, and files of grammars; refusals apart.
 mod cells;
+mod declarations;
+mod faults;
 mod grammar;
 mod lookaheads;
 mod parses;
 mod refused;
+mod rules;
 mod support;
 mod tables;
 mod text;
+mod useful;
+mod words;

@@ -1,10 +1,16 @@
 //! Grammar files of yacc and bison: their symbols, rules and precedences.
 #![tactic(auto)]
 
+mod declare;
+mod literal;
+mod reader;
+mod rules;
 mod scan;
 mod symbols;
 mod text;
 mod text_error;
+mod useful;
 
 pub use text::{GrammarText, grammar_of};
 pub use text_error::{TextError, TextFault};
+pub use useful::{LeftNonterminal, LeftOut, LeftRule, Useless};

@@ -1,5 +1,5 @@
-//! The words of a grammar file of yacc or bison, with their places in the file. Comments, prologues, types
-//! in `<>`, names in `[]` and what stands behind the second `%%` are passed over.
+//! The words of a grammar file of yacc or bison, with their places in the file. Comments, prologues,
+//! commas, names in `[]` and what stands behind the second `%%` are passed over.
 
 use crate::text_error::{Stop, TextFault};
 use std::alloc::Global;
@@ -17,13 +17,15 @@ pub(crate) enum Kind {
     Character,
     /// A text in double quotes, which are part of it, as `"<="`.
     Text,
+    /// A type in `<>`, which are part of it, as `<number>`.
+    Tag,
     /// A word that begins with `%`, as `%token`.
     Directive,
-    /// Code in braces, which are part of it.
+    /// Code in braces, which are part of it, with or without `%?` before them.
     Action,
     /// The `%%` before the rules, or behind them.
     Section,
-    /// One of the marks `:`, `|`, `;`, `,`, `=`.
+    /// One of the marks `:`, `|`, `;`, `=`.
     Mark(u8),
 }
 
@@ -40,26 +42,38 @@ pub(crate) struct Token {
 enum Mode {
     Between,
     Word(Kind),
+    Underscore,
+    Translated { begins: bool },
     Quoted { kind: Kind, escaped: bool },
-    Type { depth: usize },
+    Tag { depth: usize, dash: bool },
     Bracket,
     Percent,
-    Prologue { percent: bool },
+    Predicate,
     Slash,
-    Line,
+    Less,
+    Line { spliced: bool },
     Comment { star: bool },
     Epilogue,
 }
 
-/// The words so far. `start` is where the one at hand begins, `comment` where a comment does, and
-/// `depth` counts the braces that are open.
+/// Which code the byte at hand stands in: none, that of a prologue, or code with open braces.
+#[derive(Clone, Copy, PartialEq, Eq)]
+enum Code {
+    Outside,
+    Prologue,
+    Braces { depth: usize },
+}
+
+/// The words so far. `start` is where the one at hand begins, and `inner` where a comment, or a quote
+/// within code, does. `is_translated` says that a text stands within `_()`.
 #[derive(Drop)]
 struct Scanner {
     tokens: Vec<Token>,
     mode: Mode,
+    code: Code,
     start: usize,
-    comment: usize,
-    depth: usize,
+    inner: usize,
+    is_translated: bool,
     sections: usize,
 }
 
@@ -68,11 +82,32 @@ fn is_in_name(byte: u8) -> bool {
     byte.is_ascii_alphanumeric() || byte == b'_' || byte == b'.' || byte == b'-'
 }
 
+/// Whether a byte is white space.
+fn is_blank(byte: u8) -> bool {
+    byte.is_ascii_whitespace() || byte == 0x0b
+}
+
+/// The refusal of a byte.
+fn bad(at: usize) -> Stop {
+    Stop {
+        at,
+        fault: TextFault::BadCharacter,
+    }
+}
+
+/// The refusal of what is left open.
+fn unclosed(at: usize) -> Stop {
+    Stop {
+        at,
+        fault: TextFault::Unclosed,
+    }
+}
+
 impl Scanner {
-    /// Adds a word that ends before byte `end`, if no brace is open.
+    /// Adds a word that ends before byte `end`, if it isn't within code.
     fn add(&mut self, kind: Kind, end: usize) -> Result<(), Stop> {
         self.mode = Mode::Between;
-        if self.depth == 0 {
+        if self.code == Code::Outside {
             let start = self.start;
             self.tokens.push(Token { kind, start, end })?;
         }
@@ -91,27 +126,43 @@ impl Scanner {
         self.add(Kind::Mark(mark), end)
     }
 
-    /// Closes a brace, and adds the code if it was the outermost.
-    fn close(&mut self, at: usize, end: usize) -> Result<(), Stop> {
-        if self.depth == 0 {
-            return Err(Stop {
-                at,
-                fault: TextFault::BadCharacter,
-            });
-        }
-        self.depth -= 1;
+    /// Opens a brace.
+    fn open_brace(&mut self) {
         self.mode = Mode::Between;
-        if self.depth == 0 {
-            return self.add(Kind::Action, end);
+        self.code = match self.code {
+            Code::Outside => Code::Braces { depth: 1 },
+            Code::Prologue => Code::Prologue,
+            Code::Braces { depth } => Code::Braces {
+                depth: depth.saturating_add(1),
+            },
+        };
+    }
+
+    /// Closes a brace, and adds the code if it was the outermost.
+    fn close_brace(&mut self, at: usize, end: usize) -> Result<(), Stop> {
+        self.mode = Mode::Between;
+        match self.code {
+            Code::Outside => Err(bad(at)),
+            Code::Prologue => Ok(()),
+            Code::Braces { depth } if depth > 1 => {
+                self.code = Code::Braces {
+                    depth: depth.saturating_sub(1),
+                };
+                Ok(())
+            }
+            Code::Braces { .. } => {
+                self.code = Code::Outside;
+                self.add(Kind::Action, end)
+            }
         }
-        Ok(())
     }
 
     /// Begins what a byte begins, inside code or outside.
     fn begin(&mut self, at: usize, end: usize, byte: u8) -> Result<(), Stop> {
-        if self.depth == 0 {
+        if self.code == Code::Outside {
             self.start = at;
         }
+        self.inner = at;
         match byte {
             b'\'' => self.mode = Mode::Quoted {
                 kind: Kind::Character,
@@ -121,18 +172,14 @@ impl Scanner {
                 kind: Kind::Text,
                 escaped: false,
             },
-            b'/' => {
-                self.comment = at;
-                self.mode = Mode::Slash;
-            }
-            b'{' => {
-                self.depth = self.depth.saturating_add(1);
-                self.mode = Mode::Between;
-            }
-            b'}' => self.close(at, end)?,
+            b'/' => self.mode = Mode::Slash,
+            b'%' => self.mode = Mode::Percent,
+            b'{' => self.open_brace(),
+            b'}' => self.close_brace(at, end)?,
+            b'<' if self.code != Code::Outside => self.mode = Mode::Less,
             _ => {
                 self.mode = Mode::Between;
-                if self.depth == 0 && !byte.is_ascii_whitespace() {
+                if self.code == Code::Outside && !is_blank(byte) {
                     self.begin_word(at, end, byte)?;
                 }
             }
@@ -140,43 +187,64 @@ impl Scanner {
         Ok(())
     }
 
-    /// Begins what a byte begins outside of code.
+    /// Begins what a byte begins outside of code. A comma is white space.
     fn begin_word(&mut self, at: usize, end: usize, byte: u8) -> Result<(), Stop> {
         match byte {
-            b'%' => self.mode = Mode::Percent,
-            b'<' => self.mode = Mode::Type { depth: 1 },
+            b'<' => self.mode = Mode::Tag {
+                depth: 1,
+                dash: false,
+            },
             b'[' => self.mode = Mode::Bracket,
-            b':' | b'|' | b';' | b',' | b'=' => self.add_mark(byte, end)?,
+            b':' | b'|' | b';' | b'=' => self.add_mark(byte, end)?,
+            b',' => {}
             b'0'..=b'9' => self.mode = Mode::Word(Kind::Number),
-            b'a'..=b'z' | b'A'..=b'Z' | b'_' | b'.' => self.mode = Mode::Word(Kind::Name),
-            _ => {
-                return Err(Stop {
-                    at,
-                    fault: TextFault::BadCharacter,
-                });
-            }
+            b'_' => self.mode = Mode::Underscore,
+            b'a'..=b'z' | b'A'..=b'Z' | b'.' => self.mode = Mode::Word(Kind::Name),
+            _ => return Err(bad(at)),
         }
         Ok(())
     }
 
-    /// Takes the byte behind a `%`.
-    fn percent(&mut self, end: usize, byte: u8) -> Result<(), Stop> {
-        match byte {
-            b'%' => {
+    /// Takes the byte behind a `%`. In code `%}` ends a prologue, and `%>` closes a brace.
+    fn percent(&mut self, at: usize, end: usize, byte: u8) -> Result<(), Stop> {
+        match (self.code, byte) {
+            (Code::Outside, b'%') => {
                 self.add(Kind::Section, end)?;
                 self.sections = self.sections.saturating_add(1);
                 if self.sections > 1 {
                     self.mode = Mode::Epilogue;
                 }
             }
-            b'{' => self.mode = Mode::Prologue { percent: false },
-            _ if byte.is_ascii_alphabetic() => self.mode = Mode::Word(Kind::Directive),
-            _ => {
-                return Err(Stop {
-                    at: self.start,
-                    fault: TextFault::BadCharacter,
-                });
+            (Code::Outside, b'{') => {
+                self.code = Code::Prologue;
+                self.mode = Mode::Between;
             }
+            (Code::Outside, b'?') => self.mode = Mode::Predicate,
+            (Code::Outside, b'a'..=b'z' | b'A'..=b'Z' | b'_' | b'.') => {
+                self.mode = Mode::Word(Kind::Directive);
+            }
+            (Code::Outside, _) => return Err(bad(self.start)),
+            (Code::Prologue, b'}') => {
+                self.code = Code::Outside;
+                self.mode = Mode::Between;
+            }
+            (Code::Braces { depth }, b'>') => {
+                self.code = Code::Braces {
+                    depth: depth.saturating_sub(1).max(1),
+                };
+                self.mode = Mode::Between;
+            }
+            _ => self.begin(at, end, byte)?,
+        }
+        Ok(())
+    }
+
+    /// Takes a byte between `%?` and its code.
+    fn predicate(&mut self, byte: u8) -> Result<(), Stop> {
+        match byte {
+            b'{' => self.open_brace(),
+            _ if is_blank(byte) => {}
+            _ => return Err(bad(self.start)),
         }
         Ok(())
     }
@@ -184,24 +252,54 @@ impl Scanner {
     /// Takes the byte behind a `/`, which stands alone in code only.
     fn slash(&mut self, at: usize, end: usize, byte: u8) -> Result<(), Stop> {
         match byte {
-            b'/' => self.mode = Mode::Line,
+            b'/' => self.mode = Mode::Line { spliced: false },
             b'*' => self.mode = Mode::Comment { star: false },
-            _ if self.depth > 0 => self.begin(at, end, byte)?,
-            _ => {
-                return Err(Stop {
-                    at: self.comment,
-                    fault: TextFault::BadCharacter,
-                });
-            }
+            _ if self.code != Code::Outside => self.begin(at, end, byte)?,
+            _ => return Err(bad(self.inner)),
         }
         Ok(())
     }
 
-    /// Takes a byte between quotes.
+    /// Takes the byte behind a `<` in code. `<%` opens a brace, and `<<` is a word of its own.
+    fn less(&mut self, at: usize, end: usize, byte: u8) -> Result<(), Stop> {
+        match byte {
+            b'%' => self.open_brace(),
+            b'<' => self.mode = Mode::Between,
+            _ => self.begin(at, end, byte)?,
+        }
+        Ok(())
+    }
+
+    /// Takes a byte of `_("text")` that is no byte of the text.
+    fn translated(&mut self, at: usize, byte: u8, begins: bool) -> Result<(), Stop> {
+        self.is_translated = begins;
+        match byte {
+            b'"' if begins => {
+                self.start = at;
+                self.inner = at;
+                self.mode = Mode::Quoted {
+                    kind: Kind::Text,
+                    escaped: false,
+                };
+            }
+            b')' if !begins => self.mode = Mode::Between,
+            _ => return Err(bad(at)),
+        }
+        Ok(())
+    }
+
+    /// Takes a byte between quotes, which stand on one line. In code a line goes on behind `\`.
     fn quoted(&mut self, end: usize, byte: u8, kind: Kind, escaped: bool) -> Result<(), Stop> {
         let quote = if kind == Kind::Text { b'"' } else { b'\'' };
         if byte == quote && !escaped {
-            return self.add(kind, end);
+            self.add(kind, end)?;
+            if self.is_translated {
+                self.mode = Mode::Translated { begins: false };
+            }
+            return Ok(());
+        }
+        if byte == b'\n' && !(escaped && self.code != Code::Outside) {
+            return Err(unclosed(self.inner));
         }
         self.mode = Mode::Quoted {
             kind,
@@ -210,17 +308,31 @@ impl Scanner {
         Ok(())
     }
 
-    /// Takes a byte of a type, which may have types in it.
-    fn type_byte(&mut self, byte: u8, depth: usize) {
+    /// Takes a byte of a type, which may have types in it, and arrows.
+    fn tag(&mut self, end: usize, byte: u8, depth: usize, dash: bool) -> Result<(), Stop> {
         let depth = match byte {
             b'<' => depth.saturating_add(1),
-            b'>' => depth.saturating_sub(1),
+            b'>' if !dash => depth.saturating_sub(1),
             _ => depth,
         };
-        self.mode = if depth == 0 {
-            Mode::Between
-        } else {
-            Mode::Type { depth }
+        if depth == 0 {
+            return self.add(Kind::Tag, end);
+        }
+        self.mode = Mode::Tag {
+            depth,
+            dash: byte == b'-',
+        };
+        Ok(())
+    }
+
+    /// Takes a byte of a comment that ends with its line. In code the line goes on behind `\`.
+    fn line(&mut self, byte: u8, spliced: bool) {
+        self.mode = match byte {
+            b'\n' if !spliced => Mode::Between,
+            b'\\' if self.code != Code::Outside => Mode::Line { spliced: true },
+            _ => Mode::Line {
+                spliced: spliced && byte != b'\n' && is_blank(byte),
+            },
         };
     }
 
@@ -229,27 +341,26 @@ impl Scanner {
         match self.mode {
             Mode::Between => self.begin(at, end, byte)?,
             Mode::Word(_) if is_in_name(byte) => {}
+            Mode::Underscore if byte == b'(' => self.mode = Mode::Translated { begins: true },
+            Mode::Underscore if is_in_name(byte) => self.mode = Mode::Word(Kind::Name),
+            Mode::Underscore => {
+                self.add(Kind::Name, at)?;
+                self.begin(at, end, byte)?;
+            }
             Mode::Word(kind) => {
                 self.add(kind, at)?;
                 self.begin(at, end, byte)?;
             }
+            Mode::Translated { begins } => self.translated(at, byte, begins)?,
             Mode::Quoted { kind, escaped } => self.quoted(end, byte, kind, escaped)?,
-            Mode::Type { depth } => self.type_byte(byte, depth),
+            Mode::Tag { depth, dash } => self.tag(end, byte, depth, dash)?,
             Mode::Bracket if byte == b']' => self.mode = Mode::Between,
             Mode::Bracket => {}
-            Mode::Percent => self.percent(end, byte)?,
-            Mode::Prologue { percent } => {
-                self.mode = if percent && byte == b'}' {
-                    Mode::Between
-                } else {
-                    Mode::Prologue {
-                        percent: byte == b'%',
-                    }
-                };
-            }
+            Mode::Percent => self.percent(at, end, byte)?,
+            Mode::Predicate => self.predicate(byte)?,
             Mode::Slash => self.slash(at, end, byte)?,
-            Mode::Line if byte == b'\n' => self.mode = Mode::Between,
-            Mode::Line => {}
+            Mode::Less => self.less(at, end, byte)?,
+            Mode::Line { spliced } => self.line(byte, spliced),
             Mode::Comment { star } => {
                 self.mode = if star && byte == b'/' {
                     Mode::Between
@@ -264,16 +375,15 @@ impl Scanner {
 
     /// Ends the last word, or fails where something is left open.
     fn finish(&mut self, end: usize) -> Result<(), Stop> {
-        let open = match self.mode {
-            Mode::Word(kind) => return self.add(kind, end),
-            Mode::Slash | Mode::Comment { star: _ } => self.comment,
-            Mode::Between | Mode::Line | Mode::Epilogue if self.depth == 0 => return Ok(()),
-            _ => self.start,
-        };
-        Err(Stop {
-            at: open,
-            fault: TextFault::Unclosed,
-        })
+        match self.mode {
+            Mode::Word(kind) => self.add(kind, end),
+            Mode::Underscore => self.add(Kind::Name, end),
+            Mode::Slash | Mode::Comment { .. } | Mode::Quoted { .. } => Err(unclosed(self.inner)),
+            Mode::Between | Mode::Line { .. } | Mode::Epilogue if self.code == Code::Outside => {
+                Ok(())
+            }
+            _ => Err(unclosed(self.start)),
+        }
     }
 }
 
@@ -283,9 +393,10 @@ pub(crate) fn scan(alloc: Global, text: &[u8]) -> Result<Vec<Token>, Stop> {
     let mut scanner = Scanner {
         tokens: Vec::new(alloc),
         mode: Mode::Between,
+        code: Code::Outside,
         start: 0,
-        comment: 0,
-        depth: 0,
+        inner: 0,
+        is_translated: false,
         sections: 0,
     };
     for at in 0..text.len() {

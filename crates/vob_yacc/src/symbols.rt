@@ -1,143 +1,396 @@
-//! The symbols that a grammar file names, in the order in which they are first named.
+//! The symbols that a grammar file names, in the order of their declarations.
 
+use crate::literal::character_name;
 use crate::text_error::{Stop, TextFault};
 use indexmap::IndexMap;
 use std::alloc::Global;
 use vob_lr::{Precedence, Symbol};
 
-/// The symbols so far. `by_name` has a symbol for each name and each quoted word.
+/// How many entries each grammar has: the end, `error`, and the nonterminal above the start.
+const PREDEFINED: usize = 3;
+
+/// What a symbol is.
+#[derive(Clone, Copy, PartialEq, Eq)]
+enum Class {
+    Unknown,
+    Terminal,
+    Nonterminal,
+}
+
+/// A symbol: the name by which it is shown, where it is declared or else named first, and what the file
+/// says of it. One
+/// with two names may have had two entries: then `same` is the number of the one that counts.
+#[derive(Drop)]
+struct Entry {
+    name: Vec<u8>,
+    at: usize,
+    class: Class,
+    same: usize,
+    has_text: bool,
+    is_used: bool,
+    is_declared: bool,
+    has_rule: bool,
+    precedence: Option<(Precedence, usize)>,
+    code: Option<usize>,
+}
+
+/// The symbols so far. Each has an entry, and goes by its number.
 #[derive(Drop)]
 pub(crate) struct Symbols<'a> {
-    pub by_name: IndexMap<&'a [u8], Symbol>,
+    by_name: IndexMap<&'a [u8], usize>,
+    by_character: IndexMap<u8, usize>,
+    by_code: IndexMap<usize, usize>,
+    entries: Vec<Entry>,
+    actions: usize,
+    end: usize,
+}
+
+/// The symbols of a whole file: what each entry is, the names of terminals and of nonterminals, where
+/// each nonterminal is named first, and the precedences of terminals.
+#[derive(Drop)]
+pub(crate) struct Numbered {
+    symbols: Vec<Option<Symbol>>,
     pub terminals: Vec<Vec<u8>>,
     pub nonterminals: Vec<Vec<u8>>,
+    pub places: Vec<usize>,
     pub precedences: Vec<Option<Precedence>>,
-    pub actions: Vec<usize>,
+}
+
+/// The refusal of a symbol at a place.
+fn refused(at: usize, fault: TextFault) -> Stop {
+    Stop { at, fault }
 }
 
 impl<'a> Symbols<'a> {
-    /// Returns the symbols that each grammar has: the end, and the nonterminal above the start.
+    /// Returns the symbols that each grammar has: the end, `error`, and the nonterminal above the start.
     pub(crate) fn new(alloc: Global) -> Result<Symbols<'a>, Stop> {
         let mut symbols = Symbols {
             by_name: IndexMap::new(alloc),
-            terminals: Vec::new(alloc),
-            nonterminals: Vec::new(alloc),
-            precedences: Vec::new(alloc),
-            actions: Vec::new(alloc),
+            by_character: IndexMap::new(alloc),
+            by_code: IndexMap::new(alloc),
+            entries: Vec::new(alloc),
+            actions: 0,
+            end: 0,
         };
-        symbols.add_terminal(alloc, b"$end")?;
-        symbols.add_terminal(alloc, b"error")?;
-        symbols.add_nonterminal(alloc, b"$accept")?;
+        symbols.terminal(alloc, b"$end", 0)?;
+        symbols.terminal(alloc, b"error", 0)?;
+        symbols.nonterminal(alloc, b"$accept", 0)?;
         Ok(symbols)
     }
 
-    /// Adds a terminal, and returns its number.
-    fn add_terminal(&mut self, alloc: Global, name: &'a [u8]) -> Result<usize, Stop> {
-        let number = self.terminals.len();
-        self.terminals.push(name.to_vec(alloc)?)?;
-        self.precedences.push(None)?;
-        self.by_name.insert(name, Symbol::Terminal(number))?;
+    /// Returns the number of the entry that counts for an entry.
+    fn own(&self, entry: usize) -> usize {
+        self.entries.get(entry).map_or(entry, |own| own.same)
+    }
+
+    /// Returns an entry.
+    fn entry(&mut self, entry: usize) -> Option<&mut Entry> {
+        let own = self.own(entry);
+        self.entries.get_mut(own)
+    }
+
+    /// Adds an entry.
+    fn add(&mut self, name: Vec<u8>, at: usize) -> Result<usize, Stop> {
+        let number = self.entries.len();
+        self.entries.push(Entry {
+            name,
+            at,
+            class: Class::Unknown,
+            same: number,
+            has_text: false,
+            is_used: false,
+            is_declared: false,
+            has_rule: false,
+            precedence: None,
+            code: None,
+        })?;
         Ok(number)
     }
 
-    /// Adds a nonterminal, and returns its number.
-    fn add_nonterminal(&mut self, alloc: Global, name: &'a [u8]) -> Result<usize, Stop> {
-        let number = self.nonterminals.len();
-        self.nonterminals.push(name.to_vec(alloc)?)?;
-        self.by_name.insert(name, Symbol::Nonterminal(number))?;
-        Ok(number)
+    /// Returns the symbol with a name, of which nothing need be known.
+    pub(crate) fn named(
+        &mut self,
+        alloc: Global,
+        name: &'a [u8],
+        at: usize,
+    ) -> Result<usize, Stop> {
+        if let Some(entry) = self.by_name.get(name) {
+            return Ok(*entry);
+        }
+        let entry = self.add(name.to_vec(alloc)?, at)?;
+        self.by_name.insert(name, entry)?;
+        Ok(entry)
     }
 
-    /// Returns the symbol of a name, if there is one.
-    pub(crate) fn get(&self, name: &[u8]) -> Option<Symbol> {
-        self.by_name.get(name).copied()
+    /// Makes a symbol a terminal or a nonterminal, if it isn't yet. Fails if it is the other.
+    fn classify(&mut self, entry: usize, class: Class, at: usize) -> Result<(), Stop> {
+        match self.entry(entry) {
+            Some(own) if own.class == Class::Unknown => own.class = class,
+            Some(own) if own.class != class => {
+                return Err(refused(at, TextFault::NotANonterminal));
+            }
+            _ => {}
+        }
+        Ok(())
     }
 
-    /// Returns the number of a terminal, which is added if it is new.
+    /// Notes that a symbol is declared at `at`. Its first declaration counts for its place, and for a
+    /// nonterminal its first rule.
+    pub(crate) fn note_declaration(&mut self, entry: usize, at: usize, is_rule: bool) {
+        if let Some(own) = self.entry(entry) {
+            let has_place = if is_rule {
+                &mut own.has_rule
+            } else {
+                &mut own.is_declared
+            };
+            if !*has_place {
+                *has_place = true;
+                own.at = at;
+            }
+        }
+    }
+
+    /// Returns the terminal with a name.
     pub(crate) fn terminal(
         &mut self,
         alloc: Global,
         name: &'a [u8],
         at: usize,
     ) -> Result<usize, Stop> {
-        match self.get(name) {
-            Some(Symbol::Terminal(number)) => Ok(number),
-            Some(Symbol::Nonterminal(_)) => Err(Stop {
-                at,
-                fault: TextFault::NotANonterminal,
-            }),
-            None => self.add_terminal(alloc, name),
-        }
+        let entry = self.named(alloc, name, at)?;
+        self.classify(entry, Class::Terminal, at)?;
+        Ok(entry)
     }
 
-    /// Returns the number of a nonterminal, which is added if it is new.
+    /// Returns the nonterminal with a name.
     pub(crate) fn nonterminal(
         &mut self,
         alloc: Global,
         name: &'a [u8],
         at: usize,
     ) -> Result<usize, Stop> {
-        match self.get(name) {
-            Some(Symbol::Nonterminal(number)) => Ok(number),
-            Some(Symbol::Terminal(_)) => Err(Stop {
-                at,
-                fault: TextFault::NotANonterminal,
-            }),
-            None => self.add_nonterminal(alloc, name),
-        }
+        let entry = self.named(alloc, name, at)?;
+        self.classify(entry, Class::Nonterminal, at)?;
+        Ok(entry)
     }
 
-    /// Adds a nonterminal for an action within a rule, and returns its number.
-    pub(crate) fn action(&mut self, alloc: Global) -> Result<usize, Stop> {
-        let number = self.nonterminals.len();
-        self.nonterminals.push(b"$@".to_vec(alloc)?)?;
-        self.actions.push(number)?;
-        Ok(number)
-    }
-
-    /// Whether a nonterminal stands for an action within a rule.
-    pub(crate) fn is_action(&self, nonterminal: usize) -> bool {
-        self.actions.contains(&nonterminal)
-    }
-
-    /// Gives a terminal another name, by which it is shown. It keeps those that it has.
-    pub(crate) fn rename(
+    /// Returns the terminal that a character is. Its code is the character.
+    pub(crate) fn character(
         &mut self,
         alloc: Global,
-        name: &'a [u8],
-        terminal: usize,
-    ) -> Result<(), Stop> {
-        if let Some(own) = self.terminals.get_mut(terminal) {
-            *own = name.to_vec(alloc)?;
+        character: u8,
+        at: usize,
+    ) -> Result<usize, Stop> {
+        if let Some(entry) = self.by_character.get(&character) {
+            return Ok(*entry);
         }
-        self.by_name.insert(name, Symbol::Terminal(terminal))?;
+        let entry = self.add(character_name(alloc, character)?, at)?;
+        self.by_character.insert(character, entry)?;
+        self.classify(entry, Class::Terminal, at)?;
+        self.set_code(entry, character as usize, at, at)?;
+        Ok(entry)
+    }
+
+    /// Returns a new nonterminal for an action within a rule.
+    pub(crate) fn action(&mut self, alloc: Global, at: usize) -> Result<usize, Stop> {
+        self.actions = self.actions.saturating_add(1);
+        let actions = self.actions;
+        let name = format!(in alloc; "$@{actions}")?;
+        let entry = self.add(name.as_bytes().to_vec(alloc)?, at)?;
+        self.classify(entry, Class::Nonterminal, at)?;
+        Ok(entry)
+    }
+
+    /// Notes that a rule has a symbol.
+    pub(crate) fn note_use(&mut self, entry: usize) {
+        if let Some(own) = self.entry(entry) {
+            own.is_used = true;
+        }
+    }
+
+    /// Gives a terminal the code at `code_at`, by which a scanner knows it. That with code 0 is the end.
+    /// Fails there if it has another, and at `at` if another terminal has the code.
+    pub(crate) fn set_code(
+        &mut self,
+        entry: usize,
+        code: usize,
+        at: usize,
+        code_at: usize,
+    ) -> Result<(), Stop> {
+        let entry = self.own(entry);
+        match self.entry(entry).and_then(|own| own.code.replace(code)) {
+            Some(other) if other != code => return Err(refused(code_at, TextFault::Redeclared)),
+            Some(_) => return Ok(()),
+            None => {}
+        }
+        if let Some(other) = self.by_code.get(&code) {
+            if self.own(*other) != entry {
+                return Err(refused(at, TextFault::CodeTaken));
+            }
+        }
+        self.by_code.insert(code, entry)?;
+        if code == 0 {
+            self.end = entry;
+        }
         Ok(())
     }
 
-    /// Makes a terminal the end, if it is the newest.
-    pub(crate) fn make_end(
+    /// Gives a terminal a precedence that is declared at `at`. Fails there if it has one.
+    pub(crate) fn set_precedence(
+        &mut self,
+        entry: usize,
+        precedence: Precedence,
+        at: usize,
+    ) -> Result<(), Stop> {
+        match self.entry(entry) {
+            Some(own) if own.precedence.is_some() => Err(refused(at, TextFault::Redeclared)),
+            Some(own) => {
+                own.precedence = Some((precedence, at));
+                Ok(())
+            }
+            None => Ok(()),
+        }
+    }
+
+    /// Lets a terminal go by a quoted text too, which it is shown as. A text that another terminal has
+    /// stays with that one, and a terminal keeps the first of two texts. Fails where the second
+    /// precedence is declared if both have one.
+    pub(crate) fn add_text(
         &mut self,
         alloc: Global,
-        name: &'a [u8],
-        terminal: usize,
+        entry: usize,
+        text: usize,
     ) -> Result<(), Stop> {
-        if terminal > 1 && self.terminals.len().checked_sub(1) == Some(terminal) {
-            self.terminals.pop();
-            self.precedences.pop();
-            self.rename(alloc, name, 0)?;
+        let entry = self.own(entry);
+        if self.own(text) == entry || self.has_text(entry) || self.has_text(text) {
+            return Ok(());
         }
+        let mut name = Vec::new(alloc);
+        let mut precedence = None;
+        if let Some(other) = self.entries.get_mut(text) {
+            name = std::mem::replace(&mut other.name, name);
+            precedence = other.precedence;
+            other.same = entry;
+        }
+        let Some(own) = self.entries.get_mut(entry) else {
+            return Ok(());
+        };
+        own.name = name;
+        own.has_text = true;
+        own.precedence = match (own.precedence, precedence) {
+            (Some((_, at)), Some((_, other_at))) => {
+                return Err(refused(at.max(other_at), TextFault::Redeclared));
+            }
+            (one, other) => one.or(other),
+        };
         Ok(())
     }
 
-    /// Gives a terminal a precedence.
-    pub(crate) fn set_precedence(&mut self, terminal: usize, precedence: Precedence) {
-        if let Some(slot) = self.precedences.get_mut(terminal) {
-            *slot = Some(precedence);
+    /// Whether a symbol goes by a name and a text.
+    fn has_text(&self, entry: usize) -> bool {
+        match self.entries.get(self.own(entry)) {
+            Some(own) => own.has_text,
+            None => false,
         }
     }
 
-    /// Returns the precedence of a terminal, if it has one.
-    pub(crate) fn precedence(&self, terminal: usize) -> Option<Precedence> {
-        self.precedences.get(terminal).copied().flatten()
+    /// Returns the entries in the order of their places, those that each grammar has first. Makes symbols
+    /// that are named, and are nothing else, nonterminals. Fails at the first of them that a rule has.
+    fn in_order(&mut self, alloc: Global) -> Result<Vec<usize>, Stop> {
+        let mut order = Vec::new(alloc);
+        for (number, entry) in self.entries.iter().enumerate() {
+            // The place is the second key, so that those of each grammar stay first.
+            order.push((number >= PREDEFINED, entry.at, number))?;
+        }
+        order.sort()?;
+        for (_, _, number) in order.iter() {
+            if let Some(entry) = self.entries.get_mut(*number) {
+                entry.settle()?;
+            }
+        }
+        Ok(order.iter().map(|(_, _, number)| *number).collect(alloc)?)
+    }
+
+    /// Numbers terminals, and nonterminals, in the order of their places; the end is the first terminal.
+    /// Fails at the first symbol of a rule that is neither.
+    pub(crate) fn numbered(mut self, alloc: Global) -> Result<Numbered, Stop> {
+        let order = self.in_order(alloc)?;
+        let mut numbered = Numbered {
+            symbols: Vec::new(alloc),
+            terminals: Vec::new(alloc),
+            nonterminals: Vec::new(alloc),
+            places: Vec::new(alloc),
+            precedences: Vec::new(alloc),
+        };
+        numbered.symbols.resize(self.entries.len(), None)?;
+        let end = self.own(self.end);
+        numbered.add(alloc, end, &self.entries)?;
+        for number in order {
+            // The end that each grammar has is no terminal if the file names another.
+            if number > 0 {
+                numbered.add(alloc, self.own(number), &self.entries)?;
+            }
+        }
+        for (number, entry) in self.entries.iter().enumerate() {
+            numbered.repeat(entry.same, number);
+        }
+        Ok(numbered)
+    }
+}
+
+impl Entry {
+    /// Makes the symbol a nonterminal if it is nothing else. Fails if a rule has it.
+    fn settle(&mut self) -> Result<(), Stop> {
+        if self.class == Class::Unknown {
+            if self.is_used {
+                return Err(refused(self.at, TextFault::Undefined));
+            }
+            self.class = Class::Nonterminal;
+        }
+        Ok(())
+    }
+}
+
+impl Numbered {
+    /// Returns the symbol that an entry is.
+    pub(crate) fn symbol(&self, entry: usize) -> Option<Symbol> {
+        self.symbols.get(entry).copied().flatten()
+    }
+
+    /// Numbers an entry, unless it has a number.
+    fn add(&mut self, alloc: Global, number: usize, entries: &[Entry]) -> Result<(), Stop> {
+        let Some(entry) = entries.get(number) else {
+            return Ok(());
+        };
+        if self.symbol(number).is_some() {
+            return Ok(());
+        }
+        let name = entry.name.to_vec(alloc)?;
+        let symbol = if entry.class == Class::Terminal {
+            let precedence = entry.precedence.map(|(precedence, _)| precedence);
+            self.precedences.push(precedence)?;
+            self.terminals.push(name)?;
+            Symbol::Terminal(self.terminals.len().saturating_sub(1))
+        } else {
+            self.places.push(entry.at)?;
+            self.nonterminals.push(name)?;
+            Symbol::Nonterminal(self.nonterminals.len().saturating_sub(1))
+        };
+        self.put(number, symbol);
+        Ok(())
+    }
+
+    /// Gives an entry a number.
+    fn put(&mut self, number: usize, symbol: Symbol) {
+        if let Some(slot) = self.symbols.get_mut(number) {
+            *slot = Some(symbol);
+        }
+    }
+
+    /// Gives an entry the number of the one that counts for it.
+    fn repeat(&mut self, own: usize, number: usize) {
+        if let Some(symbol) = self.symbol(own) {
+            self.put(number, symbol);
+        }
     }
 }

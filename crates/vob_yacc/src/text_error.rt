@@ -2,6 +2,7 @@
 
 use std::alloc::{AllocError, AllocFailed};
 use std::{error, fmt};
+use vob_lr::GrammarError;
 
 /// What is wrong with a grammar file.
 #[derive(Clone, Copy, Debug, PartialEq, Eq)]
@@ -20,8 +21,20 @@ pub enum TextFault {
     NoRules,
     /// A name that is neither a token nor the left side of a rule.
     Undefined,
-    /// A token that is the left side of a rule too, or a name of `%start` that has no rules.
+    /// A token with rules, a nonterminal that is used as a token, or a start symbol that is a token.
     NotANonterminal,
+    /// A second precedence or a second number for a token.
+    Redeclared,
+    /// A token whose number another has.
+    CodeTaken,
+    /// A second start symbol.
+    SecondStart,
+    /// `%empty` in a rule that has symbols or actions within it.
+    NotEmpty,
+    /// Other tables than those of LALR(1) are asked for.
+    OnlyLalr,
+    /// The start symbol derives no text.
+    DerivesNothing,
 }
 
 /// What is wrong with a grammar file, with the line and the column where, counted from 1. A column is
@@ -43,22 +56,28 @@ pub(crate) struct Stop {
 impl Stop {
     /// The same by line and column.
     pub(crate) fn in_lines(self, text: &[u8]) -> TextError {
-        let mut line = 1usize;
-        let mut column = 1usize;
-        for byte in text.iter().take(self.at) {
-            if *byte == b'\n' {
-                line = line.saturating_add(1);
-                column = 1;
-            } else {
-                column = column.saturating_add(1);
-            }
-        }
+        let (line, column) = place_of(text, self.at);
         TextError {
             line,
             column,
             fault: self.fault,
         }
     }
+}
+
+/// Returns the line and the column of a byte, counted from 1.
+pub(crate) fn place_of(text: &[u8], at: usize) -> (usize, usize) {
+    let mut line = 1usize;
+    let mut column = 1usize;
+    for byte in text.iter().take(at) {
+        if *byte == b'\n' {
+            line = line.saturating_add(1);
+            column = 1;
+        } else {
+            column = column.saturating_add(1);
+        }
+    }
+    (line, column)
 }
 
 impl From<AllocError> for Stop {
@@ -79,6 +98,16 @@ impl<T: Drop> From<AllocFailed<T>> for Stop {
     }
 }
 
+impl From<GrammarError> for Stop {
+    // Rules that were read name symbols that are there.
+    fn from(_: GrammarError) -> Stop {
+        Stop {
+            at: 0,
+            fault: TextFault::Memory,
+        }
+    }
+}
+
 impl fmt::Display for TextFault {
     fn fmt<W: fmt::Write>(&self, f: &mut fmt::Formatter<W>) -> fmt::Result {
         f.write_str(match self {
@@ -89,7 +118,13 @@ impl fmt::Display for TextFault {
             TextFault::Unexpected => "this word can't stand here",
             TextFault::NoRules => "there are no rules",
             TextFault::Undefined => "neither a token nor a name with rules",
-            TextFault::NotANonterminal => "a name that has no rules of its own",
+            TextFault::NotANonterminal => "a name can't be a token and have rules",
+            TextFault::Redeclared => "this token has another precedence or number already",
+            TextFault::CodeTaken => "another token has this one's number",
+            TextFault::SecondStart => "there is a start symbol already",
+            TextFault::NotEmpty => "%empty in a rule that isn't empty",
+            TextFault::OnlyLalr => "only LALR(1) tables are made",
+            TextFault::DerivesNothing => "the start symbol derives no text",
         })
     }
 }

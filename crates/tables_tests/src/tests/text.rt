@@ -1,9 +1,12 @@
-//! Grammar files of yacc and bison: what they say, and where they are wrong.
+//! Grammar files of yacc and bison: what they say. What is wanted is what bison reports.
 use super::support::same;
 use std::alloc::{AllocError, Global};
 use std::process::Abort;
-use vob_lr::{Associativity, Symbol};
-use vob_yacc::{GrammarText, TextFault, grammar_of};
+use vob_lr::{Associativity, Precedence, Symbol};
+use vob_yacc::{GrammarText, grammar_of};
+
+/// A file, its terminals with their precedences, and its rules, one a line.
+pub type Row = (&'static str, &'static str, &'static str);
 
 /// Appends the name of a symbol behind a blank.
 fn add_name(text: &mut Vec<u8>, file: &GrammarText, symbol: &Symbol) -> Result<(), AllocError> {
@@ -18,150 +21,132 @@ fn add_name(text: &mut Vec<u8>, file: &GrammarText, symbol: &Symbol) -> Result<(
     Ok(())
 }
 
-/// Returns the rules of a file, a line for each: the name of the left side, `:`, and those of the
+/// Returns the rules of a file, each behind a line end: the name of the left side, `:`, and those of the
 /// right side.
 fn rules_of(alloc: Global, file: &GrammarText) -> Result<Vec<u8>, AllocError> {
     let mut text = Vec::new(alloc);
     for rule in &file.grammar.rules {
+        text.push(b'\n')?;
         add_name(&mut text, file, &Symbol::Nonterminal(rule.left))?;
         text.extend_from_slice(b" :")?;
         for symbol in &rule.right {
             add_name(&mut text, file, symbol)?;
         }
-        text.push(b'\n')?;
     }
     Ok(text)
 }
 
-/// Compares the rules of a file with lines.
-fn check_rules(rt: &(impl Abort + AllocGlobal), file: &str, lines: &str) {
+/// Appends a precedence: `:`, the first letter of its side, and its level.
+fn add_precedence(text: &mut Vec<u8>, precedence: Option<Precedence>) -> Result<(), AllocError> {
+    let Some(precedence) = precedence else {
+        return Ok(());
+    };
+    text.extend_from_slice(match precedence.associativity {
+        Associativity::Left => b":l",
+        Associativity::Right => b":r",
+        Associativity::Neither => b":n",
+        Associativity::Unstated => b":p",
+    })?;
+    let level = u8::try_from(precedence.level).unwrap_or(9);
+    text.push(b'0'.saturating_add(level))?;
+    Ok(())
+}
+
+/// Returns the terminals of a file, each behind a blank, and with its precedence if it has one.
+fn terminals_of(alloc: Global, file: &GrammarText) -> Result<Vec<u8>, AllocError> {
+    let mut text = Vec::new(alloc);
+    for (number, precedence) in file.precedences.iter().enumerate() {
+        add_name(&mut text, file, &Symbol::Terminal(number))?;
+        add_precedence(&mut text, *precedence)?;
+    }
+    Ok(text)
+}
+
+/// Compares the terminals and the rules of a file with texts. `at` says which file it is.
+fn check_row(rt: &(impl Abort + AllocGlobal), at: usize, row: &Row) {
+    let (file, terminals, rules) = *row;
     let read = grammar_of(rt.alloc(), file.as_bytes()).expect(rt, "a grammar");
-    let rules = rules_of(rt.alloc(), &read).expect(rt, "memory");
-    same(rt, "the rules", 0, rules.as_slice(), lines.as_bytes());
+    let found = terminals_of(rt.alloc(), &read).expect(rt, "memory");
+    let own = found.get(1..).unwrap_or_default();
+    same(rt, "the terminals", at, own, terminals.as_bytes());
+    let found = rules_of(rt.alloc(), &read).expect(rt, "memory");
+    same(rt, "the rules", at, found.as_slice(), rules.as_bytes());
+    let counts = (read.terminals.len(), read.nonterminals.len());
+    let wanted = (read.grammar.terminals, read.grammar.nonterminals);
+    same(rt, "as many names", at, counts, wanted);
+    let count = read.rule_precedences.len();
     same(
         rt,
         "as many precedences",
-        0,
-        read.rule_precedences.len(),
+        at,
+        count,
         read.grammar.rules.len(),
     );
-    same(
-        rt,
-        "as many names",
-        0,
-        read.terminals.len(),
-        read.grammar.terminals,
-    );
-    same(
-        rt,
-        "and of nonterminals",
-        0,
-        read.nonterminals.len(),
-        read.grammar.nonterminals,
-    );
 }
 
-/// Compares where a file is wrong, and how.
-fn check_fault(
-    rt: &(impl Abort + AllocGlobal),
-    file: &str,
-    line: usize,
-    column: usize,
-    fault: TextFault,
-) {
-    let error = grammar_of(rt.alloc(), file.as_bytes())
-        .err()
-        .expect(rt, "a fault");
-    same(rt, "the fault", 0, error.fault, fault);
-    same(rt, "its line", 0, error.line, line);
-    same(rt, "its column", 0, error.column, column);
-}
-
-/// The rules of files: sums, declarations of all kinds, and code with braces in strings and comments.
-#[test]
-fn files_say_their_rules(rt: HostRuntime) {
-    check_rules(
-        &rt,
-        "%token NUMBER\n%%\nsum: sum '+' NUMBER { $$ = $1 + $3; } | NUMBER ;\n",
-        " $accept : sum $end\n sum : sum '+' NUMBER\n sum : NUMBER\n",
-    );
-    check_rules(
-        &rt,
-        "%{\n int x; /* %% */\n%}\n%union { int number; char *text; }\n%token <number> NUM 300 \"number\" ID\n\
-         %type <text> list\n%start list // the start\n%define api.pure {full}\n%%\nother: ID\n\
-         list: %empty | list[l] \"number\"[n] { puts(\"}\"); char c = '\\''; /* } */ } ; %% int main() { } '",
-        " $accept : list $end\n other : ID\n list :\n list : list \"number\"\n",
-    );
-    check_rules(
-        &rt,
-        "%token END 0 \"end\" A\n%%\ns: A { one(); } A { two(); } { three(); };",
-        " $accept : s \"end\"\n $@ :\n $@ :\n s : A $@ A $@\n",
-    );
-}
-
-/// Precedences of terminals and of rules: by level and side, that of the last terminal, or of `%prec`.
-#[test]
-fn files_say_their_precedences(rt: HostRuntime) {
-    let file = "%left '+' '-'\n%right '^'\n%nonassoc LESS\n%precedence NEGATION\n%expect 2\n%%\n\
-                e: e '+' e | e '^' e | '-' e %prec NEGATION | e LESS e | 'n' | e '!' ;";
-    let read = grammar_of(rt.alloc(), file.as_bytes()).expect(&rt, "a grammar");
-    let wanted = [
-        None,
-        Some((1, Associativity::Left)),
-        Some((2, Associativity::Right)),
-        Some((4, Associativity::Unstated)),
-        Some((3, Associativity::Neither)),
-        None,
-        None,
-    ];
-    same(
-        &rt,
-        "the rules",
-        0,
-        read.rule_precedences.len(),
-        wanted.len(),
-    );
-    for (precedence, pair) in read.rule_precedences.iter().zip(&wanted) {
-        let found = precedence.map(|precedence| (precedence.level, precedence.associativity));
-        same(&rt, "a precedence", 0, found, *pair);
+/// Compares the terminals and the rules of files with texts.
+pub fn check_rows(rt: &(impl Abort + AllocGlobal), rows: &[Row]) {
+    for (at, row) in rows.iter().enumerate() {
+        check_row(rt, at, row);
     }
-    let levels = [0, 0, 1, 1, 2, 3, 4, 0, 0];
+}
+
+/// Files, and the level of each rule's precedence, or 0 if it has none.
+#[rattlefmt::skip]
+const LEVELS: [(&str, &[usize]); 6] = [
+    ("%left '+' '-'\n%right '^'\n%nonassoc LESS\n%precedence NEGATION\n%%\n\
+      e: e '+' e | e '^' e | '-' e %prec NEGATION | e LESS e | 'n' | e '!' ;",
+     &[0, 1, 2, 4, 3, 0, 0]),
+    // The last terminal counts, with a precedence or without.
+    ("%left '+'\n%left '*'\n%token C\n%%\ne: e '+' e '*' e | e '*' '+' e | e '*' e C e | C { a }",
+     &[0, 2, 1, 0, 0]),
+    // A token of %prec without a precedence gives none.
+    ("%left '+'\n%%\ne: e '+' e %prec N | '+' { a } %prec '+' | 'n'", &[0, 0, 1, 0]),
+    // What is declared behind the rules counts too.
+    ("%%\ne: e '+' e | 'n'\n%left '+';", &[0, 1, 0]),
+    ("%no-default-prec\n%left '+'\n%%\ne: e '+' e | '-' e %prec '+' | 'n'", &[0, 0, 1, 0]),
+    ("%no-default-prec\n%left '+'\n%%\ne: e '+' e | 'n'\n%default-prec;", &[0, 1, 0]),
+];
+
+/// Compares the levels of a file's rules.
+fn check_levels(rt: &(impl Abort + AllocGlobal), at: usize, file: &str, levels: &[usize]) {
+    let read = grammar_of(rt.alloc(), file.as_bytes()).expect(rt, "a grammar");
     same(
-        &rt,
-        "the terminals",
-        0,
-        read.precedences.len(),
+        rt,
+        "the rules",
+        at,
+        read.rule_precedences.len(),
         levels.len(),
     );
-    for (precedence, level) in read.precedences.iter().zip(&levels) {
+    for (precedence, level) in read.rule_precedences.iter().zip(levels) {
         let found = precedence.map_or(0, |precedence| precedence.level);
-        same(&rt, "a level", 0, found, *level);
+        same(rt, "a level", at, found, *level);
     }
-    same(&rt, "conflicts", 0, read.expected.0, Some(2));
 }
 
-/// Files that are wrong: each names the line and the column of the first word that can't stand there.
+/// Precedences of rules: that of the last terminal, or of `%prec`.
 #[test]
-fn faults_name_their_place(rt: HostRuntime) {
-    check_fault(&rt, "", 1, 1, TextFault::NoRules);
-    check_fault(&rt, "%token A\n%%\n", 3, 1, TextFault::NoRules);
-    check_fault(
-        &rt,
-        "%tokens A\n%%\ns: A;",
-        1,
-        1,
-        TextFault::UnknownDirective,
-    );
-    check_fault(&rt, "A\n%%\ns: A;", 1, 1, TextFault::Unexpected);
-    check_fault(&rt, "%%\ns: A;", 2, 4, TextFault::Undefined);
-    check_fault(&rt, "%token s\n%%\ns: ;", 3, 1, TextFault::NotANonterminal);
-    check_fault(&rt, "%start t\n%%\ns: ;", 1, 8, TextFault::NotANonterminal);
-    check_fault(&rt, "%%\ns: 'a' $ ;", 2, 8, TextFault::BadCharacter);
-    check_fault(&rt, "%%\ns: 'a ;", 2, 4, TextFault::Unclosed);
-    check_fault(&rt, "%%\ns: { if (x) { } ;", 2, 4, TextFault::Unclosed);
-    check_fault(&rt, "%%\ns: 'a' /* ;", 2, 8, TextFault::Unclosed);
-    check_fault(&rt, "%%\ns: 'a' } ;", 2, 8, TextFault::BadCharacter);
-    check_fault(&rt, "%%\ns: 'a' %prec ;", 2, 14, TextFault::Unexpected);
-    check_fault(&rt, "%%\ns: 'a' %prec", 2, 13, TextFault::Unexpected);
-    check_fault(&rt, "%%\n| 'a' ;", 2, 1, TextFault::Unexpected);
+fn rules_have_their_precedences(rt: HostRuntime) {
+    for (at, (file, levels)) in LEVELS.iter().enumerate() {
+        check_levels(&rt, at, file, levels);
+    }
+}
+
+/// Files, and the conflicts that they expect.
+#[rattlefmt::skip]
+const EXPECTED: [(&str, (Option<usize>, Option<usize>)); 5] = [
+    ("%%\ns: 'a'", (None, None)),
+    ("%expect 1 %expect 2\n%%\ns: 'a' %expect 3", (Some(2), None)),
+    // Without %glr-parser bison takes no notice of the second number.
+    ("%expect 2 %expect-rr 3\n%%\ns: 'a'", (Some(2), None)),
+    ("%glr-parser %expect 2 %expect-rr 3\n%%\ns: 'a'", (Some(2), Some(3))),
+    ("%expect_rr 4 %nondeterministic-parser\n%%\ns: 'a'", (None, Some(4))),
+];
+
+#[test]
+fn files_expect_conflicts(rt: HostRuntime) {
+    for (at, (file, wanted)) in EXPECTED.iter().enumerate() {
+        let read = grammar_of(rt.alloc(), file.as_bytes()).expect(&rt, "a grammar");
+        same(&rt, "conflicts", at, read.expected, *wanted);
+    }
 }

@@ -1,0 +1,154 @@
+//! Grammar files, and what is left out of them.
+
+use crate::fault::GrammarFault;
+use std::alloc::{AllocError, Global};
+use vob_lr::{Grammar, Lookaheads, Precedence, Symbol, Table};
+use vob_yacc::{GrammarText, LeftNonterminal, LeftOut, LeftRule, Useless, grammar_of};
+
+/// How the file calls the symbols.
+#[derive(Drop)]
+pub struct SymbolNames {
+    pub terminals: Vec<Vec<u8>>,
+    nonterminals: Vec<Vec<u8>>,
+}
+
+/// A grammar file as it was read.
+#[derive(Drop)]
+pub struct GrammarFile {
+    pub grammar: Grammar,
+    pub names: SymbolNames,
+    pub expected: (Option<usize>, Option<usize>),
+    precedences: Vec<Option<Precedence>>,
+    rule_precedences: Vec<Option<Precedence>>,
+    left_out: LeftOut,
+}
+
+/// Returns the name with a number, or nothing if there is none.
+fn name_at(names: &[Vec<u8>], number: usize) -> &[u8] {
+    match names.get(number) {
+        Some(name) => name.as_slice(),
+        None => b"",
+    }
+}
+
+impl SymbolNames {
+    /// Returns the name of a terminal.
+    pub fn terminal(&self, number: usize) -> &[u8] {
+        name_at(&self.terminals, number)
+    }
+
+    /// Returns the name of a nonterminal.
+    pub fn nonterminal(&self, number: usize) -> &[u8] {
+        name_at(&self.nonterminals, number)
+    }
+
+    /// Returns the name of a symbol.
+    pub fn of(&self, symbol: Symbol) -> &[u8] {
+        match symbol {
+            Symbol::Terminal(number) => self.terminal(number),
+            Symbol::Nonterminal(number) => self.nonterminal(number),
+        }
+    }
+}
+
+/// Returns the note on a nonterminal that is left out of a file.
+fn nonterminal_note(
+    alloc: Global,
+    file: &str,
+    own: &LeftNonterminal,
+) -> Result<String, AllocError> {
+    let LeftNonterminal {
+        line,
+        column,
+        why,
+        ..
+    } = own;
+    let name = String::from_utf8_lossy(alloc, &own.name)?;
+    let why = match why {
+        Useless::DerivesNothing => "it derives no text",
+        Useless::Unreachable => "the start symbol doesn't lead to it",
+    };
+    format!(in alloc; "{file}:{line}:{column}: nonterminal {name} is left out: {why}")
+}
+
+/// Returns the note on a rule that is left out of a file.
+fn rule_note(alloc: Global, file: &str, own: &LeftRule) -> Result<String, AllocError> {
+    let LeftRule { line, column, .. } = own;
+    let text = String::from_utf8_lossy(alloc, &own.text)?;
+    format!(in alloc; "{file}:{line}:{column}: rule left out: {text}")
+}
+
+/// Returns a count with its noun.
+fn counted(alloc: Global, count: usize, noun: &str) -> Result<String, AllocError> {
+    let end = if count == 1 { "" } else { "s" };
+    format!(in alloc; "{count} {noun}{end}")
+}
+
+impl GrammarFile {
+    /// Reads a grammar file. Fails at the first word that can't stand where it does.
+    pub fn read(alloc: Global, text: &[u8]) -> Result<GrammarFile, GrammarFault> {
+        let GrammarText {
+            grammar,
+            terminals,
+            nonterminals,
+            precedences,
+            rule_precedences,
+            expected,
+            left_out,
+        } = grammar_of(alloc, text)?;
+        Ok(GrammarFile {
+            grammar,
+            names: SymbolNames {
+                terminals,
+                nonterminals,
+            },
+            expected,
+            precedences,
+            rule_precedences,
+            left_out,
+        })
+    }
+
+    /// Returns the precedence of a terminal, if it has one.
+    pub fn precedence(&self, terminal: usize) -> Option<Precedence> {
+        self.precedences.get(terminal).copied().flatten()
+    }
+
+    /// Returns the precedence of a rule, if it has one.
+    pub fn rule_precedence(&self, rule: usize) -> Option<Precedence> {
+        self.rule_precedences.get(rule).copied().flatten()
+    }
+
+    /// Makes the table of the grammar.
+    pub fn table(&self, alloc: Global) -> Result<Table<'_>, GrammarFault> {
+        let states = Lookaheads::new(alloc, &self.grammar)?;
+        Ok(Table::new(alloc, states, &self.precedences, &self.rule_precedences)?)
+    }
+
+    /// Returns lines on what is left out, and how much remains: none if nothing is. `file` is what the
+    /// file is called. Fails if memory runs out.
+    pub fn notes(&self, alloc: Global, file: &str) -> Result<Vec<String>, GrammarFault> {
+        let mut notes = Vec::new(alloc);
+        for own in self.left_out.nonterminals.iter() {
+            notes.push(nonterminal_note(alloc, file, own)?)?;
+        }
+        for own in self.left_out.rules.iter() {
+            notes.push(rule_note(alloc, file, own)?)?;
+        }
+        if !notes.is_empty() {
+            notes.push(self.sum(alloc, file)?)?;
+        }
+        Ok(notes)
+    }
+
+    /// Returns the note on how much is left out, and how much remains.
+    fn sum(&self, alloc: Global, file: &str) -> Result<String, AllocError> {
+        let nonterminals = counted(alloc, self.left_out.nonterminals.len(), "nonterminal")?;
+        let rules = counted(alloc, self.left_out.rules.len(), "rule")?;
+        let others = counted(alloc, self.grammar.nonterminals, "nonterminal")?;
+        let other_rules = counted(alloc, self.grammar.rules.len(), "rule")?;
+        format!(in alloc;
+            "{file}: left out: {nonterminals}, {rules}; {others}, {other_rules} remain"
+        )
+    }
+}
