@@ -33,15 +33,6 @@ struct Reader<'a> {
     next: Vec<(usize, Word<'a>)>,
 }
 
-/// The fault of a word in the place of something else.
-fn at(word: &Word<'_>, expected: &'static str) -> Fault {
-    Fault::Line {
-        line: word.line,
-        column: word.column,
-        expected,
-    }
-}
-
 /// Whether a word is a mark.
 fn is_mark(word: &Word<'_>) -> bool {
     word.text == b":".as_slice() || word.text == b";".as_slice()
@@ -90,10 +81,10 @@ impl<'a> Reader<'a> {
     /// Takes the name of a node, which must be new.
     fn take_name(&mut self, alloc: Global, word: &Word<'a>) -> Result<(), Fault> {
         if is_mark(word) {
-            return Err(at(word, "the name of a node"));
+            return Err(word.unexpected("the name of a node"));
         }
         if self.graph.names.find(word.text).is_some() {
-            return Err(at(word, "a name that no node before has"));
+            return Err(word.unexpected("a name that no node before has"));
         }
         self.graph.names.number(word.text)?;
         self.graph.nodes.push(Flow {
@@ -112,7 +103,7 @@ impl<'a> Reader<'a> {
             b"writes" => Wants::Writes,
             b"next" => Wants::Next,
             b";" => Wants::Part,
-            _ => return Err(at(word, "`reads`, `writes`, `next` or `;`")),
+            _ => return Err(word.unexpected("`reads`, `writes`, `next` or `;`")),
         };
         Ok(())
     }
@@ -124,7 +115,7 @@ impl<'a> Reader<'a> {
             return Ok(());
         }
         if is_mark(word) {
-            return Err(at(word, "a name or `;`"));
+            return Err(word.unexpected("a name or `;`"));
         }
         if self.wants == Wants::Next {
             let node = self.graph.nodes.len().saturating_sub(1);
@@ -145,6 +136,7 @@ impl<'a> Reader<'a> {
         if word.line != self.last.line {
             self.end_line()?;
         }
+        word.check_no_comma()?;
         self.last = *word;
         match self.wants {
             Wants::Name => self.take_name(alloc, word),
@@ -152,7 +144,7 @@ impl<'a> Reader<'a> {
                 self.wants = Wants::Part;
                 Ok(())
             }
-            Wants::Colon => Err(at(word, "`:`")),
+            Wants::Colon => Err(word.unexpected("`:`")),
             Wants::Part => self.take_part(word),
             Wants::Reads | Wants::Writes | Wants::Next => self.take_member(word),
         }
@@ -167,7 +159,7 @@ impl<'a> Reader<'a> {
         } = self;
         for (node, word) in next.iter() {
             let Some(to) = graph.names.find(word.text) else {
-                return Err(at(word, "the name of a node"));
+                return Err(word.unexpected("the name of a node"));
             };
             if let Some(flow) = graph.nodes.get_mut(*node) {
                 add_new(&mut flow.next, to)?;
@@ -180,10 +172,10 @@ impl<'a> Reader<'a> {
 /// Reads a flow graph. A line is a node: its name, a colon, and parts that begin with `reads`,
 /// `writes` or `next`, with `;` between them.
 ///
-/// Fails at the first word that can't stand where it does, as the name of a node that another has.
-/// Fails then at the first name after `next` that no node has.
+/// Fails at the first word that can't stand where it does, as a comma, or the name of a node that
+/// another has. Fails then at the first name after `next` that no node has.
 pub fn read_flow(alloc: Global, text: &[u8]) -> Result<FlowGraph<'_>, Fault> {
-    let words = words_of(alloc, text, b":;")?;
+    let words = words_of(alloc, text, b":;,")?;
     let mut reader = Reader::new(alloc);
     for word in words.iter() {
         reader.take(alloc, word)?;
