@@ -1,8 +1,12 @@
 //! Flow graphs whose nodes stand in a text, one a line: `name: reads a b; writes c; next n m`.
 
+use crate::fault::FlowFault;
 use files_text::{Fault, Names, Word, words_of};
 use std::alloc::Global;
 use vob_flow::live::Flow;
+
+/// What is expected after the name of a node.
+const COLON: &str = "`:` after the name of a node";
 
 /// A flow graph, and the names of its nodes and of its variables. The first node is the entry.
 #[derive(Drop)]
@@ -71,7 +75,7 @@ impl<'a> Reader<'a> {
             return Err(Fault::Line {
                 line: self.last.line,
                 column: self.last.end(),
-                expected: "`:`",
+                expected: COLON,
             });
         }
         self.wants = Wants::Name;
@@ -79,12 +83,16 @@ impl<'a> Reader<'a> {
     }
 
     /// Takes the name of a node, which must be new.
-    fn take_name(&mut self, alloc: Global, word: &Word<'a>) -> Result<(), Fault> {
+    fn take_name(&mut self, alloc: Global, word: &Word<'a>) -> Result<(), FlowFault> {
         if is_mark(word) {
-            return Err(word.unexpected("the name of a node"));
+            return Err(FlowFault::from(word.unexpected("the name of a node")));
         }
         if self.graph.names.find(word.text).is_some() {
-            return Err(word.unexpected("a name that no node before has"));
+            return Err(FlowFault::Twice {
+                line: word.line,
+                column: word.column,
+                name: String::from_utf8_lossy(alloc, word.text)?,
+            });
         }
         self.graph.names.number(word.text)?;
         self.graph.nodes.push(Flow {
@@ -132,26 +140,24 @@ impl<'a> Reader<'a> {
     }
 
     /// Takes a word.
-    fn take(&mut self, alloc: Global, word: &Word<'a>) -> Result<(), Fault> {
+    fn take(&mut self, alloc: Global, word: &Word<'a>) -> Result<(), FlowFault> {
         if word.line != self.last.line {
             self.end_line()?;
         }
         word.check_no_comma()?;
         self.last = *word;
         match self.wants {
-            Wants::Name => self.take_name(alloc, word),
-            Wants::Colon if word.text == b":".as_slice() => {
-                self.wants = Wants::Part;
-                Ok(())
-            }
-            Wants::Colon => Err(word.unexpected("`:`")),
-            Wants::Part => self.take_part(word),
-            Wants::Reads | Wants::Writes | Wants::Next => self.take_member(word),
+            Wants::Name => self.take_name(alloc, word)?,
+            Wants::Colon if word.text == b":".as_slice() => self.wants = Wants::Part,
+            Wants::Colon => return Err(FlowFault::from(word.unexpected(COLON))),
+            Wants::Part => self.take_part(word)?,
+            Wants::Reads | Wants::Writes | Wants::Next => self.take_member(word)?,
         }
+        Ok(())
     }
 
     /// Lets the names after `next` be nodes. Fails at the first that no node has.
-    fn link(self) -> Result<FlowGraph<'a>, Fault> {
+    fn link(self, alloc: Global) -> Result<FlowGraph<'a>, FlowFault> {
         let Reader {
             mut graph,
             next,
@@ -159,7 +165,11 @@ impl<'a> Reader<'a> {
         } = self;
         for (node, word) in next.iter() {
             let Some(to) = graph.names.find(word.text) else {
-                return Err(word.unexpected("the name of a node"));
+                return Err(FlowFault::NoNode {
+                    line: word.line,
+                    column: word.column,
+                    name: String::from_utf8_lossy(alloc, word.text)?,
+                });
             };
             if let Some(flow) = graph.nodes.get_mut(*node) {
                 add_new(&mut flow.next, to)?;
@@ -174,12 +184,12 @@ impl<'a> Reader<'a> {
 ///
 /// Fails at the first word that can't stand where it does, as a comma, or the name of a node that
 /// another has. Fails then at the first name after `next` that no node has.
-pub fn read_flow(alloc: Global, text: &[u8]) -> Result<FlowGraph<'_>, Fault> {
+pub fn read_flow(alloc: Global, text: &[u8]) -> Result<FlowGraph<'_>, FlowFault> {
     let words = words_of(alloc, text, b":;,")?;
     let mut reader = Reader::new(alloc);
     for word in words.iter() {
         reader.take(alloc, word)?;
     }
     reader.end_line()?;
-    reader.link()
+    reader.link(alloc)
 }

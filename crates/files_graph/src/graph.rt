@@ -23,7 +23,7 @@ fn no_second(from: &Word<'_>) -> Fault {
     Fault::Line {
         line: from.line,
         column: from.end(),
-        expected: "a second name",
+        expected: "a second name, of the node to which the edge leads",
     }
 }
 
@@ -61,7 +61,9 @@ impl<'a> Reader<'a> {
                 self.from = None;
                 self.line = word.line;
             }
-            None if self.line == word.line => return Err(word.unexpected("the end of the line")),
+            None if self.line == word.line => return Err(word.unexpected(
+                "the end of the line after two names",
+            )),
             None => self.from = Some(*word),
         }
         Ok(())
