@@ -70,9 +70,9 @@ pub struct Test<'a> {
     kind: Kind<'a>,
 }
 
-/// Returns what a value of a condition is compared as: quoted ones are texts, others columns, if
-/// there is one of that name, or else numbers, if they read as one, or else texts. Fails if the
-/// column has numbers and such a text doesn't fit them.
+/// Returns what a value of a condition is. A quoted one is a text. Another is the column of that
+/// name, or else a number if it reads as one, or else a text. Fails if such a text is to be compared
+/// with numbers.
 fn other_of<'a>(
     table: &Table<'_>,
     place: usize,

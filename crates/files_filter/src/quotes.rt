@@ -1,4 +1,4 @@
-//! The quotes of a row of CSV, as RFC 4180 has them.
+//! The quotes of a row of CSV, which are to stand as in RFC 4180.
 
 use files_text::Fault;
 
@@ -60,8 +60,9 @@ pub fn line_and_column(text: &[u8], at: usize) -> (usize, usize) {
     (line, at.saturating_sub(start).saturating_add(1))
 }
 
-/// Fails at the first quote of the row from `start` on that isn't where RFC 4180 has one: within a
-/// cell without quotes, before more of a quoted cell, or without the quote that closes it.
+/// Fails at the first byte that RFC 4180 refuses of the row from `start` on. Such is a quote in a
+/// cell without quotes, more after a closing quote, a quote that isn't closed, or a carriage return
+/// without a line feed.
 pub fn check_row(text: &[u8], start: usize) -> Result<(), Fault> {
     let mut part = Part::Start;
     for at in start..text.len() {

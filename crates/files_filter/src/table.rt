@@ -67,8 +67,8 @@ fn without_mark(text: &[u8]) -> &[u8] {
 }
 
 impl<'a> Table<'a> {
-    /// Reads a table. Fails if two columns have one name, or at the first row that isn't as RFC 4180
-    /// has it, or has more cells than the header, or fewer. Columns without a name may be many.
+    /// Reads a table. Fails if two columns have one name, or at the first row that RFC 4180 refuses,
+    /// or that has more cells than the header, or fewer. Columns without a name may be many.
     pub fn read(alloc: Global, text: &'a [u8]) -> Result<Table<'a>, FilterFault> {
         let text = without_mark(text);
         let mut reader = ReaderBuilder::new()
@@ -109,8 +109,8 @@ impl<'a> Table<'a> {
     }
 }
 
-/// Fails at the first column of a header that has the name of one before, or at a quote that stands
-/// where none can.
+/// Fails at the first byte of a header that RFC 4180 refuses, or at the first column that has the
+/// name of one before.
 fn check_header(alloc: Global, text: &[u8], header: &ByteRecord) -> Result<(), FilterFault> {
     let start = row_start(text, header.position());
     check_row(text, start).map_err(FilterFault::Text)?;
@@ -132,7 +132,7 @@ fn check_header(alloc: Global, text: &[u8], header: &ByteRecord) -> Result<(), F
     Ok(())
 }
 
-/// Returns a text as a condition has it: in quotes if it needs them. A long one is cut.
+/// Returns a text as it stands in a condition: in quotes if it needs them. A long one is cut.
 fn shown(alloc: Global, text: &[u8]) -> Result<String, AllocError> {
     let start = String::from_utf8_lossy(alloc, text.get(..MOST_BYTES).unwrap_or(text))?;
     if text.len() > MOST_BYTES {
