@@ -11,56 +11,70 @@ use std::alloc::{AllocError, Global};
 /// The name that stands for standard input.
 pub const STANDARD_INPUT: &str = "-";
 
-/// What the help of `parse` says of its input and of its output.
+/// What the help of `grammar` says of its states and of the exit status.
+const GRAMMAR_HELP: &str = "\
+The states are those of the LALR(1) parser that bison makes by default.
+
+Exit status: 0; 1 if there are other conflicts than %expect and %expect-rr say,
+or any without them; 2 after a fault.
+
+Example:
+  ./conthiral grammar --states examples/files/grammars/sums.y";
+
+/// What the help of `parse` says of its input, of its output and of the exit status.
 const PARSE_HELP: &str = "\
 White space separates tokens. A quoted character may stand without its quotes.
 The rules of the rightmost derivation are printed, that of the start first.
 Conflicts that precedence leaves are decided for the shift, or else for the
 rule that comes first, as in bison.
 
+Exit status: 0; 2 after a fault, as a token that the grammar doesn't take.
+
 Example:
   echo 'NUMBER - NUMBER' | ./conthiral parse examples/files/grammars/minus.y";
 
-/// What the help of `closure` says of its input and of --reduce.
+/// What the help of `closure` says of its input, of --reduce and of the exit status.
 const CLOSURE_HELP: &str = "\
-A line `a b` is an edge from a to b. Words that begin with # begin a comment.
-An edge of the closure stands for a path of one edge or more.
+A line `a b` is an edge from a to b. White space separates names, which have no
+comma. A word that begins with # begins a comment. An edge of the closure stands
+for a path of one edge or more.
 
 With --reduce a graph without cycles keeps the edges that no longer path stands
 for. Nodes that lead to one another are joined by one cycle, in the order in
 which the file first names them. Between such groups an edge joins the nodes
 that are named first.
 
-Example:
-  ./conthiral closure --from curl examples/files/edges.txt";
+Exit status: 0; 2 after a fault.
+Example: ./conthiral closure --from curl examples/files/edges.txt";
 
-/// What the help of `flow` says of its input and of its output.
+/// What the help of `flow` says of its input, of its output and of the exit status.
 const FLOW_HELP: &str = "\
-A line is a node, the first one the entry; each part may be missing:
+A line is a node, the first one the entry; each part may be missing. White space
+separates names, which have no comma. Words that begin with # begin a comment.
   loop: reads i n; writes t; next body done
   live         variables that may be read before they are written
   reaching     definitions that may still hold: x@n is what node n writes to x
   available    expressions computed on all paths to here, and not changed since
   busy         expressions computed on all paths from here, before they change
   dominators   nodes that all paths from the entry pass
-
 An expression is what a node reads: (i n) above. A node that no path reaches
 has all expressions available, and all nodes dominate it.
 
-Example:
-  ./conthiral flow examples/files/flow.txt --analysis live";
+Exit status: 0; 2 after a fault.
+Example: ./conthiral flow examples/files/flow.txt --analysis live";
 
-/// What the help of `filter` says of conditions.
+/// What the help of `filter` says of conditions and of the exit status.
 const FILTER_HELP: &str = "\
-A condition compares columns by =, !=, <, <=, > and >=, and joins comparisons
-by ! (not), & (and) and | (or), which bind in this order, and by parentheses.
-A value in double quotes is a text. One without is a number if it reads as
-one; then each cell of its column must be a number or empty. An empty cell is
-missing, and so is each comparison with it, as in SQL: a row is kept if the
-condition is true, and not if it is false or missing. A page has 20 rows.
+A condition compares by =, !=, <, <=, > and >=, and joins by !, & and | (not,
+and, or), which bind in this order, and parentheses. Names and values that hold
+spaces or marks need double quotes. A value in quotes is a text. Without, it is
+the column of that name, or else a number, as all cells of the column then are,
+or else a text. Columns compare as numbers if all cells are, else as texts: by =
+and != alone if some are. A comparison with an empty cell is missing: its row is
+not kept, nor by !. `NAME is missing`, `NAME is not missing` ask for such cells.
 
-Example:
-  ./conthiral filter examples/files/cities.csv 'coastal=yes & !(elevation>5)'";
+Exit status: 0; 1 if --quiet keeps no row; 2 after a fault.
+Example: ./conthiral filter examples/files/cities.csv 'elevation>5 | city=Oslo'";
 
 /// What the words ask for. Each task names the file that it reads.
 #[derive(Clone, Copy)]
@@ -123,7 +137,7 @@ fn grammar_command<'a>(alloc: Global) -> Result<Command<'a>, AllocError> {
     );
     Command::new(alloc, "grammar")
         .about("Print the sets of a grammar: nullable, FIRST and FOLLOW")
-        .after_help("Example:\n  ./conthiral grammar --states examples/files/grammars/sums.y")
+        .after_help(GRAMMAR_HELP)
         .arg(states)?
         .arg(file)
 }
@@ -185,7 +199,7 @@ fn filter_command<'a>(alloc: Global) -> Result<Command<'a>, AllocError> {
     let file = Arg::new(alloc, "file")
         .value_name("TABLE")
         .required(true)
-        .help("A CSV file with a header; -: standard input");
+        .help("CSV with a header, quoted as in RFC 4180; -: standard input");
     let condition = Arg::new(alloc, "condition")
         .value_name("CONDITION")
         .required(true)
@@ -195,12 +209,13 @@ fn filter_command<'a>(alloc: Global) -> Result<Command<'a>, AllocError> {
         alloc,
         "quiet",
         "Print nothing; the status is 1 if no row is kept",
-    );
+    )
+    .conflicts_with("count")?;
     let page = Arg::new(alloc, "page")
         .long("page")
         .value_name("K")
         .value_parser(ValueParser::unsigned(1, u64::MAX))
-        .help("Print the K-th page of the rows that are kept")
+        .help("Print the K-th page of 20 of the rows that are kept")
         .conflicts_with("count")?
         .conflicts_with("quiet")?;
     Command::new(alloc, "filter")
@@ -300,7 +315,7 @@ impl<'a> Task<'a> {
     /// Returns what messages call the file with a fault.
     pub fn file_name(&self, fault: &Fault) -> &'a str {
         let file = match self {
-            Task::Parse { grammar, .. } if fault.is_of_grammar() => grammar,
+            Task::Parse { grammar, .. } if fault.is_of_grammar() => return grammar,
             _ => self.file(),
         };
         shown_name(file)

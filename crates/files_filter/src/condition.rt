@@ -20,38 +20,47 @@ pub enum Relation {
 }
 
 impl Relation {
-    /// Returns whether it holds of values in an order; values without one are unequal.
-    pub fn holds(self, order: Option<Ordering>) -> bool {
-        match order {
-            None => self == Relation::NotEqual,
-            Some(Ordering::Less) => {
-                self == Relation::Less
-                    || self == Relation::LessOrEqual
-                    || self == Relation::NotEqual
-            }
-            Some(Ordering::Equal) => {
-                self == Relation::Equal
-                    || self == Relation::LessOrEqual
-                    || self == Relation::GreaterOrEqual
-            }
-            Some(Ordering::Greater) => {
-                self == Relation::Greater
-                    || self == Relation::GreaterOrEqual
-                    || self == Relation::NotEqual
-            }
+    /// Returns whether it holds of two values in an order.
+    pub fn holds(self, order: Ordering) -> bool {
+        match self {
+            Relation::Equal => order == Ordering::Equal,
+            Relation::NotEqual => order != Ordering::Equal,
+            Relation::Less => order == Ordering::Less,
+            Relation::LessOrEqual => order != Ordering::Greater,
+            Relation::Greater => order == Ordering::Greater,
+            Relation::GreaterOrEqual => order != Ordering::Less,
         }
+    }
+
+    /// Returns whether it asks which value is less.
+    pub fn is_order(self) -> bool {
+        self != Relation::Equal && self != Relation::NotEqual
     }
 }
 
-/// A comparison of a column with a value. The columns where the words begin are counted from 1.
+/// A name or a value, and the column of the condition where it begins, counted from 1.
+#[derive(Clone, Copy)]
+pub struct Operand<'a> {
+    pub text: &'a [u8],
+    pub at: usize,
+    /// Whether it stands in quotes.
+    pub is_quoted: bool,
+}
+
+/// What is asked of a column.
+#[derive(Clone, Copy)]
+pub enum Question<'a> {
+    /// Whether its cell is missing, or whether it is not.
+    Missing(bool),
+    /// How its cell compares with a value.
+    Compared(Relation, Operand<'a>),
+}
+
+/// A question about a column.
 #[derive(Clone, Copy)]
 pub struct Comparison<'a> {
-    pub column: &'a [u8],
-    pub column_at: usize,
-    pub relation: Relation,
-    pub value: &'a [u8],
-    /// Whether the value stands in quotes, and so is a text.
-    pub is_quoted: bool,
+    pub column: Operand<'a>,
+    pub question: Question<'a>,
 }
 
 /// A condition: an expression over comparisons, by their numbers.
@@ -81,6 +90,22 @@ struct Word<'a> {
     at: usize,
 }
 
+impl<'a> Word<'a> {
+    /// Returns the name or the value that it is. A mark is none, and gives an empty one.
+    fn operand(&self) -> Operand<'a> {
+        let (text, is_quoted): (&'a [u8], bool) = match self.kind {
+            Kind::Plain(text) => (text, false),
+            Kind::Quoted(text) => (text, true),
+            _ => (b"", false),
+        };
+        Operand {
+            text,
+            at: self.at,
+            is_quoted,
+        }
+    }
+}
+
 /// What the byte at hand stands within.
 #[derive(Clone, Copy, PartialEq, Eq)]
 enum Mode {
@@ -106,6 +131,14 @@ fn at(byte: usize, expected: &'static str) -> FilterFault {
         column: byte.saturating_add(1),
         expected,
     }
+}
+
+/// Returns whether a text may stand in a condition without quotes.
+pub fn is_word(text: &[u8]) -> bool {
+    !text.is_empty()
+        && text
+            .iter()
+            .all(|byte| is_plain(*byte) && !byte.is_ascii_control())
 }
 
 /// Whether a byte stands in a word without quotes.
@@ -252,8 +285,10 @@ impl Operator {
 #[derive(Clone, Copy)]
 enum Wants<'a> {
     Operand,
-    Relation { column: &'a [u8], at: usize },
-    Value(Comparison<'a>),
+    Relation(Operand<'a>),
+    Value(Operand<'a>, Relation),
+    // After `is`, or after `is not`.
+    Missing(Operand<'a>, bool),
     Operator,
 }
 
@@ -324,24 +359,36 @@ impl<'a> Reader<'a> {
         }
     }
 
-    /// Takes a comparison with its value.
-    fn compare(&mut self, comparison: Comparison<'a>) -> Result<(), FilterFault> {
+    /// Takes a question about a column.
+    fn ask(&mut self, column: Operand<'a>, question: Question<'a>) -> Result<(), FilterFault> {
         self.operands
             .push(Expression::Column(self.comparisons.len()))?;
-        self.comparisons.push(comparison)?;
+        self.comparisons.push(Comparison { column, question })?;
         self.wants = Wants::Operator;
         Ok(())
+    }
+
+    /// Takes a comparison with a value, which isn't empty.
+    fn compare(
+        &mut self,
+        column: Operand<'a>,
+        relation: Relation,
+        word: &Word<'a>,
+    ) -> Result<(), FilterFault> {
+        let value = word.operand();
+        if value.text.is_empty() {
+            return Err(FilterFault::Condition {
+                column: word.at,
+                expected: "a value that isn't empty (`NAME is missing` asks for empty cells)",
+            });
+        }
+        self.ask(column, Question::Compared(relation, value))
     }
 
     /// Takes the first word of an operand.
     fn take_operand(&mut self, word: &Word<'a>) -> Result<(), FilterFault> {
         match word.kind {
-            Kind::Plain(column) | Kind::Quoted(column) => {
-                self.wants = Wants::Relation {
-                    column,
-                    at: word.at,
-                };
-            }
+            Kind::Plain(_) | Kind::Quoted(_) => self.wants = Wants::Relation(word.operand()),
             Kind::Not => self.operators.push(Operator::Not)?,
             Kind::Open => self.operators.push(Operator::Open)?,
             _ => return Err(self.unexpected(word.at)),
@@ -353,25 +400,24 @@ impl<'a> Reader<'a> {
     fn take(&mut self, word: &Word<'a>) -> Result<(), FilterFault> {
         match (self.wants, word.kind) {
             (Wants::Operand, _) => self.take_operand(word),
-            (Wants::Relation { column, at }, Kind::Relation(relation)) => {
-                self.wants = Wants::Value(Comparison {
-                    column,
-                    column_at: at,
-                    relation,
-                    value: b"",
-                    is_quoted: false,
-                });
+            (Wants::Relation(column), Kind::Relation(relation)) => {
+                self.wants = Wants::Value(column, relation);
                 Ok(())
             }
-            (Wants::Value(comparison), Kind::Plain(value)) => self.compare(Comparison {
-                value,
-                ..comparison
-            }),
-            (Wants::Value(comparison), Kind::Quoted(value)) => self.compare(Comparison {
-                value,
-                is_quoted: true,
-                ..comparison
-            }),
+            (Wants::Relation(column), Kind::Plain(b"is")) => {
+                self.wants = Wants::Missing(column, true);
+                Ok(())
+            }
+            (Wants::Missing(column, true), Kind::Plain(b"not")) => {
+                self.wants = Wants::Missing(column, false);
+                Ok(())
+            }
+            (Wants::Missing(column, is_missing), Kind::Plain(b"missing")) => {
+                self.ask(column, Question::Missing(is_missing))
+            }
+            (Wants::Value(column, relation), Kind::Plain(_) | Kind::Quoted(_)) => {
+                self.compare(column, relation, word)
+            }
             (Wants::Operator, Kind::And) => self.take_operator(Operator::And),
             (Wants::Operator, Kind::Or) => self.take_operator(Operator::Or),
             (Wants::Operator, Kind::Close) => self.close(word),
@@ -383,8 +429,10 @@ impl<'a> Reader<'a> {
     fn unexpected(&self, column: usize) -> FilterFault {
         let expected = match self.wants {
             Wants::Operand => "the name of a column, `!` or `(`",
-            Wants::Relation { .. } => "`=`, `!=`, `<`, `<=`, `>` or `>=`",
-            Wants::Value(_) => "a value",
+            Wants::Relation(_) => "`=`, `!=`, `<`, `<=`, `>`, `>=` or `is`",
+            Wants::Value(_, _) => "a value",
+            Wants::Missing(_, true) => "`missing` or `not missing`",
+            Wants::Missing(_, false) => "`missing`",
             Wants::Operator => "`&`, `|`, `)` or the end",
         };
         FilterFault::Condition { column, expected }
@@ -410,8 +458,8 @@ impl<'a> Reader<'a> {
     }
 }
 
-/// Reads a condition: comparisons such as `age < 30`, joined by `!`, `&`, `|` and parentheses. `!`
-/// binds most tightly, and `|` least. Names and values may stand in double quotes.
+/// Reads a condition: questions such as `age < 30` and `age is missing`, joined by `!`, `&`, `|` and
+/// parentheses. `!` binds most tightly, and `|` least. Names and values may stand in double quotes.
 ///
 /// Fails at the first word that can't stand where it does.
 pub fn read_condition(alloc: Global, text: &str) -> Result<Condition<'_>, FilterFault> {

@@ -14,16 +14,31 @@ pub enum FilterFault {
         column: usize,
         expected: &'static str,
     },
+    /// A condition asks at a column of it about a name that no column of the table has. The names are
+    /// those of the first ones.
+    Column {
+        column: usize,
+        name: String,
+        names: String,
+    },
+    /// A second column has a name.
+    Twice {
+        line: usize,
+        column: usize,
+        name: String,
+    },
     /// The row that begins on a line has a number of cells, and not as many as the header.
     Row {
-        line: u64,
+        line: usize,
         cells: u64,
         header: u64,
     },
-    /// A cell of the row that begins on a line isn't a number: the one in the column with a name.
+    /// A cell isn't a number: the one in the column with a name.
     Cell {
-        line: u64,
+        line: usize,
+        column: usize,
         name: String,
+        cell: String,
     },
     /// The rows of a table haven't the same length.
     Columns,
@@ -37,14 +52,37 @@ impl FilterFault {
             FilterFault::Condition { column, expected } => {
                 write!(f, "the condition:{column}: expected {expected}")
             }
+            FilterFault::Column {
+                column,
+                name,
+                names,
+            } => write!(
+                f,
+                "the condition:{column}: no column is called {name}; the columns are {names}"
+            ),
+            FilterFault::Twice { line, column, name } => {
+                write!(
+                    f,
+                    "{file}:{line}:{column}: a second column is called {name}"
+                )
+            }
             FilterFault::Row {
                 line,
                 cells,
                 header,
-            } => write!(f, "{file}:{line}: expected {header} cells, found {cells}"),
-            FilterFault::Cell { line, name } => {
-                write!(f, "{file}:{line}: expected a number in column {name}")
-            }
+            } => write!(
+                f,
+                "{file}:{line}: expected {header} cells, as in the header, found {cells}"
+            ),
+            FilterFault::Cell {
+                line,
+                column,
+                name,
+                cell,
+            } => write!(
+                f,
+                "{file}:{line}:{column}: expected a number in column {name}, found {cell}"
+            ),
             FilterFault::Columns => write!(f, "{file}: the rows differ in length"),
         }
     }

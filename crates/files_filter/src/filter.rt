@@ -59,7 +59,7 @@ fn columns_of(
 ) -> Result<Vec<Column>, FilterFault> {
     let mut columns = Vec::new(alloc);
     for comparison in condition.comparisons.iter() {
-        let test = Test::new(table, comparison)?;
+        let test = Test::new(alloc, table, comparison)?;
         columns.push(column_of(alloc, table, &test)?)?;
     }
     Ok(columns)

@@ -5,6 +5,8 @@ mod comparing;
 mod condition;
 mod fault;
 mod filter;
+mod number;
+mod quotes;
 mod table;
 
 pub use fault::FilterFault;

@@ -11,6 +11,18 @@ use vob_flow::live::LiveError;
 pub enum FlowFault {
     /// A text can't be read or written.
     Text(Fault),
+    /// No node has the name that stands at a line and a column after `next`.
+    NoNode {
+        line: usize,
+        column: usize,
+        name: String,
+    },
+    /// A second node has the name that stands at a line and a column.
+    Twice {
+        line: usize,
+        column: usize,
+        name: String,
+    },
     /// The sets of the flow graph weren't found.
     Sets(SolveError),
     /// The live variables of the flow graph weren't found.
@@ -22,6 +34,12 @@ impl FlowFault {
     pub fn write<W: fmt::Write>(&self, f: &mut fmt::Formatter<W>, file: &str) -> fmt::Result {
         match self {
             FlowFault::Text(fault) => fault.write(f, file),
+            FlowFault::NoNode { line, column, name } => {
+                write!(f, "{file}:{line}:{column}: no node is called {name}")
+            }
+            FlowFault::Twice { line, column, name } => {
+                write!(f, "{file}:{line}:{column}: a second node is called {name}")
+            }
             FlowFault::Sets(error) => write!(f, "{file}: {error}"),
             FlowFault::Live(error) => write!(f, "{file}: {error}"),
         }

@@ -1,8 +1,12 @@
 //! Flow graphs whose nodes stand in a text, one a line: `name: reads a b; writes c; next n m`.
 
+use crate::fault::FlowFault;
 use files_text::{Fault, Names, Word, words_of};
 use std::alloc::Global;
 use vob_flow::live::Flow;
+
+/// What is expected after the name of a node.
+const COLON: &str = "`:` after the name of a node";
 
 /// A flow graph, and the names of its nodes and of its variables. The first node is the entry.
 #[derive(Drop)]
@@ -31,15 +35,6 @@ struct Reader<'a> {
     wants: Wants,
     last: Word<'a>,
     next: Vec<(usize, Word<'a>)>,
-}
-
-/// The fault of a word in the place of something else.
-fn at(word: &Word<'_>, expected: &'static str) -> Fault {
-    Fault::Line {
-        line: word.line,
-        column: word.column,
-        expected,
-    }
 }
 
 /// Whether a word is a mark.
@@ -80,7 +75,7 @@ impl<'a> Reader<'a> {
             return Err(Fault::Line {
                 line: self.last.line,
                 column: self.last.end(),
-                expected: "`:`",
+                expected: COLON,
             });
         }
         self.wants = Wants::Name;
@@ -88,12 +83,16 @@ impl<'a> Reader<'a> {
     }
 
     /// Takes the name of a node, which must be new.
-    fn take_name(&mut self, alloc: Global, word: &Word<'a>) -> Result<(), Fault> {
+    fn take_name(&mut self, alloc: Global, word: &Word<'a>) -> Result<(), FlowFault> {
         if is_mark(word) {
-            return Err(at(word, "the name of a node"));
+            return Err(FlowFault::from(word.unexpected("the name of a node")));
         }
         if self.graph.names.find(word.text).is_some() {
-            return Err(at(word, "a name that no node before has"));
+            return Err(FlowFault::Twice {
+                line: word.line,
+                column: word.column,
+                name: String::from_utf8_lossy(alloc, word.text)?,
+            });
         }
         self.graph.names.number(word.text)?;
         self.graph.nodes.push(Flow {
@@ -112,7 +111,7 @@ impl<'a> Reader<'a> {
             b"writes" => Wants::Writes,
             b"next" => Wants::Next,
             b";" => Wants::Part,
-            _ => return Err(at(word, "`reads`, `writes`, `next` or `;`")),
+            _ => return Err(word.unexpected("`reads`, `writes`, `next` or `;`")),
         };
         Ok(())
     }
@@ -124,7 +123,7 @@ impl<'a> Reader<'a> {
             return Ok(());
         }
         if is_mark(word) {
-            return Err(at(word, "a name or `;`"));
+            return Err(word.unexpected("a name or `;`"));
         }
         if self.wants == Wants::Next {
             let node = self.graph.nodes.len().saturating_sub(1);
@@ -141,25 +140,24 @@ impl<'a> Reader<'a> {
     }
 
     /// Takes a word.
-    fn take(&mut self, alloc: Global, word: &Word<'a>) -> Result<(), Fault> {
+    fn take(&mut self, alloc: Global, word: &Word<'a>) -> Result<(), FlowFault> {
         if word.line != self.last.line {
             self.end_line()?;
         }
+        word.check_no_comma()?;
         self.last = *word;
         match self.wants {
-            Wants::Name => self.take_name(alloc, word),
-            Wants::Colon if word.text == b":".as_slice() => {
-                self.wants = Wants::Part;
-                Ok(())
-            }
-            Wants::Colon => Err(at(word, "`:`")),
-            Wants::Part => self.take_part(word),
-            Wants::Reads | Wants::Writes | Wants::Next => self.take_member(word),
+            Wants::Name => self.take_name(alloc, word)?,
+            Wants::Colon if word.text == b":".as_slice() => self.wants = Wants::Part,
+            Wants::Colon => return Err(FlowFault::from(word.unexpected(COLON))),
+            Wants::Part => self.take_part(word)?,
+            Wants::Reads | Wants::Writes | Wants::Next => self.take_member(word)?,
         }
+        Ok(())
     }
 
     /// Lets the names after `next` be nodes. Fails at the first that no node has.
-    fn link(self) -> Result<FlowGraph<'a>, Fault> {
+    fn link(self, alloc: Global) -> Result<FlowGraph<'a>, FlowFault> {
         let Reader {
             mut graph,
             next,
@@ -167,7 +165,11 @@ impl<'a> Reader<'a> {
         } = self;
         for (node, word) in next.iter() {
             let Some(to) = graph.names.find(word.text) else {
-                return Err(at(word, "the name of a node"));
+                return Err(FlowFault::NoNode {
+                    line: word.line,
+                    column: word.column,
+                    name: String::from_utf8_lossy(alloc, word.text)?,
+                });
             };
             if let Some(flow) = graph.nodes.get_mut(*node) {
                 add_new(&mut flow.next, to)?;
@@ -180,14 +182,14 @@ impl<'a> Reader<'a> {
 /// Reads a flow graph. A line is a node: its name, a colon, and parts that begin with `reads`,
 /// `writes` or `next`, with `;` between them.
 ///
-/// Fails at the first word that can't stand where it does, as the name of a node that another has.
-/// Fails then at the first name after `next` that no node has.
-pub fn read_flow(alloc: Global, text: &[u8]) -> Result<FlowGraph<'_>, Fault> {
-    let words = words_of(alloc, text, b":;")?;
+/// Fails at the first word that can't stand where it does, as a comma, or the name of a node that
+/// another has. Fails then at the first name after `next` that no node has.
+pub fn read_flow(alloc: Global, text: &[u8]) -> Result<FlowGraph<'_>, FlowFault> {
+    let words = words_of(alloc, text, b":;,")?;
     let mut reader = Reader::new(alloc);
     for word in words.iter() {
         reader.take(alloc, word)?;
     }
     reader.end_line()?;
-    reader.link()
+    reader.link(alloc)
 }

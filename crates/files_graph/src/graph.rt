@@ -23,7 +23,7 @@ fn no_second(from: &Word<'_>) -> Fault {
     Fault::Line {
         line: from.line,
         column: from.end(),
-        expected: "a second name",
+        expected: "a second name, of the node to which the edge leads",
     }
 }
 
@@ -52,28 +52,28 @@ impl<'a> Reader<'a> {
     /// Takes a word: the first or the second name of a line.
     fn take(&mut self, alloc: Global, word: &Word<'a>) -> Result<(), Fault> {
         match self.from {
-            Some(from) if from.line == word.line => {
+            Some(from) if from.line != word.line => return Err(no_second(&from)),
+            _ => word.check_no_comma()?,
+        }
+        match self.from {
+            Some(from) => {
                 self.graph.add(alloc, from.text, word.text)?;
                 self.from = None;
                 self.line = word.line;
             }
-            Some(from) => return Err(no_second(&from)),
-            None if self.line == word.line => {
-                return Err(Fault::Line {
-                    line: word.line,
-                    column: word.column,
-                    expected: "the end of the line",
-                });
-            }
+            None if self.line == word.line => return Err(word.unexpected(
+                "the end of the line after two names",
+            )),
             None => self.from = Some(*word),
         }
         Ok(())
     }
 }
 
-/// Reads a graph: two names a line, the nodes from which and to which an edge leads.
+/// Reads a graph: two names a line, the nodes from which and to which an edge leads. Fails at the
+/// first word that can't stand where it does, as a comma, or at the end of a line with one name.
 pub fn read_graph(alloc: Global, text: &[u8]) -> Result<Graph<'_>, Fault> {
-    let words = words_of(alloc, text, b"")?;
+    let words = words_of(alloc, text, b",")?;
     let mut reader = Reader {
         graph: Graph {
             names: Names::new(alloc),

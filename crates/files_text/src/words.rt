@@ -1,5 +1,6 @@
 //! The words of a text in lines, with their places.
 
+use crate::fault::Fault;
 use std::alloc::{AllocError, Global};
 
 /// A word, and the line and the column where it begins, counted from 1. A column is a byte of its
@@ -15,6 +16,23 @@ impl Word<'_> {
     /// Returns the column right after the word, counted from 1, in bytes.
     pub fn end(&self) -> usize {
         self.column.saturating_add(self.text.len())
+    }
+
+    /// Returns the fault of the word in the place of something else.
+    pub fn unexpected(&self, expected: &'static str) -> Fault {
+        Fault::Line {
+            line: self.line,
+            column: self.column,
+            expected,
+        }
+    }
+
+    /// Fails if the word is a comma. `words_of` makes one a word if commas are marks.
+    pub fn check_no_comma(&self) -> Result<(), Fault> {
+        if self.text == b",".as_slice() {
+            return Err(self.unexpected("white space, as no name has a comma"));
+        }
+        Ok(())
     }
 }
 
