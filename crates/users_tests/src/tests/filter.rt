@@ -43,7 +43,8 @@ fn the_tables_are_those_of_sql(rt: HostRuntime) {
     let mut both = first.clone().expect(&rt, "memory");
     let mut either = first.clone().expect(&rt, "memory");
     let mut contrary = first.clone().expect(&rt, "memory");
-    assert!(rt; both.len() == second.len() && either.len() == second.len());
+    assert!(rt; both.len() == second.len());
+    assert!(rt; either.len() == second.len());
     both.and(&second);
     either.or(&second);
     contrary.not();
@@ -80,18 +81,20 @@ fn conditions_keep_the_rows_of_which_they_are_true(rt: HostRuntime) {
     columns
         .push(column_of(&rt, "tfntfntfn"))
         .expect(&rt, "memory");
-    assert!(rt; !are_rows(&columns, 8));
     assert!(rt; are_rows(&columns, 9));
-    let both = and(&rt, Expression::Column(0), Expression::Column(1));
-    let column = evaluate(rt.alloc(), &both, &columns, 9).expect(&rt, "memory");
-    check_column(&rt, &column, "tfnfffnfn");
-    // Not both, or the first.
-    let all = or(&rt, not(&rt, both), Expression::Column(0));
-    let kept = select(rt.alloc(), &all, &columns, 9).expect(&rt, "memory");
-    check_bits(&rt, &kept, "111111010");
-    let unknown = not(&rt, Expression::Column(2));
-    let kept = select(rt.alloc(), &unknown, &columns, 9).expect(&rt, "memory");
-    check_bits(&rt, &kept, "000000000");
+    assert!(rt; !are_rows(&columns, 8));
+    if are_rows(&columns, 9) {
+        let both = and(&rt, Expression::Column(0), Expression::Column(1));
+        let column = evaluate(rt.alloc(), &both, &columns, 9).expect(&rt, "memory");
+        check_column(&rt, &column, "tfnfffnfn");
+        // Not both, or the first.
+        let all = or(&rt, not(&rt, both), Expression::Column(0));
+        let kept = select(rt.alloc(), &all, &columns, 9).expect(&rt, "memory");
+        check_bits(&rt, &kept, "111111010");
+        let unknown = not(&rt, Expression::Column(2));
+        let kept = select(rt.alloc(), &unknown, &columns, 9).expect(&rt, "memory");
+        check_bits(&rt, &kept, "000000000");
+    }
 }
 
 /// The number of a row.
@@ -144,6 +147,8 @@ fn rows_of_which_a_condition_is_true_are_counted(rt: HostRuntime) {
     columns.push(column_of(&rt, "tfntf")).expect(&rt, "memory");
     let condition = not(&rt, Expression::Column(0));
     assert!(rt; are_rows(&columns, 5));
-    let rows = count(rt.alloc(), &condition, &columns, 5).expect(&rt, "memory");
-    same(&rt, "rows", 0, rows, 2);
+    if are_rows(&columns, 5) {
+        let rows = count(rt.alloc(), &condition, &columns, 5).expect(&rt, "memory");
+        same(&rt, "rows", 0, rows, 2);
+    }
 }

@@ -68,8 +68,10 @@ fn a_bit_is_put_in_and_taken_out_at_every_index(rt: HostRuntime) {
 /// `copy_within` of the bits from `start` to below `end`, which are there and fit.
 fn copy(rt: &impl Abort, vob: &mut Vob<u8>, at: usize, start: usize, end: usize) {
     let len = vob.len();
-    assert!(rt; start <= end && end <= len);
-    assert!(rt; at <= len && end - start <= len - at);
+    assert!(rt; start <= end);
+    assert!(rt; end <= len);
+    assert!(rt; at <= len);
+    assert!(rt; end - start <= len - at);
     vob.copy_within(start..end, at);
 }
 
@@ -108,7 +110,9 @@ fn parts_are_copied_over_others_that_they_overlap(rt: HostRuntime) {
 /// Reads a byte's worth of bits at an index, and writes it over those at another.
 fn check_word(rt: &(impl Abort + AllocGlobal), at: usize, to: usize) {
     let mut vob = pattern::<u8>(rt, 1, 40);
-    assert!(rt; at <= 32 && to <= 32 && vob.len() == 40);
+    assert!(rt; at <= 32);
+    assert!(rt; to <= 32);
+    assert!(rt; vob.len() == 40);
     let word = vob.load(at..at + 8);
     vob.store(to..to + 8, word);
     check_list(rt, &vob, &copied(rt, 40, to, at, 8));

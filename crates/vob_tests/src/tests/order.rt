@@ -66,7 +66,8 @@ fn check_added(rt: &(impl Abort + AllocGlobal), len: usize) {
     let second = pattern::<u8>(rt, 4, len);
     let mut both = pattern::<u8>(rt, 1, len);
     let mut rest = pattern::<u8>(rt, 1, len);
-    assert!(rt; first.len() == both.len() && second.len() == both.len());
+    assert!(rt; first.len() == both.len());
+    assert!(rt; second.len() == both.len());
     assert!(rt; rest.len() == both.len());
     both.or_and(&first, &second);
     let changed = rest.or_and_not(&first, &second);
