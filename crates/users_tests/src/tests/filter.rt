@@ -43,10 +43,10 @@ fn the_tables_are_those_of_sql(rt: HostRuntime) {
     let mut both = first.clone().expect(&rt, "memory");
     let mut either = first.clone().expect(&rt, "memory");
     let mut contrary = first.clone().expect(&rt, "memory");
-    if first.len() == second.len() && both.len() == second.len() && either.len() == second.len() {
-        both.and(&second);
-        either.or(&second);
-    }
+    assert!(rt; both.len() == second.len());
+    assert!(rt; either.len() == second.len());
+    both.and(&second);
+    either.or(&second);
     contrary.not();
     check_column(&rt, &both, "tfnfffnfn");
     check_column(&rt, &either, "ttttfntnn");
@@ -146,6 +146,7 @@ fn rows_of_which_a_condition_is_true_are_counted(rt: HostRuntime) {
     let mut columns = Vec::new(rt.alloc());
     columns.push(column_of(&rt, "tfntf")).expect(&rt, "memory");
     let condition = not(&rt, Expression::Column(0));
+    assert!(rt; are_rows(&columns, 5));
     if are_rows(&columns, 5) {
         let rows = count(rt.alloc(), &condition, &columns, 5).expect(&rt, "memory");
         same(&rt, "rows", 0, rows, 2);

@@ -38,8 +38,9 @@ pub fn check_bits(rt: &impl Abort, vob: &Vob, digits: &str) {
     }
 }
 
-/// How many requests are made before those of a test. `tools/refuse` refuses the next one, and makes
-/// fewer before them in its copies of a test, so that each of the test's own is refused in turn.
+/// How many requests are made before those of a test. `tools/check/refuse` refuses the next one,
+/// and makes fewer before them in its copies of a test, so that each of the test's own is refused
+/// in turn.
 pub const FIRST: usize = 100;
 
 /// Makes `times` requests for memory, before those of a test.

@@ -63,7 +63,8 @@ pub fn write_unchecked<T: Block>(vob: &mut Vob<T>, index: usize, value: bool) ->
 /// Compares what `get` reads, and within the length `get_unchecked` and an index too.
 pub fn reads<T: Block>(rt: &impl Abort, vob: &Vob<T>, index: usize, wanted: Option<bool>) {
     same(rt, "bit", index, vob.get(index), wanted);
-    if index < vob.len() {
+    if wanted.is_some() {
+        assert!(rt; index < vob.len());
         same(rt, "bit", index, Some(vob.get_unchecked(index)), wanted);
         same(rt, "bit", index, Some(vob[index]), wanted);
     }

@@ -5,6 +5,7 @@ use super::support::{
 };
 use std::process::Abort;
 use vob::{Vob, VobError};
+use vob_block::Block;
 
 #[test]
 fn bits_behind_others_and_all_bits_become_true(rt: HostRuntime) {
@@ -71,7 +72,7 @@ fn joined_bits_are_cut_apart_again_and_not_past_the_end(rt: HostRuntime) {
 }
 
 /// Appends the blocks of another Vob.
-fn append(rt: &impl Abort, vob: &mut Vob<u8>, other: &Vob<u8>) {
+fn append<T: Block>(rt: &impl Abort, vob: &mut Vob<T>, other: &Vob<T>) {
     let more = other.len();
     vob.reserve(more).expect(rt, "memory");
     vob.append_blocks(&mut other.blocks(), more);
@@ -79,7 +80,7 @@ fn append(rt: &impl Abort, vob: &mut Vob<u8>, other: &Vob<u8>) {
 
 /// Two Vobs that are joined, or whose blocks are appended, are what pushes leave; cut apart, they are
 /// both again.
-fn check_join(rt: &impl Abort, one: &Vob<u8>, two: &Vob<u8>, pushed: &Vob<u8>) {
+fn check_join<T: Block>(rt: &impl Abort, one: &Vob<T>, two: &Vob<T>, pushed: &Vob<T>) {
     let mut appended = copy_of(rt, one);
     append(rt, &mut appended, two);
     check_same(rt, &appended, pushed);
@@ -92,9 +93,9 @@ fn check_join(rt: &impl Abort, one: &Vob<u8>, two: &Vob<u8>, pushed: &Vob<u8>) {
 }
 
 /// A pattern joined with each of the patterns of the lengths below `end`.
-fn check_joins(rt: &(impl Abort + AllocGlobal), seed: usize, first: usize, end: usize) {
-    let one = pattern::<u8>(rt, seed, first);
-    let mut two = vob_of::<u8>(rt, "");
+fn check_joins<T: Block>(rt: &(impl Abort + AllocGlobal), seed: usize, first: usize, end: usize) {
+    let one = pattern::<T>(rt, seed, first);
+    let mut two = vob_of::<T>(rt, "");
     let mut pushed = copy_of(rt, &one);
     for second in 0..end {
         check_join(rt, &one, &two, &pushed);
@@ -108,7 +109,16 @@ fn check_joins(rt: &(impl Abort + AllocGlobal), seed: usize, first: usize, end: 
 fn joins_leave_what_pushes_leave(rt: HostRuntime) {
     for seed in 0..3 {
         for first in 0..130 {
-            check_joins(&rt, seed, first, 130);
+            check_joins::<u8>(&rt, seed, first, 130);
+        }
+    }
+}
+
+#[test]
+fn joins_of_wide_blocks_leave_what_pushes_leave(rt: HostRuntime) {
+    for seed in 0..3 {
+        for first in [0, 1, 63, 64, 65, 127, 128, 129, 200] {
+            check_joins::<u128>(&rt, seed, first, 260);
         }
     }
 }

@@ -2,7 +2,7 @@
 //! another.
 use super::support::{check_bits, check_list, moved, pattern, pattern_list, same, vob_of};
 use std::process::Abort;
-use vob::{IndicesError, Vob};
+use vob::{IndicesError, Vob, VobError};
 
 /// The bits of pattern 1 of this length, `n` indices up.
 fn shifted_up(rt: &(impl Abort + AllocGlobal), len: usize, n: usize) -> Vec<bool> {
@@ -48,34 +48,31 @@ fn inserted(rt: &(impl Abort + AllocGlobal), len: usize, index: usize) -> Vec<bo
 /// Puts a bit in and takes it out again.
 fn check_insert(rt: &(impl Abort + AllocGlobal), len: usize, index: usize) {
     let mut vob = pattern::<u8>(rt, 1, len);
-    if index > vob.len() {
-        return;
-    }
+    assert!(rt; index <= vob.len());
     vob.insert_bit(index, true).expect(rt, "memory");
     check_list(rt, &vob, &inserted(rt, len, index));
-    if index < vob.len() {
-        same(rt, "the bit", index, vob.remove(index), true);
-    }
+    assert!(rt; index < vob.len());
+    same(rt, "the bit", index, vob.remove(index), true);
     check_list(rt, &vob, &pattern_list(rt, 1, 0, len));
 }
 
 #[test]
 fn a_bit_is_put_in_and_taken_out_at_every_index(rt: HostRuntime) {
     for len in [0, 1, 8, 63, 64, 65, 129] {
-        for index in 0..131 {
+        for index in 0..=len {
             check_insert(&rt, len, index);
         }
     }
 }
 
-/// `copy_within` of the bits from `start` to below `end`, if they are there and fit.
-fn copy(vob: &mut Vob<u8>, at: usize, start: usize, end: usize) -> bool {
+/// `copy_within` of the bits from `start` to below `end`, which are there and fit.
+fn copy(rt: &impl Abort, vob: &mut Vob<u8>, at: usize, start: usize, end: usize) {
     let len = vob.len();
-    if start <= end && end <= len && at <= len && end - start <= len - at {
-        vob.copy_within(start..end, at);
-        return true;
-    }
-    false
+    assert!(rt; start <= end);
+    assert!(rt; end <= len);
+    assert!(rt; at <= len);
+    assert!(rt; end - start <= len - at);
+    vob.copy_within(start..end, at);
 }
 
 /// The bits of pattern 1 of this length, but from `at` on `count` of them that begin at `start`.
@@ -92,12 +89,11 @@ fn copied(
     })
 }
 
-/// Copies a part of a Vob of 130 bits over another part of it.
+/// Copies a part of a Vob of 164 bits over another part of it.
 fn check_within(rt: &(impl Abort + AllocGlobal), at: usize, start: usize, count: usize) {
-    let mut vob = pattern::<u8>(rt, 1, 130);
-    if copy(&mut vob, at, start, start.saturating_add(count)) {
-        check_list(rt, &vob, &copied(rt, 130, at, start, count));
-    }
+    let mut vob = pattern::<u8>(rt, 1, 164);
+    copy(rt, &mut vob, at, start, start.saturating_add(count));
+    check_list(rt, &vob, &copied(rt, 164, at, start, count));
 }
 
 #[test]
@@ -114,11 +110,12 @@ fn parts_are_copied_over_others_that_they_overlap(rt: HostRuntime) {
 /// Reads a byte's worth of bits at an index, and writes it over those at another.
 fn check_word(rt: &(impl Abort + AllocGlobal), at: usize, to: usize) {
     let mut vob = pattern::<u8>(rt, 1, 40);
-    if at <= 32 && to <= 32 && vob.len() == 40 {
-        let word = vob.load(at..at + 8);
-        vob.store(to..to + 8, word);
-        check_list(rt, &vob, &copied(rt, 40, to, at, 8));
-    }
+    assert!(rt; at <= 32);
+    assert!(rt; to <= 32);
+    assert!(rt; vob.len() == 40);
+    let word = vob.load(at..at + 8);
+    vob.store(to..to + 8, word);
+    check_list(rt, &vob, &copied(rt, 40, to, at, 8));
 }
 
 #[test]
@@ -129,27 +126,25 @@ fn words_are_read_and_written_at_every_index(rt: HostRuntime) {
         }
     }
     let vob = vob_of::<u64>(&rt, "1011011101");
-    if vob.len() == 10 {
-        same(&rt, "load", 0, vob.load(0..0), 0);
-        same(&rt, "load", 2, vob.load(2..6), 0b1011);
-        same(&rt, "load", 0, vob.load(0..10), 0b10_1110_1101);
-    }
+    assert!(rt; vob.len() == 10);
+    same(&rt, "load", 0, vob.load(0..0), 0);
+    same(&rt, "load", 2, vob.load(2..6), 0b1011);
+    same(&rt, "load", 0, vob.load(0..10), 0b10_1110_1101);
 }
 
 #[test]
 fn single_bits_change_places(rt: HostRuntime) {
     let mut vob = vob_of::<u8>(&rt, "1011011101");
-    if vob.len() == 10 {
-        vob.swap(0, 1);
-        vob.swap(9, 4);
-        vob.swap(3, 3);
-        check_bits(&rt, &vob, "0111111100");
-        same(&rt, "flip", 9, vob.flip(9), true);
-        same(&rt, "flip", 1, vob.flip(1), false);
-        check_bits(&rt, &vob, "0011111101");
-        same(&rt, "set", 0, vob.count_ones(), 7);
-        same(&rt, "unset", 0, vob.count_zeros(), 3);
-    }
+    assert!(rt; vob.len() == 10);
+    vob.swap(0, 1);
+    vob.swap(9, 4);
+    vob.swap(3, 3);
+    check_bits(&rt, &vob, "0111111100");
+    same(&rt, "flip", 9, vob.flip(9), true);
+    same(&rt, "flip", 1, vob.flip(1), false);
+    check_bits(&rt, &vob, "0011111101");
+    same(&rt, "set", 0, vob.count_ones(), 7);
+    same(&rt, "unset", 0, vob.count_zeros(), 3);
 }
 
 /// The Vob of `1001000001`, made by indices that are set past the end.
@@ -159,8 +154,14 @@ fn grown(rt: &(impl Abort + AllocGlobal)) -> Vob<u8> {
     check_bits(rt, &vob, "1000000001");
     vob.grow_and_set(3).expect(rt, "memory");
     check_bits(rt, &vob, "1001000001");
-    let refused = vob.grow_and_set(usize::MAX).is_err();
-    same(rt, "the greatest length", 0, refused, true);
+    let refused = vob.grow_and_set(usize::MAX);
+    same(
+        rt,
+        "past the greatest length",
+        0,
+        refused,
+        Err(VobError::TooLong),
+    );
     vob
 }
 

@@ -44,12 +44,11 @@ fn check_difference(rt: &(impl Abort + AllocGlobal), len: usize, at: usize) {
     let vob = pattern::<u8>(rt, 1, len);
     let mut other = pattern::<u8>(rt, 1, 131);
     same(rt, "no difference", len, vob.first_difference(&other), None);
-    if at < other.len() {
-        other.flip(at);
-        let wanted = if at < len { Some(at) } else { None };
-        same(rt, "difference", at, vob.first_difference(&other), wanted);
-        same(rt, "difference", at, other.first_difference(&vob), wanted);
-    }
+    assert!(rt; at < other.len());
+    other.flip(at);
+    let wanted = if at < len { Some(at) } else { None };
+    same(rt, "difference", at, vob.first_difference(&other), wanted);
+    same(rt, "difference", at, other.first_difference(&vob), wanted);
 }
 
 #[test]
@@ -67,19 +66,20 @@ fn check_added(rt: &(impl Abort + AllocGlobal), len: usize) {
     let second = pattern::<u8>(rt, 4, len);
     let mut both = pattern::<u8>(rt, 1, len);
     let mut rest = pattern::<u8>(rt, 1, len);
-    if first.len() == both.len() && second.len() == both.len() && rest.len() == both.len() {
-        both.or_and(&first, &second);
-        let changed = rest.or_and_not(&first, &second);
-        same(rt, "no change", len, both.or_and(&first, &second), false);
-        let mut more = false;
-        for i in 0..len {
-            let (own, one, other) = (pattern_bit(1, i), pattern_bit(2, i), pattern_bit(4, i));
-            same(rt, "and", i, both.get(i), Some(own || one && other));
-            same(rt, "and not", i, rest.get(i), Some(own || one && !other));
-            more = more || !own && one && !other;
-        }
-        same(rt, "a change", len, changed, more);
+    assert!(rt; first.len() == both.len());
+    assert!(rt; second.len() == both.len());
+    assert!(rt; rest.len() == both.len());
+    both.or_and(&first, &second);
+    let changed = rest.or_and_not(&first, &second);
+    same(rt, "no change", len, both.or_and(&first, &second), false);
+    let mut more = false;
+    for i in 0..len {
+        let (own, one, other) = (pattern_bit(1, i), pattern_bit(2, i), pattern_bit(4, i));
+        same(rt, "and", i, both.get(i), Some(own || one && other));
+        same(rt, "and not", i, rest.get(i), Some(own || one && !other));
+        more = more || !own && one && !other;
     }
+    same(rt, "a change", len, changed, more);
 }
 
 #[test]
@@ -93,10 +93,9 @@ fn what_two_share_is_added_to_a_third(rt: HostRuntime) {
 fn operators_give_the_difference_and_the_complement(rt: HostRuntime) {
     let vob = vob_of::<u8>(&rt, "1011011101");
     let other = vob_of::<u8>(&rt, "0110011001");
-    if vob.len() == other.len() {
-        let difference = &vob - &other;
-        check_bits(&rt, &difference.expect(&rt, "memory"), "1001000100");
-    }
+    assert!(rt; vob.len() == other.len());
+    let difference = &vob - &other;
+    check_bits(&rt, &difference.expect(&rt, "memory"), "1001000100");
     check_bits(&rt, &!vob, "0100100010");
     let part = other.slice(3..).expect(&rt, "memory");
     check_bits(&rt, &part, "0011001");

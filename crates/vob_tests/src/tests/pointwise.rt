@@ -101,7 +101,8 @@ fn check_equality(rt: &(impl Abort + AllocGlobal), len: usize, index: usize) {
     let one = pattern::<u8>(rt, 0, len);
     let mut other = pattern::<u8>(rt, 0, len);
     check_equal(rt, &one, &other, true);
-    if index < other.len() {
+    if index < len {
+        assert!(rt; index < other.len());
         other.set(index, !pattern_bit(0, index));
         check_equal(rt, &one, &other, false);
     }

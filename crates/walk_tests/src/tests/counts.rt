@@ -150,24 +150,38 @@ fn unset_left(vob: &Vob<u8>, front: usize, back: usize) -> usize {
     walk.count()
 }
 
-/// Both walks over the indices of a pattern, after pulls at the front and then at the back.
-fn check_counts_after(rt: &(impl Abort + AllocGlobal), len: usize, front: usize, back: usize) {
+/// Both walks over the indices of pattern 0, after pulls at the front and then at the back. The
+/// numbers are those of its bits, of the set ones and of the unset ones.
+fn check_counts_after(
+    rt: &(impl Abort + AllocGlobal),
+    (len, set, unset): (usize, usize, usize),
+    front: usize,
+    back: usize,
+) {
     let vob = pattern::<u8>(rt, 0, len);
     let pulled = front.saturating_add(back);
-    let set = set_left(&vob, 0, 0).saturating_sub(pulled);
     let found = set_left(&vob, front, back);
-    same(rt, "set bits left of", len, found, set);
-    let unset = unset_left(&vob, 0, 0).saturating_sub(pulled);
+    let left = set.saturating_sub(pulled);
+    same(rt, "set bits left of", len, found, left);
     let found = unset_left(&vob, front, back);
-    same(rt, "unset bits left of", len, found, unset);
+    let left = unset.saturating_sub(pulled);
+    same(rt, "unset bits left of", len, found, left);
 }
 
 #[test]
 fn pulls_at_both_ends_lower_the_count(rt: HostRuntime) {
-    for len in [0, 1, 8, 24, 70, 200] {
+    // Of each five bits the third and the fourth are unset.
+    for row in [
+        (0, 0, 0),
+        (1, 1, 0),
+        (8, 5, 3),
+        (24, 14, 10),
+        (70, 42, 28),
+        (200, 120, 80),
+    ] {
         for front in [0, 1, 2, 5, 40, 100] {
             for back in [0, 1, 3, 6, 100] {
-                check_counts_after(&rt, len, front, back);
+                check_counts_after(&rt, row, front, back);
             }
         }
     }

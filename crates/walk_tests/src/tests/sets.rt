@@ -115,9 +115,7 @@ fn plain_counts(vob: &Vob<u8>, other: &Vob<u8>) -> (usize, usize, usize) {
 /// Two Vobs of one length, in their order, against one bit after another.
 fn check_ordered(rt: &(impl Abort + AllocGlobal), vob: &Vob<u8>, other: &Vob<u8>) {
     let len = vob.len();
-    if other.len() != len {
-        return;
-    }
+    assert!(rt; other.len() == len);
     let (both, first, second) = plain_counts(vob, other);
     same(rt, "both", len, vob.count_and(other), both);
     same(rt, "the first alone", len, vob.count_and_not(other), first);
@@ -139,16 +137,14 @@ fn check_difference(
     changed: bool,
 ) {
     let mut left = vob.clone().expect(rt, "memory");
-    if left.len() != other.len() {
-        return;
-    }
+    assert!(rt; left.len() == other.len());
     same(rt, "changed", vob.len(), left.and_not(other), changed);
     for index in 0..vob.len() {
         let stays = vob.get(index) == Some(true) && other.get(index) == Some(false);
         same(rt, "what is left", index, left.get(index), Some(stays));
     }
-    let found = left.len() == other.len() && left.and_not(other);
-    same(rt, "again", vob.len(), found, false);
+    assert!(rt; left.len() == other.len());
+    same(rt, "again", vob.len(), left.and_not(other), false);
 }
 
 /// Two patterns of a length, a pattern and a part of it, and one and its complement.
@@ -156,9 +152,8 @@ fn check_pairs(rt: &(impl Abort + AllocGlobal), seed: usize, len: usize) {
     let vob = pattern::<u8>(rt, seed, len);
     let mut other = pattern::<u8>(rt, len, len);
     check_ordered(rt, &vob, &other);
-    if other.len() == vob.len() {
-        other.and(&vob);
-    }
+    assert!(rt; other.len() == vob.len());
+    other.and(&vob);
     check_ordered(rt, &other, &vob);
     other.negate();
     check_ordered(rt, &vob, &other);
