@@ -1,4 +1,4 @@
-//! Which tokens a parser takes behind others.
+//! Which tokens a parser takes after others, and before which token it never ends.
 
 use crate::file::SymbolNames;
 use std::alloc::{AllocError, Global};
@@ -17,69 +17,106 @@ struct Stack<'a> {
     states: Vec<usize>,
 }
 
+/// A state that a parser entered since it took a token, and how many states it entered there so far,
+/// above the same other ones.
+#[derive(Clone, Copy)]
+struct Entered {
+    state: usize,
+    times: usize,
+}
+
+/// What becomes of a token.
+#[derive(Clone, Copy, PartialEq, Eq)]
+enum Outcome {
+    Taken,
+    Refused,
+    // The parser reduces without end.
+    Endless,
+}
+
 /// A stack without its newest states, but for the first `depth`, and with others above them.
 #[derive(Drop)]
 struct Trial<'a> {
     stack: &'a Stack<'a>,
     depth: usize,
-    above: Vec<usize>,
+    above: Vec<Entered>,
 }
 
 impl Trial<'_> {
     /// Returns the newest state.
     fn state(&self) -> usize {
-        let below = self.stack.states.get(self.depth.saturating_sub(1));
-        self.above.last().or(below).copied().unwrap_or(0)
+        match self.above.last() {
+            Some(entered) => entered.state,
+            None => self.stack.state_below(self.depth),
+        }
     }
 
-    /// Leaves the newest states.
-    fn leave(&mut self, count: usize) {
-        let above = self.above.len();
-        self.depth = self.depth.saturating_sub(count.saturating_sub(above));
-        self.above.truncate(above.saturating_sub(count));
+    /// Leaves the newest states. Returns how many were entered so far where the next one will be.
+    fn leave(&mut self, count: usize) -> usize {
+        let Some(kept) = self.above.len().checked_sub(count) else {
+            let below = count.saturating_sub(self.above.len());
+            self.depth = self.depth.saturating_sub(below);
+            self.above.clear();
+            return 0;
+        };
+        let times = self.above.get(kept).map_or(0, |entered| entered.times);
+        self.above.truncate(kept);
+        times
     }
 
-    /// Reduces by a rule. Returns whether a state follows by its left side.
-    fn reduce(&mut self, number: usize) -> Result<bool, AllocError> {
+    /// Reduces by a rule. Returns `Refused` if no state follows by its left side.
+    ///
+    /// A parser that enters more states than there are above the same other ones, without taking a
+    /// token, enters one of them twice, and so goes round for ever. So it does if as many stand above
+    /// those that were there when it took the last one.
+    fn reduce(&mut self, number: usize) -> Result<Outcome, AllocError> {
         let states = self.stack.table.lookaheads();
         let Some(rule) = states.items().grammar().rules.get(number) else {
-            return Ok(false);
+            return Ok(Outcome::Refused);
         };
-        self.leave(rule.right.len());
-        match states.next(self.state(), Symbol::Nonterminal(rule.left)) {
-            Some(state) => self.above.push(state)?,
-            None => return Ok(false),
+        let times = self.leave(rule.right.len()).saturating_add(1);
+        let Some(state) = states.next(self.state(), Symbol::Nonterminal(rule.left)) else {
+            return Ok(Outcome::Refused);
+        };
+        self.above.push(Entered { state, times })?;
+        let most = states.automaton().sets.len();
+        if times > most || self.above.len() > most {
+            return Ok(Outcome::Endless);
         }
-        Ok(true)
+        Ok(Outcome::Taken)
     }
 
-    /// Reduces until a terminal is shifted, and enters the state that follows. Returns whether it is.
-    fn take(&mut self, terminal: usize) -> Result<bool, AllocError> {
-        for _ in 0..self.stack.limit() {
+    /// Reduces until a terminal is shifted, and enters the state that follows.
+    fn take(&mut self, terminal: usize) -> Result<Outcome, AllocError> {
+        for _ in 0..usize::MAX {
             match self.stack.table.action(self.state(), terminal) {
                 Some(Action::Shift(state)) => {
-                    self.above.push(state)?;
-                    return Ok(true);
+                    self.above.push(Entered { state, times: 0 })?;
+                    return Ok(Outcome::Taken);
                 }
-                Some(Action::Reduce(rule)) if self.reduce(rule)? => {}
-                _ => return Ok(false),
+                Some(Action::Reduce(rule)) => match self.reduce(rule)? {
+                    Outcome::Taken => {}
+                    outcome => return Ok(outcome),
+                },
+                _ => return Ok(Outcome::Refused),
             }
         }
-        Ok(false)
+        Ok(Outcome::Endless)
     }
 }
 
 impl<'a> Stack<'a> {
-    /// Returns how many reductions may come before a shift: a parser that needs more goes round in a
-    /// circle.
-    fn limit(&self) -> usize {
-        let states = self.table.lookaheads();
-        let rules = states.items().grammar().rules.len();
-        let depth = self
-            .states
-            .len()
-            .saturating_add(states.automaton().sets.len());
-        depth.saturating_mul(rules.saturating_add(1))
+    /// Returns the stack of a parser that has taken nothing.
+    fn new(alloc: Global, table: &'a Table<'a>) -> Result<Stack<'a>, AllocError> {
+        let mut states = Vec::new(alloc);
+        states.push(0)?;
+        Ok(Stack { table, states })
+    }
+
+    /// Returns the newest of the first `depth` states.
+    fn state_below(&self, depth: usize) -> usize {
+        let newest = self.states.get(depth.saturating_sub(1));
+        newest.copied().unwrap_or(0)
     }
 
     /// Returns the stack, to be changed.
@@ -91,15 +128,18 @@ impl<'a> Stack<'a> {
         }
     }
 
-    /// Takes a token. Does nothing if none of its actions does.
-    fn take(&mut self, alloc: Global, token: usize) -> Result<(), AllocError> {
+    /// Takes a token. If that doesn't come to an end, or no action takes it, nothing changes.
+    fn take(&mut self, alloc: Global, token: usize) -> Result<Outcome, AllocError> {
         let mut trial = self.trial(alloc);
-        if trial.take(token)? {
+        let outcome = trial.take(token)?;
+        if outcome == Outcome::Taken {
             let Trial { depth, above, .. } = trial;
             self.states.truncate(depth);
-            self.states.extend_from_slice(&above)?;
+            for entered in above.iter() {
+                self.states.push(entered.state)?;
+            }
         }
-        Ok(())
+        Ok(outcome)
     }
 
     /// Returns the terminals that can be next, but for `error`.
@@ -107,7 +147,7 @@ impl<'a> Stack<'a> {
         let mut expected = Vec::new(alloc);
         for (terminal, name) in names.terminals.iter().enumerate() {
             let is_token = terminal == 0 || name.as_slice() != b"error".as_slice();
-            if is_token && self.trial(alloc).take(terminal)? {
+            if is_token && self.trial(alloc).take(terminal)? == Outcome::Taken {
                 expected.push(terminal)?;
             }
         }
@@ -115,19 +155,34 @@ impl<'a> Stack<'a> {
     }
 }
 
-/// Returns the tokens that a parser takes behind others, as `NUMBER, '(' or '-'`. Where there are more
-/// than five, the others are counted.
+/// Returns the number of the first token before which a parser reduces without end, or of the end, if
+/// there is one.
+pub fn endless_at(
+    alloc: Global,
+    table: &Table<'_>,
+    tokens: &[usize],
+) -> Result<Option<usize>, AllocError> {
+    let mut stack = Stack::new(alloc, table)?;
+    for (at, token) in tokens.iter().enumerate() {
+        match stack.take(alloc, *token)? {
+            Outcome::Taken => {}
+            Outcome::Refused => return Ok(None),
+            Outcome::Endless => return Ok(Some(at)),
+        }
+    }
+    let is_endless = stack.take(alloc, 0)? == Outcome::Endless;
+    Ok(if is_endless { Some(tokens.len()) } else { None })
+}
+
+/// Returns the tokens that a parser takes after others, as `NUMBER, '(' or '-'`. If there are more than
+/// five, the others are counted.
 pub fn expected_after(
     alloc: Global,
     table: &Table<'_>,
     names: &SymbolNames,
     tokens: &[usize],
 ) -> Result<String, AllocError> {
-    let mut stack = Stack {
-        table,
-        states: Vec::new(alloc),
-    };
-    stack.states.push(0)?;
+    let mut stack = Stack::new(alloc, table)?;
     for token in tokens.iter() {
         stack.take(alloc, *token)?;
     }

@@ -23,17 +23,18 @@ pub enum GrammarFault {
         name: String,
         expected: String,
     },
-    /// The tokens need too many reductions.
-    Cycle,
+    /// A parser reduces without end before a token, or the end: the line and the column where it stands,
+    /// counted from 1.
+    Endless {
+        line: usize,
+        column: usize,
+    },
 }
 
 impl GrammarFault {
     /// Returns whether the fault is in the grammar, and not in the tokens.
     pub fn is_of_grammar(&self) -> bool {
-        matches!(
-            self,
-            GrammarFault::Grammar(_) | GrammarFault::Rules(_) | GrammarFault::Cycle
-        )
+        matches!(self, GrammarFault::Grammar(_) | GrammarFault::Rules(_))
     }
 
     /// Writes what is wrong. `file` is what the file with the fault is called. Fails if `f` does.
@@ -54,7 +55,10 @@ impl GrammarFault {
                 }
                 write!(f, "; expected {expected}")
             }
-            GrammarFault::Cycle => write!(f, "{file}: the grammar derives some symbol from itself"),
+            GrammarFault::Endless { line, column } => write!(
+                f,
+                "{file}:{line}:{column}: a parser by this grammar reduces without end here"
+            ),
         }
     }
 }

@@ -1,6 +1,6 @@
 //! The derivation of tokens by a grammar, as text.
 
-use crate::expected::{END, expected_after};
+use crate::expected::{END, endless_at, expected_after};
 use crate::fault::GrammarFault;
 use crate::file::GrammarFile;
 use crate::grammar::put_rule;
@@ -52,6 +52,14 @@ fn tokens_of(
     Ok(tokens)
 }
 
+/// Returns the line and the column of a token, or of the end.
+fn place_of(words: &[Word<'_>], at: usize) -> (usize, usize) {
+    match words.get(at) {
+        Some(word) => (word.line, word.column),
+        None => words.last().map_or((1, 1), |word| (word.line, word.end())),
+    }
+}
+
 /// Returns the fault of tokens that aren't parsed: where the first that doesn't fit stands, and what would
 /// fit there.
 fn not_parsed(
@@ -61,21 +69,12 @@ fn not_parsed(
     expected: String,
 ) -> Result<GrammarFault, AllocError> {
     let ParseError::Unexpected { at } = error else {
-        return Ok(match error {
-            ParseError::TooLong => GrammarFault::Cycle,
-            _ => GrammarFault::Text(Fault::Memory),
-        });
+        return Ok(GrammarFault::Text(Fault::Memory));
     };
-    let (line, column, name) = match words.get(at) {
-        Some(word) => (
-            word.line,
-            word.column,
-            String::from_utf8_lossy(alloc, word.text)?,
-        ),
-        None => {
-            let (line, column) = words.last().map_or((1, 1), |word| (word.line, word.end()));
-            (line, column, String::from_str(alloc, END)?)
-        }
+    let (line, column) = place_of(words, at);
+    let name = match words.get(at) {
+        Some(word) => String::from_utf8_lossy(alloc, word.text)?,
+        None => String::from_str(alloc, END)?,
     };
     Ok(GrammarFault::Token {
         line,
@@ -100,6 +99,38 @@ fn expected_at(
     expected_after(alloc, table, &file.names, taken)
 }
 
+/// Returns the rules by which a parser reduces tokens. Fails at the first that doesn't fit, or before
+/// which it reduces without end.
+fn parsed(
+    alloc: Global,
+    file: &GrammarFile,
+    table: &Table<'_>,
+    words: &[Word<'_>],
+) -> Result<Vec<usize>, GrammarFault> {
+    let tokens = tokens_of(alloc, file, words)?;
+    // Few tokens need more. If some do, the parser may reduce without end.
+    let steps = tokens
+        .len()
+        .saturating_add(1)
+        .saturating_mul(file.grammar.rules.len())
+        .saturating_mul(8);
+    let mut parsed = table.parse(alloc, &tokens, steps);
+    if matches!(parsed, Err(ParseError::TooLong)) {
+        if let Some(at) = endless_at(alloc, table, &tokens)? {
+            let (line, column) = place_of(words, at);
+            return Err(GrammarFault::Endless { line, column });
+        }
+        parsed = table.parse(alloc, &tokens, usize::MAX);
+    }
+    match parsed {
+        Ok(rules) => Ok(rules),
+        Err(error) => {
+            let expected = expected_at(alloc, file, table, &tokens, &error)?;
+            Err(not_parsed(alloc, words, error, expected)?)
+        }
+    }
+}
+
 /// Writes some rules, the last one first.
 fn put_derivation<W: Write>(output: &mut W, file: &GrammarFile, rules: &[usize]) -> io::Result<()> {
     for number in rules.iter().rev() {
@@ -114,8 +145,8 @@ fn put_derivation<W: Write>(output: &mut W, file: &GrammarFile, rules: &[usize])
 /// line. Conflicts that precedence leaves are decided as in bison: for the shift, or else for the
 /// rule that comes first. Returns the status, 0.
 ///
-/// Fails at the first token that is no terminal or doesn't fit. Nothing is written then. Fails too if
-/// memory runs out, or if the output can't be written.
+/// Fails at the first token that is no terminal, doesn't fit, or before which the parser would reduce
+/// without end. Nothing is written then. Fails too if memory runs out, or if the output can't be written.
 pub fn print_parse<W: Write>(
     alloc: Global,
     file: &GrammarFile,
@@ -124,19 +155,7 @@ pub fn print_parse<W: Write>(
 ) -> Result<u8, GrammarFault> {
     let table = file.table(alloc)?;
     let words = words_of(alloc, text, b"")?;
-    let tokens = tokens_of(alloc, file, &words)?;
-    // Without a cycle a rule is needed but a few times between two tokens.
-    let steps = tokens
-        .len()
-        .saturating_add(1)
-        .saturating_mul(file.grammar.rules.len())
-        .saturating_mul(8);
-    match table.parse(alloc, &tokens, steps) {
-        Ok(rules) => put_derivation(output, file, &rules)?,
-        Err(error) => {
-            let expected = expected_at(alloc, file, &table, &tokens, &error)?;
-            return Err(not_parsed(alloc, &words, error, expected)?);
-        }
-    }
+    let rules = parsed(alloc, file, &table, &words)?;
+    put_derivation(output, file, &rules)?;
     Ok(0)
 }
