@@ -65,14 +65,14 @@ fn a_bit_is_put_in_and_taken_out_at_every_index(rt: HostRuntime) {
     }
 }
 
-/// `copy_within` of the bits from `start` to below `end`, which are there and fit.
-fn copy(rt: &impl Abort, vob: &mut Vob<u8>, at: usize, start: usize, end: usize) {
+/// `copy_within` of the bits from `start` to below `end`, if they are there and fit.
+fn copy(vob: &mut Vob<u8>, at: usize, start: usize, end: usize) -> bool {
     let len = vob.len();
-    assert!(rt; start <= end);
-    assert!(rt; end <= len);
-    assert!(rt; at <= len);
-    assert!(rt; end - start <= len - at);
-    vob.copy_within(start..end, at);
+    if start <= end && end <= len && at <= len && end - start <= len - at {
+        vob.copy_within(start..end, at);
+        return true;
+    }
+    false
 }
 
 /// The bits of pattern 1 of this length, but from `at` on `count` of them that begin at `start`.
@@ -92,7 +92,8 @@ fn copied(
 /// Copies a part of a Vob of 164 bits over another part of it.
 fn check_within(rt: &(impl Abort + AllocGlobal), at: usize, start: usize, count: usize) {
     let mut vob = pattern::<u8>(rt, 1, 164);
-    copy(rt, &mut vob, at, start, start.saturating_add(count));
+    let fits = copy(&mut vob, at, start, start.saturating_add(count));
+    same(rt, "it fits", at, fits, true);
     check_list(rt, &vob, &copied(rt, 164, at, start, count));
 }
 
