@@ -98,7 +98,7 @@ module _ (a b c : Rule) (a_is : HasSides a 0 right_0) (b_is : HasSides b 1 right
     ]
   ]
 
-  -- ---- both terminals begin the nonterminal 0, and 0 alone begins 1
+  -- ---- both terminals begin the nonterminal 0, and 0 begins 1
 
   begins-0-0 : BeginsWith rules 0 (Nonterminal 0 ∷ [])
   begins-0-0 = by_rule has_0 (by_rule has_1 here)

@@ -37,7 +37,7 @@ TablesDoAll = (m : Machine) (terminals rules : List (Option Precedence)) (cells 
     AreRowsOfCells m terminals rules (length m.sets) cells →
     ((r : ℕ) → slice_index_or rules r None ≡ None) → AreConflicts cells [] → AreDone m cells
 
--- a parser by such a table finds each parse: it isn't stuck, and needs no more reductions
+-- a parser by such a table isn't stuck over tokens that have a parse, and needs no more reductions
 abbrev pub ParsesAreFound : Type 0
 ParsesAreFound = (table : TableView) (tokens parsed : List ℕ) (steps : ℕ) →
     AreStates table.machine.grammar.rules.items table.machine.sets table.machine.moves →

@@ -41,7 +41,7 @@ pub fn parses_are_of_symbols()
 {}
 
 /// If the table says each action that a parser may do, tokens with a rightmost derivation are never
-/// refused, but for memory or too few reductions. So `parse` accepts what the grammar derives.
+/// refused, but for memory or too few reductions.
 pub fn parses_are_found()
     ensures { ParsesAreFound }
 {}
