@@ -303,12 +303,20 @@ impl<'a> Symbols<'a> {
             order.push((number >= PREDEFINED, entry.at, number))?;
         }
         order.sort()?;
-        for (_, _, number) in order.iter() {
+        let order: Vec<usize> = order.iter().map(|(_, _, number)| *number).collect(alloc)?;
+        self.settle(&order)?;
+        Ok(order)
+    }
+
+    /// Makes symbols that are named, and are nothing else, nonterminals. Fails at the first of them, in
+    /// an order, that a rule has.
+    fn settle(&mut self, order: &[usize]) -> Result<(), Stop> {
+        for number in order.iter() {
             if let Some(entry) = self.entries.get_mut(*number) {
                 entry.settle()?;
             }
         }
-        Ok(order.iter().map(|(_, _, number)| *number).collect(alloc)?)
+        Ok(())
     }
 
     /// Numbers terminals, and nonterminals, in the order of their places; the end is the first terminal.
@@ -331,9 +339,7 @@ impl<'a> Symbols<'a> {
                 numbered.add(alloc, self.own(number), &self.entries)?;
             }
         }
-        for (number, entry) in self.entries.iter().enumerate() {
-            numbered.repeat(entry.same, number);
-        }
+        numbered.repeat_all(&self.entries);
         Ok(numbered)
     }
 }
@@ -387,10 +393,12 @@ impl Numbered {
         }
     }
 
-    /// Gives an entry the number of the one that counts for it.
-    fn repeat(&mut self, own: usize, number: usize) {
-        if let Some(symbol) = self.symbol(own) {
-            self.put(number, symbol);
+    /// Gives each entry the number of the one that counts for it.
+    fn repeat_all(&mut self, entries: &[Entry]) {
+        for (number, entry) in entries.iter().enumerate() {
+            if let Some(symbol) = self.symbol(entry.same) {
+                self.put(number, symbol);
+            }
         }
     }
 }
