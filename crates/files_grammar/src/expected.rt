@@ -128,12 +128,22 @@ impl<'a> Stack<'a> {
         }
     }
 
-    /// Takes a token. If that doesn't come to an end, or no action takes it, nothing changes.
-    fn take(&mut self, alloc: Global, token: usize) -> Result<Outcome, AllocError> {
+    /// Returns what becomes of a token, how many states stay, and the states that are entered then.
+    fn tried(
+        &self,
+        alloc: Global,
+        token: usize,
+    ) -> Result<(Outcome, usize, Vec<Entered>), AllocError> {
         let mut trial = self.trial(alloc);
         let outcome = trial.take(token)?;
+        let Trial { depth, above, .. } = trial;
+        Ok((outcome, depth, above))
+    }
+
+    /// Takes a token. If that doesn't come to an end, or no action takes it, nothing changes.
+    fn take(&mut self, alloc: Global, token: usize) -> Result<Outcome, AllocError> {
+        let (outcome, depth, above) = self.tried(alloc, token)?;
         if outcome == Outcome::Taken {
-            let Trial { depth, above, .. } = trial;
             self.states.truncate(depth);
             for entered in above.iter() {
                 self.states.push(entered.state)?;
