@@ -153,6 +153,9 @@ pub trait BitBlock: Copy + Eq + Hash + Debug {
     // It has 128 at most, so that their number can be added to.
     ghost narrow_law: { BITS ≤ 128 };
 
+    // They can be halved down to one.
+    ghost power_law: { (n : ℕ) × (BITS ≡ 2 ^ n) };
+
     ghost of_bits_number_law: { (n : ℕ) → n < 2 ^ BITS → number (of_bits n) ≡ n };
 
     ghost zero_number_law: { number ZERO ≡ 0 };

@@ -8,7 +8,8 @@ use std::fmt::Debug;
 use std::hash::Hash;
 
 /// A type that a `Vob` stores its bits in: `u8`, `u16`, `u32`, `u64`, `u128` or `usize`. Its bits are
-/// those of `BitBlock`, and its number is the value that `PrimInt` states.
+/// those of `BitBlock`, and its number is the value that `PrimInt` states. A `Vob` asks for its parent
+/// `Kernel` alone.
 ///
 /// vob 4.0.1 takes any `T: Debug + PrimInt`, signed types too.
 pub trait Block: Kernel + PrimInt + Hash + Debug {

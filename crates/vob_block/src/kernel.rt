@@ -7,7 +7,7 @@ use crate::bit_block::BitBlock;
 use crate::blocks::Blocks;
 use crate::combine::{And, Combine, Or, Without, Xor, combine_from};
 
-/// A block type with a loop that combines blocks with others.
+/// A block type with a loop that combines blocks with others. It is all that a `Vob` asks for.
 pub trait Kernel: BitBlock {
     /// Stores in `own` both combined, and returns whether a block changed. Each block of `other` is
     /// read once.

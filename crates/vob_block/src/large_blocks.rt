@@ -119,6 +119,8 @@ impl BitBlock for u64 {
 
     ghost narrow_law = { omega arith };
 
+    ghost power_law = { (6, refl) };
+
     ghost of_bits_number_law = { λ n h. refl };
 
     ghost zero_number_law = { refl };
@@ -246,6 +248,8 @@ impl BitBlock for u128 {
 
     ghost narrow_law = { omega arith };
 
+    ghost power_law = { (7, refl) };
+
     ghost of_bits_number_law = { λ n h. refl };
 
     ghost zero_number_law = { refl };
@@ -372,6 +376,8 @@ impl BitBlock for usize {
     ghost wide_law = { lit< tt };
 
     ghost narrow_law = { omega arith };
+
+    ghost power_law = { (6, refl) };
 
     ghost of_bits_number_law = { λ n h. refl };
 

@@ -119,6 +119,8 @@ impl BitBlock for u8 {
 
     ghost narrow_law = { omega arith };
 
+    ghost power_law = { (3, refl) };
+
     ghost of_bits_number_law = { λ n h. refl };
 
     ghost zero_number_law = { refl };
@@ -246,6 +248,8 @@ impl BitBlock for u16 {
 
     ghost narrow_law = { omega arith };
 
+    ghost power_law = { (4, refl) };
+
     ghost of_bits_number_law = { λ n h. refl };
 
     ghost zero_number_law = { refl };
@@ -372,6 +376,8 @@ impl BitBlock for u32 {
     ghost wide_law = { lit< tt };
 
     ghost narrow_law = { omega arith };
+
+    ghost power_law = { (5, refl) };
 
     ghost of_bits_number_law = { λ n h. refl };
 
