@@ -45,12 +45,14 @@ pub fn append_bit<T: BitBlock>(
     ensures stores { OnOk result (Stores T.BITS (len + 1) (map T.number blocks.new.items)
         (unpacking len (map T.number blocks.old.items) T.BITS ++ value ∷ [])) }
     ensures err { OnErr result (blocks.new.items ≡ blocks.old.items) }
+    ensures err_capacity { OnErr result (vec_capacity blocks.new ≡ vec_capacity blocks.old) }
     ensures full { OnErr result ((vec_capacity blocks.old * T.BITS ≤ len)
         × (need len T.BITS < need (len + 1) T.BITS)) }
     ensures capacity { vec_capacity blocks.old ≤ vec_capacity blocks.new }
 {
     let width = T::BITS;
     if len % width == 0 {
+        blocks.reserve(1)?;
         blocks.push(first_place(value))?;
     } else {
         // Written for a false bit too: a branch on the value is one that no processor foresees.

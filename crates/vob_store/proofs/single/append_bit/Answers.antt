@@ -6,10 +6,10 @@ use Rattle.vob_store.proofs.AppendLemmas.{Stores-behind, HasPlaces-fewer}
 use Rattle.vob_store.proofs.PushLemmas.{Stores-bit, HasPlaces-bit, full_is_needed}
 use Rattle.vob_store.proofs.single.append_bit.Goals as goal
 
-pub returns-in_err-push-clause-full : goal.returns-in_err-push-clause-full
-returns-in_err-push-clause-full g c =
+pub returns-in_err-reserve-clause-full : goal.returns-in_err-reserve-clause-full
+returns-in_err-reserve-clause-full g c =
     let p = err_from_is_err_and c.from_residual.result c.from_residual.ensures.1 in
-    let held = c.in_err-push.ensures.full in
+    let held = c.in_err-reserve.ensures.full in
     rw p.1 (full_is_needed g.T.BitBlock.BITS g.met.T.BitBlock.wide_law c.args.len
     (map g.T.BitBlock.number c.args.blocks.now.items) c.requires _
     (rw c.BITS-width.ensures at c.if-len-width-eq0.true)
@@ -19,11 +19,23 @@ returns-in_err-push-clause-full g c =
       c.args.blocks.now.ok.0,
     )))
 
+pub returns-in_err-push-clause-full : goal.returns-in_err-push-clause-full
+returns-in_err-push-clause-full g c =
+    let full = c.in_err-push.ensures.full in
+    let room = c.in_ok-reserve.ensures.ok in
+    absurd (omega (arith, full, room))
+
+pub returns-in_err-push-clause-err_capacity : goal.returns-in_err-push-clause-err_capacity
+returns-in_err-push-clause-err_capacity g c =
+    let full = c.in_err-push.ensures.full in
+    let room = c.in_ok-reserve.ensures.ok in
+    absurd (omega (arith, full, room))
+
 pub returns-in_ok-push-clause-stores : goal.returns-in_ok-push-clause-stores
 returns-in_ok-push-clause-stores g c =
     let number = g.T.BitBlock.number in
     let w = g.T.BitBlock.BITS in
-    rw (c.in_ok-push.ensures.items, map_push) (Stores-behind _ g.met.T.BitBlock.wide_law _ _
+    rw (c.in_ok-push.ensures.items, c.in_ok-reserve.ensures.items, map_push) (Stores-behind _ g.met.T.BitBlock.wide_law _ _
     c.requires _ _ _ (rw c.BITS-width.ensures at c.if-len-width-eq0.true) (Stores-bit w
     g.met.T.BitBlock.wide_law c.args.value (number c.first_place.result) c.first_place.ensures))
 
