@@ -1,7 +1,7 @@
 -- What becomes of a list of bits whose blocks are changed from one index to below another.
 use Rattle.std.specs.declared.ops.Bound.{Bound}
 use Rattle.std.specs.declared.ops.Bound.TheVariants.{Included, Excluded}
-use Rattle.std.proofs.Common.{◌≡◌, ℕ, ◌+◌, ◌-◌, ◌<◌, ◌≤◌, nat_le, nat_lt, Bool, true, false, List}
+use Rattle.std.proofs.Common.{◌≡◌, ◌↔◌, ◌⊎◌, ℕ, ◌+◌, ◌-◌, ◌<◌, ◌≤◌, nat_le, nat_lt, Bool, true, false, List}
 use Rattle.std.proofs.Common.{[], ◌∷◌, ◌++◌, length, map, take, drop, replicate, refl, sym, ap, ◌∙◌}
 use Rattle.std.proofs.Common.{subst, arith, inl, inr, length-append}
 use Rattle.std.proofs.lemmas.Bool.{cases_lt, and_left, and_right, and_from, and_parts, lt-leb, le-leb, lt-ltb, le-ltb, ltb-true, leb-true, false≢true}
@@ -36,6 +36,32 @@ IsChangedWithin-ranged w wide {f} {low} {high} {n} {start} {stop} {xs} {ys} g h 
         ]
       ] ∙ before i;
     }
+
+-- a bit is true if it was, or if its index is in a range whose bits are set
+pub range_true : {start stop : ℕ} (bits after : List Bool) (i : ℕ)
+    → IsChangedWithin (λ _. true) (Included start) (Excluded stop) bits after → i < length bits
+    → (item after i ≡ true) ↔ ((item bits i ≡ true) ⊎ ((start ≤ i) × (i < stop)))
+range_true {start} {stop} bits after i set below = elim (cases_lt i start) [
+  | inl before ↦ kept (and_left (nat_le start i) (nat_lt i stop) (lt-leb start i before))
+      (λ both. omega (arith, before, both.0))
+  | inr above ↦ elim (cases_lt i stop) [
+    | inl less ↦
+        let here = and_from (nat_le start i) (nat_lt i stop) (le-leb start i above) (lt-ltb i stop less)
+        in ((λ _. inr (above, less)), (λ _. set.inside i below here))
+    | inr past ↦ kept (and_right (nat_le start i) (nat_lt i stop) (le-ltb i stop past))
+        (λ both. omega (arith, past, both.1))
+  ]
+]
+  where
+    kept : within (Included start) (Excluded stop) i ≡ false → ((start ≤ i) × (i < stop) → ⊥)
+        → (item after i ≡ true) ↔ ((item bits i ≡ true) ⊎ ((start ≤ i) × (i < stop)))
+    kept out none = (
+      (λ there. inl (sym (set.outside i out) ∙ there)),
+      (λ either. elim either [
+        | inl there ↦ set.outside i out ∙ there
+        | inr both ↦ absurd (none both)
+      ]),
+    )
 
 -- and that list is what stands before the range, the range changed, and what stands behind it
 pub IsChangedWithin-parts : {f : Bool → Bool} {low high : Bound ℕ} {bits after : List Bool}

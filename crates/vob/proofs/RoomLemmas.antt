@@ -1,5 +1,5 @@
 -- Runs of unset bits, and where n of them in a row stand, by the runs that were passed.
-use Rattle.std.specs.Prelude.{Some, None, map}
+use Rattle.std.specs.Prelude.{Any, Some, None, map}
 use Rattle.std.specs.declared.ops.Range.{Range}
 use Rattle.std.proofs.Common.{◌≡◌, ℕ, ◌+◌, ◌-◌, ◌<◌, ◌≤◌, Bool, true, false, not, List, length}
 use Rattle.std.proofs.Common.{refl, sym, ap, ◌∙◌, ◌↔◌, arith, inl, inr}
@@ -7,7 +7,7 @@ use Rattle.std.proofs.lemmas.Bool.{cases_lt, false≢true}
 use Rattle.std.proofs.lemmas.List.{get_or_past, get_or-map, length-map}
 use Rattle.vob_block.specs.Packing.{item}
 use Rattle.vob_block.proofs.PackingLemmas.{true_inside}
-use Rattle.vob_walk.specs.Runs.{GivesRun, IsMaximalRun, RunWalk}
+use Rattle.vob_walk.specs.Runs.{AreRuns, GivesRun, IsMaximalRun, RunWalk}
 use Rattle.vob.specs.Room.{HasNoRoom, IsFirstRoom, IsRoom, IsUnsetRun}
 
 -- ---- a run of the bits negated
@@ -81,13 +81,15 @@ module _ (n : ℕ) (some : 0 < n) (bits : List Bool) where
   module _ (walk : RunWalk) (same : walk.bits ≡ map not bits) (passed : IsBelowRoom n bits walk.at)
     where
       pub HasNoRoom-end : {after : RunWalk} → GivesRun walk None after → HasNoRoom n bits
-      HasNoRoom-end gives i room =
-          let within = room.inside in
-          let below : i < length bits = omega (arith, within, some) in
-          gives.run.0 i (passed i room)
-          (omega (arith, below, ap length same, length-map bits not))
-          (ap (λ l. item l i) same
-          ∙ seen_set i below (room.unset i (omega arith) (omega (arith, some))))
+      HasNoRoom-end gives = record {
+        none = λ i room.
+            let within = room.inside in
+            let below : i < length bits = omega (arith, within, some) in
+            gives.run.0 i (passed i room)
+            (omega (arith, below, ap length same, length-map bits not))
+            (ap (λ l. item l i) same
+            ∙ seen_set i below (room.unset i (omega arith) (omega (arith, some))));
+      }
 
       module _ {run : Range ℕ} {after : RunWalk} (gives : GivesRun walk (Some run) after) where
         from_start : (i : ℕ) → IsRoom n bits i → run.start ≤ i
@@ -139,3 +141,29 @@ module _ (n : ℕ) (some : 0 < n) (bits : List Bool) where
 
 pub IsBelowRoom-start : (n : ℕ) (bits : List Bool) (at : ℕ) → at ≡ 0 → IsBelowRoom n bits at
 IsBelowRoom-start n bits at e i room = omega (arith, e)
+
+-- ---- room among all runs
+
+pub room-in_run : (bits : List Bool) (runs : List (Range ℕ)) (n i : ℕ) → AreRuns (map not bits) runs
+    → 0 < n → IsRoom n bits i → Any (λ run. (run.start ≤ i) × (i + n ≤ run.end)) runs
+room-in_run bits runs n i are some room =
+    let inside = room.inside in
+    let unset = room.unset i (omega arith) (omega (arith, some)) in
+    let (k, run, less, is, there) = are.all i
+    (seen_set n some bits i (omega (arith, inside, some)) unset) in
+    let longest : IsMaximalRun (map not bits) run.start run.end = rw is at (are.each k run less) in (
+      k,
+      run,
+      less,
+      is,
+      (
+        there.0,
+        elim (cases_lt run.end (i + n)) [
+          | inr reaches ↦ reaches
+          | inl short ↦
+              let below : run.end < length bits = omega (arith, short, inside) in
+              let free = room.unset run.end (omega (arith, there.1)) short in
+              absurd (false≢true (sym longest.behind ∙ seen_set n some bits run.end below free))
+        ],
+      ),
+    )

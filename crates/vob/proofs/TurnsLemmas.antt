@@ -1,6 +1,5 @@
 -- Lists whose bits are turned around, from what the calls below them leave.
 use Rattle.std.specs.Prelude.{All, reverse}
-use Rattle.std.specs.Int.{Width, w8, w16, w32, w64, w128}
 use Rattle.std.proofs.Common.{◌≡◌, ℕ, ◌+◌, ◌-◌, ◌*◌, ◌/◌, ◌%◌, ◌^◌, ◌<◌, ◌≤◌, Bool, false, List, ◌++◌}
 use Rattle.std.proofs.Common.{length, map, take, drop, refl, sym, ap, ◌∙◌, subst, arith, inl, inr}
 use Rattle.std.proofs.Common.{mod-lt, div-add-mod'}
@@ -8,21 +7,13 @@ use Rattle.std.proofs.lemmas.Bool.{cases_lt}
 use Rattle.std.proofs.lemmas.List.{ext_get_or, get_or_append_left, get_or-append_right, get_or-drop}
 use Rattle.std.proofs.lemmas.List.{get_or-reverse, get_or-take, length-append, length-drop, length-map}
 use Rattle.std.proofs.lemmas.List.{length-reverse, length-take-le}
+use Rattle.std.proofs.Math.Nat.{mod-eq_of_lt}
 use Rattle.std.proofs.lemmas.Nat.{mod-mul-add}
-use mir.Val.{bits}
 use Rattle.vob_block.specs.Packing.{item, need, unpacking, IsCanonical}
 use Rattle.vob_block.proofs.NeedLemmas.{need_enough}
 use Rattle.vob_block.proofs.PackingLemmas.{bit_at-is_item, length-unpacking}
-use Rattle.vob_store.specs.Reversing.{AreReversed, IsHalvable}
+use Rattle.vob_store.specs.Reversing.{AreReversed}
 use Rattle.vob.specs.Moves.{rotated, rotated_back, IsReversed, IsReversedBetween, IsRotated}
-
--- each type that bits are stored in has as many places as some power of two
-pub IsHalvable-width : (v : Width) (n : ℕ) → n ≡ bits v → IsHalvable n
-IsHalvable-width w8 n is = (3, is)
-IsHalvable-width w16 n is = (4, is)
-IsHalvable-width w32 n is = (5, is)
-IsHalvable-width w64 n is = (6, is)
-IsHalvable-width w128 n is = (7, is)
 
 -- ---- all bits in reverse order
 
@@ -154,12 +145,23 @@ IsRotated-back n {bits} {after} some is =
           ]);
     }
 
--- nothing moves where there are no bits
-pub IsRotated-none : (n : ℕ) (bits : List Bool) → length bits ≡ 0 → IsRotated n bits bits
-IsRotated-none n bits none = record {
-  len = refl;
-  each = λ i less. absurd (omega (arith, less, none));
-}
+-- each bit of a list rotated back comes from as many indices above it as the others are
+pub IsRotated-moved : (n : ℕ) {bits after : List Bool} → 0 < length bits
+    → after ≡ rotated_back n bits → IsRotated (length bits - n % length bits) bits after
+IsRotated-moved n {bits} {after} some is =
+    let size = length bits in
+    let m = size - n % size in
+    let few : m ≤ size = omega arith in
+    record {
+      len = ap length is ∙ length-rotated m bits few;
+      each = λ i less. ap (λ bs. item bs i) is ∙ elim (cases_lt (i + m) size) [
+        | inl low ↦ item-rotated_low m bits few i low ∙ ap (item bits) (sym (mod-eq_of_lt low))
+        | inr high ↦
+            let sum : i + m ≡ 1 * size + (i + m - size) = omega (arith, high) in
+            item-rotated_high m bits few i high less ∙ ap (item bits)
+            (sym (ap (λ k. k % size) sum ∙ mod-mul-add 1 size (i + m - size) (omega (arith, less, few))))
+      ];
+    }
 
 -- ---- the blocks of a Vob
 

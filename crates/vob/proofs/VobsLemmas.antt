@@ -1,6 +1,8 @@
 -- A page for users: some Vobs as lists of bits, one of them pushed or changed, or each beside an item.
-use Rattle.std.specs.Prelude.{Some, slice_get, slice_set}
+use Rattle.std.specs.Prelude.{Contains, Some, slice_get, slice_set}
 use Rattle.std.specs.List.{AllZip, Any}
+use Rattle.std.specs.declared.ops.Bound.TheVariants.{Included, Excluded}
+use Rattle.std.specs.declared.ops.Range.{Range}
 use Rattle.std.proofs.Common.{◌≡◌, ◌↔◌, ◌⊎◌, ◌||◌, ℕ, ◌+◌, ◌<◌, ◌≤◌, ◌*◌, Bool, true, false, List, []}
 use Rattle.std.proofs.Common.{◌++◌, length, get_or, take, replicate, suc, refl, sym, ap, ◌∙◌, subst, arith}
 use Rattle.std.proofs.Common.{All, inl, inr, zero, ◌∷◌}
@@ -17,7 +19,10 @@ use Rattle.vob_block.specs.Pointwise.{without}
 use Rattle.vob.specs.Bits.{count_of, AreCombined}
 use Rattle.vob.specs.Vob.{BitVector}
 use Rattle.vob.specs.Vobs.{bits_of, AreOfLength, total_count}
+use Rattle.vob.specs.Indices.{IsSetAt}
+use Rattle.vob.specs.Ranges.{IsChangedWithin}
 use Rattle.vob.proofs.BitsLemmas.{count_at_most, or_true, without_true}
+use Rattle.vob.proofs.RangeLemmas.{range_true}
 
 -- one more
 pub bits_of_push : (vobs : List BitVector) (vob : BitVector)
@@ -30,6 +35,10 @@ pub bits_of_at : (vobs : List BitVector) (i : ℕ) (vob : BitVector) → slice_g
 bits_of_at vobs i vob is =
     get_or-map (λ v. v.bits) vobs i vob [] (slice_get_within vobs i vob is)
     ∙ ap (λ v. v.bits) (get_or_from_slice_get vobs i vob vob is)
+
+pub bits_of_get_or : (vobs : List BitVector) (i : ℕ) (vob : BitVector) → i < length vobs
+    → get_or (bits_of vobs) i [] ≡ (get_or vobs i vob).bits
+bits_of_get_or vobs i vob inside = get_or-map (λ v. v.bits) vobs i vob [] inside
 
 pub of_length_push : (len : ℕ) (lists : List (List Bool)) (bits : List Bool)
     → AreOfLength len lists → length bits ≡ len → AreOfLength len (lists ++ bits ∷ [])
@@ -183,6 +192,26 @@ module _ {X : Type 0} (P : X → Type 0) (xs : List X) (k : ℕ) (x : X) (inside
     ])),
   )
 
+  -- something was so before the first one, or holds of one so far: and so after one more
+  pub either_next : {S old new : Type 0} → new ↔ (old ⊎ P x) → old ↔ (S ⊎ Any P (take k xs))
+      → new ↔ (S ⊎ Any P (take (k + 1) xs))
+  either_next {S} {old} {new} step so_far = (
+    (λ there. elim (step.0 there) [
+      | inl before ↦ elim (so_far.0 before) [
+        | inl start ↦ inl start
+        | inr any ↦ inr (any_next.1 (inl any))
+      ]
+      | inr now ↦ inr (any_next.1 (inr now))
+    ]),
+    (λ all. step.1 (elim all [
+      | inl start ↦ inl (so_far.1 (inl start))
+      | inr any ↦ elim (any_next.0 any) [
+        | inl before ↦ inl (so_far.1 (inr before))
+        | inr now ↦ inr now
+      ]
+    ])),
+  )
+
 module _ {X : Type 0} (bits_at : X → List Bool) (xs : List X) (k : ℕ) (x : X)
     (inside : k < length xs) (is : x ≡ get_or xs k x) (bits after : List Bool) (i : ℕ)
     (S : Type 0) where
@@ -204,21 +233,22 @@ module _ {X : Type 0} (bits_at : X → List Bool) (xs : List X) (k : ℕ) (x : X
   pub or_each : AreCombined ◌||◌ bits (bits_at x) after
       → (item bits i ≡ true) ↔ (S ⊎ Any (λ y. item (bits_at y) i ≡ true) (take k xs))
       → (item after i ≡ true) ↔ (S ⊎ Any (λ y. item (bits_at y) i ≡ true) (take (k + 1) xs))
-  or_each combined so_far =
-      let either = or_true bits (bits_at x) after i combined in
-      let next = any_next (λ y. item (bits_at y) i ≡ true) xs k x inside is in (
-        (λ there. elim (either.0 there) [
-          | inl old ↦ elim (so_far.0 old) [
-            | inl start ↦ inl start
-            | inr any ↦ inr (next.1 (inl any))
-          ]
-          | inr new ↦ inr (next.1 (inr new))
-        ]),
-        (λ all. either.1 (elim all [
-          | inl start ↦ inl (so_far.1 (inl start))
-          | inr any ↦ elim (next.0 any) [
-            | inl old ↦ inl (so_far.1 (inr old))
-            | inr new ↦ inr new
-          ]
-        ])),
-      )
+  or_each combined so_far = either_next (λ y. item (bits_at y) i ≡ true) xs k x inside is
+      (or_true bits (bits_at x) after i combined) so_far
+
+  -- or if its index is in some of their ranges
+  pub range_each : (range_at : X → Range ℕ) → i < length bits
+      → IsChangedWithin (λ _. true) (Included ((range_at x).start)) (Excluded ((range_at x).end)) bits after
+      → (item bits i ≡ true) ↔ (S ⊎ Any (λ y. ((range_at y).start ≤ i) × (i < (range_at y).end)) (take k xs))
+      → (item after i ≡ true)
+      ↔ (S ⊎ Any (λ y. ((range_at y).start ≤ i) × (i < (range_at y).end)) (take (k + 1) xs))
+  range_each range_at below set so_far =
+      either_next (λ y. ((range_at y).start ≤ i) × (i < (range_at y).end)) xs k x inside is
+      (range_true bits after i set below) so_far
+
+  -- or among some of their indices
+  pub indices_each : (indices_at : X → List ℕ) → IsSetAt (indices_at x) bits after
+      → (item bits i ≡ true) ↔ (S ⊎ Any (λ y. Contains (indices_at y) i) (take k xs))
+      → (item after i ≡ true) ↔ (S ⊎ Any (λ y. Contains (indices_at y) i) (take (k + 1) xs))
+  indices_each indices_at set so_far =
+      either_next (λ y. Contains (indices_at y) i) xs k x inside is (set.each i) so_far

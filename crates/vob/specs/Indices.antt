@@ -1,6 +1,8 @@
 -- A list of bits made of the indices of its set bits.
 use Rattle.std.specs.Prelude.{◌≡◌, ◌↔◌, ◌⊎◌, ℕ, ◌<◌, ◌≤◌, Bool, true, IsTrue, List, length, slice_index_or, Contains}
 use Rattle.vob_block.specs.Packing.{item}
+use Rattle.vob.specs.declared.error.IndicesError.{IndicesError}
+use Rattle.vob.specs.declared.error.IndicesError.TheVariants.{Memory, OutOfRange}
 
 -- the bits of a length of which those at the given indices are set, and no others
 -- Example: 0 and 2, length 3: 101
@@ -19,6 +21,11 @@ pub record IsFirstOutside (len : ℕ) (indices : List ℕ) (position : ℕ) : Ty
   pub inside : position < length indices
   pub outside : len ≤ slice_index_or indices position 0
   pub lower : (k : ℕ) → k < position → slice_index_or indices k 0 < len
+
+-- why a call with some indices below a length may fail: one of them isn't, or memory ran out for bits
+abbrev pub MayRefuseIndices : ℕ → List ℕ → IndicesError → Type 0
+MayRefuseIndices len indices (OutOfRange position) = IsFirstOutside len indices position
+MayRefuseIndices len indices Memory = 0 < len
 
 -- a list whose bits at the first `count` indices were set, and no others
 pub record HasSet (indices : List ℕ) (count : ℕ) (bits after : List Bool) : Type 0 where

@@ -22,5 +22,5 @@ pub record IsFirstRoom (n : ℕ) (bits : List Bool) (i : ℕ) : Type 0 where
   pub least : (j : ℕ) → IsRoom n bits j → i ≤ j
 
 -- nowhere do n unset bits stand in a row
-abbrev pub HasNoRoom : ℕ → List Bool → Type 0
-HasNoRoom n bits = (i : ℕ) → IsRoom n bits i → ⊥
+pub record HasNoRoom (n : ℕ) (bits : List Bool) : Type 0 where
+  pub none : (i : ℕ) → IsRoom n bits i → ⊥

@@ -17,7 +17,7 @@ use crate::vob::Vob;
 use std::alloc::AllocError;
 use std::mem;
 use std::ops::RangeBounds;
-use vob_block::{Block, Blocks};
+use vob_block::{Blocks, Kernel};
 use vob_store::append::{join, join_slice};
 use vob_store::fill::append_fill;
 use vob_store::gather::fill_last;
@@ -26,7 +26,7 @@ use vob_store::pack::append_slice;
 use vob_store::room::reserve_bits;
 use vob_walk::range::cut_range;
 
-impl<T: Block> Vob<T> {
+impl<T: Kernel> Vob<T> {
     /// Cuts the bits to `new_len`, or appends bits of `value` up to `new_len`. Fails if memory
     /// runs out, where vob 4.0.1 ends the process. That panics if it appends set bits after whole
     /// blocks.
@@ -40,6 +40,7 @@ impl<T: Block> Vob<T> {
         ensures ok { OnOk result (self.new.bits
             ≡ take new_len self.old.bits ++ replicate (new_len - length self.old.bits) value) }
         ensures err { OnErr result (self.new.bits ≡ self.old.bits) }
+        ensures err_capacity { OnErr result (self.new.capacity ≡ self.old.capacity) }
 
         // Memory is asked for only if there is no room, and nothing else is refused.
         ensures memory { OnErr result ((result ≡ Err VobError.Memory) × (self.old.capacity < new_len)
@@ -62,6 +63,7 @@ impl<T: Block> Vob<T> {
     pub fn extend_from_slice(&mut self, other: &[bool]) -> Result<(), VobError>
         ensures ok { OnOk result (self.new.bits ≡ self.old.bits ++ other.now) }
         ensures err { OnErr result (self.new.bits ≡ self.old.bits) }
+        ensures err_capacity { OnErr result (self.new.capacity ≡ self.old.capacity) }
 
         // A length that is too great fails first. Memory is asked for only if there is no room.
         ensures refused { RefusesMore T.BITS self.old (length other.now) result }
@@ -153,6 +155,7 @@ impl<T: Block> Vob<T> {
     pub fn extend_from_vob(&mut self, other: &Vob<T>) -> Result<(), VobError>
         ensures ok { OnOk result (self.new.bits ≡ self.old.bits ++ other.now.bits) }
         ensures err { OnErr result (self.new.bits ≡ self.old.bits) }
+        ensures err_capacity { OnErr result (self.new.capacity ≡ self.old.capacity) }
 
         // A length that is too great fails first. Memory is asked for only if there is no room.
         ensures refused { RefusesMore T.BITS self.old (length other.now.bits) result }

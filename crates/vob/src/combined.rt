@@ -8,10 +8,10 @@ ghost use Rattle.vob_walk.specs.Walk.{IsFresh, GivesFirst, GivesLast};
 ghost use Rattle.vob.specs.Vob.{HaveSameLength};
 
 use crate::vob::Vob;
-use vob_block::{And, Block, Combine, Or, Without, Xor};
+use vob_block::{And, Combine, Kernel, Or, Without, Xor};
 use vob_walk::CombinedBits;
 
-impl<T: Block> Vob<T> {
+impl<T: Kernel> Vob<T> {
     /// Returns a walk over the indices that are set in both, in rising order. The lengths must be
     /// equal. It takes no memory, and reads each block of either at most once. vob 4.0.1 has no
     /// such call.

@@ -7,12 +7,12 @@ ghost use Rattle.vob.specs.Drain.{bits_within};
 use crate::vob::Vob;
 use std::alloc::AllocError;
 use std::ops::RangeBounds;
-use vob_block::Block;
+use vob_block::Kernel;
 use vob_store::load_store::{Stretch, copy_bits};
 use vob_store::split::split_blocks;
 use vob_walk::range::cut_range;
 
-impl<T: Block> Vob<T> {
+impl<T: Kernel> Vob<T> {
     /// Copies the bits of a range into a new Vob. Every pair of bounds is accepted: the range is cut at
     /// the length, and is empty if it ends before it starts. Fails if memory runs out; if the range
     /// holds no bit, none is asked for.

@@ -7,10 +7,10 @@ ghost use Rattle.vob.specs.Moves.{AreSwapped, IsInserted};
 
 use crate::error::VobError;
 use crate::vob::Vob;
-use vob_block::Block;
+use vob_block::Kernel;
 use vob_store::single::flip_bit;
 
-impl<T: Block> Vob<T> {
+impl<T: Kernel> Vob<T> {
     /// Negates bit `index`, and returns its new value. The index must be below the length.
     ///
     /// ```
@@ -63,6 +63,7 @@ impl<T: Block> Vob<T> {
             ≡ take index self.old.bits ++ value ∷ drop index self.old.bits) }
         ensures each { OnOk result (IsInserted index value self.old.bits self.new.bits) }
         ensures err { OnErr result (self.new.bits ≡ self.old.bits) }
+        ensures err_capacity { OnErr result (self.new.capacity ≡ self.old.capacity) }
         ensures refused { RefusesMore T.BITS self.old 1 result }
         ensures capacity { self.old.capacity ≤ self.new.capacity }
     {

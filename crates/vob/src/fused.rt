@@ -6,10 +6,10 @@ ghost use Rattle.vob.specs.Bits.{AreCombined, GainsBits};
 ghost use Rattle.vob.specs.Vob.{HaveSameLength};
 
 use crate::vob::Vob;
-use vob_block::{And, Block, Combine, Without};
+use vob_block::{And, Combine, Kernel, Without};
 use vob_store::fused::or_combined;
 
-impl<T: Block> Vob<T> {
+impl<T: Kernel> Vob<T> {
     /// Adds the bits that two others both have, and returns whether a bit changed. The lengths must be
     /// equal. Takes no memory.
     ///

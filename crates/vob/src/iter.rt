@@ -11,20 +11,20 @@ use crate::vob::Vob;
 use std::iter::FusedIterator;
 use std::marker::Model;
 use std::ops::RangeBounds;
-use vob_block::Block;
+use vob_block::Kernel;
 use vob_store::single::block_bit;
 pub use vob_walk::{CombinedBits, End, IndexWalk, IterSetBits, IterUnsetBits, count_ones_in, deal};
 
 /// A walk over the bits of a Vob, seen as the list of those that are left.
 #[derive(Drop)]
-pub struct Iter<'a, T: Block> {
+pub struct Iter<'a, T: Kernel> {
     pub(crate) blocks: &'a [T],
     // The bits from `next` to below `end` are left.
     pub(crate) next: usize,
     pub(crate) end: usize,
 }
 
-impl<'a, T: Block> Model for Iter<'a, T> {
+impl<'a, T: Kernel> Model for Iter<'a, T> {
     ghost use Rattle.std.specs.Prelude.{◌*◌, ◌≤◌, Bool, List, length, map};
     ghost use Rattle.vob.specs.Rest.{bits_between};
 
@@ -36,7 +36,7 @@ impl<'a, T: Block> Model for Iter<'a, T> {
         × (walk.end ≤ length walk.blocks.now * T.BITS) };
 }
 
-impl<T: Block> Vob<T> {
+impl<T: Kernel> Vob<T> {
     /// Returns a walk over the bits, index 0 first.
     ///
     /// ```
@@ -114,7 +114,7 @@ impl<T: Block> Vob<T> {
     }
 }
 
-impl<'a, T: Block> IntoIterator for &'a Vob<T> {
+impl<'a, T: Kernel> IntoIterator for &'a Vob<T> {
     type Item = bool;
 
     type IntoIter = Iter<'a, T>;
@@ -129,7 +129,7 @@ impl<'a, T: Block> IntoIterator for &'a Vob<T> {
     }
 }
 
-impl<'a, T: Block> Iter<'a, T> {
+impl<'a, T: Kernel> Iter<'a, T> {
     /// Returns a second walk over the bits that are left. It takes no memory, so it is no method
     /// of `Clone`, which returns a `Result`.
     pub fn clone(&self) -> Iter<'a, T>
@@ -150,7 +150,7 @@ impl<'a, T: Block> Iter<'a, T> {
     }
 }
 
-impl<'a, T: Block> Iterator for Iter<'a, T> {
+impl<'a, T: Kernel> Iterator for Iter<'a, T> {
     type Item = bool;
 
     ghost next_gives = { YieldsFirst (λ rest. rest) };
@@ -177,7 +177,7 @@ impl<'a, T: Block> Iterator for Iter<'a, T> {
     }
 }
 
-impl<'a, T: Block> DoubleEndedIterator for Iter<'a, T> {
+impl<'a, T: Kernel> DoubleEndedIterator for Iter<'a, T> {
     ghost next_back_gives = { YieldsLast (λ rest. rest) };
 
     fn next_back(&mut self) -> Option<bool> {
@@ -190,21 +190,21 @@ impl<'a, T: Block> DoubleEndedIterator for Iter<'a, T> {
     }
 }
 
-impl<'a, T: Block> ExactSizeIterator for Iter<'a, T> {
+impl<'a, T: Kernel> ExactSizeIterator for Iter<'a, T> {
     fn len(&self) -> usize {
         self.end - self.next
     }
 }
 
-impl<'a, T: Block> FusedIterator for Iter<'a, T> {}
+impl<'a, T: Kernel> FusedIterator for Iter<'a, T> {}
 
 /// A walk over the blocks of a Vob, seen as the list of those that are left.
 #[derive(Drop)]
-pub struct StorageIter<'a, T: Block> {
+pub struct StorageIter<'a, T: Kernel> {
     pub(crate) rest: &'a [T],
 }
 
-impl<'a, T: Block> Model for StorageIter<'a, T> {
+impl<'a, T: Kernel> Model for StorageIter<'a, T> {
     ghost use Rattle.std.specs.Prelude.{List};
 
     ghost Value = { List T };
@@ -212,7 +212,7 @@ impl<'a, T: Block> Model for StorageIter<'a, T> {
     ghost view = { λ walk. walk.rest.now };
 }
 
-impl<'a, T: Block> StorageIter<'a, T> {
+impl<'a, T: Kernel> StorageIter<'a, T> {
     /// Returns a second walk over the blocks that are left. It takes no memory, so it is no
     /// method of `Clone`, which returns a `Result`.
     pub fn clone(&self) -> StorageIter<'a, T>
@@ -229,7 +229,7 @@ impl<'a, T: Block> StorageIter<'a, T> {
     }
 }
 
-impl<'a, T: Block> Iterator for StorageIter<'a, T> {
+impl<'a, T: Kernel> Iterator for StorageIter<'a, T> {
     type Item = T;
 
     ghost next_gives = { YieldsFirst (λ rest. rest) };

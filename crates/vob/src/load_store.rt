@@ -6,10 +6,10 @@ ghost use Rattle.vob.specs.Copy.{written_over, IsCopied};
 
 use crate::vob::Vob;
 use std::ops::Range;
-use vob_block::Block;
+use vob_block::Kernel;
 use vob_store::load_store::{bits_at, write_bits};
 
-impl<T: Block> Vob<T> {
+impl<T: Kernel> Vob<T> {
     /// Returns the bits of the range as one block, the first bit in place 0, and the places above them
     /// unset. The range must lie within the length, and hold at most `T::BITS` bits.
     ///

@@ -14,12 +14,12 @@ use crate::vob::Vob;
 use std::alloc::AllocError;
 use std::hash::{Hash, Hasher};
 use std::ops::{BitAnd, BitAndAssign, BitOr, BitOrAssign, BitXor, BitXorAssign, Not, Sub};
-use vob_block::{And, Block, Combine, Or, Xor};
+use vob_block::{And, Combine, Kernel, Or, Xor};
 use vob_store::fill::fill;
 use vob_store::mask::negate;
 use vob_store::same::same_blocks;
 
-impl<T: Block> Vob<T> {
+impl<T: Kernel> Vob<T> {
     /// Sets every bit to `value`.
     ///
     /// ```
@@ -119,7 +119,7 @@ impl<T: Block> Vob<T> {
     }
 }
 
-impl<'a, 'b, T: Block> BitAnd<&'b Vob<T>> for &'a Vob<T> {
+impl<'a, 'b, T: Kernel> BitAnd<&'b Vob<T>> for &'a Vob<T> {
     type Output = Result<Vob<T>, AllocError>;
 
     ghost can_bitand = { λ vob other. HaveSameLength vob.now other.now };
@@ -136,7 +136,7 @@ impl<'a, 'b, T: Block> BitAnd<&'b Vob<T>> for &'a Vob<T> {
     }
 }
 
-impl<'a, 'b, T: Block> BitOr<&'b Vob<T>> for &'a Vob<T> {
+impl<'a, 'b, T: Kernel> BitOr<&'b Vob<T>> for &'a Vob<T> {
     type Output = Result<Vob<T>, AllocError>;
 
     ghost can_bitor = { λ vob other. HaveSameLength vob.now other.now };
@@ -153,7 +153,7 @@ impl<'a, 'b, T: Block> BitOr<&'b Vob<T>> for &'a Vob<T> {
     }
 }
 
-impl<'a, 'b, T: Block> BitXor<&'b Vob<T>> for &'a Vob<T> {
+impl<'a, 'b, T: Kernel> BitXor<&'b Vob<T>> for &'a Vob<T> {
     type Output = Result<Vob<T>, AllocError>;
 
     ghost can_bitxor = { λ vob other. HaveSameLength vob.now other.now };
@@ -170,7 +170,7 @@ impl<'a, 'b, T: Block> BitXor<&'b Vob<T>> for &'a Vob<T> {
     }
 }
 
-impl<'a, 'b, T: Block> Sub<&'b Vob<T>> for &'a Vob<T> {
+impl<'a, 'b, T: Kernel> Sub<&'b Vob<T>> for &'a Vob<T> {
     type Output = Result<Vob<T>, AllocError>;
 
     ghost can_sub = { λ vob other. HaveSameLength vob.now other.now };
@@ -187,7 +187,7 @@ impl<'a, 'b, T: Block> Sub<&'b Vob<T>> for &'a Vob<T> {
     }
 }
 
-impl<T: Block> Not for Vob<T> {
+impl<T: Kernel> Not for Vob<T> {
     type Output = Vob<T>;
 
     ghost not_gives = { λ vob result. (result.bits ≡ map not vob.bits)
@@ -200,7 +200,7 @@ impl<T: Block> Not for Vob<T> {
     }
 }
 
-impl<'a, T: Block> BitAnd<&'a Vob<T>> for Vob<T> {
+impl<'a, T: Kernel> BitAnd<&'a Vob<T>> for Vob<T> {
     type Output = Vob<T>;
 
     ghost can_bitand = { λ vob other. HaveSameLength vob other.now };
@@ -215,7 +215,7 @@ impl<'a, T: Block> BitAnd<&'a Vob<T>> for Vob<T> {
     }
 }
 
-impl<'a, T: Block> BitAndAssign<&'a Vob<T>> for Vob<T> {
+impl<'a, T: Kernel> BitAndAssign<&'a Vob<T>> for Vob<T> {
     ghost can_bitand_assign = { λ vob other. HaveSameLength vob other.now };
 
     ghost bitand_assign_gives = { λ vob other after. BecomesPointwise ◌&&◌ vob other.now after };
@@ -226,7 +226,7 @@ impl<'a, T: Block> BitAndAssign<&'a Vob<T>> for Vob<T> {
     }
 }
 
-impl<'a, T: Block> BitOr<&'a Vob<T>> for Vob<T> {
+impl<'a, T: Kernel> BitOr<&'a Vob<T>> for Vob<T> {
     type Output = Vob<T>;
 
     ghost can_bitor = { λ vob other. HaveSameLength vob other.now };
@@ -241,7 +241,7 @@ impl<'a, T: Block> BitOr<&'a Vob<T>> for Vob<T> {
     }
 }
 
-impl<'a, T: Block> BitOrAssign<&'a Vob<T>> for Vob<T> {
+impl<'a, T: Kernel> BitOrAssign<&'a Vob<T>> for Vob<T> {
     ghost can_bitor_assign = { λ vob other. HaveSameLength vob other.now };
 
     ghost bitor_assign_gives = { λ vob other after. BecomesPointwise ◌||◌ vob other.now after };
@@ -252,7 +252,7 @@ impl<'a, T: Block> BitOrAssign<&'a Vob<T>> for Vob<T> {
     }
 }
 
-impl<'a, T: Block> BitXor<&'a Vob<T>> for Vob<T> {
+impl<'a, T: Kernel> BitXor<&'a Vob<T>> for Vob<T> {
     type Output = Vob<T>;
 
     ghost can_bitxor = { λ vob other. HaveSameLength vob other.now };
@@ -267,7 +267,7 @@ impl<'a, T: Block> BitXor<&'a Vob<T>> for Vob<T> {
     }
 }
 
-impl<'a, T: Block> BitXorAssign<&'a Vob<T>> for Vob<T> {
+impl<'a, T: Kernel> BitXorAssign<&'a Vob<T>> for Vob<T> {
     ghost can_bitxor_assign = { λ vob other. HaveSameLength vob other.now };
 
     ghost bitxor_assign_gives = { λ vob other after. BecomesPointwise differ vob other.now after };
@@ -278,7 +278,7 @@ impl<'a, T: Block> BitXorAssign<&'a Vob<T>> for Vob<T> {
     }
 }
 
-impl<T: Block> PartialEq for Vob<T> {
+impl<T: Kernel> PartialEq for Vob<T> {
     ghost eq = { λ vob other. same_bits vob.bits other.bits };
 
     ghost laws = { Prim.search (comparing, rules) };
@@ -294,11 +294,11 @@ impl<T: Block> PartialEq for Vob<T> {
     }
 }
 
-impl<T: Block> Eq for Vob<T> {
+impl<T: Kernel> Eq for Vob<T> {
     ghost laws = { Prim.search (comparing, rules) };
 }
 
-impl<T: Block> Hash for Vob<T> {
+impl<T: Kernel> Hash for Vob<T> {
     ghost hash_input = { λ vob. hash_words T.hash_input T.BitBlock.of_bits T.BITS vob.bits };
 
     ghost respects_eq = { λ vob other same. ap (hash_words T.hash_input T.BitBlock.of_bits T.BITS)

@@ -9,11 +9,11 @@ ghost use Rattle.vob.specs.Order.{IsDifference, bits_ordered, bits_tied};
 
 use crate::vob::Vob;
 use std::cmp::Ordering;
-use vob_block::{Block, Blocks, Xor};
+use vob_block::{Blocks, Kernel, Xor};
 use vob_store::first::first_combined;
 use vob_store::room::block_count;
 
-impl<T: Block> Vob<T> {
+impl<T: Kernel> Vob<T> {
     /// Returns the first index below both lengths at which the bits differ. `None` means that one list
     /// of bits begins the other. Reads each block at most once.
     ///
@@ -35,7 +35,7 @@ impl<T: Block> Vob<T> {
     }
 }
 
-impl<T: Block> PartialOrd for Vob<T> {
+impl<T: Kernel> PartialOrd for Vob<T> {
     ghost partial_cmp = { λ vob other. slice_partial_cmp (λ bit bit'. Some (bool_cmp bit bit'))
         vob.bits other.bits };
 
@@ -47,7 +47,7 @@ impl<T: Block> PartialOrd for Vob<T> {
     }
 }
 
-impl<T: Block> Ord for Vob<T> {
+impl<T: Kernel> Ord for Vob<T> {
     ghost cmp = { λ vob other. slice_cmp bool_cmp vob.bits other.bits };
 
     ghost total = { on_total (λ vob. vob.bits) (lists_total bool_cmp_total) };

@@ -5,11 +5,11 @@ ghost use Rattle.vob.specs.Ranges.{replaced, IsChangedWithin};
 
 use crate::vob::Vob;
 use std::ops::RangeBounds;
-use vob_block::Block;
+use vob_block::Kernel;
 use vob_store::range::{Change, Negate, Set, Unset, change_range};
 use vob_walk::range::cut_range;
 
-impl<T: Block> Vob<T> {
+impl<T: Kernel> Vob<T> {
     /// Sets each bit of the range to `value`, and returns whether a bit changed. The range is cut
     /// at the length. A range that ends before it starts is empty.
     ///

@@ -7,11 +7,11 @@ use crate::vob::Vob;
 use serde::{Described, Deserialize, Deserializer, Format, Serialize, Serializer};
 use std::alloc::Global;
 use std::marker::Model;
-use vob_block::Block;
+use vob_block::Kernel;
 use vob_store::canonical::{is_canonical, mask};
 
 /// Returns the Vob of `len` bits in these blocks if they are canonical, and the blocks if not.
-fn vob_of_parts<T: Block>(len: usize, vec: Vec<T>) -> Result<Vob<T>, Vec<T>>
+fn vob_of_parts<T: Kernel>(len: usize, vec: Vec<T>) -> Result<Vob<T>, Vec<T>>
     ensures taken { IsOk result ↔ IsCanonical len (map T.number vec.items) T.BITS }
     ensures bits { IfOk result (λ vob. vob.bits ≡ unpacking len (map T.number vec.items) T.BITS) }
     ensures back { IfErr result (λ returned. returned ≡ vec) }
@@ -38,7 +38,7 @@ impl<T> Model for RawVob<T> {
     ghost view = { λ raw. record { len = raw.len; blocks = raw.vec.items } };
 }
 
-impl<T: Block> RawVob<T> {
+impl<T: Kernel> RawVob<T> {
     ghost use Rattle.std.specs.Borrow.{Lends, sem};
     ghost use Rattle.vob.specs.contracts.raw.RawVob.{the_row};
     ghost use Rattle.vob.specs.RawLends.{blocks_row};
@@ -116,7 +116,7 @@ impl<T: Block> RawVob<T> {
     }
 }
 
-impl<T: Block> Vob<T> {
+impl<T: Kernel> Vob<T> {
     /// Returns the length and the blocks, with no promise from here on. Takes no memory.
     pub fn into_raw(self) -> RawVob<T>
         ensures len { result.len ≡ length self.bits }
@@ -169,11 +169,11 @@ impl Vob<usize> {
     }
 }
 
-impl<T: Block + Described> Described for Vob<T> {
+impl<T: Kernel + Described> Described for Vob<T> {
     ghost writes = { λ vob. WritesBits T.writes T.number T.BITS vob.bits };
 }
 
-impl<T: Block + Serialize> Serialize for Vob<T> {
+impl<T: Kernel + Serialize> Serialize for Vob<T> {
     /// Writes the length in bits and the blocks, as a `VobRecord` is written.
     fn serialize<S: Serializer>(&self, out: &mut S) -> Result<(), S::Error> {
         out.begin_map(Some(2))?;
@@ -186,15 +186,15 @@ impl<T: Block + Serialize> Serialize for Vob<T> {
     }
 }
 
-impl<'de, T: Block + Deserialize<'de>> Deserialize<'de> for Vob<T> {
-    /// Reads what `serialize` writes. It is an error of the format if the blocks don't fit the
-    /// length, or an unused bit is 1.
+impl<'de, T: Kernel + Deserialize<'de>> Deserialize<'de> for Vob<T> {
+    /// Reads what `serialize` writes. It is an error of the format if `RawVob::into_vob` doesn't take
+    /// that length and these blocks.
     fn deserialize<F: Format>(
         alloc: Global,
         from: &mut Deserializer<'de, '_, F>,
     ) -> Result<Vob<T>, F::Error> {
         let read = VobRecord::<T>::deserialize(alloc, from)?;
-        match vob_of_parts(read.len, read.vec) {
+        match RawVob::from_parts(read.len, read.vec).into_vob() {
             Ok(vob) => Ok(vob),
             Err(_) => Err(from.custom("the blocks are not the storage of a Vob of that length")),
         }

@@ -1,12 +1,12 @@
 //! Bits put in reverse order or rotated, in place. vob 4.0.1 has none of these calls.
-ghost use Rattle.std.specs.Prelude.{◌≡◌, ◌-◌, ◌≤◌, ◌++◌, drop, length, reverse, take};
+ghost use Rattle.std.specs.Prelude.{◌≡◌, ◌-◌, ◌%◌, ◌≤◌, ◌++◌, drop, length, reverse, take};
 ghost use Rattle.vob.specs.Moves.{rotated, rotated_back, IsReversed, IsReversedBetween, IsRotated};
 
 use crate::vob::Vob;
-use vob_block::Block;
+use vob_block::Kernel;
 use vob_store::reverse::reverse_bits_between;
 
-impl<T: Block> Vob<T> {
+impl<T: Kernel> Vob<T> {
     /// Reverses the order of the bits: the last one becomes the first. Takes no memory.
     ///
     /// ```
@@ -51,6 +51,9 @@ impl<T: Block> Vob<T> {
     /// ```
     pub fn rotate_right(&mut self, n: usize)
         ensures bits { self.new.bits ≡ rotated_back n self.old.bits }
+
+        ensures moved { IsRotated (length self.old.bits - n % length self.old.bits)
+            self.old.bits self.new.bits }
 
         // Rotated left by `n` again, they are the old ones.
         ensures each { IsRotated n self.new.bits self.old.bits }

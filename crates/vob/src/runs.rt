@@ -4,17 +4,17 @@ ghost use Rattle.std.specs.Prelude.{◌≡◌, ◌≤◌, ◌+◌, length, map, 
 ghost use Rattle.std.specs.Iterator.Runs.{YieldsInOrder, YieldsInReverse};
 ghost use Rattle.vob_block.specs.Packing.{need};
 ghost use Rattle.vob_walk.specs.Matches.{ForSomeRange};
-ghost use Rattle.vob_walk.specs.Runs.{GivesRun, IsOverRange, runs_of};
+ghost use Rattle.vob_walk.specs.Runs.{AreRuns, GivesRun, IsOverRange, runs_of};
 ghost use Rattle.vob_walk.specs.RunsBack.{GivesLastRun};
 ghost use Rattle.vob.specs.Room.{HasNoRoom, IsFirstRoom};
 
 use crate::vob::Vob;
 use std::ops::RangeBounds;
-use vob_block::Block;
+use vob_block::Kernel;
 pub use vob_walk::Runs;
 use vob_walk::range::cut_range;
 
-impl<T: Block> Vob<T> {
+impl<T: Kernel> Vob<T> {
     /// Returns a walk over the runs of set bits, in order: each as the range of its indices, as
     /// long as it can be.
     ///
@@ -27,6 +27,7 @@ impl<T: Block> Vob<T> {
     /// ```
     pub fn runs(&self) -> Runs<'_, T>
         ensures rest { result.rest ≡ runs_of self.now.bits }
+        ensures each { AreRuns self.now.bits result.rest }
         ensures longest { length result.rest ≤ usize.MAX }
         ensures runs { YieldsInOrder GivesRun (λ walk. walk.rest) }
         ensures runs_back { YieldsInReverse GivesLastRun (λ walk. walk.rest) }
@@ -51,6 +52,7 @@ impl<T: Block> Vob<T> {
     /// ```
     pub fn unset_runs(&self) -> Runs<'_, T>
         ensures rest { result.rest ≡ runs_of (map not self.now.bits) }
+        ensures each { AreRuns (map not self.now.bits) result.rest }
         ensures longest { length result.rest ≤ usize.MAX }
         ensures runs { YieldsInOrder GivesRun (λ walk. walk.rest) }
         ensures runs_back { YieldsInReverse GivesLastRun (λ walk. walk.rest) }
@@ -65,8 +67,8 @@ impl<T: Block> Vob<T> {
 
     /// Returns a walk over the runs of set bits within a range, in order. A run that goes on past the
     /// range is cut there. Every pair of bounds is accepted, and the range is cut at the length. Each
-    /// block is read at most once, but one twice if both ends are pulled. That of a start past 0 is read
-    /// at once.
+    /// block that holds an index of the range is read at most once, but one twice if both ends are
+    /// pulled. No other is read. That of a start past 0 is read at once.
     ///
     /// ```
     /// let vob = vob::vob!(alloc; true, true, false, true, true)?;
@@ -77,9 +79,9 @@ impl<T: Block> Vob<T> {
     /// ```
     pub fn runs_in<R: RangeBounds<usize>>(&self, range: R) -> Runs<'_, T>
         ensures within { R.has_bounds range
-            → IsOverRange (R.start_bound range) (R.end_bound range) self.now.bits result }
+            → IsOverRange (R.start_bound range) (R.end_bound range) self.now.bits T.BITS result }
         ensures some { ForSomeRange (length self.now.bits) (λ low high.
-            IsOverRange low high self.now.bits result) }
+            IsOverRange low high self.now.bits T.BITS result) }
         ensures longest { length result.rest ≤ usize.MAX }
         ensures runs { YieldsInOrder GivesRun (λ walk. walk.rest) }
         ensures runs_back { YieldsInReverse GivesLastRun (λ walk. walk.rest) }

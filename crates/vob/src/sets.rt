@@ -1,23 +1,23 @@
 //! A Vob as a set of indices, those of its set bits: search, rank and select, and comparison with
 //! another set. vob 4.0.1 has none of these calls.
 ghost use Rattle.std.specs.Prelude.{◌≡◌, ◌≢◌, ◌↔◌, ℕ, ◌<◌, ◌≤◌, ◌/◌, ◌*◌, ◌&&◌, ◌||◌, true, false, take};
-ghost use Rattle.std.specs.Prelude.{length, replicate, slice_index_or, All, Err, IfOk, IfSome, IsTrue};
+ghost use Rattle.std.specs.Prelude.{length, replicate, slice_index_or, All, Any, Err, IfErr, IfOk, IfSome, IsErr, IsTrue};
 ghost use Rattle.std.specs.Prelude.{MatchOption, None, IsOk, OnErr, OnOk, slice_set, ◌+◌, ◌++◌, ◌-◌};
 ghost use Rattle.vob_block.specs.Pointwise.{differ, pointwise, without};
 ghost use Rattle.vob.specs.Bits.{AreCombined, IsWritten, LosesBits, count_of};
 ghost use Rattle.vob.specs.Extending.{RefusesMore};
-ghost use Rattle.vob.specs.Indices.{HasSet, IsFirstOutside, IsMadeOf, IsSetAt};
+ghost use Rattle.vob.specs.Indices.{HasSet, IsFirstOutside, IsMadeOf, IsSetAt, MayRefuseIndices};
 ghost use Rattle.vob.specs.Sets.{AreDisjoint, HasBit, HasOnly, HasOther, HasShared, IsBit, IsIndexOfRank, IsNext, IsPrevious, IsSubset};
 ghost use Rattle.vob.specs.Vob.{HaveSameLength};
 
 use crate::error::{IndicesError, VobError};
 use crate::vob::Vob;
 use std::alloc::Global;
-use vob_block::{And, Block, Combine, Or, Without, Xor};
+use vob_block::{And, Combine, Kernel, Or, Without, Xor};
 use vob_store::combined::{count_combined, has_none};
 use vob_walk::{count_ones_in, index_of_rank, next_index, previous_index};
 
-impl<T: Block> Vob<T> {
+impl<T: Kernel> Vob<T> {
     /// Makes the Vob of `len` bits of which those at the given indices are set. An index may
     /// stand among them more than once. Fails if an index is at or past `len`, and names the
     /// first one, whether or not there is memory. Fails if memory runs out; length 0 takes none.
@@ -37,6 +37,7 @@ impl<T: Block> Vob<T> {
             → (result ≡ Err (IndicesError.OutOfRange position))
             ↔ IsFirstOutside len indices.now position }
         ensures nothing { len ≡ 0 → result ≢ Err IndicesError.Memory }
+        ensures refused { IfErr result (MayRefuseIndices len indices.now) }
     {
         if let Ok(mut vob) = Vob::from_elem_with_storage_type(alloc, false, len) {
             if vob.set_each(indices) {
@@ -64,6 +65,8 @@ impl<T: Block> Vob<T> {
             → (result ≡ Err (IndicesError.OutOfRange position))
             ↔ IsFirstOutside (length self.old.bits) indices.now position }
         ensures memory { result ≢ Err IndicesError.Memory }
+        ensures refused { IfErr result (MayRefuseIndices (length self.old.bits) indices.now) }
+        ensures outside { IsErr result ↔ Any (λ i. length self.old.bits ≤ i) indices.now }
         ensures capacity { self.new.capacity ≡ self.old.capacity }
     {
         if let Some(position) = first_outside(indices, self.len()) {
@@ -85,6 +88,7 @@ impl<T: Block> Vob<T> {
         ensures ok { OnOk result (self.new.bits ≡ slice_set (self.old.bits
             ++ replicate (index + 1 - length self.old.bits) false) index true) }
         ensures err { OnErr result (self.new.bits ≡ self.old.bits) }
+        ensures err_capacity { OnErr result (self.new.capacity ≡ self.old.capacity) }
         ensures refused { RefusesMore T.BITS self.old (index + 1 - length self.old.bits) result }
 
         // Within the length nothing is asked for.

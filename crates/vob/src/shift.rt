@@ -7,12 +7,12 @@ ghost use Rattle.vob.specs.Moves.{IsMovedDown, IsMovedUp};
 
 use crate::vob::Vob;
 use std::ops::RangeBounds;
-use vob_block::Block;
+use vob_block::Kernel;
 use vob_store::load_store::Stretch;
 use vob_store::shift::move_bits;
 use vob_walk::range::cut_range;
 
-impl<T: Block> Vob<T> {
+impl<T: Kernel> Vob<T> {
     /// Moves each bit up by `n` indices. The bits below `n` become unset, and those that pass the
     /// length are dropped. Takes no memory.
     ///

@@ -11,7 +11,7 @@ use crate::vob::Vob;
 use std::alloc::{AllocError, Global};
 use std::error::Error;
 use std::fmt;
-use vob_block::Block;
+use vob_block::Kernel;
 use vob_store::bytes::block_bytes;
 use vob_store::text::write_digits;
 
@@ -45,7 +45,7 @@ impl From<AllocError> for DigitsError {
     }
 }
 
-impl<T: Block> fmt::Display for Vob<T> {
+impl<T: Kernel> fmt::Display for Vob<T> {
     ghost output = { λ vob. Some (map digit vob.bits) };
 
     /// Writes a digit for each bit, that of index 0 first, and nothing else. `from_digits` reads
@@ -55,7 +55,7 @@ impl<T: Block> fmt::Display for Vob<T> {
     }
 }
 
-impl<T: Block> fmt::Debug for Vob<T> {
+impl<T: Kernel> fmt::Debug for Vob<T> {
     ghost debug_output = { λ vob. Some (debug_text vob.bits) };
 
     /// Writes `Vob[`, a digit for each bit, that of index 0 first, and `]`, as vob 4.0.1 does.
@@ -87,7 +87,7 @@ fn first_bad(text: &[u8]) -> Option<usize>
 }
 
 /// Adds the bits of some digits to an empty Vob, in the room that is there.
-fn push_digits<T: Block>(vob: &mut Vob<T>, digits: &[u8])
+fn push_digits<T: Kernel>(vob: &mut Vob<T>, digits: &[u8])
     requires empty { vob.old.bits ≡ [] }
     requires digits { All IsDigit digits.now }
     requires room { length digits.now ≤ vob.old.capacity }
@@ -99,7 +99,7 @@ fn push_digits<T: Block>(vob: &mut Vob<T>, digits: &[u8])
     }
 }
 
-impl<T: Block> Vob<T> {
+impl<T: Kernel> Vob<T> {
     /// Makes a Vob of the bits of some digits, that of index 0 first. Fails at the first byte
     /// that is neither `0` nor `1`, and names its index. Fails if memory runs out; no digits take
     /// none.

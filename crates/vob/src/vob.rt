@@ -16,7 +16,7 @@ use crate::iter::StorageIter;
 use std::alloc::{AllocError, Global};
 use std::marker::Model;
 use std::ops::Index;
-use vob_block::{Block, Blocks};
+use vob_block::{Blocks, Kernel};
 use vob_store::bytes::byte_blocks;
 use vob_store::fill::filled_blocks;
 use vob_store::mask::truncate_to;
@@ -27,13 +27,13 @@ use vob_store::single::{append_bit, first_place, stored_bit, write_bit};
 /// A vector of bits in blocks of the type `T`. Bit `i` stands in block `i / T::BITS`, at the place
 /// `i % T::BITS`, and the unused bits of the last block are 0.
 #[derive(Drop)]
-pub struct Vob<T: Block = usize> {
+pub struct Vob<T: Kernel = usize> {
     // In bits.
     pub(crate) len: usize,
     pub(crate) vec: Vec<T>,
 }
 
-impl<T: Block> Model for Vob<T> {
+impl<T: Kernel> Model for Vob<T> {
     ghost use Rattle.std.specs.Prelude.{◌*◌, ◌-◌, ◌^◌, map, min, vec_capacity};
     ghost use Rattle.vob_block.specs.Packing.{unpacking, IsCanonical};
     ghost use Rattle.vob.specs.Vob.{BitVector};
@@ -48,7 +48,7 @@ impl<T: Block> Model for Vob<T> {
     ghost invariant = { λ v. IsCanonical v.len (map T.number v.vec.items) T.BITS };
 }
 
-impl<T: Block> Vob<T> {
+impl<T: Kernel> Vob<T> {
     /// Makes an empty Vob with no room.
     pub(crate) fn empty(alloc: Global) -> Vob<T>
         ensures { result.bits ≡ [] }
@@ -239,6 +239,7 @@ impl<T: Block> Vob<T> {
     pub fn push(&mut self, value: bool) -> Result<(), VobError>
         ensures ok { OnOk result (self.new.bits ≡ self.old.bits ++ value ∷ []) }
         ensures err { OnErr result (self.new.bits ≡ self.old.bits) }
+        ensures err_capacity { OnErr result (self.new.capacity ≡ self.old.capacity) }
 
         // The greatest length is refused first, and memory only if there is no room.
         ensures refused { RefusesMore T.BITS self.old 1 result }
@@ -418,7 +419,7 @@ impl Vob<usize> {
     }
 }
 
-impl<T: Block> Index<usize> for Vob<T> {
+impl<T: Kernel> Index<usize> for Vob<T> {
     type Output = bool;
 
     ghost can_index = { λ vob index. index < length vob.bits };

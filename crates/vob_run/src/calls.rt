@@ -14,7 +14,7 @@ pub(crate) mod write;
 
 use crate::command::Reply;
 use vob::VobError;
-use vob_block::Block;
+use vob_block::Kernel;
 
 // The reply to a call that was refused.
 fn refused<T>(refusal: VobError) -> Reply<T>
@@ -24,7 +24,7 @@ fn refused<T>(refusal: VobError) -> Reply<T>
 }
 
 // The reply to a call that failed, or that returns nothing.
-fn reply_to<T: Block>(called: Result<(), VobError>) -> Reply<T>
+fn reply_to<T: Kernel>(called: Result<(), VobError>) -> Reply<T>
     ensures ok { OnOk called (answer_of T.number result ≡ done) }
     ensures err { IfErr called (λ refusal.
         answer_of T.number result ≡ refused (refusal_number refusal)) }

@@ -10,10 +10,10 @@ use crate::calls::{grow, make, make_usize, pair, raw, read, walk, write};
 pub use crate::command::{Command, Reply, UsizeCommand};
 use std::alloc::{AllocError, Global};
 use vob::Vob;
-use vob_block::Block;
+use vob_block::Kernel;
 
 // Runs one command.
-fn run_one<T: Block>(alloc: Global, vobs: &mut Vec<Vob<T>>, command: &Command<T>) -> Reply<T>
+fn run_one<T: Kernel>(alloc: Global, vobs: &mut Vec<Vob<T>>, command: &Command<T>) -> Reply<T>
     ensures { IsStep T.BITS (lists vobs.old.items) (call_of T.number command.now)
         (answer_of T.number result) (lists vobs.new.items) }
 {
@@ -81,7 +81,7 @@ fn run_one<T: Block>(alloc: Global, vobs: &mut Vec<Vob<T>>, command: &Command<T>
 /// Runs the commands in order on the numbered Vobs, and appends one reply for each. Fails if there
 /// is no memory for the replies; then no command was run. A command that fails, or that names no
 /// Vob, changes nothing and has its own reply.
-pub fn run<T: Block>(
+pub fn run<T: Kernel>(
     alloc: Global,
     commands: &[Command<T>],
     vobs: &mut Vec<Vob<T>>,

@@ -1,6 +1,7 @@
 -- The first run from an index on, by two searches over the blocks.
 use Rattle.std.specs.Prelude.{◌==◌, Some, None}
 use Rattle.std.specs.Iterator.Runs.{YieldsInOrder}
+use Rattle.std.specs.declared.ops.Bound.TheVariants.{Included, Excluded}
 use Rattle.std.specs.declared.ops.Range.{Range}
 use Rattle.std.proofs.Common.{◌≡◌, ◌≢◌, ℕ, ◌+◌, ◌-◌, ◌/◌, ◌<◌, ◌≤◌, min, true, false, cond, List}
 use Rattle.std.proofs.Common.{Bool, ◌∷◌, length, map, refl, sym, ap, ◌∙◌, arith, inl, inr, not, div-add-mod'}
@@ -9,16 +10,17 @@ use Rattle.std.proofs.lemmas.Bool.{cases_eq, cases_lt, eq-eqb, ne_eqb}
 use Rattle.std.proofs.lemmas.Nat.{div_below, le-div}
 use Rattle.vob_block.specs.Packing.{item, need, bit_at, unpacking}
 use Rattle.vob_block.specs.Reading.{Reading}
-use Rattle.vob_block.proofs.NeedLemmas.{div-lt-need}
+use Rattle.vob_block.proofs.NeedLemmas.{div-lt-need, need_least}
 use Rattle.vob_block.proofs.PackingLemmas.{get_or-unpacking, length-unpacking}
 use Rattle.vob_walk.specs.Next.{FindsUp}
 use Rattle.vob_walk.proofs.NextLemmas.{need_most}
-use Rattle.vob_walk.specs.Matches.{has_value}
+use Rattle.vob_walk.specs.Matches.{blocks_met, has_value, IsRangeOf}
 use Rattle.vob_walk.specs.RunSteps.{IsOnRuns, seen, unread_from}
 use Rattle.vob_walk.specs.Runs.{IsFirstFrom, IsFirstRun, RunWalk, GivesRun, runs_from}
 use Rattle.vob_walk.proofs.RunListLemmas.{IsFirstRun-between, runs_from-none, runs_from-first}
 use Rattle.vob_walk.proofs.SeenLemmas.{has_value-there, has_value-only, has_value-other, has_value-unset}
 use Rattle.vob_walk.proofs.SeenLemmas.{length-seen, seen-above}
+use Rattle.vob_walk.proofs.WindowLemmas.{IsRangeOf-own, blocks_met-nothing, blocks_met-window}
 
 -- ---- among blocks
 
@@ -258,6 +260,58 @@ module _ {X : Type 0} (w : ℕ) (wide : 0 < w) (number : X → ℕ) (value : Boo
           );
           again = refl;
         }
+
+-- ---- where a walk begins
+
+module _ (w : ℕ) (wide : 0 < w) (start stop : ℕ) (order : start ≤ stop) where
+  abbrev met : ℕ
+  met = blocks_met (Included start) (Excluded stop) stop w
+
+  own : IsRangeOf (Included start) (Excluded stop) stop start stop
+  own = IsRangeOf-own start stop stop order (omega arith)
+
+  -- the block of its first index is in hand
+  pub met-held : 0 < start → start < stop → unread_from w stop start + 1 ≡ met
+  met-held some less = omega (
+    arith,
+    unread-some w wide stop start some,
+    div-lt-need w wide stop start less,
+    blocks_met-window w wide own less,
+  )
+
+  -- or none is
+  pub met-unread : ((0 < start) × (start < stop) → ⊥) → unread_from w stop start ≡ met
+  met-unread none = elim (cases_eq start 0) [
+    | inl zero ↦
+        let all = ap (λ b. need stop w - cond b 0 (start / w + 1)) (eq-eqb start 0 zero) in
+        elim (cases_lt start stop) [
+          | inl less ↦ omega (
+            arith,
+            all,
+            ap (λ k. k / w) zero,
+            div_below 0 w 1 wide (omega arith),
+            blocks_met-window w wide own less,
+          )
+          | inr past ↦ omega (
+            arith,
+            all,
+            need_most w wide stop,
+            need_least w wide stop 0 (omega (arith, order)),
+            blocks_met-nothing w wide own (omega (arith, order)),
+          )
+        ]
+    | inr later ↦ elim (cases_lt start stop) [
+      | inl less ↦ absurd (none (omega arith, less))
+      | inr past ↦
+          let same : start ≡ stop = omega (arith, order) in omega (
+            arith,
+            unread-some w wide stop start (omega arith),
+            need_most w wide stop,
+            ap (λ k. k / w) same,
+            blocks_met-nothing w wide own same,
+          )
+    ]
+  ]
 
 -- what is still to come grows fewer by each run that is given
 pub fewer_left : (walk after : RunWalk) (run : Range ℕ) → GivesRun walk (Some run) after

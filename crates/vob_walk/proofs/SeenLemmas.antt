@@ -13,11 +13,12 @@ use Rattle.std.proofs.lemmas.List.{get_or-append_right}
 use Rattle.std.proofs.lemmas.List.FromFn.{length-map-range_with_len, get_or-map-range_with_len}
 use Rattle.vob_block.specs.Packing.{item, need, packing, unpacking}
 use Rattle.vob_block.proofs.PackingLemmas.{bit-in_blocks, get_or-unpacking, length-unpacking, true_inside}
-use Rattle.vob_walk.specs.Matches.{has_value, within, IsRangeOf}
+use Rattle.vob_walk.specs.Matches.{blocks_met, has_value, within, IsRangeOf}
 use Rattle.vob_walk.specs.Runs.{AreRuns, IsMaximalRun, IsOverRange, RunWalk, kept, runs_of}
 use Rattle.vob_walk.specs.RunSteps.{seen, IsOnRuns}
 use Rattle.vob_walk.proofs.MatchesLemmas.{within-there, within-before, within-behind}
 use Rattle.vob_walk.proofs.RunListLemmas.{AreRuns-only, length-runs_from-le}
+use Rattle.vob_walk.proofs.WindowLemmas.{blocks_met-same}
 
 -- ---- a bit of a value
 
@@ -178,18 +179,17 @@ module _ (w : ℕ) (wide : 0 < w) (bits : List Bool) (xs : List ℕ) (blocks : x
 
     -- so a walk over those from the start on is over the bits that the range keeps
     pub IsOverRange-walk : {walk : RunWalk} → walk.bits ≡ seen true start (unpacking stop xs w)
-        → walk.rest ≡ runs_of walk.bits → IsOverRange low high bits walk
-    IsOverRange-walk sees rest = record {
-      rest = rest ∙ ap runs_of sees
-          ∙ runs_of-kept bits range (unpacking stop xs w) (length-unpacking stop xs w) same_below;
+        → walk.rest ≡ runs_of walk.bits
+        → walk.reads + walk.left ≡ blocks_met (Included start) (Excluded stop) stop w
+        → IsOverRange low high bits w walk
+    IsOverRange-walk {walk} sees rest reads = record {
+      rest = same_rest;
+      runs = (AreRuns-only (kept low high bits) walk.rest).0 same_rest;
+      reads = reads ∙ blocks_met-same w wide range;
       each = λ i. ap (λ some. item some i) sees
           ∙ seen-kept bits range (unpacking stop xs w) (length-unpacking stop xs w) same_below i;
     }
-
-pub IsRangeOf-itself : (len start stop : ℕ) → start ≤ stop → stop ≤ len
-    → IsRangeOf (Included start) (Excluded stop) len start stop
-IsRangeOf-itself len start stop order fits = record {
-  order = order;
-  inside = fits;
-  each = λ i below. refl;
-}
+      where
+        same_rest : walk.rest ≡ runs_of (kept low high bits)
+        same_rest = rest ∙ ap runs_of sees
+            ∙ runs_of-kept bits range (unpacking stop xs w) (length-unpacking stop xs w) same_below

@@ -195,3 +195,22 @@ module _ (w : ℕ) (wide : 0 < w) {low high : Bound ℕ} {n start stop : ℕ}
       sym (length-filter meets (range_with_len 0 n))
       ∙ ap length (indices_where-nothing meets 0 n
       (λ k from below. meets-nothing k (λ i first last here. omega arith)))
+
+  pub blocks_met-most : blocks_met low high n w ≤ need stop w
+  blocks_met-most = elim (cases_lt start stop) [
+    | inl some ↦ omega (arith, blocks_met-window some)
+    | inr past ↦ omega (arith, blocks_met-nothing (omega (arith, window.order)))
+  ]
+
+-- the window itself meets the same
+pub blocks_met-same : (w : ℕ) → 0 < w → {low high : Bound ℕ} {n start stop : ℕ}
+    → IsRangeOf low high n start stop
+    → blocks_met (Included start) (Excluded stop) stop w ≡ blocks_met low high n w
+blocks_met-same w wide {low} {high} {n} {start} {stop} window =
+    let own = IsRangeOf-own start stop stop window.order (omega arith) in
+    elim (cases_lt start stop) [
+      | inl some ↦ blocks_met-window w wide own some ∙ sym (blocks_met-window w wide window some)
+      | inr past ↦
+          let empty : start ≡ stop = omega (arith, window.order) in
+          blocks_met-nothing w wide own empty ∙ sym (blocks_met-nothing w wide window empty)
+    ]

@@ -6,7 +6,7 @@ use Rattle.std.specs.Iterator.{YieldsFirst}
 use Rattle.std.specs.declared.ops.Bound.{Bound}
 use Rattle.std.specs.declared.ops.Range.{Range}
 use Rattle.vob_block.specs.Packing.{item}
-use Rattle.vob_walk.specs.Matches.{within}
+use Rattle.vob_walk.specs.Matches.{blocks_met, within}
 
 -- a run starts at each set bit whose predecessor is unset or missing
 abbrev pub starts_run : List Bool → ℕ → Bool
@@ -71,19 +71,23 @@ pub record GivesRun (walk : RunWalk) (answer : Option (Range ℕ)) (after : RunW
   pub rises : walk.reads ≤ after.reads
   pub again : after.again ≡ walk.again
 
+-- a list has each run of the bits, in their order, and so each set bit in one of them
+pub record AreRuns (bits : List Bool) (runs : List (Range ℕ)) : Type 0 where
+  pub each : All (λ run. IsMaximalRun bits run.start run.end) runs
+  pub order : AllPairs (λ run next. run.end < next.start) runs
+  pub all : (i : ℕ) → item bits i ≡ true → Any (λ run. (run.start ≤ i) × (i < run.end)) runs
+
 -- the bits that a range keeps: those whose index isn't within it are unset
 -- Example: of 1011 from 1 below 3: 0010
 abbrev pub kept : Bound ℕ → Bound ℕ → List Bool → List Bool
 kept low high bits =
     map (λ i. within low high i && item bits i) (range_with_len 0 (length bits))
 
--- a walk over the runs of the bits that a range keeps
-pub record IsOverRange (low high : Bound ℕ) (bits : List Bool) (walk : RunWalk) : Type 0 where
-  pub rest : walk.rest ≡ runs_of (kept low high bits)
-  pub each : (i : ℕ) → item walk.bits i ≡ item (kept low high bits) i
-
--- a list has each run of the bits, in their order, and so each set bit in one of them
-pub record AreRuns (bits : List Bool) (runs : List (Range ℕ)) : Type 0 where
-  pub each : All (λ run. IsMaximalRun bits run.start run.end) runs
-  pub order : AllPairs (λ run next. run.end < next.start) runs
-  pub all : (i : ℕ) → item bits i ≡ true → Any (λ run. (run.start ≤ i) × (i < run.end)) runs
+-- a walk over the runs of the bits that a range keeps. No blocks are read but those that hold an index
+-- of the range
+pub record IsOverRange (low high : Bound ℕ) (bits : List Bool) (width : ℕ) (walk : RunWalk) : Type 0
+  where
+    pub rest : walk.rest ≡ runs_of (kept low high bits)
+    pub runs : AreRuns (kept low high bits) walk.rest
+    pub each : (i : ℕ) → item walk.bits i ≡ item (kept low high bits) i
+    pub reads : walk.reads + walk.left ≡ blocks_met low high (length bits) width

@@ -13,16 +13,16 @@ use crate::pairs::Pairs;
 use crate::walk::{End, IndexWalk};
 use std::iter::FusedIterator;
 use std::marker::Model;
-use vob_block::{Block, Blocks, Combine};
+use vob_block::{Blocks, Combine, Kernel};
 
 /// A walk over the indices of the set bits of two Vobs combined, from both ends. It reads the
 /// blocks of both pair by pair, each pair at most once. vob 4.0.1 has no walk like it.
 #[derive(Drop)]
-pub struct CombinedBits<'a, C: Combine, T: Block> {
+pub struct CombinedBits<'a, C: Combine, T: Kernel> {
     cursor: Cursor<T, Pairs<'a, C, T>>,
 }
 
-impl<'a, C: Combine, T: Block> Model for CombinedBits<'a, C, T> {
+impl<'a, C: Combine, T: Kernel> Model for CombinedBits<'a, C, T> {
     ghost use Rattle.vob_walk.specs.Walk.{Walk};
 
     ghost Value = { Walk };
@@ -30,7 +30,7 @@ impl<'a, C: Combine, T: Block> Model for CombinedBits<'a, C, T> {
     ghost view = { λ walk. walk.cursor };
 }
 
-impl<'a, C: Combine, T: Block> CombinedBits<'a, C, T> {
+impl<'a, C: Combine, T: Kernel> CombinedBits<'a, C, T> {
     /// Makes a walk over the first `len` bits of some blocks, combined with those of other blocks.
     /// Its reads are those of the blocks of which more were read.
     pub fn over(own: Blocks<'a, T>, other: Blocks<'a, T>, len: usize) -> CombinedBits<'a, C, T>
@@ -56,7 +56,7 @@ impl<'a, C: Combine, T: Block> CombinedBits<'a, C, T> {
     }
 }
 
-impl<'a, C: Combine, T: Block> Iterator for CombinedBits<'a, C, T> {
+impl<'a, C: Combine, T: Kernel> Iterator for CombinedBits<'a, C, T> {
     type Item = usize;
 
     ghost next_gives = { GivesFirst };
@@ -78,7 +78,7 @@ impl<'a, C: Combine, T: Block> Iterator for CombinedBits<'a, C, T> {
     }
 }
 
-impl<'a, C: Combine, T: Block> DoubleEndedIterator for CombinedBits<'a, C, T> {
+impl<'a, C: Combine, T: Kernel> DoubleEndedIterator for CombinedBits<'a, C, T> {
     ghost next_back_gives = { GivesLast };
 
     #[inline(always)]
@@ -87,9 +87,9 @@ impl<'a, C: Combine, T: Block> DoubleEndedIterator for CombinedBits<'a, C, T> {
     }
 }
 
-impl<'a, C: Combine, T: Block> FusedIterator for CombinedBits<'a, C, T> {}
+impl<'a, C: Combine, T: Kernel> FusedIterator for CombinedBits<'a, C, T> {}
 
-impl<'a, C: Combine, T: Block> IndexWalk for CombinedBits<'a, C, T> {
+impl<'a, C: Combine, T: Kernel> IndexWalk for CombinedBits<'a, C, T> {
     ghost walk = { λ walk. walk };
 
     fn pull(&mut self, side: End) -> Option<usize> {

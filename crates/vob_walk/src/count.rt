@@ -9,11 +9,11 @@ ghost use Rattle.vob_walk.specs.Cursor.{unread};
 use crate::range::blocks_of;
 use crate::source::Source;
 use crate::window::{Window, masked};
-use vob_block::{BitBlock, Block, Blocks};
+use vob_block::{BitBlock, Blocks, Kernel};
 
 /// Counts the set bits from index `start` to below `stop`. Reads each block that holds one of these
 /// indices once, and no other. vob 4.0.1 has no public call like it.
-pub fn count_ones_in<T: Block>(blocks: &mut Blocks<'_, T>, start: usize, stop: usize) -> usize
+pub fn count_ones_in<T: Kernel>(blocks: &mut Blocks<'_, T>, start: usize, stop: usize) -> usize
     requires order { start ≤ stop }
     requires enough { need stop T.BITS ≤ length blocks.old.items }
     ensures ones { result ≡ ones_between T.BITS (map T.number blocks.old.items) start stop }

@@ -12,16 +12,16 @@ use crate::walk::{End, IndexWalk};
 use std::iter::FusedIterator;
 use std::marker::Model;
 use std::ops::RangeBounds;
-use vob_block::{Block, Blocks};
+use vob_block::{Blocks, Kernel};
 
 /// A walk over the indices of the set bits within a range, from both ends. It reads each block that
 /// holds an index of the range at most once.
 #[derive(Drop)]
-pub struct IterSetBits<'a, T: Block> {
+pub struct IterSetBits<'a, T: Kernel> {
     cursor: Cursor<T, Blocks<'a, T>>,
 }
 
-impl<'a, T: Block> Model for IterSetBits<'a, T> {
+impl<'a, T: Kernel> Model for IterSetBits<'a, T> {
     ghost use Rattle.vob_walk.specs.Walk.{Walk};
 
     ghost Value = { Walk };
@@ -29,7 +29,7 @@ impl<'a, T: Block> Model for IterSetBits<'a, T> {
     ghost view = { λ walk. walk.cursor };
 }
 
-impl<'a, T: Block> IterSetBits<'a, T> {
+impl<'a, T: Kernel> IterSetBits<'a, T> {
     /// Makes a walk over the first `len` bits of some blocks. Every pair of bounds is accepted. An index
     /// belongs to the range if it is below `len` and meets both bounds as whole numbers.
     pub fn over<R: RangeBounds<usize>>(
@@ -60,7 +60,7 @@ impl<'a, T: Block> IterSetBits<'a, T> {
     }
 }
 
-impl<'a, T: Block> Iterator for IterSetBits<'a, T> {
+impl<'a, T: Kernel> Iterator for IterSetBits<'a, T> {
     type Item = usize;
 
     ghost next_gives = { GivesFirst };
@@ -82,7 +82,7 @@ impl<'a, T: Block> Iterator for IterSetBits<'a, T> {
     }
 }
 
-impl<'a, T: Block> DoubleEndedIterator for IterSetBits<'a, T> {
+impl<'a, T: Kernel> DoubleEndedIterator for IterSetBits<'a, T> {
     ghost next_back_gives = { GivesLast };
 
     #[inline(always)]
@@ -91,9 +91,9 @@ impl<'a, T: Block> DoubleEndedIterator for IterSetBits<'a, T> {
     }
 }
 
-impl<'a, T: Block> FusedIterator for IterSetBits<'a, T> {}
+impl<'a, T: Kernel> FusedIterator for IterSetBits<'a, T> {}
 
-impl<'a, T: Block> IndexWalk for IterSetBits<'a, T> {
+impl<'a, T: Kernel> IndexWalk for IterSetBits<'a, T> {
     ghost walk = { λ walk. walk };
 
     fn pull(&mut self, side: End) -> Option<usize> {
@@ -104,11 +104,11 @@ impl<'a, T: Block> IndexWalk for IterSetBits<'a, T> {
 /// A walk over the indices of the unset bits within a range, from both ends. It reads each block that
 /// holds an index of the range at most once.
 #[derive(Drop)]
-pub struct IterUnsetBits<'a, T: Block> {
+pub struct IterUnsetBits<'a, T: Kernel> {
     cursor: Cursor<T, Blocks<'a, T>>,
 }
 
-impl<'a, T: Block> Model for IterUnsetBits<'a, T> {
+impl<'a, T: Kernel> Model for IterUnsetBits<'a, T> {
     ghost use Rattle.vob_walk.specs.Walk.{Walk};
 
     ghost Value = { Walk };
@@ -116,7 +116,7 @@ impl<'a, T: Block> Model for IterUnsetBits<'a, T> {
     ghost view = { λ walk. walk.cursor };
 }
 
-impl<'a, T: Block> IterUnsetBits<'a, T> {
+impl<'a, T: Kernel> IterUnsetBits<'a, T> {
     /// Makes a walk over the first `len` bits of some blocks. Every pair of bounds is accepted. An index
     /// belongs to the range if it is below `len` and meets both bounds as whole numbers.
     pub fn over<R: RangeBounds<usize>>(
@@ -148,7 +148,7 @@ impl<'a, T: Block> IterUnsetBits<'a, T> {
     }
 }
 
-impl<'a, T: Block> Iterator for IterUnsetBits<'a, T> {
+impl<'a, T: Kernel> Iterator for IterUnsetBits<'a, T> {
     type Item = usize;
 
     ghost next_gives = { GivesFirst };
@@ -170,7 +170,7 @@ impl<'a, T: Block> Iterator for IterUnsetBits<'a, T> {
     }
 }
 
-impl<'a, T: Block> DoubleEndedIterator for IterUnsetBits<'a, T> {
+impl<'a, T: Kernel> DoubleEndedIterator for IterUnsetBits<'a, T> {
     ghost next_back_gives = { GivesLast };
 
     #[inline(always)]
@@ -179,9 +179,9 @@ impl<'a, T: Block> DoubleEndedIterator for IterUnsetBits<'a, T> {
     }
 }
 
-impl<'a, T: Block> FusedIterator for IterUnsetBits<'a, T> {}
+impl<'a, T: Kernel> FusedIterator for IterUnsetBits<'a, T> {}
 
-impl<'a, T: Block> IndexWalk for IterUnsetBits<'a, T> {
+impl<'a, T: Kernel> IndexWalk for IterUnsetBits<'a, T> {
     ghost walk = { λ walk. walk };
 
     fn pull(&mut self, side: End) -> Option<usize> {

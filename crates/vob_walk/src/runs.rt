@@ -4,8 +4,10 @@ ghost use Rattle.std.specs.Prelude.{◌≡◌, ◌<◌, ◌≤◌, ◌+◌, ◌/
 ghost use Rattle.std.specs.Prelude.{IsTrue};
 ghost use Rattle.std.specs.Iterator.{item_count};
 ghost use Rattle.std.specs.Iterator.Runs.{YieldsInOrder, YieldsInReverse};
+ghost use Rattle.std.specs.declared.ops.Bound.TheVariants.{Included, Excluded};
 ghost use Rattle.vob_block.specs.Packing.{need, unpacking};
-ghost use Rattle.vob_walk.specs.Runs.{GivesRun, runs_of};
+ghost use Rattle.vob_walk.specs.Matches.{blocks_met};
+ghost use Rattle.vob_walk.specs.Runs.{AreRuns, GivesRun, runs_of};
 ghost use Rattle.vob_walk.specs.RunSteps.{seen, unread_from};
 ghost use Rattle.vob_walk.specs.RunsBack.{GivesLastRun};
 
@@ -13,13 +15,13 @@ use crate::next::{Found, block_in_hand, next_in_hand, previous_in_hand};
 use std::iter::FusedIterator;
 use std::marker::Model;
 use std::ops::Range;
-use vob_block::{Block, Blocks};
+use vob_block::{Blocks, Kernel};
 
 /// The runs of some bits, in order and from both ends. A contract sees the runs still to come, the bits
 /// whose runs they are, and the end of the last run that `next` returned. It also sees how many blocks
 /// are read, are unread and may be read again.
 #[derive(Drop)]
-pub struct Runs<'a, T: Block> {
+pub struct Runs<'a, T: Kernel> {
     blocks: Blocks<'a, T>,
     // The bits of this value make the runs.
     value: bool,
@@ -38,7 +40,7 @@ pub struct Runs<'a, T: Block> {
     back: T,
 }
 
-impl<'a, T: Block> Model for Runs<'a, T> {
+impl<'a, T: Kernel> Model for Runs<'a, T> {
     ghost use Rattle.std.specs.Prelude.{if◌then◌else◌, map};
     ghost use Rattle.vob_block.specs.Packing.{unpacking};
     ghost use Rattle.vob_walk.specs.RunSteps.{IsOnRuns, seen, unread_from};
@@ -64,7 +66,7 @@ impl<'a, T: Block> Model for Runs<'a, T> {
         (T.number runs.back) };
 }
 
-impl<'a, T: Block> Runs<'a, T> {
+impl<'a, T: Kernel> Runs<'a, T> {
     /// Makes a walk over the runs of the bits with a value, from index `start` to below `stop`, in some
     /// blocks. A run that goes on past these indices is cut there. If `start` is above 0 and below
     /// `stop`, its block is read at once.
@@ -74,11 +76,13 @@ impl<'a, T: Block> Runs<'a, T> {
         ensures bits { result.bits
             ≡ seen value start (unpacking stop (map T.number blocks.entry.items) T.BITS) }
         ensures rest { result.rest ≡ runs_of result.bits }
+        ensures each { AreRuns result.bits result.rest }
         ensures runs { YieldsInOrder GivesRun (λ walk. walk.rest) }
         ensures runs_back { YieldsInReverse GivesLastRun (λ walk. walk.rest) }
         ensures start { result.at ≡ 0 }
         ensures again { result.again ≡ 1 }
-        ensures reads { result.reads + result.left ≤ blocks.entry.reads + need stop T.BITS }
+        ensures reads { result.reads + result.left ≡ blocks.entry.reads
+            + blocks_met (Included start) (Excluded stop) stop T.BITS }
         ensures unread { start ≡ 0 → (result.reads ≡ blocks.entry.reads)
             × (result.left ≡ need stop T.BITS) }
     {
@@ -101,13 +105,13 @@ impl<'a, T: Block> Runs<'a, T> {
 /// Returns the block of index `start`, at which a walk begins. If that is 0, or no index is below
 /// `stop`, reads none.
 #[inline(always)]
-fn hand_at<T: Block>(blocks: &mut Blocks<'_, T>, start: usize, stop: usize) -> T
+fn hand_at<T: Kernel>(blocks: &mut Blocks<'_, T>, start: usize, stop: usize) -> T
     requires within { start ≤ stop }
     requires count { need stop T.BITS ≤ length blocks.old.items }
     ensures hand { 0 < start → start < stop → T.number result
         ≡ slice_index_or (map T.number blocks.old.items) (start / T.BITS) 0 }
-    ensures reads { blocks.new.reads + unread_from T.BITS stop start
-        ≤ blocks.old.reads + need stop T.BITS }
+    ensures reads { blocks.new.reads + unread_from T.BITS stop start ≡ blocks.old.reads
+        + blocks_met (Included start) (Excluded stop) stop T.BITS }
     ensures unread { start ≡ 0 → blocks.new.reads ≡ blocks.old.reads }
     ensures items { blocks.new.items ≡ blocks.old.items }
 {
@@ -121,7 +125,7 @@ fn hand_at<T: Block>(blocks: &mut Blocks<'_, T>, start: usize, stop: usize) -> T
 /// Returns the block of index `index`, at which the back of a walk goes on. If the back is ready, that
 /// is `back`, which isn't read again.
 #[inline(always)]
-fn block_at_back<T: Block>(blocks: &mut Blocks<'_, T>, ready: bool, back: T, index: usize) -> T
+fn block_at_back<T: Kernel>(blocks: &mut Blocks<'_, T>, ready: bool, back: T, index: usize) -> T
     requires count { index / T.BITS < length blocks.old.items }
     requires back { IsTrue ready → T.number back
         ≡ slice_index_or (map T.number blocks.old.items) (index / T.BITS) 0 }
@@ -137,7 +141,7 @@ fn block_at_back<T: Block>(blocks: &mut Blocks<'_, T>, ready: bool, back: T, ind
     }
 }
 
-impl<'a, T: Block> Iterator for Runs<'a, T> {
+impl<'a, T: Kernel> Iterator for Runs<'a, T> {
     type Item = Range<usize>;
 
     ghost next_gives = { GivesRun };
@@ -165,7 +169,7 @@ impl<'a, T: Block> Iterator for Runs<'a, T> {
     }
 }
 
-impl<'a, T: Block> DoubleEndedIterator for Runs<'a, T> {
+impl<'a, T: Kernel> DoubleEndedIterator for Runs<'a, T> {
     ghost next_back_gives = { GivesLastRun };
 
     /// Returns the last of the runs that are left. It overlaps no run that either end returned, and is
@@ -193,4 +197,4 @@ impl<'a, T: Block> DoubleEndedIterator for Runs<'a, T> {
     }
 }
 
-impl<'a, T: Block> FusedIterator for Runs<'a, T> {}
+impl<'a, T: Kernel> FusedIterator for Runs<'a, T> {}

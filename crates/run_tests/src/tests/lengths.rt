@@ -5,12 +5,12 @@ use std::alloc::{AllocError, Global};
 use std::ops::Bound::{Excluded, Included, Unbounded};
 use std::process::Abort;
 use vob::{End, Vob};
-use vob_block::Block;
+use vob_block::Kernel;
 use vob_run::run::{run, run_usize};
 use vob_run::{Command, Reply, UsizeCommand};
 
 /// Commands that make Vobs of about `len` bits, each in another way.
-fn makers<T: Block>(alloc: Global, len: usize) -> Result<Vec<Command<T>>, AllocError> {
+fn makers<T: Kernel>(alloc: Global, len: usize) -> Result<Vec<Command<T>>, AllocError> {
     let value = true;
     let mut commands = Vec::new(alloc);
     commands.push(Command::New { capacity: len })?;
@@ -27,7 +27,7 @@ fn makers<T: Block>(alloc: Global, len: usize) -> Result<Vec<Command<T>>, AllocE
 }
 
 /// Commands that add to Vob 1, and return what is in Vob 2.
-fn growers<T: Block>(alloc: Global, len: usize) -> Result<Vec<Command<T>>, AllocError> {
+fn growers<T: Kernel>(alloc: Global, len: usize) -> Result<Vec<Command<T>>, AllocError> {
     let (which, other, value) = (1, 2, true);
     let slice = Vec::from_elem(alloc, value, len)?;
     let items = Vec::from_elem(alloc, value, len)?;
@@ -59,7 +59,7 @@ fn growers<T: Block>(alloc: Global, len: usize) -> Result<Vec<Command<T>>, Alloc
 }
 
 /// For how many items the list of a reply has room, and how many it holds.
-fn room_of<T: Block>(reply: &Reply<T>) -> (usize, usize) {
+fn room_of<T: Kernel>(reply: &Reply<T>) -> (usize, usize) {
     match reply {
         Reply::BitList(list) => (list.capacity(), list.len()),
         Reply::BlockList(list) => (list.capacity(), list.len()),
@@ -69,7 +69,7 @@ fn room_of<T: Block>(reply: &Reply<T>) -> (usize, usize) {
 }
 
 /// Compares that no reply is a refusal, and that the room of a list is as large as the list.
-fn check_replies<T: Block>(rt: &impl Abort, len: usize, replies: &[Reply<T>], count: usize) {
+fn check_replies<T: Kernel>(rt: &impl Abort, len: usize, replies: &[Reply<T>], count: usize) {
     same(rt, "replies of length", len, replies.len(), count);
     for reply in replies {
         if let Reply::Refused(reason) = reply {
@@ -81,13 +81,13 @@ fn check_replies<T: Block>(rt: &impl Abort, len: usize, replies: &[Reply<T>], co
 }
 
 /// Compares that a Vob has room for at least `room` bits.
-fn check_room<T: Block>(rt: &impl Abort, vobs: &[Vob<T>], which: usize, room: usize) {
+fn check_room<T: Kernel>(rt: &impl Abort, vobs: &[Vob<T>], which: usize, room: usize) {
     let found = vobs.get(which).expect(rt, "a Vob");
     same(rt, "room for", room, found.capacity() >= room, true);
 }
 
 /// Runs all of them at this length.
-fn check_length<T: Block>(rt: &(impl Abort + AllocGlobal), len: usize) {
+fn check_length<T: Kernel>(rt: &(impl Abort + AllocGlobal), len: usize) {
     let mut vobs: Vec<Vob<T>> = Vec::new(rt.alloc());
     let mut replies = Vec::new(rt.alloc());
     let makers = makers(rt.alloc(), len).expect(rt, "memory");

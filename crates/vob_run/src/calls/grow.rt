@@ -8,9 +8,13 @@ ghost use Rattle.vob_run.specs.Run.{lists, IsStep};
 use crate::calls::reply_to;
 use crate::command::Reply;
 use vob::{Vob, VobError};
-use vob_block::Block;
+use vob_block::Kernel;
 
-pub(crate) fn reserve<T: Block>(vobs: &mut Vec<Vob<T>>, which: usize, additional: usize) -> Reply<T>
+pub(crate) fn reserve<T: Kernel>(
+    vobs: &mut Vec<Vob<T>>,
+    which: usize,
+    additional: usize,
+) -> Reply<T>
     ensures { IsStep T.BITS (lists vobs.old.items) (Reserve which additional)
         (answer_of T.number result) (lists vobs.new.items) }
 {
@@ -20,7 +24,7 @@ pub(crate) fn reserve<T: Block>(vobs: &mut Vec<Vob<T>>, which: usize, additional
     reply_to(vob.reserve(additional))
 }
 
-pub(crate) fn shrink<T: Block>(vobs: &mut Vec<Vob<T>>, which: usize) -> Reply<T>
+pub(crate) fn shrink<T: Kernel>(vobs: &mut Vec<Vob<T>>, which: usize) -> Reply<T>
     ensures { IsStep T.BITS (lists vobs.old.items) (Shrink which)
         (answer_of T.number result) (lists vobs.new.items) }
 {
@@ -31,7 +35,7 @@ pub(crate) fn shrink<T: Block>(vobs: &mut Vec<Vob<T>>, which: usize) -> Reply<T>
     Reply::Done
 }
 
-pub(crate) fn resize<T: Block>(
+pub(crate) fn resize<T: Kernel>(
     vobs: &mut Vec<Vob<T>>,
     which: usize,
     len: usize,
@@ -46,7 +50,7 @@ pub(crate) fn resize<T: Block>(
     reply_to(vob.resize(len, value))
 }
 
-pub(crate) fn extend_slice<T: Block>(
+pub(crate) fn extend_slice<T: Kernel>(
     vobs: &mut Vec<Vob<T>>,
     which: usize,
     bits: &Vec<bool>,
@@ -61,7 +65,7 @@ pub(crate) fn extend_slice<T: Block>(
 }
 
 // Adds the bits one by one, once there is room for all of them.
-fn add_items<T: Block>(vob: &mut Vob<T>, bits: &[bool]) -> Result<(), VobError>
+fn add_items<T: Kernel>(vob: &mut Vob<T>, bits: &[bool]) -> Result<(), VobError>
     ensures ok { OnOk result (vob.new.bits ≡ vob.old.bits ++ bits.now) }
     ensures err { OnErr result (vob.new.bits ≡ vob.old.bits) }
     ensures too_long { (result ≡ Err VobError.TooLong)
@@ -74,7 +78,7 @@ fn add_items<T: Block>(vob: &mut Vob<T>, bits: &[bool]) -> Result<(), VobError>
     vob.extend(bits.iter().copied())
 }
 
-pub(crate) fn extend_items<T: Block>(
+pub(crate) fn extend_items<T: Kernel>(
     vobs: &mut Vec<Vob<T>>,
     which: usize,
     bits: &Vec<bool>,

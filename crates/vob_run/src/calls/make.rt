@@ -10,10 +10,10 @@ use crate::command::Reply;
 use std::alloc::{AllocError, Global};
 use std::ops::Bound;
 use vob::{Vob, VobError};
-use vob_block::Block;
+use vob_block::Kernel;
 
 // Puts a Vob at the end of the list, if there is room for it.
-pub(super) fn placed<T: Block>(vobs: &mut Vec<Vob<T>>, vob: Vob<T>) -> Reply<T>
+pub(super) fn placed<T: Kernel>(vobs: &mut Vec<Vob<T>>, vob: Vob<T>) -> Reply<T>
     ensures { IsPlaced vobs.old.items vob (answer_of T.number result) vobs.new.items }
 {
     let which = vobs.len();
@@ -25,7 +25,7 @@ pub(super) fn placed<T: Block>(vobs: &mut Vec<Vob<T>>, vob: Vob<T>) -> Reply<T>
 }
 
 // Puts a Vob at the end of the list, if memory for it was there.
-pub(super) fn made<T: Block>(vobs: &mut Vec<Vob<T>>, vob: Result<Vob<T>, AllocError>) -> Reply<T>
+pub(super) fn made<T: Kernel>(vobs: &mut Vec<Vob<T>>, vob: Result<Vob<T>, AllocError>) -> Reply<T>
     ensures ok { IfOk vob (λ v.
         IsPlaced vobs.old.items v (answer_of T.number result) vobs.new.items) }
     ensures err { OnErr vob ((answer_of T.number result ≡ refused 2)
@@ -37,14 +37,14 @@ pub(super) fn made<T: Block>(vobs: &mut Vec<Vob<T>>, vob: Result<Vob<T>, AllocEr
     }
 }
 
-pub(crate) fn new<T: Block>(alloc: Global, vobs: &mut Vec<Vob<T>>, capacity: usize) -> Reply<T>
+pub(crate) fn new<T: Kernel>(alloc: Global, vobs: &mut Vec<Vob<T>>, capacity: usize) -> Reply<T>
     ensures { IsStep T.BITS (lists vobs.old.items) (New capacity)
         (answer_of T.number result) (lists vobs.new.items) }
 {
     made(vobs, Vob::new_with_storage_type(alloc, capacity))
 }
 
-pub(crate) fn from_elem<T: Block>(
+pub(crate) fn from_elem<T: Kernel>(
     alloc: Global,
     vobs: &mut Vec<Vob<T>>,
     value: bool,
@@ -56,7 +56,7 @@ pub(crate) fn from_elem<T: Block>(
     made(vobs, Vob::from_elem_with_storage_type(alloc, value, len))
 }
 
-pub(crate) fn copy<T: Block>(vobs: &mut Vec<Vob<T>>, which: usize) -> Reply<T>
+pub(crate) fn copy<T: Kernel>(vobs: &mut Vec<Vob<T>>, which: usize) -> Reply<T>
     ensures { IsStep T.BITS (lists vobs.old.items) (Copy which)
         (answer_of T.number result) (lists vobs.new.items) }
 {
@@ -67,7 +67,7 @@ pub(crate) fn copy<T: Block>(vobs: &mut Vec<Vob<T>>, which: usize) -> Reply<T>
     made(vobs, copy)
 }
 
-pub(crate) fn split_off<T: Block>(vobs: &mut Vec<Vob<T>>, which: usize, index: usize) -> Reply<T>
+pub(crate) fn split_off<T: Kernel>(vobs: &mut Vec<Vob<T>>, which: usize, index: usize) -> Reply<T>
     ensures { IsStep T.BITS (lists vobs.old.items) (SplitOff which index)
         (answer_of T.number result) (lists vobs.new.items) }
 {
@@ -91,7 +91,7 @@ pub(crate) fn split_off<T: Block>(vobs: &mut Vec<Vob<T>>, which: usize, index: u
     }
 }
 
-pub(crate) fn drain<T: Block>(
+pub(crate) fn drain<T: Kernel>(
     vobs: &mut Vec<Vob<T>>,
     which: usize,
     bounds: (Bound<usize>, Bound<usize>),

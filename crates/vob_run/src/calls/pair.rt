@@ -12,7 +12,7 @@ use crate::calls::reply_to;
 use crate::command::Reply;
 use std::alloc::AllocError;
 use vob::Vob;
-use vob_block::Block;
+use vob_block::Kernel;
 
 /// How the bits of two Vobs are combined.
 #[derive(Clone, Copy)]
@@ -24,7 +24,7 @@ pub(crate) enum Connective {
 
 impl Connective {
     // Puts the bits into the first Vob, and returns whether one changed.
-    fn change<T: Block>(self, vob: &mut Vob<T>, other: &Vob<T>) -> bool
+    fn change<T: Kernel>(self, vob: &mut Vob<T>, other: &Vob<T>) -> bool
         requires { length vob.old.bits ≡ length other.now.bits }
         ensures bits { vob.new.bits ≡ pointwise (operator self) vob.old.bits other.now.bits }
         ensures changed { IsTrue result ↔ (vob.new.bits ≢ vob.old.bits) }
@@ -37,7 +37,7 @@ impl Connective {
     }
 
     // Makes a Vob of the bits.
-    fn made_of<T: Block>(self, vob: &Vob<T>, other: &Vob<T>) -> Result<Vob<T>, AllocError>
+    fn made_of<T: Kernel>(self, vob: &Vob<T>, other: &Vob<T>) -> Result<Vob<T>, AllocError>
         requires { length vob.now.bits ≡ length other.now.bits }
         ensures { IfOk result (λ made.
             made.bits ≡ pointwise (operator self) vob.now.bits other.now.bits) }
@@ -70,14 +70,14 @@ fn two_of<X>(items: &mut [X], first: usize, second: usize) -> (&mut X, &mut X)
 }
 
 // Whether these are the numbers of two Vobs.
-fn are_two<T: Block>(vobs: &[Vob<T>], which: usize, other: usize) -> bool
+fn are_two<T: Kernel>(vobs: &[Vob<T>], which: usize, other: usize) -> bool
     ensures { IsTrue result
         ↔ (which ≢ other) × (which < length vobs.now) × (other < length vobs.now) }
 {
     which != other && which < vobs.len() && other < vobs.len()
 }
 
-pub(crate) fn extend_vob<T: Block>(vobs: &mut Vec<Vob<T>>, which: usize, other: usize) -> Reply<T>
+pub(crate) fn extend_vob<T: Kernel>(vobs: &mut Vec<Vob<T>>, which: usize, other: usize) -> Reply<T>
     ensures { IsStep T.BITS (lists vobs.old.items) (ExtendVob which other)
         (answer_of T.number result) (lists vobs.new.items) }
 {
@@ -88,7 +88,7 @@ pub(crate) fn extend_vob<T: Block>(vobs: &mut Vec<Vob<T>>, which: usize, other: 
     reply_to(vob.extend_from_vob(other))
 }
 
-pub(crate) fn combine<T: Block>(
+pub(crate) fn combine<T: Kernel>(
     vobs: &mut Vec<Vob<T>>,
     how: Connective,
     which: usize,
@@ -107,7 +107,7 @@ pub(crate) fn combine<T: Block>(
     Reply::Flag(how.change(vob, other))
 }
 
-pub(crate) fn combine_new<T: Block>(
+pub(crate) fn combine_new<T: Kernel>(
     vobs: &mut Vec<Vob<T>>,
     how: Connective,
     which: usize,
@@ -128,7 +128,7 @@ pub(crate) fn combine_new<T: Block>(
     made(vobs, combined)
 }
 
-pub(crate) fn equal<T: Block>(vobs: &[Vob<T>], which: usize, other: usize) -> Reply<T>
+pub(crate) fn equal<T: Kernel>(vobs: &[Vob<T>], which: usize, other: usize) -> Reply<T>
     ensures { IsStep T.BITS (lists vobs.now) (Equal which other)
         (answer_of T.number result) (lists vobs.now) }
 {

@@ -12,10 +12,10 @@ use crate::calls::refused;
 use crate::command::Reply;
 use std::alloc::{AllocError, Global};
 use vob::{RawVob, Vob, VobError};
-use vob_block::Block;
+use vob_block::Kernel;
 
 // A copy of some blocks, by one request.
-pub(super) fn copied<T: Block>(alloc: Global, blocks: &[T]) -> Result<Vec<T>, AllocError>
+pub(super) fn copied<T: Kernel>(alloc: Global, blocks: &[T]) -> Result<Vec<T>, AllocError>
     ensures { IfOk result (λ copy. copy.items ≡ blocks.now) }
 {
     let mut copy = Vec::with_capacity(alloc, blocks.len())?;
@@ -24,7 +24,7 @@ pub(super) fn copied<T: Block>(alloc: Global, blocks: &[T]) -> Result<Vec<T>, Al
 }
 
 // Puts a Vob at the end of the list, if its blocks were taken.
-pub(super) fn taken<T: Block, E: Drop>(vobs: &mut Vec<Vob<T>>, vob: Result<Vob<T>, E>) -> Reply<T>
+pub(super) fn taken<T: Kernel, E: Drop>(vobs: &mut Vec<Vob<T>>, vob: Result<Vob<T>, E>) -> Reply<T>
     ensures ok { IfOk vob (λ v.
         IsPlaced vobs.old.items v (answer_of T.number result) vobs.new.items) }
     ensures err { OnErr vob ((answer_of T.number result ≡ refused 3)
@@ -37,7 +37,7 @@ pub(super) fn taken<T: Block, E: Drop>(vobs: &mut Vec<Vob<T>>, vob: Result<Vob<T
 }
 
 // The storage with its unused bits made 0, if that is asked for.
-fn masked_raw<T: Block>(raw: RawVob<T>, mask: bool) -> RawVob<T>
+fn masked_raw<T: Kernel>(raw: RawVob<T>, mask: bool) -> RawVob<T>
     requires { mask ≡ true → length raw.blocks ≡ need raw.len T.BITS }
     ensures len { result.len ≡ raw.len }
     ensures blocks { map T.number result.blocks
@@ -51,13 +51,13 @@ fn masked_raw<T: Block>(raw: RawVob<T>, mask: bool) -> RawVob<T>
 }
 
 // Whether the blocks are as many as the bits need, or aren't to be masked.
-fn can_take<T: Block>(blocks: &[T], len: usize, mask: bool) -> bool
+fn can_take<T: Kernel>(blocks: &[T], len: usize, mask: bool) -> bool
     ensures { not result ≡ (mask && not (length blocks.now == need len T.BITS)) }
 {
     !mask || blocks.len() == len.div_ceil(T::BITS)
 }
 
-pub(crate) fn from_raw<T: Block>(
+pub(crate) fn from_raw<T: Kernel>(
     alloc: Global,
     vobs: &mut Vec<Vob<T>>,
     len: usize,

@@ -9,9 +9,9 @@ use crate::calls::refused;
 use crate::command::Reply;
 use std::alloc::{AllocError, Global};
 use vob::{Vob, VobError};
-use vob_block::Block;
+use vob_block::Kernel;
 
-pub(crate) fn get_bit<T: Block>(vobs: &[Vob<T>], which: usize, index: usize) -> Reply<T>
+pub(crate) fn get_bit<T: Kernel>(vobs: &[Vob<T>], which: usize, index: usize) -> Reply<T>
     ensures { IsStep T.BITS (lists vobs.now) (GetBit which index)
         (answer_of T.number result) (lists vobs.now) }
 {
@@ -21,7 +21,7 @@ pub(crate) fn get_bit<T: Block>(vobs: &[Vob<T>], which: usize, index: usize) -> 
     }
 }
 
-pub(crate) fn get_unchecked<T: Block>(vobs: &[Vob<T>], which: usize, index: usize) -> Reply<T>
+pub(crate) fn get_unchecked<T: Kernel>(vobs: &[Vob<T>], which: usize, index: usize) -> Reply<T>
     ensures { IsStep T.BITS (lists vobs.now) (GetUnchecked which index)
         (answer_of T.number result) (lists vobs.now) }
 {
@@ -34,7 +34,7 @@ pub(crate) fn get_unchecked<T: Block>(vobs: &[Vob<T>], which: usize, index: usiz
     Reply::Flag(vob.get_unchecked(index))
 }
 
-pub(crate) fn index_bit<T: Block>(vobs: &[Vob<T>], which: usize, index: usize) -> Reply<T>
+pub(crate) fn index_bit<T: Kernel>(vobs: &[Vob<T>], which: usize, index: usize) -> Reply<T>
     ensures { IsStep T.BITS (lists vobs.now) (IndexBit which index)
         (answer_of T.number result) (lists vobs.now) }
 {
@@ -47,7 +47,7 @@ pub(crate) fn index_bit<T: Block>(vobs: &[Vob<T>], which: usize, index: usize) -
     Reply::Flag(vob[index])
 }
 
-pub(crate) fn length<T: Block>(vobs: &[Vob<T>], which: usize) -> Reply<T>
+pub(crate) fn length<T: Kernel>(vobs: &[Vob<T>], which: usize) -> Reply<T>
     ensures { IsStep T.BITS (lists vobs.now) (Length which)
         (answer_of T.number result) (lists vobs.now) }
 {
@@ -57,7 +57,7 @@ pub(crate) fn length<T: Block>(vobs: &[Vob<T>], which: usize) -> Reply<T>
     }
 }
 
-pub(crate) fn is_empty<T: Block>(vobs: &[Vob<T>], which: usize) -> Reply<T>
+pub(crate) fn is_empty<T: Kernel>(vobs: &[Vob<T>], which: usize) -> Reply<T>
     ensures { IsStep T.BITS (lists vobs.now) (IsEmpty which)
         (answer_of T.number result) (lists vobs.now) }
 {
@@ -69,7 +69,7 @@ pub(crate) fn is_empty<T: Block>(vobs: &[Vob<T>], which: usize) -> Reply<T>
 
 // Returns the bits, in a vector that has room for all of them by one request, or that request's
 // failure. `collect` would then ask for less.
-fn bits_of<T: Block>(alloc: Global, vob: &Vob<T>) -> Result<Vec<bool>, AllocError>
+fn bits_of<T: Kernel>(alloc: Global, vob: &Vob<T>) -> Result<Vec<bool>, AllocError>
     ensures { IfOk result (λ bits. bits.items ≡ vob.now.bits) }
 {
     let mut bits = Vec::with_capacity(alloc, vob.len())?;
@@ -77,7 +77,7 @@ fn bits_of<T: Block>(alloc: Global, vob: &Vob<T>) -> Result<Vec<bool>, AllocErro
     Ok(bits)
 }
 
-pub(crate) fn bits<T: Block>(alloc: Global, vobs: &[Vob<T>], which: usize) -> Reply<T>
+pub(crate) fn bits<T: Kernel>(alloc: Global, vobs: &[Vob<T>], which: usize) -> Reply<T>
     ensures { IsStep T.BITS (lists vobs.now) (Bits which)
         (answer_of T.number result) (lists vobs.now) }
 {
@@ -91,7 +91,7 @@ pub(crate) fn bits<T: Block>(alloc: Global, vobs: &[Vob<T>], which: usize) -> Re
 }
 
 // The blocks, in a vector that has room for all of them by one request.
-fn blocks_of<T: Block>(alloc: Global, vob: &Vob<T>) -> Result<Vec<T>, AllocError>
+fn blocks_of<T: Kernel>(alloc: Global, vob: &Vob<T>) -> Result<Vec<T>, AllocError>
     ensures { IfOk result (λ blocks. map T.number blocks.items ≡ packing vob.now.bits T.BITS) }
 {
     let mut blocks = Vec::with_capacity(alloc, vob.len().div_ceil(T::BITS))?;
@@ -99,7 +99,7 @@ fn blocks_of<T: Block>(alloc: Global, vob: &Vob<T>) -> Result<Vec<T>, AllocError
     Ok(blocks)
 }
 
-pub(crate) fn storage<T: Block>(alloc: Global, vobs: &[Vob<T>], which: usize) -> Reply<T>
+pub(crate) fn storage<T: Kernel>(alloc: Global, vobs: &[Vob<T>], which: usize) -> Reply<T>
     ensures { IsStep T.BITS (lists vobs.now) (Storage which)
         (answer_of T.number result) (lists vobs.now) }
 {

@@ -11,7 +11,7 @@ use crate::command::Reply;
 use std::alloc::{AllocError, Global};
 use std::ops::Bound;
 use vob::{End, Vob, VobError, deal};
-use vob_block::Block;
+use vob_block::Kernel;
 
 /// Which indices a command asks for: those of the bits of this value, within these bounds.
 #[derive(Clone, Copy)]
@@ -21,7 +21,7 @@ pub(crate) struct Selection {
 }
 
 // What the pulls at a fresh walk return, in a vector that has room for one index a pull.
-fn dealt<T: Block>(
+fn dealt<T: Kernel>(
     alloc: Global,
     vob: &Vob<T>,
     selection: Selection,
@@ -47,7 +47,7 @@ fn dealt<T: Block>(
     Ok(indices)
 }
 
-pub(crate) fn walk<T: Block>(
+pub(crate) fn walk<T: Kernel>(
     alloc: Global,
     vobs: &[Vob<T>],
     which: usize,
@@ -68,7 +68,7 @@ pub(crate) fn walk<T: Block>(
 }
 
 // How many indices a fresh walk gives.
-fn matching<T: Block>(vob: &Vob<T>, selection: Selection) -> usize
+fn matching<T: Kernel>(vob: &Vob<T>, selection: Selection) -> usize
     ensures { result
         ≡ length (matches vob.now.bits selection.value selection.bounds.0 selection.bounds.1) }
 {
@@ -79,7 +79,7 @@ fn matching<T: Block>(vob: &Vob<T>, selection: Selection) -> usize
     }
 }
 
-pub(crate) fn count<T: Block>(vobs: &[Vob<T>], which: usize, selection: Selection) -> Reply<T>
+pub(crate) fn count<T: Kernel>(vobs: &[Vob<T>], which: usize, selection: Selection) -> Reply<T>
     ensures { IsStep T.BITS (lists vobs.now)
         (Count which selection.value selection.bounds.0 selection.bounds.1)
         (answer_of T.number result) (lists vobs.now) }

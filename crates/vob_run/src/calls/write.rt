@@ -6,9 +6,9 @@ ghost use Rattle.vob_run.specs.Run.{lists, IsStep};
 use crate::calls::reply_to;
 use crate::command::Reply;
 use vob::Vob;
-use vob_block::Block;
+use vob_block::Kernel;
 
-pub(crate) fn push<T: Block>(vobs: &mut Vec<Vob<T>>, which: usize, value: bool) -> Reply<T>
+pub(crate) fn push<T: Kernel>(vobs: &mut Vec<Vob<T>>, which: usize, value: bool) -> Reply<T>
     ensures { IsStep T.BITS (lists vobs.old.items) (Push which value)
         (answer_of T.number result) (lists vobs.new.items) }
 {
@@ -18,7 +18,7 @@ pub(crate) fn push<T: Block>(vobs: &mut Vec<Vob<T>>, which: usize, value: bool) 
     reply_to(vob.push(value))
 }
 
-pub(crate) fn pop<T: Block>(vobs: &mut Vec<Vob<T>>, which: usize) -> Reply<T>
+pub(crate) fn pop<T: Kernel>(vobs: &mut Vec<Vob<T>>, which: usize) -> Reply<T>
     ensures { IsStep T.BITS (lists vobs.old.items) (Pop which)
         (answer_of T.number result) (lists vobs.new.items) }
 {
@@ -28,7 +28,7 @@ pub(crate) fn pop<T: Block>(vobs: &mut Vec<Vob<T>>, which: usize) -> Reply<T>
     Reply::Bit(vob.pop())
 }
 
-pub(crate) fn set_bit<T: Block>(
+pub(crate) fn set_bit<T: Kernel>(
     vobs: &mut Vec<Vob<T>>,
     which: usize,
     index: usize,
@@ -46,7 +46,7 @@ pub(crate) fn set_bit<T: Block>(
     Reply::Flag(vob.set(index, value))
 }
 
-pub(crate) fn set_unchecked<T: Block>(
+pub(crate) fn set_unchecked<T: Kernel>(
     vobs: &mut Vec<Vob<T>>,
     which: usize,
     index: usize,
@@ -64,7 +64,7 @@ pub(crate) fn set_unchecked<T: Block>(
     Reply::Flag(vob.set_unchecked(index, value))
 }
 
-pub(crate) fn truncate<T: Block>(vobs: &mut Vec<Vob<T>>, which: usize, len: usize) -> Reply<T>
+pub(crate) fn truncate<T: Kernel>(vobs: &mut Vec<Vob<T>>, which: usize, len: usize) -> Reply<T>
     ensures { IsStep T.BITS (lists vobs.old.items) (Truncate which len)
         (answer_of T.number result) (lists vobs.new.items) }
 {
@@ -75,7 +75,7 @@ pub(crate) fn truncate<T: Block>(vobs: &mut Vec<Vob<T>>, which: usize, len: usiz
     Reply::Done
 }
 
-pub(crate) fn clear<T: Block>(vobs: &mut Vec<Vob<T>>, which: usize) -> Reply<T>
+pub(crate) fn clear<T: Kernel>(vobs: &mut Vec<Vob<T>>, which: usize) -> Reply<T>
     ensures { IsStep T.BITS (lists vobs.old.items) (Clear which)
         (answer_of T.number result) (lists vobs.new.items) }
 {
@@ -86,7 +86,7 @@ pub(crate) fn clear<T: Block>(vobs: &mut Vec<Vob<T>>, which: usize) -> Reply<T>
     Reply::Done
 }
 
-pub(crate) fn set_all<T: Block>(vobs: &mut Vec<Vob<T>>, which: usize, value: bool) -> Reply<T>
+pub(crate) fn set_all<T: Kernel>(vobs: &mut Vec<Vob<T>>, which: usize, value: bool) -> Reply<T>
     ensures { IsStep T.BITS (lists vobs.old.items) (SetAll which value)
         (answer_of T.number result) (lists vobs.new.items) }
 {
@@ -97,7 +97,7 @@ pub(crate) fn set_all<T: Block>(vobs: &mut Vec<Vob<T>>, which: usize, value: boo
     Reply::Done
 }
 
-pub(crate) fn negate<T: Block>(vobs: &mut Vec<Vob<T>>, which: usize) -> Reply<T>
+pub(crate) fn negate<T: Kernel>(vobs: &mut Vec<Vob<T>>, which: usize) -> Reply<T>
     ensures { IsStep T.BITS (lists vobs.old.items) (Negate which)
         (answer_of T.number result) (lists vobs.new.items) }
 {

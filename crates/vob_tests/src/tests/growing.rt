@@ -5,7 +5,7 @@ use super::support::{
 };
 use std::process::Abort;
 use vob::{Vob, VobError};
-use vob_block::Block;
+use vob_block::Kernel;
 
 #[test]
 fn bits_behind_others_and_all_bits_become_true(rt: HostRuntime) {
@@ -72,7 +72,7 @@ fn joined_bits_are_cut_apart_again_and_not_past_the_end(rt: HostRuntime) {
 }
 
 /// Appends the blocks of another Vob.
-fn append<T: Block>(rt: &impl Abort, vob: &mut Vob<T>, other: &Vob<T>) {
+fn append<T: Kernel>(rt: &impl Abort, vob: &mut Vob<T>, other: &Vob<T>) {
     let more = other.len();
     vob.reserve(more).expect(rt, "memory");
     vob.append_blocks(&mut other.blocks(), more);
@@ -80,7 +80,7 @@ fn append<T: Block>(rt: &impl Abort, vob: &mut Vob<T>, other: &Vob<T>) {
 
 /// Two Vobs that are joined, or whose blocks are appended, are what pushes leave; cut apart, they are
 /// both again.
-fn check_join<T: Block>(rt: &impl Abort, one: &Vob<T>, two: &Vob<T>, pushed: &Vob<T>) {
+fn check_join<T: Kernel>(rt: &impl Abort, one: &Vob<T>, two: &Vob<T>, pushed: &Vob<T>) {
     let mut appended = copy_of(rt, one);
     append(rt, &mut appended, two);
     check_same(rt, &appended, pushed);
@@ -93,7 +93,7 @@ fn check_join<T: Block>(rt: &impl Abort, one: &Vob<T>, two: &Vob<T>, pushed: &Vo
 }
 
 /// A pattern joined with each of the patterns of the lengths below `end`.
-fn check_joins<T: Block>(rt: &(impl Abort + AllocGlobal), seed: usize, first: usize, end: usize) {
+fn check_joins<T: Kernel>(rt: &(impl Abort + AllocGlobal), seed: usize, first: usize, end: usize) {
     let one = pattern::<T>(rt, seed, first);
     let mut two = vob_of::<T>(rt, "");
     let mut pushed = copy_of(rt, &one);

@@ -6,7 +6,7 @@ use super::support::{
 use std::hash::{DefaultHasher, Hash, Hasher};
 use std::process::Abort;
 use vob::Vob;
-use vob_block::Block;
+use vob_block::Kernel;
 
 #[derive(Clone, Copy)]
 pub(super) enum Call {
@@ -29,7 +29,7 @@ pub(super) fn combined_bit(call: Call, bit: bool, other: bool) -> bool {
 }
 
 /// `and`, `or`, `xor` or `and_not` of two Vobs of one length.
-pub(super) fn combine<T: Block>(
+pub(super) fn combine<T: Kernel>(
     rt: &impl Abort,
     call: Call,
     vob: &mut Vob<T>,
@@ -131,7 +131,7 @@ fn vobs_are_equal_where_their_lists_are(rt: HostRuntime) {
 }
 
 /// Returns the hash of the Vob.
-fn hash_of<T: Block>(vob: &Vob<T>) -> u64 {
+fn hash_of<T: Kernel>(vob: &Vob<T>) -> u64 {
     let mut state = DefaultHasher::new();
     vob.hash(&mut state);
     state.finish()
@@ -174,7 +174,7 @@ fn combined_list(
 }
 
 /// A call on patterns of `len` bits, against the bits one by one.
-fn check_patterns<T: Block>(
+fn check_patterns<T: Kernel>(
     rt: &(impl Abort + AllocGlobal),
     call: Call,
     (left, right): (usize, usize),

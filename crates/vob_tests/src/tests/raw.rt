@@ -5,28 +5,32 @@ use super::support::{check_bits, check_blocks, same, same_list, vob_of};
 use std::alloc::AllocError;
 use std::process::Abort;
 use vob::{RawVob, Vob, VobRecord};
-use vob_block::Block;
+use vob_block::Kernel;
 
 /// Raw storage of these blocks.
-fn raw_of<T: Block>(rt: &(impl Abort + AllocGlobal), len: usize, blocks: &[T]) -> RawVob<T> {
+fn raw_of<T: Kernel>(rt: &(impl Abort + AllocGlobal), len: usize, blocks: &[T]) -> RawVob<T> {
     RawVob::from_parts(len, blocks.to_vec(rt.alloc()).expect(rt, "memory"))
 }
 
 /// Compares the length and the blocks.
-fn check_raw<T: Block>(rt: &impl Abort, raw: &RawVob<T>, len: usize, blocks: &[T]) {
+fn check_raw<T: Kernel>(rt: &impl Abort, raw: &RawVob<T>, len: usize, blocks: &[T]) {
     same(rt, "the length", len, raw.len(), len);
     same_list(rt, "the blocks", raw.get_storage(), blocks);
 }
 
 /// Raw storage that is taken as a Vob.
-fn check_taken<T: Block>(rt: &impl Abort, raw: RawVob<T>, digits: &str, blocks: &[T]) {
+fn check_taken<T: Kernel>(rt: &impl Abort, raw: RawVob<T>, digits: &str, blocks: &[T]) {
     let vob = raw.into_vob().ok().expect(rt, "this storage is canonical");
     check_blocks(rt, &vob, digits.len(), blocks);
     check_bits(rt, &vob, digits);
 }
 
 /// Raw storage that isn't taken, and is returned.
-fn check_refused<T: Block>(rt: &(impl Abort + AllocGlobal), len: usize, blocks: &[T]) -> RawVob<T> {
+fn check_refused<T: Kernel>(
+    rt: &(impl Abort + AllocGlobal),
+    len: usize,
+    blocks: &[T],
+) -> RawVob<T> {
     let refused = raw_of(rt, len, blocks).into_vob().err();
     let raw = refused.expect(rt, "this storage isn't canonical");
     check_raw(rt, &raw, len, blocks);
@@ -34,7 +38,7 @@ fn check_refused<T: Block>(rt: &(impl Abort + AllocGlobal), len: usize, blocks: 
 }
 
 /// Storage whose block count is that of its length: the last block is masked.
-fn masked<T: Block>(rt: &impl Abort, raw: RawVob<T>) -> RawVob<T> {
+fn masked<T: Kernel>(rt: &impl Abort, raw: RawVob<T>) -> RawVob<T> {
     let mut raw = raw;
     assert!(rt; raw.fits(), "the block count of {raw:?}");
     raw.mask_last_block();
@@ -42,7 +46,7 @@ fn masked<T: Block>(rt: &impl Abort, raw: RawVob<T>) -> RawVob<T> {
 }
 
 /// Appends a block.
-fn push_block<T: Block>(raw: &mut RawVob<T>, block: T) -> Result<(), AllocError>
+fn push_block<T: Kernel>(raw: &mut RawVob<T>, block: T) -> Result<(), AllocError>
     ensures len { raw.new.len ≡ raw.old.len }
     ensures blocks { OnOk result (raw.new.blocks ≡ raw.old.blocks ++ block ∷ []) }
 {

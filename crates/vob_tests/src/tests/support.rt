@@ -8,7 +8,7 @@ use std::marker::Model;
 use std::ops::RangeBounds;
 use std::process::Abort;
 use vob::{Vob, VobError};
-use vob_block::Block;
+use vob_block::Kernel;
 
 /// Compares a result with what is wanted; the number says where: at which bit or which length.
 pub fn same<V: PartialEq + Debug + Drop>(
@@ -34,17 +34,17 @@ pub fn listed<V: Drop, W: Iterator<Item = V>>(rt: &(impl Abort + AllocGlobal), w
 }
 
 /// Appends a bit.
-pub fn push<T: Block>(rt: &impl Abort, vob: &mut Vob<T>, value: bool) {
+pub fn push<T: Kernel>(rt: &impl Abort, vob: &mut Vob<T>, value: bool) {
     vob.push(value).expect(rt, "memory");
 }
 
 /// Makes the length `len`, by bits of this value.
-pub fn resize<T: Block>(rt: &impl Abort, vob: &mut Vob<T>, len: usize, value: bool) {
+pub fn resize<T: Kernel>(rt: &impl Abort, vob: &mut Vob<T>, len: usize, value: bool) {
     vob.resize(len, value).expect(rt, "memory");
 }
 
 /// Appends the bits of another Vob.
-pub fn join<T: Block>(rt: &impl Abort, vob: &mut Vob<T>, other: &Vob<T>) {
+pub fn join<T: Kernel>(rt: &impl Abort, vob: &mut Vob<T>, other: &Vob<T>) {
     vob.extend_from_vob(other).expect(rt, "memory");
 }
 
@@ -54,18 +54,18 @@ pub fn drained<R: RangeBounds<usize>>(rt: &impl Abort, vob: &mut Vob<u8>, range:
 }
 
 /// A Vob with the same bits.
-pub fn copy_of<T: Block>(rt: &impl Abort, vob: &Vob<T>) -> Vob<T> {
+pub fn copy_of<T: Kernel>(rt: &impl Abort, vob: &Vob<T>) -> Vob<T> {
     vob.clone().expect(rt, "memory")
 }
 
 /// A Vob of one bit many times.
-pub fn filled<T: Block>(rt: &(impl Abort + AllocGlobal), value: bool, len: usize) -> Vob<T> {
+pub fn filled<T: Kernel>(rt: &(impl Abort + AllocGlobal), value: bool, len: usize) -> Vob<T> {
     let made = Vob::<T>::from_elem_with_storage_type(rt.alloc(), value, len);
     made.expect(rt, "memory")
 }
 
 /// The Vob of these digits, index 0 first.
-pub fn vob_of<T: Block>(rt: &(impl Abort + AllocGlobal), digits: &str) -> Vob<T> {
+pub fn vob_of<T: Kernel>(rt: &(impl Abort + AllocGlobal), digits: &str) -> Vob<T> {
     let mut vob = Vob::<T>::new_with_storage_type(rt.alloc(), 0).expect(rt, "memory");
     for digit in digits.as_bytes() {
         push(rt, &mut vob, *digit == b'1');
@@ -80,7 +80,7 @@ pub fn pattern_bit(seed: usize, index: usize) -> bool {
 }
 
 /// The first `len` bits of the pattern with this seed.
-pub fn pattern<T: Block>(rt: &(impl Abort + AllocGlobal), seed: usize, len: usize) -> Vob<T> {
+pub fn pattern<T: Kernel>(rt: &(impl Abort + AllocGlobal), seed: usize, len: usize) -> Vob<T> {
     let mut vob = Vob::<T>::new_with_storage_type(rt.alloc(), 0).expect(rt, "memory");
     for index in 0..len {
         push(rt, &mut vob, pattern_bit(seed, index));
@@ -133,13 +133,13 @@ pub fn pattern_digits(rt: &(impl Abort + AllocGlobal), seed: usize, len: usize) 
 }
 
 /// Compares the length and the blocks.
-pub fn check_blocks<T: Block>(rt: &impl Abort, vob: &Vob<T>, len: usize, blocks: &[T]) {
+pub fn check_blocks<T: Kernel>(rt: &impl Abort, vob: &Vob<T>, len: usize, blocks: &[T]) {
     same(rt, "the length", len, vob.len(), len);
     same_list(rt, "the blocks", vob.get_storage(), blocks);
 }
 
 /// Compares the length and the blocks of a Vob that was made.
-pub fn check_made<T: Block, E: Debug + Drop>(
+pub fn check_made<T: Kernel, E: Debug + Drop>(
     rt: &impl Abort,
     made: Result<Vob<T>, E>,
     len: usize,
@@ -149,7 +149,7 @@ pub fn check_made<T: Block, E: Debug + Drop>(
 }
 
 /// Compares the length and the blocks with those of another Vob.
-pub fn check_same<T: Block>(rt: &impl Abort, vob: &Vob<T>, wanted: &Vob<T>) {
+pub fn check_same<T: Kernel>(rt: &impl Abort, vob: &Vob<T>, wanted: &Vob<T>) {
     check_blocks(rt, vob, wanted.len(), wanted.get_storage());
 }
 
@@ -163,13 +163,13 @@ pub fn check_list(rt: &(impl Abort + AllocGlobal), vob: &Vob<u8>, bits: &[bool])
 }
 
 /// Compares by both operators.
-pub fn check_equal<T: Block>(rt: &impl Abort, vob: &Vob<T>, other: &Vob<T>, equal: bool) {
+pub fn check_equal<T: Kernel>(rt: &impl Abort, vob: &Vob<T>, other: &Vob<T>, equal: bool) {
     same(rt, "==", vob.len(), vob == other, equal);
     same(rt, "!=", vob.len(), vob != other, !equal);
 }
 
 /// Compares the length and each bit with these digits.
-pub fn check_bits<T: Block>(rt: &impl Abort, vob: &Vob<T>, digits: &str) {
+pub fn check_bits<T: Kernel>(rt: &impl Abort, vob: &Vob<T>, digits: &str) {
     same(rt, "the length", 0, vob.len(), digits.len());
     for (index, digit) in digits.as_bytes().iter().enumerate() {
         same(rt, "bit", index, vob.get(index), Some(*digit == b'1'));
@@ -177,7 +177,7 @@ pub fn check_bits<T: Block>(rt: &impl Abort, vob: &Vob<T>, digits: &str) {
 }
 
 /// `set`, with the length tested first.
-pub fn write<T: Block>(vob: &mut Vob<T>, index: usize, value: bool) -> Option<bool> {
+pub fn write<T: Kernel>(vob: &mut Vob<T>, index: usize, value: bool) -> Option<bool> {
     if index < vob.len() {
         Some(vob.set(index, value))
     } else {

@@ -7,7 +7,7 @@ use std::alloc::Global;
 use std::fmt::Debug;
 use std::process::Abort;
 use vob::{Vob, VobError};
-use vob_block::Block;
+use vob_block::Kernel;
 
 macro_rules! at_each_block_type {
     ($check:ident($($argument:expr),*)) => {{
@@ -46,18 +46,18 @@ pub fn listed<V: Drop, W: Iterator<Item = V>>(rt: &(impl Abort + AllocGlobal), w
 }
 
 /// Makes the Vob of these digits, index 0 first.
-pub fn vob_of<T: Block>(rt: &(impl Abort + AllocGlobal), digits: &str) -> Vob<T> {
+pub fn vob_of<T: Kernel>(rt: &(impl Abort + AllocGlobal), digits: &str) -> Vob<T> {
     Vob::<T>::from_digits(rt.alloc(), digits).expect(rt, "digits")
 }
 
 /// Makes a Vob of one bit many times.
-pub fn filled<T: Block>(rt: &(impl Abort + AllocGlobal), value: bool, len: usize) -> Vob<T> {
+pub fn filled<T: Kernel>(rt: &(impl Abort + AllocGlobal), value: bool, len: usize) -> Vob<T> {
     let made = Vob::<T>::from_elem_with_storage_type(rt.alloc(), value, len);
     made.expect(rt, "memory")
 }
 
 /// Appends a bit.
-pub fn push<T: Block>(rt: &impl Abort, vob: &mut Vob<T>, value: bool) {
+pub fn push<T: Kernel>(rt: &impl Abort, vob: &mut Vob<T>, value: bool) {
     vob.push(value).expect(rt, "memory");
 }
 
@@ -68,7 +68,7 @@ pub fn pattern_bit(seed: usize, index: usize) -> bool {
 }
 
 /// Makes the first `len` bits of the pattern with this seed.
-pub fn pattern<T: Block>(rt: &(impl Abort + AllocGlobal), seed: usize, len: usize) -> Vob<T> {
+pub fn pattern<T: Kernel>(rt: &(impl Abort + AllocGlobal), seed: usize, len: usize) -> Vob<T> {
     let mut vob = Vob::<T>::new_with_storage_type(rt.alloc(), 0).expect(rt, "memory");
     for index in 0..len {
         push(rt, &mut vob, pattern_bit(seed, index));
@@ -77,7 +77,7 @@ pub fn pattern<T: Block>(rt: &(impl Abort + AllocGlobal), seed: usize, len: usiz
 }
 
 /// `set`, with the length tested first.
-pub fn write<T: Block>(vob: &mut Vob<T>, index: usize, value: bool) -> Option<bool> {
+pub fn write<T: Kernel>(vob: &mut Vob<T>, index: usize, value: bool) -> Option<bool> {
     if index < vob.len() {
         Some(vob.set(index, value))
     } else {

@@ -6,7 +6,7 @@ use std::ops::Bound::{Excluded, Included, Unbounded};
 use std::ops::{Bound, RangeBounds};
 use std::process::Abort;
 use vob::{End, IndexWalk, IterSetBits, IterUnsetBits, Vob, deal};
-use vob_block::{Block, Blocks};
+use vob_block::{Blocks, Kernel};
 
 /// The bounds of a range.
 pub type Bounds = (Bound<usize>, Bound<usize>);
@@ -15,7 +15,7 @@ pub type Bounds = (Bound<usize>, Bound<usize>);
 pub const ALL: Bounds = (Unbounded, Unbounded);
 
 /// The indices of the bits of one value within a range.
-pub fn indices_of<T: Block>(
+pub fn indices_of<T: Kernel>(
     rt: &(impl Abort + AllocGlobal),
     vob: &Vob<T>,
     value: bool,
@@ -39,7 +39,7 @@ fn listed_back<W: DoubleEndedIterator<Item = usize>>(
 }
 
 /// The same indices, the last one first.
-fn indices_back<T: Block>(
+fn indices_back<T: Kernel>(
     rt: &(impl Abort + AllocGlobal),
     vob: &Vob<T>,
     value: bool,
@@ -53,7 +53,7 @@ fn indices_back<T: Block>(
 }
 
 /// Compares the indices of the bits of one value within a range, from the front and from the back.
-fn check_indices<T: Block>(
+fn check_indices<T: Kernel>(
     rt: &(impl Abort + AllocGlobal),
     vob: &Vob<T>,
     value: bool,
@@ -104,7 +104,7 @@ fn text_of(rt: &(impl Abort + AllocGlobal), answers: &[Option<usize>]) -> String
 }
 
 /// Compares what pulls give at a walk over the bits of one value within a range.
-fn check_walk<T: Block, R: RangeBounds<usize>>(
+fn check_walk<T: Kernel, R: RangeBounds<usize>>(
     rt: &(impl Abort + AllocGlobal),
     vob: &Vob<T>,
     (value, range): (bool, R),
@@ -119,7 +119,7 @@ fn check_walk<T: Block, R: RangeBounds<usize>>(
 }
 
 /// Ten bits, joined of two parts, whose walks are pulled at from both ends in turn.
-fn check_turns<T: Block>(rt: &(impl Abort + AllocGlobal)) {
+fn check_turns<T: Kernel>(rt: &(impl Abort + AllocGlobal)) {
     let mut ten = vob_of::<T>(rt, "10110");
     ten.extend_from_vob(&vob_of(rt, "11101"))
         .expect(rt, "memory");
@@ -226,7 +226,7 @@ const EXTREMES: [Row; 10] = [
 ];
 
 /// 257 bits of which few have the value `wanted`, in blocks far from one another.
-fn far_apart<T: Block>(rt: &(impl Abort + AllocGlobal), wanted: bool) -> Vob<T> {
+fn far_apart<T: Kernel>(rt: &(impl Abort + AllocGlobal), wanted: bool) -> Vob<T> {
     let mut vob = vob_of::<T>(rt, if wanted { "0101" } else { "0100" });
     vob.resize(127, !wanted).expect(rt, "memory");
     push(rt, &mut vob, wanted);
@@ -252,7 +252,7 @@ const FAR: [Row; 7] = [
 ];
 
 /// Extreme bounds, and ranges over bits that are far apart: blocks without a match are passed.
-fn check_bounds<T: Block>(rt: &(impl Abort + AllocGlobal)) {
+fn check_bounds<T: Kernel>(rt: &(impl Abort + AllocGlobal)) {
     let vob = vob_of::<T>(rt, "101");
     let (sets, unsets) = (far_apart::<T>(rt, true), far_apart::<T>(rt, false));
     for (range, set, unset) in &EXTREMES {

@@ -5,14 +5,14 @@ use std::alloc::{AllocError, Global};
 use std::ops::Bound::{Excluded, Included, Unbounded};
 use std::process::Abort;
 use vob::{End, RawVob, Vob};
-use vob_block::Block;
+use vob_block::Kernel;
 use vob_run::run::{run, run_usize};
 use vob_run::{Command, Reply, UsizeCommand};
 
 /// The commands of one kind of run.
 trait Runs: Drop {
     /// What the Vobs store their bits in.
-    type Stored: Block;
+    type Stored: Kernel;
 
     /// A command that Vobs of every block type have.
     fn common(command: Command<Self::Stored>) -> Self;
@@ -72,7 +72,7 @@ impl Runs for UsizeCommand {
 }
 
 /// Which command wanted memory that wasn't there, if one did; no other did.
-fn refused_at<T: Block>(rt: &impl Abort, replies: &[Reply<T>]) -> Option<usize> {
+fn refused_at<T: Kernel>(rt: &impl Abort, replies: &[Reply<T>]) -> Option<usize> {
     let mut found = None;
     for (at, reply) in replies.iter().enumerate() {
         if let Reply::Refused(2) = reply {

@@ -5,10 +5,10 @@ use std::fmt::Debug;
 use std::hash::{DefaultHasher, Hash, Hasher};
 use std::process::Abort;
 use vob::{RawVob, Vob, VobError};
-use vob_block::Block;
+use vob_block::Kernel;
 
 /// A Vob that is made without bits, and without room.
-fn check_empty<T: Block, E: Debug + Drop>(rt: &impl Abort, made: Result<Vob<T>, E>) {
+fn check_empty<T: Kernel, E: Debug + Drop>(rt: &impl Abort, made: Result<Vob<T>, E>) {
     let vob = made.expect(rt, "no memory is asked for");
     check_blocks(rt, &vob, 0, &[]);
     same(rt, "the capacity", 0, vob.capacity(), 0);

@@ -3,10 +3,10 @@ use crate::tests::support::{FIRST, Hinted, bytes_of, check_blocks, request, same
 use std::alloc::AllocError;
 use std::process::Abort;
 use vob::{Vob, VobError};
-use vob_block::Block;
+use vob_block::Kernel;
 
 /// Whether a Vob was made, which then has this length and these blocks. If not, there was no memory.
-fn is_made<T: Block, E: Into<VobError> + Drop>(
+fn is_made<T: Kernel, E: Into<VobError> + Drop>(
     rt: &impl Abort,
     answer: Result<Vob<T>, E>,
     len: usize,
@@ -25,7 +25,7 @@ fn is_made<T: Block, E: Into<VobError> + Drop>(
 }
 
 /// Whether a Vob was made, which then has no bits and this room. If not, there was no memory.
-fn has_room<T: Block>(rt: &impl Abort, answer: Result<Vob<T>, AllocError>, room: usize) -> bool {
+fn has_room<T: Kernel>(rt: &impl Abort, answer: Result<Vob<T>, AllocError>, room: usize) -> bool {
     let Ok(vob) = answer else {
         return false;
     };

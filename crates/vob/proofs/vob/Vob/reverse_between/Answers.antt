@@ -1,14 +1,11 @@
 -- The kernel's clauses on blocks are those on bits.
-use Rattle.std.proofs.Common.{◌*◌, ap, sym, ◌∙◌, length, drop, arith}
+use Rattle.std.proofs.Common.{◌*◌, ap, ◌∙◌, length, drop, arith}
 use Rattle.std.proofs.lemmas.List.{take_at}
-use Rattle.vob_block.proofs.PlaceLemmas.{bits_is}
-use Rattle.vob.proofs.TurnsLemmas.{turned_inside, reversed_canonical, reversed_between, IsHalvable-width}
+use Rattle.vob.proofs.TurnsLemmas.{turned_inside, reversed_canonical, reversed_between}
 use Rattle.vob.proofs.vob.Vob.reverse_between.Goals as goal
 
 pub reverse_bits_between-requires-clause-halvable : goal.reverse_bits_between-requires-clause-halvable
-reverse_bits_between-requires-clause-halvable g c =
-    IsHalvable-width g.T.FixedWidth.width g.T.BitBlock.BITS
-    (g.met.T.Block.width_law ∙ sym (bits_is g.T.FixedWidth.width))
+reverse_bits_between-requires-clause-halvable g c = g.met.T.BitBlock.power_law
 
 pub reverse_bits_between-requires-clause-inside : goal.reverse_bits_between-requires-clause-inside
 reverse_bits_between-requires-clause-inside g c =

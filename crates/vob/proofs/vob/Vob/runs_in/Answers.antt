@@ -6,7 +6,8 @@ use Rattle.vob_walk.specs.RunSteps.{seen}
 use Rattle.vob_walk.specs.Runs.{runs_of}
 use Rattle.vob_walk.proofs.RunsBackLemmas.{runs_in_reverse}
 use Rattle.vob_walk.proofs.RunsLemmas.{runs_in_order}
-use Rattle.vob_walk.proofs.SeenLemmas.{IsOverRange-walk, IsRangeOf-itself, length-runs_of-seen}
+use Rattle.vob_walk.proofs.SeenLemmas.{IsOverRange-walk, length-runs_of-seen}
+use Rattle.vob_walk.proofs.WindowLemmas.{IsRangeOf-own, blocks_met-most}
 use Rattle.vob.proofs.SetsLemmas.{enough_blocks}
 use Rattle.vob.proofs.vob.Vob.runs_in.Goals as goal
 
@@ -22,6 +23,7 @@ pub returns-clause-within : goal.returns-clause-within
 returns-clause-within g c = λ in_range. IsOverRange-walk _ g.met.T.BitBlock.wide_law _ _
     c.blocks-2.ensures.blocks (rw c.len.ensures.len at c.cut_range-start.ensures.window in_range)
     c.over.ensures.bits c.over.ensures.rest
+    (omega (arith, c.over.ensures.reads, c.blocks-2.ensures.reads))
 
 pub returns-clause-some : goal.returns-clause-some
 returns-clause-some g c =
@@ -32,7 +34,8 @@ returns-clause-some g c =
       order,
       inside,
       IsOverRange-walk _ g.met.T.BitBlock.wide_law _ _ c.blocks-2.ensures.blocks
-          (IsRangeOf-itself _ _ _ order inside) c.over.ensures.bits c.over.ensures.rest,
+          (IsRangeOf-own _ _ _ order inside) c.over.ensures.bits c.over.ensures.rest
+          (omega (arith, c.over.ensures.reads, c.blocks-2.ensures.reads)),
     )
 
 pub returns-clause-longest : goal.returns-clause-longest
@@ -59,4 +62,11 @@ pub returns-clause-reads : goal.returns-clause-reads
 returns-clause-reads g c =
     let fewer = need-le-need g.T.BitBlock.BITS g.met.T.BitBlock.wide_law _ _
     (rw c.len.ensures.len at c.cut_range-start.ensures.inside) in
-    omega (arith, c.over.ensures.reads, c.blocks-2.ensures.reads)
+    let order = c.cut_range-start.ensures.ordered in
+    let own = IsRangeOf-own _ _ (c.cut_range-start.result.1) order (omega arith) in
+    omega (
+      arith,
+      c.over.ensures.reads,
+      c.blocks-2.ensures.reads,
+      blocks_met-most g.T.BitBlock.BITS g.met.T.BitBlock.wide_law own,
+    )

@@ -5,7 +5,7 @@ use Rattle.vob_block.specs.Packing.{need}
 use Rattle.vob_block.proofs.PackingLemmas.{unpacking-packing}
 use Rattle.vob_walk.specs.RunSteps.{seen}
 use Rattle.vob_walk.specs.Runs.{runs_of}
-use Rattle.vob_walk.proofs.RunListLemmas.{length-runs_from-le}
+use Rattle.vob_walk.proofs.RunListLemmas.{AreRuns-only, length-runs_from-le}
 use Rattle.vob_walk.proofs.RunsBackLemmas.{runs_in_reverse}
 use Rattle.vob_walk.proofs.RunsLemmas.{runs_in_order}
 use Rattle.vob_walk.proofs.SeenLemmas.{seen-negated}
@@ -24,6 +24,9 @@ returns-clause-bits g c = c.over.ensures.bits ∙ rw (c.blocks-2.ensures.blocks,
 
 pub returns-clause-rest : goal.returns-clause-rest
 returns-clause-rest g c = c.over.ensures.rest ∙ ap runs_of (returns-clause-bits g c)
+
+pub returns-clause-each : goal.returns-clause-each
+returns-clause-each g c = (AreRuns-only _ _).0 (returns-clause-rest g c)
 
 pub returns-clause-longest : goal.returns-clause-longest
 returns-clause-longest g c = omega (

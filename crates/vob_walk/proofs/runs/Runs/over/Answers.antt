@@ -1,8 +1,9 @@
 -- No run is passed, and a block is in hand if the walk begins within.
-use Rattle.std.proofs.Common.{ap, map}
+use Rattle.std.proofs.Common.{ap, map, refl}
 use Rattle.std.proofs.lemmas.List.{length-map}
 use Rattle.vob_block.specs.Packing.{unpacking}
 use Rattle.vob_walk.specs.RunSteps.{seen}
+use Rattle.vob_walk.proofs.RunListLemmas.{AreRuns-only}
 use Rattle.vob_walk.proofs.RunsBackLemmas.{runs_in_reverse}
 use Rattle.vob_walk.proofs.RunsLemmas.{runs_in_order}
 use Rattle.vob_walk.proofs.SeenLemmas.{IsOnRuns-start}
@@ -23,3 +24,6 @@ returns-clause-runs g c = runs_in_order
 
 pub returns-clause-runs_back : goal.returns-clause-runs_back
 returns-clause-runs_back g c = runs_in_reverse
+
+pub returns-clause-each : goal.returns-clause-each
+returns-clause-each g c = (AreRuns-only _ _).0 refl
