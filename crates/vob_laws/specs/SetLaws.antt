@@ -1,6 +1,6 @@
 -- What Vobs as sets of indices obey, and their runs.
 use Rattle.std.specs.Prelude.{◌≡◌, ◌↔◌, ℕ, ◌<◌, Bool, true, false, not, ◌&&◌, List, length, map}
-use Rattle.std.specs.Prelude.{take, replicate, Option, Some, IsTrue, Contains}
+use Rattle.std.specs.Prelude.{◌+◌, ◌≤◌, take, replicate, Option, Some, IsTrue, Any, Contains}
 use Rattle.std.specs.Iterator.{Drains}
 use Rattle.std.specs.declared.ops.Bound.TheVariants.{Unbounded}
 use Rattle.std.specs.declared.ops.Range.{Range}
@@ -9,7 +9,7 @@ use Rattle.vob_block.specs.Pointwise.{pointwise, without}
 use Rattle.vob_walk.specs.Matches.{matches}
 use Rattle.vob_walk.specs.Walk.{Walk, IsFresh}
 use Rattle.vob.specs.Bits.{count_of}
-use Rattle.vob.specs.Room.{IsUnsetRun}
+use Rattle.vob.specs.Room.{IsRoom, IsUnsetRun}
 use Rattle.vob_walk.specs.Runs.{AreRuns, IsMaximalRun, RunWalk, GivesRun, runs_of}
 use Rattle.vob.specs.Sets.{IsIndexOfRank}
 
@@ -51,6 +51,12 @@ WalkGivesRuns =
 abbrev pub UnsetRunsAreMaximal : Type 0
 UnsetRunsAreMaximal =
     (bits : List Bool) (a b : ℕ) → IsMaximalRun (map not bits) a b ↔ IsUnsetRun bits a b
+
+-- unset bits in a row, if there are some, lie within one run of unset bits
+abbrev pub RoomLiesInOneRun : Type 0
+RoomLiesInOneRun =
+    (bits : List Bool) (runs : List (Range ℕ)) (n i : ℕ) → AreRuns (map not bits) runs
+    → 0 < n → IsRoom n bits i → Any (λ run. (run.start ≤ i) × (i + n ≤ run.end)) runs
 
 -- a walk over two lists combined gives an index exactly where f makes true of its two bits
 abbrev pub CombinedMatchesExactly : Type 0

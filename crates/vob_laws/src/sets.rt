@@ -1,6 +1,6 @@
 //! Laws of Vobs as sets of indices: ranks, differences, runs and combined walks.
 ghost use Rattle.vob_laws.specs.SetLaws.{CombinedMatchesExactly, CombinedWalkIsOwn, DifferenceIsAndNot};
-ghost use Rattle.vob_laws.specs.SetLaws.{NoneIsCounted, RankUndoesSelect, RunsAreMaximal};
+ghost use Rattle.vob_laws.specs.SetLaws.{NoneIsCounted, RankUndoesSelect, RoomLiesInOneRun, RunsAreMaximal};
 ghost use Rattle.vob_laws.specs.SetLaws.{SelectUndoesRank, UnsetRunsAreMaximal, WalkGivesRuns};
 
 /// The rank of an index that `select` gave is the number that it was given for.
@@ -40,6 +40,11 @@ pub fn unset_runs_are_maximal()
 /// A walk over runs that begins at index 0 and goes on up to `None` gives each run once, in order.
 pub fn walk_gives_runs()
     ensures { WalkGivesRuns }
+{}
+
+/// Unset bits in a row lie within one of the ranges that `unset_runs()` gives, if there are some.
+pub fn room_lies_in_one_run()
+    ensures { RoomLiesInOneRun }
 {}
 
 /// A walk over two Vobs combined gives an index exactly if it is below the length, and its two bits
