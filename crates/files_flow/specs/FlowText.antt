@@ -2,7 +2,7 @@
 use Rattle.std.specs.Prelude.{◌≡◌, ℕ, Bool, List, [], ◌++◌, codes, length, slice_index_or}
 use Rattle.std.specs.List.{flat_map, range_with_len}
 use Rattle.vob_flow.specs.Dominators.{AreDominators}
-use Rattle.vob_flow.specs.Live.{AreLeast, IsSolution}
+use Rattle.vob_flow.specs.Live.{AreLeastLive, IsSolution}
 use Rattle.files_flow.specs.declared.flow.FlowGraph.{FlowGraph}
 use Rattle.files_flow.specs.declared.problem.Problem.{Problem}
 use Rattle.files_flow.specs.Definitions.{IsReachingProblem}
@@ -43,7 +43,7 @@ pub record ListsLive (graph : FlowGraph) (text : List ℕ) : Type 0 where
   pub before : List (List Bool)
   pub after : List (List Bool)
   pub solution : IsSolution (length graph.variables) graph.nodes.items before after
-  pub least : AreLeast (length graph.variables) graph.nodes.items before after
+  pub least : AreLeastLive (length graph.variables) graph.nodes.items before after
   pub lines : text ≡ sides_text graph.names graph.variables before after
 
 -- the solution of a problem before and after each node with a name

@@ -1,5 +1,5 @@
 -- What can be wrong with the nodes of a flow graph, and which node is the first with a fault.
-use Rattle.std.specs.Prelude.{◌≡◌, ℕ, ◌<◌, List, ◌++◌, length, slice_get, Some, All, codes}
+use Rattle.std.specs.Prelude.{◌≡◌, ◌≢◌, ℕ, ◌<◌, List, [], ◌++◌, length, slice_get, Some, All, codes}
 use Rattle.std.specs.Fmt.{decimal}
 use Rattle.vob_flow.specs.declared.live.Flow.{Flow}
 use Rattle.vob_flow.specs.declared.live.LiveError.{LiveError}
@@ -40,6 +40,11 @@ abbrev pub IsFlowFault : ℕ → List Flow → LiveError → Type 0
 IsFlowFault vars nodes Memory = ⊥
 IsFlowFault vars nodes (BadVariable n) = IsBadVariable vars nodes n
 IsFlowFault vars nodes (BadNext n) = IsBadNext vars nodes n
+
+-- why a call over some nodes may fail: one of them is at fault, or memory ran out for some
+abbrev pub MayRefuseNodes : ℕ → List Flow → LiveError → Type 0
+MayRefuseNodes vars nodes Memory = nodes ≢ []
+MayRefuseNodes vars nodes fault = IsFlowFault vars nodes fault
 
 -- the number of a refusal
 abbrev pub live_error_number : LiveError → ℕ

@@ -38,8 +38,8 @@ pub record IsSolution (vars : ℕ) (nodes : List Flow) (before after : List (Lis
       (v : ℕ) → IsLive after n v ↔ IsLiveNext before flow v
 
 -- sets that are within those of every solution
-abbrev pub AreLeast : ℕ → List Flow → List (List Bool) → List (List Bool) → Type 0
-AreLeast vars nodes before after = (others others_after : List (List Bool)) →
+abbrev pub AreLeastLive : ℕ → List Flow → List (List Bool) → List (List Bool) → Type 0
+AreLeastLive vars nodes before after = (others others_after : List (List Bool)) →
     IsSolution vars nodes others others_after →
     AreWithin before others × AreWithin after others_after
 
@@ -75,7 +75,7 @@ pub record AreRounds (vars : ℕ) (nodes : List Flow) (before : List (List Bool)
 -- more; no pass was enough only if there are no nodes, and one only if it added nothing to the reads
 pub record AreLive (vars : ℕ) (nodes : List Flow) (live : Live) : Type 0 where
   pub solution : IsSolution vars nodes (bits_of live.before.items) (bits_of live.after.items)
-  pub least : AreLeast vars nodes (bits_of live.before.items) (bits_of live.after.items)
+  pub least : AreLeastLive vars nodes (bits_of live.before.items) (bits_of live.after.items)
   pub rounds : live.rounds ≤ 1 + length nodes * vars
   pub no_round : live.rounds ≡ 0 → nodes ≡ []
   pub one_round : live.rounds ≡ 1 → AreRead nodes (bits_of live.before.items)

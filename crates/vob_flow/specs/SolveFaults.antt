@@ -1,7 +1,8 @@
 -- What can be wrong with sets that draw from one another, and which is the first with a fault.
-use Rattle.std.specs.Prelude.{◌≡◌, ℕ, ◌<◌, ◌≤◌, Bool, List, [], ◌++◌, length, slice_index_or, slice_get, Some, codes}
+use Rattle.std.specs.Prelude.{◌≡◌, ◌≢◌, ℕ, ◌<◌, ◌≤◌, Bool, List, [], ◌++◌, length, slice_index_or, slice_get, Some, codes}
 use Rattle.std.specs.Fmt.{decimal}
 use Rattle.vob_flow.specs.Draws.{FitsMask, DrawsInside}
+use Rattle.vob_flow.specs.Lists.{MayRefuseLists, NameNodes}
 use Rattle.vob_flow.specs.declared.draw.Draw.{Draw}
 use Rattle.vob_flow.specs.declared.faults.SolveError.{SolveError}
 use Rattle.vob_flow.specs.declared.faults.SolveError.TheVariants.{Memory, BadLength, BadSet, BadEntry}
@@ -49,6 +50,11 @@ IsFault places sets draws (BadLength n) = IsBadLength places sets draws n
 IsFault places sets draws (BadSet n) = IsBadSet places sets draws n
 IsFault places sets draws BadEntry = ⊥
 
+-- why a call over some sets may fail: one of them is at fault, or memory ran out for some
+abbrev pub MayRefuseSets : ℕ → List (List Bool) → List Draw → SolveError → Type 0
+MayRefuseSets places sets draws Memory = sets ≢ []
+MayRefuseSets places sets draws fault = IsFault places sets draws fault
+
 -- an entry that is none of some nodes
 abbrev pub IsNoNode : ℕ → ℕ → Type 0
 IsNoNode nodes entry = (0 < nodes) × (nodes ≤ entry)
@@ -59,6 +65,17 @@ IsEntryFault nodes entry Memory = ⊥
 IsEntryFault nodes entry (BadLength n) = ⊥
 IsEntryFault nodes entry (BadSet n) = ⊥
 IsEntryFault nodes entry BadEntry = IsNoNode nodes entry
+
+-- why a call over some sets and an entry may fail
+abbrev pub MayRefuseFlows : ℕ → ℕ → List (List Bool) → List Draw → SolveError → Type 0
+MayRefuseFlows places entry sets draws BadEntry =
+    AreSound places sets draws × IsNoNode (length sets) entry
+MayRefuseFlows places entry sets draws fault = MayRefuseSets places sets draws fault
+
+-- why a call over lists of nodes and an entry may fail
+abbrev pub MayRefuseEntry : ℕ → ℕ → List (List ℕ) → SolveError → Type 0
+MayRefuseEntry nodes entry lists BadEntry = NameNodes lists nodes × IsNoNode nodes entry
+MayRefuseEntry nodes entry lists fault = MayRefuseLists lists fault
 
 -- the text of a refusal
 abbrev pub solve_error_text : SolveError → List ℕ

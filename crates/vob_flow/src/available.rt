@@ -1,5 +1,5 @@
 //! What holds on all paths of a flow graph: available and very busy expressions.
-ghost use Rattle.std.specs.Prelude.{◌≡◌, ◌≢◌, ◌↔◌, ℕ, ◌<◌, [], false, length, replicate, All, Err, IfOk, IsOk, OnErr};
+ghost use Rattle.std.specs.Prelude.{◌≡◌, ◌≢◌, ◌↔◌, ℕ, ◌<◌, [], false, length, replicate, All, Err, IfErr, IfOk, IsOk, OnErr};
 ghost use Rattle.vob.specs.Vobs.{AreOfLength, bits_of};
 ghost use Rattle.vob_flow.specs.Available.{AreAvailable, AreVeryBusy};
 ghost use Rattle.vob_flow.specs.Changes.{AreChangedBelow};
@@ -7,7 +7,7 @@ ghost use Rattle.vob_flow.specs.Draws.{DrawsInside, FitsMask};
 ghost use Rattle.vob_flow.specs.EntryDraws.{AreEntryFlows, IsEntryFlow};
 ghost use Rattle.vob_flow.specs.Gathered.{BecomesCommon};
 ghost use Rattle.vob_flow.specs.Greatest.{AreGreatest};
-ghost use Rattle.vob_flow.specs.SolveFaults.{AreSound, IsBadLength, IsBadSet, IsNoNode};
+ghost use Rattle.vob_flow.specs.SolveFaults.{AreSound, IsBadLength, IsBadSet, IsNoNode, MayRefuseFlows, MayRefuseSets};
 
 use crate::complement::{copies, solve_beside};
 use crate::draw::{Draw, Mask};
@@ -131,6 +131,8 @@ pub fn available_expressions(
     ensures bad_entry { (result ≡ Err SolveError.BadEntry)
         ↔ (AreSound expressions (bits_of ends.old) flows.now × IsNoNode (length ends.old) entry) }
     ensures memory { result ≡ Err SolveError.Memory → ends.old ≢ [] }
+    ensures refused { IfErr result
+        (MayRefuseFlows expressions entry (bits_of ends.old) flows.now) }
 {
     check_sets(expressions, ends, flows)?;
     check_entry(ends.len(), entry)?;
@@ -161,6 +163,7 @@ pub fn very_busy_expressions(
         ↔ IsBadSet expressions (bits_of starts.old) flows.now n }
     ensures no_entry { result ≢ Err SolveError.BadEntry }
     ensures memory { result ≡ Err SolveError.Memory → starts.old ≢ [] }
+    ensures refused { IfErr result (MayRefuseSets expressions (bits_of starts.old) flows.now) }
 {
     check_sets(expressions, starts, flows)?;
     let ends = solve_on_all(alloc, expressions, starts, flows)?;

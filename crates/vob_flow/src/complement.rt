@@ -1,10 +1,10 @@
 //! The greatest sets that meet an equation at each node of a graph: the complements of the least ones
 //! of what they lack.
-ghost use Rattle.std.specs.Prelude.{◌≡◌, ◌≢◌, ◌↔◌, ℕ, [], length, All, Err, IfOk, IsOk, OnErr, OnOk};
+ghost use Rattle.std.specs.Prelude.{◌≡◌, ◌≢◌, ◌↔◌, ℕ, [], length, All, Err, IfErr, IfOk, IsOk, OnErr, OnOk};
 ghost use Rattle.vob.specs.Vobs.{AreOfLength, bits_of};
 ghost use Rattle.vob_flow.specs.Draws.{DrawsInside, FitsMask};
 ghost use Rattle.vob_flow.specs.Greatest.{AreGreatest, IsPassCount};
-ghost use Rattle.vob_flow.specs.SolveFaults.{AreSound, IsBadLength, IsBadSet};
+ghost use Rattle.vob_flow.specs.SolveFaults.{AreSound, IsBadLength, IsBadSet, MayRefuseSets};
 ghost use Rattle.vob_flow.specs.Turned.{AreLacking, AreNegated, AreTurned, HaveMasks, IsLacking};
 
 use crate::draw::{Draw, Mask};
@@ -174,6 +174,7 @@ pub fn greatest(
         ↔ IsBadSet places (bits_of sets.old) draws.now n }
     ensures no_entry { result ≢ Err SolveError.BadEntry }
     ensures memory { result ≡ Err SolveError.Memory → sets.old ≢ [] }
+    ensures refused { IfErr result (MayRefuseSets places (bits_of sets.old) draws.now) }
 {
     check_sets(places, sets, draws)?;
     let passes = solve_greatest(alloc, places, sets, draws)?;

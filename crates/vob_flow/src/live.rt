@@ -1,7 +1,7 @@
 //! Which variables a program still needs at each of its steps: a dataflow analysis, backward along
 //! the edges.
 ghost use Rattle.std.specs.Prelude.{◌≡◌, ◌≢◌, ◌↔◌, ℕ, [], All, IsTrue, IfOk, IfErr, OnOk, IsOk, Err};
-ghost use Rattle.vob_flow.specs.FlowFaults.{IsBadNext, IsBadVariable, IsFlowFault, IsSound, NamesVariables};
+ghost use Rattle.vob_flow.specs.FlowFaults.{IsBadNext, IsBadVariable, IsFlowFault, IsSound, MayRefuseNodes, NamesVariables};
 ghost use Rattle.vob_flow.specs.Live.{AreLive};
 ghost use Rattle.vob_flow.specs.LiveDraws.{AreDraws, AreReads, AreWrites};
 
@@ -193,6 +193,7 @@ pub fn liveness(alloc: Global, vars: usize, nodes: &[Flow]) -> Result<Live, Live
     ensures bad_next { (node : ℕ)
         → (result ≡ Err (LiveError.BadNext node)) ↔ IsBadNext vars nodes.now node }
     ensures memory { result ≡ Err LiveError.Memory → nodes.now ≢ [] }
+    ensures refused { IfErr result (MayRefuseNodes vars nodes.now) }
 {
     check_nodes(vars, nodes)?;
     let live = live_sets(alloc, vars, nodes)?;

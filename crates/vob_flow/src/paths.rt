@@ -1,10 +1,10 @@
 //! The nodes to which the paths of a graph lead.
-ghost use Rattle.std.specs.Prelude.{◌≡◌, ◌≢◌, ◌↔◌, ℕ, ◌<◌, [], length, map, All, Err, IfOk, IsOk, OnOk};
+ghost use Rattle.std.specs.Prelude.{◌≡◌, ◌≢◌, ◌↔◌, ℕ, ◌<◌, [], length, map, All, Err, IfErr, IfOk, IsOk, OnOk};
 ghost use Rattle.vob.specs.Vobs.{bits_of};
 ghost use Rattle.vob_flow.specs.Closure.{IsClosure};
 ghost use Rattle.vob_flow.specs.EntryDraws.{AreListDraws, AreListSets};
 ghost use Rattle.vob_flow.specs.Reach.{AreReached, HaveEntered};
-ghost use Rattle.vob_flow.specs.Lists.{IsBadList, NameNodes};
+ghost use Rattle.vob_flow.specs.Lists.{IsBadList, MayRefuseLists, NameNodes};
 
 use crate::draw::{Draw, Mask};
 use crate::faults::SolveError;
@@ -72,6 +72,7 @@ pub fn closure(alloc: Global, next: &[Vec<usize>]) -> Result<Vec<Vob>, SolveErro
     ensures bad_length { (n : ℕ) → result ≢ Err (SolveError.BadLength n) }
     ensures no_entry { result ≢ Err SolveError.BadEntry }
     ensures memory { result ≡ Err SolveError.Memory → next.now ≢ [] }
+    ensures refused { IfErr result (MayRefuseLists (map (λ list. list.items) next.now)) }
 {
     check_lists(next)?;
     let sets = solve_closure(alloc, next)?;

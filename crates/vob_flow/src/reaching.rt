@@ -1,8 +1,8 @@
 //! Reaching definitions: which definitions may still hold at each node of a flow graph.
-ghost use Rattle.std.specs.Prelude.{◌≡◌, ◌≢◌, ◌↔◌, ℕ, [], length, Err, IfOk, OnErr};
+ghost use Rattle.std.specs.Prelude.{◌≡◌, ◌≢◌, ◌↔◌, ℕ, [], length, Err, IfErr, IfOk, OnErr};
 ghost use Rattle.vob.specs.Vobs.{bits_of};
 ghost use Rattle.vob_flow.specs.Reaching.{AreReaching};
-ghost use Rattle.vob_flow.specs.SolveFaults.{IsBadLength, IsBadSet};
+ghost use Rattle.vob_flow.specs.SolveFaults.{IsBadLength, IsBadSet, MayRefuseSets};
 
 use crate::draw::Draw;
 use crate::faults::{SolveError, check_sets};
@@ -33,6 +33,7 @@ pub fn reaching_definitions(
         ↔ IsBadSet definitions (bits_of ends.old) flows.now n }
     ensures no_entry { result ≢ Err SolveError.BadEntry }
     ensures memory { result ≡ Err SolveError.Memory → ends.old ≢ [] }
+    ensures refused { IfErr result (MayRefuseSets definitions (bits_of ends.old) flows.now) }
 {
     check_sets(definitions, ends, flows)?;
     let mut starts = empty_sets(alloc, definitions, ends.len())?;

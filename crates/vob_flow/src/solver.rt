@@ -1,8 +1,8 @@
 //! The least sets that meet an equation at each node of a graph.
-ghost use Rattle.std.specs.Prelude.{◌≡◌, ◌≢◌, ◌↔◌, ℕ, [], length, All, Err, IfOk, IsOk, OnErr, OnOk};
+ghost use Rattle.std.specs.Prelude.{◌≡◌, ◌≢◌, ◌↔◌, ℕ, [], length, All, Err, IfErr, IfOk, IsOk, OnErr, OnOk};
 ghost use Rattle.vob.specs.Vobs.{AreOfLength, bits_of};
 ghost use Rattle.vob_flow.specs.Draws.{AreLeast, DrawsInside, FitsMask, TakePasses};
-ghost use Rattle.vob_flow.specs.SolveFaults.{AreSound, IsBadLength, IsBadSet};
+ghost use Rattle.vob_flow.specs.SolveFaults.{AreSound, IsBadLength, IsBadSet, MayRefuseSets};
 
 use crate::draw::Draw;
 use crate::faults::{SolveError, check_sets};
@@ -61,6 +61,7 @@ pub fn least(
         ↔ IsBadSet places (bits_of sets.old) draws.now n }
     ensures no_entry { result ≢ Err SolveError.BadEntry }
     ensures memory { result ≡ Err SolveError.Memory → sets.old ≢ [] }
+    ensures refused { IfErr result (MayRefuseSets places (bits_of sets.old) draws.now) }
 {
     check_sets(places, sets, draws)?;
     let passes = solve(alloc, places, sets, draws)?;
