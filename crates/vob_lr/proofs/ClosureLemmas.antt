@@ -17,7 +17,7 @@ use Rattle.vob_lr.specs.Equations.{AreEquations, AreSolved, GainEach, HasAt, Rea
 use Rattle.vob_lr.specs.Equations.Reaches.{at_start, along}
 use Rattle.vob_lr.specs.Expansions.{Advances, AreExpansions, Brings, Expands, Gains, HasOpening, HasRow, IsBrought, IsGathered, IsOpening}
 use Rattle.vob_lr.specs.Faults.{IsRuleOf, IsSymbol}
-use Rattle.vob_lr.specs.ItemSets.{Has, InClosure, IsAdvanced, IsClosure, IsGoto, IsItemSet}
+use Rattle.vob_lr.specs.ItemSets.{Has, InClosure, IsAdvanced, IsItemClosure, IsGoto, IsItemSet}
 use Rattle.vob_lr.specs.ItemSets.InClosure.{inside, expands}
 use Rattle.vob_lr.specs.Items.{HasNext, IsItem, first_item, item_total}
 use Rattle.vob_lr.proofs.EquationLemmas.{AreEquations-gained, shape_long, vob_long}
@@ -194,10 +194,10 @@ module _ (Each : ℕ → ℕ → Type 0) (set before : List Bool) where
     ]),
   )
 
-pub IsClosure-gathered : (rules : List Rule) (set : List Bool) (left : List ℕ) → left ≡ [] →
+pub IsItemClosure-gathered : (rules : List Rule) (set : List Bool) (left : List ℕ) → left ≡ [] →
     (closure : List Bool) → length set ≡ item_total rules →
-    IsGathered (Brings rules) set set left closure → IsClosure rules set closure
-IsClosure-gathered rules set left none closure long h = record {
+    IsGathered (Brings rules) set set left closure → IsItemClosure rules set closure
+IsItemClosure-gathered rules set left none closure long h = record {
   len = h.len ∙ long;
   each = λ i.
       let each = gathered_each (Brings rules) set set left none closure h i in
@@ -224,7 +224,7 @@ IsAdvanced-gathered rules set x left none before made empty long h = record {
 }
 
 pub IsGoto-closed : (rules : List Rule) (set : List Bool) (x : Symbol) (made next : List Bool) →
-    IsItemSet rules (IsAdvanced rules set x) made → IsClosure rules made next →
+    IsItemSet rules (IsAdvanced rules set x) made → IsItemClosure rules made next →
     IsGoto rules set x next
 IsGoto-closed rules set x made next kernel h = record {
   len = h.len;

@@ -14,7 +14,7 @@ use Rattle.vob.specs.Bits.{IsWritten}
 use Rattle.vob.specs.Vob.{BitVector}
 use Rattle.vob.specs.Vobs.{bits_of}
 use Rattle.vob_block.proofs.PackingLemmas.{true_inside}
-use Rattle.vob_lr.specs.ItemSets.{InClosure, IsClosure, IsGoto, IsItemSet}
+use Rattle.vob_lr.specs.ItemSets.{InClosure, IsItemClosure, IsGoto, IsItemSet}
 use Rattle.vob_lr.specs.Items.{item_total}
 use Rattle.vob_lr.specs.Ahead.{AreAhead, symbol_with}
 use Rattle.vob_lr.specs.Rounds.{AreMovesBut, AreMovesFrom, AreRounds, AreSome, Extends, HasEntered}
@@ -57,7 +57,7 @@ state_long rules (after x state ahead h) = h.len
 
 -- the closure of item 0 alone
 pub IsStart-closed : (rules : List Rule) (n : ℕ) (first set : List Bool) →
-    IsWritten (replicate n false) 0 true first → IsClosure rules first set → IsStart rules set
+    IsWritten (replicate n false) 0 true first → IsItemClosure rules first set → IsStart rules set
 IsStart-closed rules n first set w h = record {
   len = h.len;
   each = λ i. (

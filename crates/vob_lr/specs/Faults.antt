@@ -1,5 +1,5 @@
 -- Which rule of a grammar is the first that names a symbol that isn't there.
-use Rattle.std.specs.Prelude.{◌≡◌, ℕ, ◌<◌, List, ◌++◌, slice_get, Some, All, codes}
+use Rattle.std.specs.Prelude.{◌≡◌, ◌≢◌, ℕ, ◌<◌, List, [], ◌++◌, slice_get, Some, All, codes}
 use Rattle.std.specs.Fmt.{decimal}
 use Rattle.vob_lr.specs.declared.grammar.Grammar.{Grammar}
 use Rattle.vob_lr.specs.declared.grammar.GrammarError.{GrammarError}
@@ -35,6 +35,18 @@ abbrev pub IsFault : Grammar → GrammarError → Type 0
 IsFault grammar Memory = ⊥
 IsFault grammar (BadSymbol n) = IsBadRule grammar n
 IsFault grammar NoRule = ⊥
+
+-- why a call over the rules may fail: one is at fault, or memory ran out for some nonterminal
+abbrev pub MayRefuseRules : Grammar → GrammarError → Type 0
+MayRefuseRules grammar Memory = grammar.nonterminals ≢ 0
+MayRefuseRules grammar fault = IsFault grammar fault
+
+-- why a call for the states of a grammar may fail: there is no rule, or one is at fault, or memory
+-- ran out
+abbrev pub MayRefuseGrammar : Grammar → GrammarError → Type 0
+MayRefuseGrammar grammar Memory = Unit {0}
+MayRefuseGrammar grammar NoRule = grammar.rules.items ≡ []
+MayRefuseGrammar grammar fault = IsFault grammar fault
 
 -- the number of a refusal
 abbrev pub grammar_error_number : GrammarError → ℕ

@@ -33,8 +33,8 @@ pub record IsItemSet (rules : List Rule) (P : ℕ → Type 0) (set : List Bool) 
   pub each : (i : ℕ) → Has set i ↔ P i
 
 -- the closure of a set
-abbrev pub IsClosure : List Rule → List Bool → List Bool → Type 0
-IsClosure rules set closure = IsItemSet rules (InClosure rules (Has set)) closure
+abbrev pub IsItemClosure : List Rule → List Bool → List Bool → Type 0
+IsItemClosure rules set closure = IsItemSet rules (InClosure rules (Has set)) closure
 
 -- and the closure of its items whose dot passed symbol x
 abbrev pub IsGoto : List Rule → List Bool → Symbol → List Bool → Type 0

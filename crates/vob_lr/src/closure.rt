@@ -4,7 +4,7 @@ ghost use Rattle.vob.specs.Vobs.{AreOfLength, bits_of};
 ghost use Rattle.vob_lr.specs.Equations.{AreEquations, GainEach, GainsSymbols, lists_of};
 ghost use Rattle.vob_lr.specs.Expansions.{Advances, AreExpansions, Brings, Expands, Gains, HasOpening, HasRow, IsBrought, IsOpening};
 ghost use Rattle.vob_lr.specs.Faults.{IsBadRule, IsRuleOf};
-ghost use Rattle.vob_lr.specs.ItemSets.{IsAdvanced, IsClosure, IsGoto, IsItemSet};
+ghost use Rattle.vob_lr.specs.ItemSets.{IsAdvanced, IsItemClosure, IsGoto, IsItemSet};
 ghost use Rattle.vob_lr.specs.Items.{item_total};
 ghost use Rattle.vob_lr.specs.Ahead.{AreAhead};
 ghost use Rattle.vob_lr.specs.States.{IsStart};
@@ -191,7 +191,7 @@ impl<'a> Closures<'a> {
     pub fn closure(&self, set: &Vob) -> Result<Vob, AllocError>
         requires { length set.now.bits ≡ item_total self.now.rules.items }
         ensures { IfOk result (λ closure.
-            IsClosure self.now.rules.items set.now.bits closure.bits) }
+            IsItemClosure self.now.rules.items set.now.bits closure.bits) }
     {
         let mut closure = set.clone()?;
         for number in set.iter_set_bits(..) {

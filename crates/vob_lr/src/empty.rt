@@ -1,6 +1,6 @@
 //! Which nonterminals of a grammar can become empty.
-ghost use Rattle.std.specs.Prelude.{◌≡◌, ◌≢◌, ◌↔◌, ℕ, ◌<◌, List, length, All, Contains, IsTrue, IfOk, IsOk, Err};
-ghost use Rattle.vob_lr.specs.Faults.{IsBadRule, IsRuleOf};
+ghost use Rattle.std.specs.Prelude.{◌≡◌, ◌≢◌, ◌↔◌, ℕ, ◌<◌, List, length, All, Contains, IsTrue, IfErr, IfOk, IsOk, Err};
+ghost use Rattle.vob_lr.specs.Faults.{IsBadRule, IsRuleOf, MayRefuseRules};
 ghost use Rattle.vob_lr.specs.Grammar.{AreNullable};
 ghost use Rattle.vob_lr.specs.declared.grammar.Rule.{Rule};
 ghost use Rattle.vob_lr.specs.Passes.{AddsNull, AreEmptied, HasNull, IsNull, IsNullClosed};
@@ -74,6 +74,7 @@ pub fn nullable(alloc: Global, grammar: &Grammar) -> Result<Vob, GrammarError>
     ensures bad_symbol { (rule : ℕ)
         → (result ≡ Err (GrammarError.BadSymbol rule)) ↔ IsBadRule grammar.now rule }
     ensures memory { result ≡ Err GrammarError.Memory → grammar.now.nonterminals ≢ 0 }
+    ensures refused { IfErr result (MayRefuseRules grammar.now) }
 {
     check_rules(grammar)?;
     let nullable = solve_nullable(alloc, grammar)?;

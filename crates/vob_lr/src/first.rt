@@ -1,8 +1,8 @@
 //! Which terminals can begin what the nonterminals of a grammar become.
-ghost use Rattle.std.specs.Prelude.{◌≡◌, ◌≢◌, ◌↔◌, ℕ, length, All, IfOk, IsOk, OnOk, Err};
+ghost use Rattle.std.specs.Prelude.{◌≡◌, ◌≢◌, ◌↔◌, ℕ, length, All, IfErr, IfOk, IsOk, OnOk, Err};
 ghost use Rattle.vob.specs.Vobs.{AreOfLength, bits_of};
 ghost use Rattle.vob_lr.specs.Equations.{AreEquations, GainEach, GainsSymbols, lists_of};
-ghost use Rattle.vob_lr.specs.Faults.{IsBadRule, IsRuleOf};
+ghost use Rattle.vob_lr.specs.Faults.{IsBadRule, IsRuleOf, MayRefuseRules};
 ghost use Rattle.vob_lr.specs.Grammar.{AreFirst, AreNullable};
 ghost use Rattle.vob_lr.specs.Heads.{HasHead, HasPlace, IsHead};
 
@@ -105,6 +105,7 @@ pub fn first_sets(alloc: Global, grammar: &Grammar) -> Result<Vec<Vob>, GrammarE
     ensures bad_symbol { (rule : ℕ)
         → (result ≡ Err (GrammarError.BadSymbol rule)) ↔ IsBadRule grammar.now rule }
     ensures memory { result ≡ Err GrammarError.Memory → grammar.now.nonterminals ≢ 0 }
+    ensures refused { IfErr result (MayRefuseRules grammar.now) }
 {
     check_rules(grammar)?;
     let nullable = solve_nullable(alloc, grammar)?;

@@ -1,10 +1,10 @@
 //! Which terminals can follow the nonterminals of a grammar.
-ghost use Rattle.std.specs.Prelude.{◌≡◌, ◌≢◌, ◌↔◌, ◌⊎◌, ℕ, true, length, IsTrue, All, IfOk, IsOk, OnOk, Err};
+ghost use Rattle.std.specs.Prelude.{◌≡◌, ◌≢◌, ◌↔◌, ◌⊎◌, ℕ, true, length, IsTrue, All, IfErr, IfOk, IsOk, OnOk, Err};
 ghost use Rattle.vob_block.specs.Packing.{item};
 ghost use Rattle.vob.specs.Vobs.{AreOfLength, bits_of};
 ghost use Rattle.vob_lr.specs.Behind.{HasBehind, IsBehind, IsBelow, IsOfTrailer, IsStart};
 ghost use Rattle.vob_lr.specs.Equations.{AreEquations, GainEach, GainsSymbols, lists_of};
-ghost use Rattle.vob_lr.specs.Faults.{IsBadRule, IsRuleOf};
+ghost use Rattle.vob_lr.specs.Faults.{IsBadRule, IsRuleOf, MayRefuseRules};
 ghost use Rattle.vob_lr.specs.Grammar.{AreFirst, AreFollow, AreNullable};
 ghost use Rattle.vob_lr.specs.Heads.{HasPlace};
 ghost use Rattle.vob_lr.specs.Passes.{IsNull};
@@ -213,6 +213,7 @@ pub fn follow_sets(alloc: Global, grammar: &Grammar) -> Result<Vec<Vob>, Grammar
     ensures bad_symbol { (rule : ℕ)
         → (result ≡ Err (GrammarError.BadSymbol rule)) ↔ IsBadRule grammar.now rule }
     ensures memory { result ≡ Err GrammarError.Memory → grammar.now.nonterminals ≢ 0 }
+    ensures refused { IfErr result (MayRefuseRules grammar.now) }
 {
     check_rules(grammar)?;
     let nullable = solve_nullable(alloc, grammar)?;

@@ -1,8 +1,8 @@
 //! The lookaheads of a grammar's states, by which a parser knows when an item is complete.
-ghost use Rattle.std.specs.Prelude.{◌≡◌, ◌≢◌, ◌↔◌, ℕ, [], All, Err, IfNone, IfOk, IfSome, IsTrue, OnOk, Some};
+ghost use Rattle.std.specs.Prelude.{◌≡◌, ◌≢◌, ◌↔◌, ℕ, [], All, Err, IfErr, IfNone, IfOk, IfSome, IsTrue, OnOk, Some};
 ghost use Rattle.vob.specs.Vobs.{bits_of};
 ghost use Rattle.vob_flow.specs.Draws.{IsIn};
-ghost use Rattle.vob_lr.specs.Faults.{IsBadRule, IsRuleOf};
+ghost use Rattle.vob_lr.specs.Faults.{IsBadRule, IsRuleOf, MayRefuseGrammar};
 ghost use Rattle.vob_lr.specs.Flows.{HaveLookaheads};
 ghost use Rattle.vob_lr.specs.Lookaheads.{AreLookaheads, HasMove, Reduces, machine_of};
 ghost use Rattle.vob_lr.specs.Rounds.{rows_of};
@@ -90,6 +90,7 @@ impl<'a> Lookaheads<'a> {
         ensures no_rule { (result ≡ Err GrammarError.NoRule) ↔ (grammar.now.rules.items ≡ []) }
         ensures bad_symbol { (rule : ℕ)
             → (result ≡ Err (GrammarError.BadSymbol rule)) ↔ IsBadRule grammar.now rule }
+        ensures refused { IfErr result (MayRefuseGrammar grammar.now) }
     {
         let automaton = states(alloc, grammar)?;
         check_rules(grammar)?;

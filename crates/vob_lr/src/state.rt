@@ -1,7 +1,7 @@
 //! The states of the automaton of a grammar, and the moves between them.
-ghost use Rattle.std.specs.Prelude.{◌≡◌, ◌≢◌, ◌↔◌, ℕ, ◌<◌, [], length, slice_index_or, All, AllPairs, Contains, Err, IfNone, IfOk, IfSome, Some};
+ghost use Rattle.std.specs.Prelude.{◌≡◌, ◌≢◌, ◌↔◌, ℕ, ◌<◌, [], length, slice_index_or, All, AllPairs, Contains, Err, IfErr, IfNone, IfOk, IfSome, Some};
 ghost use Rattle.vob.specs.Vobs.{bits_of};
-ghost use Rattle.vob_lr.specs.Faults.{IsBadRule};
+ghost use Rattle.vob_lr.specs.Faults.{IsBadRule, MayRefuseGrammar};
 ghost use Rattle.vob_lr.specs.Ahead.{AreAhead, symbol_with};
 ghost use Rattle.vob_lr.specs.Rounds.{AreMovesFrom, AreSome, HasEntered, rows_of};
 ghost use Rattle.vob_lr.specs.States.{AreStates, Precedes};
@@ -155,6 +155,7 @@ pub fn states(alloc: Global, grammar: &Grammar) -> Result<Automaton, GrammarErro
     ensures no_rule { (result ≡ Err GrammarError.NoRule) ↔ (grammar.now.rules.items ≡ []) }
     ensures bad_symbol { (rule : ℕ)
         → (result ≡ Err (GrammarError.BadSymbol rule)) ↔ IsBadRule grammar.now rule }
+    ensures refused { IfErr result (MayRefuseGrammar grammar.now) }
 {
     if grammar.rules.is_empty() {
         return Err(GrammarError::NoRule);

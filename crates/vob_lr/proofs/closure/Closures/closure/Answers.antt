@@ -1,7 +1,7 @@
 -- The walk gives the next item, which brings what it does.
 use Rattle.std.proofs.Common.{◌∙◌, ap, arith}
 use Rattle.vob_lr.specs.Expansions.{Brings}
-use Rattle.vob_lr.proofs.ClosureLemmas.{IsClosure-gathered, IsGathered-start, IsGathered-step, gathered_inside}
+use Rattle.vob_lr.proofs.ClosureLemmas.{IsItemClosure-gathered, IsGathered-start, IsGathered-step, gathered_inside}
 use Rattle.vob_lr.proofs.closure.Closures.closure.Goals as goal
 
 pub loop-number-init : goal.loop-number-init
@@ -30,5 +30,5 @@ loop-number-preserved c = record {
 
 pub returns : goal.returns
 returns c =
-    IsClosure-gathered _ _ _ c.in-None.ensures.steps.gives.0 _ c.requires
+    IsItemClosure-gathered _ _ _ c.in-None.ensures.steps.gives.0 _ c.requires
     c.loop-number.invariant.gathered
