@@ -5,7 +5,7 @@ use Rattle.std.proofs.lemmas.List.{get_or_past}
 use Rattle.vob_block.specs.Packing.{item}
 use Rattle.vob_block.proofs.PackingLemmas.{true_inside}
 use Rattle.vob.specs.Vobs.{AreOfLength}
-use Rattle.vob_matrix.specs.Matrix.{row_of, entry, IsEdge, IsPath, IsClosure}
+use Rattle.vob_matrix.specs.Matrix.{row_of, entry, IsEdge, IsPath, AreClosed}
 use Rattle.vob_matrix.specs.MatrixPaths.{AreWithin, HasPathWithin, IsLedThrough, AreClosedWithin, IsClosedThrough}
 use Rattle.vob_matrix.specs.Unions.{HasLink, AreLinked}
 use Rattle.vob_matrix.proofs.ShapeLemmas.{HaveShapeOf-same, HaveShapeOf-trans}
@@ -269,10 +269,10 @@ IsClosedThrough-more rows before after b c order h more = record {
 }
 
 -- each node with a row and a column was taken
-pub IsClosure-through : (rows after : List (List Bool)) (columns n : ℕ) →
+pub AreClosed-through : (rows after : List (List Bool)) (columns n : ℕ) →
     AreOfLength columns rows → (length rows ≤ n) ⊎ (columns ≤ n) →
-    IsClosedThrough rows 0 n after → IsClosure rows after
-IsClosure-through rows after columns n long all h = record {
+    IsClosedThrough rows 0 n after → AreClosed rows after
+AreClosed-through rows after columns n long all h = record {
   shape = h.shape;
   each = λ i j. (
     (λ edge. let path = (h.each i j).0 edge in (path.0, path.2)),
@@ -282,10 +282,10 @@ IsClosure-through rows after columns n long all h = record {
 }
 
 -- and so was each node, one after another
-pub IsClosure-within : (rows after : List (List Bool)) (columns n : ℕ) → n ≡ length rows →
-    AreOfLength columns rows → AreClosedWithin rows 0 n n after → IsClosure rows after
-IsClosure-within rows after columns n whole long h =
-    IsClosure-through rows after columns n long (inl (omega arith)) (record {
+pub AreClosed-within : (rows after : List (List Bool)) (columns n : ℕ) → n ≡ length rows →
+    AreOfLength columns rows → AreClosedWithin rows 0 n n after → AreClosed rows after
+AreClosed-within rows after columns n whole long h =
+    AreClosed-through rows after columns n long (inl (omega arith)) (record {
       shape = h.shape;
       each = λ i j. (
         (λ edge. (h.each i j (omega arith)

@@ -61,7 +61,7 @@ abbrev pub HasPath : List (List Bool) → ℕ → ℕ → Type 0
 HasPath rows i j = (through : List ℕ) × IsPath rows i through j
 
 -- an edge wherever there was a path, and nowhere else
-pub record IsClosure (rows after : List (List Bool)) : Type 0 where
+pub record AreClosed (rows after : List (List Bool)) : Type 0 where
   pub shape : HaveShapeOf rows after
   pub each : (i j : ℕ) → IsEdge after i j ↔ HasPath rows i j
 

@@ -1,7 +1,7 @@
 -- Products and powers of matrices of bits: where one edge leads after another.
 use Rattle.std.specs.Prelude.{◌≡◌, ◌↔◌, ◌≢◌, ℕ, zero, suc, ◌<◌, Bool, true, List, length}
 use Rattle.vob.specs.Vobs.{AreOfLength}
-use Rattle.vob_matrix.specs.Matrix.{Matrix, entry, HaveShapeOf, IsEdge, IsClosure}
+use Rattle.vob_matrix.specs.Matrix.{Matrix, entry, HaveShapeOf, IsEdge, AreClosed}
 
 -- n rows and columns, and an edge from each node to itself alone
 pub record IsIdentity (n : ℕ) (after : Matrix) : Type 0 where
@@ -35,7 +35,7 @@ abbrev pub ClosureIsOfPowers : Type 0
 ClosureIsOfPowers =
     (matrix : Matrix) (after : List (List Bool)) (power : ℕ → Matrix)
     → length matrix.rows ≡ matrix.columns → AreOfLength matrix.columns matrix.rows
-    → IsClosure matrix.rows after → ((n : ℕ) → IsPower matrix n (power n))
+    → AreClosed matrix.rows after → ((n : ℕ) → IsPower matrix n (power n))
     → (i j : ℕ) → IsEdge after i j ↔ ((n : ℕ) × (0 < n) × IsEdge (power n).rows i j)
 
 -- the entries (i, i) were made true, and no other changed

@@ -2,7 +2,7 @@
 //! by a table of the unions of their rows.
 ghost use Rattle.std.specs.Prelude.{◌≡◌, ℕ, ◌+◌, ◌-◌, ◌<◌, ◌≤◌, [], length};
 ghost use Rattle.vob.specs.Vobs.{AreOfLength, bits_of};
-ghost use Rattle.vob_matrix.specs.Matrix.{row_of, HaveShapeOf, IsClosure};
+ghost use Rattle.vob_matrix.specs.Matrix.{row_of, HaveShapeOf, AreClosed};
 ghost use Rattle.vob_matrix.specs.MatrixPaths.{AreClosedWithin, IsClosedThrough, IsLedThrough};
 
 use crate::unions::{blank_rows, fill_unions, link_rows, or_row};
@@ -64,7 +64,7 @@ fn close_by_table(rows: &mut [Vob], unions: &mut [Vob], columns: usize)
     requires table { length unions.old ≡ 256 }
     requires long { AreOfLength columns (bits_of unions.old) }
     requires rows { AreOfLength columns (bits_of rows.old) }
-    ensures { IsClosure (bits_of rows.old) (bits_of rows.new) }
+    ensures { AreClosed (bits_of rows.old) (bits_of rows.new) }
 {
     let nodes = rows.len().min(columns);
     let mut first = 0;
@@ -79,7 +79,7 @@ fn close_by_table(rows: &mut [Vob], unions: &mut [Vob], columns: usize)
 /// rows enough and the table's memory is given, and otherwise one at a time.
 pub(crate) fn close_rows(alloc: Global, rows: &mut [Vob], columns: usize)
     requires { AreOfLength columns (bits_of rows.old) }
-    ensures { IsClosure (bits_of rows.old) (bits_of rows.new) }
+    ensures { AreClosed (bits_of rows.old) (bits_of rows.new) }
 {
     if rows.len() < LEAST_ROWS {
         close_within(rows, 0, rows.len());

@@ -10,7 +10,7 @@ ghost use Rattle.std.specs.Ordering.{eq_of_both, on};
 ghost use Rattle.vob.specs.Same.{same_bits};
 ghost use Rattle.vob_block.specs.Pointwise.{differ};
 ghost use Rattle.vob.specs.Vobs.{AreOfLength, bits_of};
-ghost use Rattle.vob_matrix.specs.Matrix.{AreJoined, row_of, entry, GetsRow, HaveShapeOf, IsClosure, IsColumnUnion, IsEntryWritten, IsTransposed, Matrix, same_matrix};
+ghost use Rattle.vob_matrix.specs.Matrix.{AreJoined, row_of, entry, GetsRow, HaveShapeOf, AreClosed, IsColumnUnion, IsEntryWritten, IsTransposed, Matrix, same_matrix};
 ghost use Rattle.vob_matrix.specs.Products.{IsIdentity, IsPower, IsProduct};
 ghost use Rattle.vob_matrix.specs.MatrixRows.{AreColumnsMarked, IsColumnMarked};
 
@@ -156,7 +156,7 @@ impl BitMatrix {
     /// takes about an eighth of the row operations. It takes one node at a time if that memory is
     /// refused, or if there are fewer rows.
     pub fn close(&mut self, alloc: Global)
-        ensures closure { IsClosure self.old.rows self.new.rows }
+        ensures closure { AreClosed self.old.rows self.new.rows }
         ensures columns { self.new.columns ≡ self.old.columns }
     {
         close_rows(alloc, &mut self.rows, self.columns);

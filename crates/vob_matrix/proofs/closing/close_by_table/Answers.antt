@@ -4,7 +4,7 @@ use Rattle.std.proofs.lemmas.Bool.{cases_lt}
 use Rattle.std.proofs.lemmas.List.{length-map}
 use Rattle.vob.specs.Vobs.{bits_of}
 use Rattle.vob_matrix.proofs.ShapeLemmas.{HaveShapeOf-same, HaveShapeOf-trans, AreOfLength-kept, AreOfLength-row}
-use Rattle.vob_matrix.proofs.PathLemmas.{IsClosedThrough-start, IsClosedThrough-more, IsClosure-through}
+use Rattle.vob_matrix.proofs.PathLemmas.{IsClosedThrough-start, IsClosedThrough-more, AreClosed-through}
 use Rattle.vob_matrix.proofs.closing.close_by_table.Goals as goal
 
 pub groups-init : goal.groups-init
@@ -43,5 +43,5 @@ returns c =
       | inl fewer ↦ inr (omega (arith, fewer, c.min-nodes.ensures, c.groups-test.false))
       | inr more ↦ inl (omega (arith, more, rows, c.min-nodes.ensures, c.groups-test.false))
     ] in
-    IsClosure-through _ _ c.args.columns c.groups.first c.requires.rows all
+    AreClosed-through _ _ c.args.columns c.groups.first c.requires.rows all
     c.groups.invariant.closed

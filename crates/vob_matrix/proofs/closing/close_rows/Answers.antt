@@ -3,12 +3,12 @@ use Rattle.std.proofs.Common.{◌∙◌, ap, sym, subst}
 use Rattle.std.proofs.lemmas.List.{length-map}
 use Rattle.vob.specs.Vobs.{AreOfLength, bits_of}
 use Rattle.vob_matrix.proofs.ShapeLemmas.{AreOfLength-empty}
-use Rattle.vob_matrix.proofs.PathLemmas.{IsClosure-within}
+use Rattle.vob_matrix.proofs.PathLemmas.{AreClosed-within}
 use Rattle.vob_matrix.proofs.closing.close_rows.Goals as goal
 
 pub returns-then-rows-lt-LEAST_ROWS : goal.returns-then-rows-lt-LEAST_ROWS
 returns-then-rows-lt-LEAST_ROWS c =
-    IsClosure-within _ _ c.args.columns _ (sym (length-map c.args.rows.now (λ v. v.bits))) c.requires
+    AreClosed-within _ _ c.args.columns _ (sym (length-map c.args.rows.now (λ v. v.bits))) c.requires
     c.close_within.ensures
 
 pub close_by_table-requires-clause-long : goal.close_by_table-requires-clause-long
@@ -19,5 +19,5 @@ close_by_table-requires-clause-long c =
 
 pub returns-in-Err : goal.returns-in-Err
 returns-in-Err c =
-    IsClosure-within _ _ c.args.columns _ (sym (length-map c.args.rows.now (λ v. v.bits))) c.requires
+    AreClosed-within _ _ c.args.columns _ (sym (length-map c.args.rows.now (λ v. v.bits))) c.requires
     c.close_within-in-Err.ensures
