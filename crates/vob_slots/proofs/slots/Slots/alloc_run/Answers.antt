@@ -41,7 +41,3 @@ returns-clause-taken c =
     (omega arith) room.inside))
     ∙ ap (λ bits. replaced start (start + c.args.count)
     (replicate c.args.count true) bits) c.self.view_is
-
-pub returns-in_default-clause-first : goal.returns-in_default-clause-first
-returns-in_default-clause-first c =
-    λ i room. c.in_default.ensures.room i (rw c.self.view_is room)
