@@ -1,0 +1,2 @@
+pub mod BlankLemmas
+pub mod PartLemmas
