@@ -1,2 +1,5 @@
 pub mod BlankLemmas
+pub mod EdgesLemmas
+pub mod EndsLemmas
 pub mod PartLemmas
+pub mod ReversedLemmas

@@ -1,2 +1,4 @@
+pub mod Ends
+pub mod Graph
 pub mod Part
 pub mod Rows

@@ -1,9 +1,11 @@
 //! Rows of bits, all of one length, in one piece of memory: n sets of m bits each.
 #![tactic(auto)]
 
+mod graph;
 mod part;
 mod row;
 mod rows;
 
+pub use graph::{Graph, GraphError};
 pub use row::Row;
 pub use rows::BitRows;
