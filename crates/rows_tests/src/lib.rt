@@ -1,0 +1,5 @@
+//! Tests of rows of bits, and of graphs.
+#![tactic(auto)]
+
+#[cfg(test)]
+mod tests;

@@ -1,0 +1,7 @@
+//! Rows of all small lengths against a formula for each bit, graphs, and calls that are refused memory.
+
+mod graphs;
+mod reads;
+mod refused;
+mod rows;
+mod support;
