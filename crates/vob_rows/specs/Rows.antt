@@ -1,7 +1,7 @@
 -- Rows of bits, all of one length.
 use Rattle.std.specs.Prelude.{ℕ, Bool, List, [], slice_index_or}
 
--- the rows, row 0 first, and how many bits each has, also where there is no row
+-- the rows in their order, and how many bits each has, also if there is no row
 pub record Matrix : Type 0 where
   pub rows : List (List Bool)
   pub columns : ℕ

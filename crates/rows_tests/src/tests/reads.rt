@@ -5,7 +5,7 @@ use std::process::Abort;
 use vob::Vob;
 use vob_rows::{BitRows, Row};
 
-/// Compares what a row says with the formula of row 1.
+/// Compares what a row says with the formula of the middle row.
 fn check_row(rt: &(impl Abort + AllocGlobal), row: &Row<'_>, columns: usize) {
     same(rt, "the length", columns, row.len(), columns);
     let mut count: usize = 0;

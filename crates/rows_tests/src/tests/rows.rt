@@ -59,7 +59,7 @@ pub fn three(rt: &(impl Abort + AllocGlobal), columns: usize, others: bool) -> B
     rows
 }
 
-/// Calls on row 1 of some, with row 2 of others, or with their own row 0 and that as a mask. Returns
+/// Calls on the middle row, with the last of others, or with the first and that as a mask. Returns
 /// whether the call says that a bit changed.
 fn make_call(rows: &mut BitRows, others: &BitRows, what: Call) -> Option<bool> {
     if rows.rows() != 3 || others.rows() != 3 || rows.columns() != others.columns() {
@@ -85,7 +85,7 @@ fn make_call(rows: &mut BitRows, others: &BitRows, what: Call) -> Option<bool> {
     }
 }
 
-/// What bit `j` of row 1 is after a call.
+/// What bit `j` of the middle row is after a call.
 fn after(what: Call, j: usize) -> bool {
     let own = is_first(1, j);
     let from = is_first(0, j);
