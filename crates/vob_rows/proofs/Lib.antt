@@ -3,3 +3,4 @@ pub mod EdgesLemmas
 pub mod EndsLemmas
 pub mod PartLemmas
 pub mod ReversedLemmas
+pub mod VobsLemmas

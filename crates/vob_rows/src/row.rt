@@ -1,12 +1,12 @@
 //! One row, borrowed from others or from a Vob, that reads like a Vob.
-ghost use Rattle.std.specs.Prelude.{◌≡◌, ◌↔◌, ◌+◌, ◌-◌, ◌^◌, ◌<◌, ◌≤◌, [], true, drop, length, map, slice_get, take, IfOk, IsOk, IsTrue};
+ghost use Rattle.std.specs.Prelude.{◌≡◌, ◌↔◌, ◌+◌, ◌-◌, ◌^◌, ◌<◌, ◌≤◌, [], true, drop, length, map, slice_get, take, IfOk, IfSome, IsOk, IsTrue};
 ghost use Rattle.std.specs.Iterator.Runs.{YieldsInOrder, YieldsInReverse};
 ghost use Rattle.vob_block.specs.Packing.{item, packing, IsCanonical};
 ghost use Rattle.vob_block.specs.Places.{HasPlaces};
 ghost use Rattle.vob_walk.specs.Matches.{ForSomeRange};
 ghost use Rattle.vob_walk.specs.Walk.{IsFresh, GivesFirst, GivesLast};
 ghost use Rattle.vob.specs.Bits.{count_of};
-ghost use Rattle.vob.specs.Sets.{AreDisjoint};
+ghost use Rattle.vob.specs.Sets.{AreDisjoint, IsBit, IsNext};
 
 use std::alloc::{AllocError, Global};
 use std::marker::Model;
@@ -16,7 +16,7 @@ use vob_block::{And, Blocks, Kernel};
 use vob_store::combined::has_none;
 use vob_store::load_store::bits_at;
 use vob_store::single::stored_bit;
-use vob_walk::{IterSetBits, count_ones_in};
+use vob_walk::{IterSetBits, count_ones_in, next_index};
 
 /// A list of bits in borrowed blocks: a row of some, or a whole Vob. Contracts see the list.
 #[derive(Drop)]
@@ -102,6 +102,15 @@ impl<'a, T: Kernel> Row<'a, T> {
         ensures runs_back { YieldsInReverse GivesLast (λ walk. walk.rest) }
     {
         IterSetBits::over(self.blocks(), self.len(), range)
+    }
+
+    /// Returns the index of the first set bit at or above `from`, which may be past the end.
+    pub fn next_set(&self, from: usize) -> Option<usize>
+        ensures next { IsNext true self.now from result }
+        ensures inside { IfSome result (λ i. IsBit true self.now i) }
+        ensures above { IfSome result (λ i. (from ≤ i) × (i < usize.MAX)) }
+    {
+        next_index(&mut self.blocks(), true, self.len(), from)
     }
 
     /// Returns whether no bit is set in both. The lengths must be equal.

@@ -1,9 +1,10 @@
 //! Rows of bits, all of one length, packed one after another.
-ghost use Rattle.std.specs.Prelude.{◌≡◌, ◌≢◌, ◌↔◌, ◌<◌, ◌&&◌, ◌||◌, Bool, [], false, not, length, map, replicate, slice_get, slice_set, IsOk, IsTrue, IfOk};
+ghost use Rattle.std.specs.Prelude.{◌≡◌, ◌≢◌, ◌↔◌, ◌<◌, ◌&&◌, ◌||◌, Bool, [], false, not, length, map, replicate, slice_get, slice_set, All, IsOk, IsTrue, IfOk};
 ghost use Rattle.vob_block.specs.Packing.{item};
 ghost use Rattle.vob_block.specs.Pointwise.{differ, pointwise, without};
 ghost use Rattle.vob.specs.Bits.{GainsBits};
-ghost use Rattle.vob.specs.Vobs.{AreOfLength};
+ghost use Rattle.vob.specs.Indices.{IsSetAt};
+ghost use Rattle.vob.specs.Vobs.{AreOfLength, bits_of};
 ghost use Rattle.vob_rows.specs.Rows.{row_of};
 
 use crate::part::{
@@ -12,6 +13,7 @@ use crate::part::{
 use crate::row::Row;
 use std::alloc::{AllocError, Global};
 use std::marker::Model;
+use vob::Vob;
 use vob_block::{And, Combine, Kernel, Or, Without};
 use vob_store::room::block_count;
 
@@ -102,6 +104,37 @@ impl<T: Kernel> BitRows<T> {
         }
     }
 
+    /// Makes rows with the bits of some Vobs, each of which has a bit for each column. Fails if memory
+    /// runs out; no Vobs take none.
+    pub fn from_vobs(
+        alloc: Global,
+        columns: usize,
+        vobs: &[Vob<T>],
+    ) -> Result<BitRows<T>, AllocError>
+        requires { AreOfLength columns (bits_of vobs.now) }
+        ensures rows { IfOk result (λ made. made.rows ≡ bits_of vobs.now) }
+        ensures columns { IfOk result (λ made. made.columns ≡ columns) }
+        ensures nothing { vobs.now ≡ [] → IsOk result }
+    {
+        let mut made = BitRows::new(alloc, vobs.len(), columns)?;
+        for i in 0..vobs.len() {
+            made.or_with(i, &Row::of(&vobs[i]));
+        }
+        Ok(made)
+    }
+
+    /// Returns each row in a Vob of its own. Fails if memory runs out; no rows take none.
+    pub fn to_vobs(&self, alloc: Global) -> Result<Vec<Vob<T>>, AllocError>
+        ensures vobs { IfOk result (λ vobs. bits_of vobs.items ≡ self.now.rows) }
+        ensures nothing { self.now.rows ≡ [] → IsOk result }
+    {
+        let mut vobs = Vec::with_capacity(alloc, self.rows())?;
+        for i in 0..self.rows() {
+            vobs.push(self.row(i).to_vob(alloc)?)?;
+        }
+        Ok(vobs)
+    }
+
     /// Returns bit `j` of row `i`, or `None` past the last row or column.
     pub fn get(&self, i: usize, j: usize) -> Option<bool>
         ensures { result ≡ slice_get (row_of self.now.rows i) j }
@@ -124,6 +157,21 @@ impl<T: Kernel> BitRows<T> {
     {
         let count = block_count::<T>(self.columns);
         write_at(self.blocks.as_mut_slice(), count, self.columns, i, j, value)
+    }
+
+    /// Sets the bits of row `i` at some indices, among which one may stand more than once.
+    pub fn set_indices(&mut self, i: usize, indices: &[usize])
+        requires row { i < length self.old.rows }
+        requires columns { All (λ j. j < self.old.columns) indices.now }
+        ensures rows { self.new.rows ≡ slice_set self.old.rows i (row_of self.new.rows i) }
+        ensures set { IsSetAt indices.now (row_of self.old.rows i) (row_of self.new.rows i) }
+        ensures columns { self.new.columns ≡ self.old.columns }
+    {
+        for j in indices {
+            // Each row is as long as there are columns: a proof knows it from this call.
+            let _columns = self.columns();
+            self.set(i, *j, true);
+        }
     }
 
     /// Makes each bit of row `i` `value`.

@@ -36,6 +36,47 @@ fn a_row_reads_like_a_vob(rt: HostRuntime) {
     }
 }
 
+#[test]
+fn the_next_set_bit_of_a_row_is_found(rt: HostRuntime) {
+    for columns in LENGTHS {
+        let rows = three(&rt, columns, false);
+        if rows.rows() == 3 {
+            for from in 0..=columns {
+                let wanted = (from..columns).find(|j| is_first(1, *j));
+                same(&rt, "the next", from, rows.row(1).next_set(from), wanted);
+            }
+            same(&rt, "past all", 0, rows.row(1).next_set(usize::MAX), None);
+        }
+    }
+}
+
+#[test]
+fn rows_become_vobs_and_vobs_rows(rt: HostRuntime) {
+    for columns in LENGTHS {
+        let rows = three(&rt, columns, false);
+        let vobs = rows.to_vobs(rt.alloc()).expect(&rt, "memory");
+        same(&rt, "rows", columns, vobs.len(), 3);
+        let again = BitRows::from_vobs(rt.alloc(), rows.columns(), &vobs).expect(&rt, "memory");
+        same(&rt, "columns", columns, again.columns(), columns);
+        for (i, vob) in vobs.iter().enumerate() {
+            same(&rt, "the length", i, vob.len(), columns);
+            for j in 0..columns {
+                same(&rt, "a bit of a Vob", j, vob.get(j), Some(is_first(i, j)));
+                same(
+                    &rt,
+                    "a bit of a row",
+                    j,
+                    again.get(i, j),
+                    Some(is_first(i, j)),
+                );
+            }
+        }
+    }
+    let none = BitRows::<usize>::from_vobs(rt.alloc(), 5, &[]).expect(&rt, "no memory");
+    same(&rt, "no rows", 5, none.rows(), 0);
+    same(&rt, "no row's columns", 0, none.columns(), 5);
+}
+
 /// Compares rows of two lengths of the first formula and of the other.
 fn are_apart(rt: &impl Abort, rows: &BitRows, others: &BitRows, columns: usize) {
     if rows.rows() == 3 && others.rows() == 3 && rows.columns() == others.columns() {

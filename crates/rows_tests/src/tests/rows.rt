@@ -128,6 +128,21 @@ fn bits_are_those_that_were_set(rt: HostRuntime) {
 }
 
 #[test]
+fn bits_of_a_row_are_set_at_indices(rt: HostRuntime) {
+    let mut rows = BitRows::<usize>::new(rt.alloc(), 3, 70).expect(&rt, "memory");
+    if rows.rows() == 3 && rows.columns() == 70 {
+        rows.set_indices(1, &[69, 0, 64, 0]);
+        rows.set_indices(1, &[]);
+        for i in 0..3 {
+            for j in 0..70 {
+                let wanted = i == 1 && (j == 0 || j == 64 || j == 69);
+                same(&rt, "a bit", j, rows.get(i, j), Some(wanted));
+            }
+        }
+    }
+}
+
+#[test]
 fn a_row_is_filled_and_negated(rt: HostRuntime) {
     check(&rt, Call::Fill(false));
     check(&rt, Call::Fill(true));
