@@ -1,18 +1,17 @@
--- Numbers that are added to lists, and what nodes draw.
-use Rattle.std.specs.Prelude.{◌↔◌, Contains, Some, slice_get}
-use Rattle.std.proofs.Common.{◌≡◌, ℕ, Bool, false, Vec, Global, ◌+◌, ◌<◌, ◌≤◌, inl, inr, List, [], ◌∷◌, ◌++◌, length, get_or, set, map, replicate, slice_index_or, refl, sym, ap, subst, ◌∙◌, arith}
-use Rattle.std.proofs.lemmas.Bool.{cases_eq, cases_lt, false≢true, false_from_ne_true}
-use Rattle.std.proofs.lemmas.List.{get_or-map, get_or-replicate, get_or-set_other, get_or-set_same, get_or_append_left, get_or_past, get_or_push, length_push, length-set, length-replicate, length-map}
+-- Numbers that are added to lists, and sets of lists.
+use Rattle.std.specs.Prelude.{◌↔◌, Contains}
+use Rattle.std.proofs.Common.{◌≡◌, ◌≢◌, ℕ, Bool, true, false, not, ◌+◌, ◌<◌, ◌≤◌, inl, inr, List, [], ◌∷◌, ◌++◌, length, get_or, set, map, replicate, slice_index_or, refl, sym, ap, subst, ◌∙◌, arith}
+use Rattle.std.proofs.lemmas.Bool.{cases_eq, cases_lt, false≢true, false_from_ne_true, not-true, not_from_false}
+use Rattle.std.proofs.lemmas.List.{get_or-replicate, get_or-set_other, get_or-set_same, get_or_past, length-set, length-replicate, length-map}
 use Rattle.std.proofs.lemmas.List.Elements.{Contains-append_cases, Contains-append_left, Contains-push}
-use Rattle.std.proofs.lemmas.Option.{get_or_from_slice_get, slice_get-get_or, slice_get_within}
 use Rattle.vob_block.specs.Packing.{item}
-use Rattle.vob.specs.Indices.{IsMadeOf}
-use Rattle.vob.specs.Vob.{BitVector}
-use Rattle.vob.proofs.VobsLemmas.{beside_from}
-use Rattle.vob_flow.specs.declared.draw.Draw.{Draw}
+use Rattle.vob.specs.Indices.{IsSetAt}
+use Rattle.vob.specs.Vobs.{AreOfLength}
+use Rattle.vob.proofs.BitsLemmas.{item_false, row_inside}
+use Rattle.vob_flow.specs.Draws.{IsIn}
 use Rattle.vob_flow.specs.declared.live.Flow.{Flow}
 use Rattle.files_flow.specs.declared.problem.Problem.{Problem}
-use Rattle.files_flow.specs.Problems.{AreBefore, AreSetsOf, IsAddedTo, IsFlowOf, lists_of, next_of}
+use Rattle.files_flow.specs.Problems.{AreBefore, AreSetsOf, IsAddedTo, IsSolved, Solve, lists_of, next_of}
 use Rattle.files_text.proofs.ListLemmas.{first, first_or_later, nothing}
 
 pub only : (x y : ℕ) → Contains (x ∷ []) y → x ≡ y
@@ -153,50 +152,93 @@ module _ (nodes : List Flow) where
             (omega (arith, past, length-map nodes (λ (node : Flow). node.next.items)))) there))
       ]
 
-module _ (problem : Problem) where
-  -- the flows of the first k nodes
-  pub record AreFlowsBelow (k : ℕ) (flows : List Draw) : Type 0 where
-    pub count : length flows ≡ k
-    pub each : (n : ℕ) (flow : Draw) → slice_get flows n ≡ Some flow →
-        IsFlowOf (slice_index_or (lists_of problem.kills.items) n [])
-        (slice_index_or (lists_of problem.from.items) n []) flow
+-- ---- the sets of lists
 
-  pub flows_more : (k : ℕ) (flows : List Draw) (flow : Draw) → AreFlowsBelow k flows →
-      IsFlowOf (slice_index_or (lists_of problem.kills.items) k [])
-      (slice_index_or (lists_of problem.from.items) k []) flow → AreFlowsBelow (k + 1) (flows ++ flow ∷ [])
-  flows_more k flows flow are is = record {
-    count = length_push flows flow ∙ ap (λ n. n + 1) are.count;
-    each = λ n one read.
-        let here = get_or_from_slice_get (flows ++ flow ∷ []) n one one read in
-        let inside = slice_get_within (flows ++ flow ∷ []) n one read in
-        elim (cases_lt n k) [
-          | inl less ↦
-              let before : n < length flows = omega (arith, less, are.count) in
-              are.each n one (slice_get-get_or flows n one before
-              ∙ ap Some (sym (get_or_append_left flows (flow ∷ []) one n before) ∙ here))
-          | inr past ↦
-              let last : n ≡ k = omega (arith, past, inside, are.count, length_push flows flow) in
-              let same : flow ≡ one = sym (get_or_push flows flow one n (omega (arith, last, are.count))) ∙ here in
-              rw (last, ← same) is
-        ];
-  }
+-- the first k sets are those of their lists, and the others have nothing
+pub record AreSetsBelow (places : ℕ) (lists : List (List ℕ)) (sets : List (List Bool)) (wide k : ℕ)
+    : Type 0 where
+  pub count : length sets ≡ length lists
+  pub wide_is : wide ≡ places
+  pub low : (n v : ℕ) → n < k → IsIn sets n v ↔ Contains (slice_index_or lists n []) v
+  pub high : (n v : ℕ) → k ≤ n → ¬ IsIn sets n v
 
--- what isn't in a set is what its list doesn't have
-kept_without : (places : ℕ) (list : List ℕ) (set : List Bool) → IsMadeOf places list set →
-    (v : ℕ) → (item set v ≡ false) ↔ (¬ Contains list v)
-kept_without places list set made v = (
-  (λ off within. false≢true (sym off ∙ (made.each v).1 within)),
-  (λ without. false_from_ne_true (item set v) (λ on. without ((made.each v).0 on))),
+pub sets_none : (places : ℕ) (lists : List (List ℕ)) (sets : List (List Bool)) (wide : ℕ) →
+    sets ≡ replicate (length lists) (replicate places false) → wide ≡ places →
+    AreSetsBelow places lists sets wide 0
+sets_none places lists sets wide are same = record {
+  count = ap length are ∙ length-replicate (length lists) (replicate places false);
+  wide_is = same;
+  low = λ n v less. absurd (omega (arith, less));
+  high = λ n v past. rw are (λ e.
+      let less : n < length lists = omega (
+        arith,
+        row_inside (replicate (length lists) (replicate places false)) n v e,
+        length-replicate (length lists) (replicate places false),
+      ) in
+      false≢true (sym (item_false places v) ∙ ap (λ (bits : List Bool). item bits v)
+      (sym (get_or-replicate (length lists) n (replicate places false) [] less)) ∙ e));
+}
+
+pub sets_more : (places : ℕ) (lists : List (List ℕ)) (sets after : List (List Bool)) (wide wide' k : ℕ)
+    (list : List ℕ) → AreSetsBelow places lists sets wide k → k < length lists →
+    get_or lists k [] ≡ list → after ≡ set sets k (get_or after k []) →
+    IsSetAt list (get_or sets k []) (get_or after k []) → wide' ≡ wide →
+    AreSetsBelow places lists after wide' (k + 1)
+sets_more places lists sets after wide wide' k list h inside own put is same = record {
+  count = ap length put ∙ length-set sets k (get_or after k []) ∙ h.count;
+  wide_is = same ∙ h.wide_is;
+  low = λ n v less. elim (cases_eq n k) [
+    | inl here ↦ rw (here, own) (
+      (λ e. elim ((is.each v).0 e) [
+        | inl old ↦ absurd (h.high k v (omega arith) old)
+        | inr new ↦ new
+      ]),
+      (λ within. (is.each v).1 (inr within)),
+    )
+    | inr other ↦ rw (other_row n other) (h.low n v (omega (arith, less, other)))
+  ];
+  high = λ n v past. rw (other_row n (λ e. omega (arith, past, e))) (h.high n v (omega (arith, past)));
+}
+  where
+    other_row : (n : ℕ) → n ≢ k → get_or after n [] ≡ get_or sets n []
+    other_row n other = ap (λ xs. get_or xs n []) put ∙ get_or-set_other sets k n (get_or after k []) [] other
+
+pub sets_all : (places : ℕ) (lists : List (List ℕ)) (sets : List (List Bool)) (wide k : ℕ) →
+    AreSetsBelow places lists sets wide k → k ≡ length lists → AreOfLength places sets →
+    AreSetsOf places lists sets
+sets_all places lists sets wide k h all long = record {
+  count = h.count;
+  long = long;
+  each = λ n v. elim (cases_lt n k) [
+    | inl less ↦ h.low n v less
+    | inr past ↦ (
+      (λ e. absurd (h.high n v past e)),
+      (λ within. absurd (nothing v (subst (λ list. Contains list v)
+          (get_or_past lists n [] (omega (arith, past, all))) within))),
+    )
+  ];
+}
+
+-- what isn't in the set of a list isn't in the list
+kept_without : (places : ℕ) (lists : List (List ℕ)) (sets : List (List Bool)) →
+    AreSetsOf places lists sets → (n v : ℕ) → (not (item (get_or sets n []) v) ≡ true)
+    ↔ (¬ Contains (slice_index_or lists n []) v)
+kept_without places lists sets are n v = (
+  (λ keeps within. false≢true (sym (not-true _ keeps) ∙ (are.each n v).1 within)),
+  (λ none. not_from_false _ (false_from_ne_true _ (λ on. none ((are.each n v).0 on)))),
 )
 
-pub kept_of : (places : ℕ) (lists : List (Vec ℕ Global)) (sets : List BitVector) (n : ℕ) (set : BitVector) →
-    AreSetsOf places lists sets → slice_get sets n ≡ Some set →
-    (v : ℕ) → (item set.bits v ≡ false) ↔ (¬ Contains (slice_index_or (lists_of lists) n []) v)
-kept_of places lists sets n set are read =
-    let of = beside_from (λ (list : Vec ℕ Global) (one : BitVector). IsMadeOf places list.items one.bits)
-    lists sets n set are read in
-    let items = λ (list : Vec ℕ Global). list.items in
-    let own : slice_index_or (lists_of lists) n [] ≡ of.0.items =
-    get_or-map items lists n of.0 [] (slice_get_within lists n of.0 of.1)
-    ∙ ap items (get_or_from_slice_get lists n of.0 of.0 of.1) in
-    rw own (kept_without places of.0.items set.bits of.2)
+-- ---- a problem that is solved
+
+pub IsSolved-by : (problem : Problem) (gens kills before after : List (List Bool)) →
+    AreSetsOf (length problem.labels.items) (lists_of problem.generates.items) gens →
+    AreSetsOf (length problem.labels.items) (lists_of problem.kills.items) kills →
+    Solve problem.kind (length problem.labels.items) (lists_of problem.from.items)
+    (λ n v. not (item (get_or kills n []) v)) gens before after → IsSolved problem before after
+IsSolved-by problem gens kills before after gens_are kills_are solved = record {
+  gens = gens;
+  mask = λ n v. not (item (get_or kills n []) v);
+  gens_are = gens_are;
+  keeps = kept_without _ _ kills kills_are;
+  solved = solved;
+}

@@ -1,14 +1,10 @@
 -- Dataflow problems by lists, and the sets that solve them.
-use Rattle.std.specs.Prelude.{◌≡◌, ◌↔◌, ◌⊎◌, ℕ, ◌<◌, Bool, List, [], length, map, slice_get, slice_index_or, Some, Contains, Vec}
-use Rattle.std.specs.List.{AllZip}
+use Rattle.std.specs.Prelude.{◌≡◌, ◌↔◌, ◌⊎◌, ℕ, ◌<◌, Bool, true, List, [], length, map, slice_index_or, Contains, Vec}
 use Rattle.std.specs.declared.alloc.Global.{Global}
-use Rattle.vob.specs.Indices.{IsMadeOf}
-use Rattle.vob.specs.Vob.{BitVector}
-use Rattle.vob.specs.Vobs.{bits_of}
+use Rattle.vob.specs.Vobs.{AreOfLength}
 use Rattle.vob_flow.specs.Available.{AreAvailable, AreVeryBusy}
-use Rattle.vob_flow.specs.Draws.{IsKept}
+use Rattle.vob_flow.specs.Draws.{IsIn}
 use Rattle.vob_flow.specs.Reaching.{AreReaching}
-use Rattle.vob_flow.specs.declared.draw.Draw.{Draw}
 use Rattle.vob_flow.specs.declared.live.Flow.{Flow}
 use Rattle.files_flow.specs.declared.problem.Problem.{Problem}
 use Rattle.files_flow.specs.declared.problem.Kind.{Kind}
@@ -34,32 +30,25 @@ pub record AreBefore (nodes : List Flow) (before : List (List ℕ)) : Type 0 whe
   pub each : (n m : ℕ) → n < length nodes →
       Contains (slice_index_or before n []) m ↔ Contains (next_of nodes m) n
 
--- a node draws from the nodes in its list, and keeps what another list doesn't have
-pub record IsFlowOf (kills from : List ℕ) (flow : Draw) : Type 0 where
-  pub from_is : flow.from.now ≡ from
-  pub kept : (v : ℕ) → IsKept flow.mask v ↔ (¬ Contains kills v)
-
--- what each node draws in a problem
-pub record AreFlowsOf (problem : Problem) (flows : List Draw) : Type 0 where
-  pub count : length flows ≡ length problem.from.items
-  pub each : (n : ℕ) (flow : Draw) → slice_get flows n ≡ Some flow →
-      IsFlowOf (slice_index_or (lists_of problem.kills.items) n [])
-      (slice_index_or (lists_of problem.from.items) n []) flow
-
 -- the sets of some lists of places
-abbrev pub AreSetsOf : ℕ → List (Vec ℕ Global) → List BitVector → Type 0
-AreSetsOf places lists sets = AllZip (λ list set. IsMadeOf places list.items set.bits) lists sets
+pub record AreSetsOf (places : ℕ) (lists : List (List ℕ)) (sets : List (List Bool)) : Type 0 where
+  pub count : length sets ≡ length lists
+  pub long : AreOfLength places sets
+  pub each : (n v : ℕ) → IsIn sets n v ↔ Contains (slice_index_or lists n []) v
 
 -- the sets before and after each node that a kind of problem asks for
-abbrev pub Solve : Kind → ℕ → List Draw → List (List Bool) → List (List Bool) → List (List Bool) → Type 0
-Solve ForwardMay places flows gens before after = AreReaching flows gens before after
-Solve ForwardMust places flows gens before after = AreAvailable places 0 flows gens before after
-Solve BackwardMust places flows gens before after = AreVeryBusy places flows gens before after
+abbrev pub Solve : Kind → ℕ → List (List ℕ) → (ℕ → ℕ → Bool) → List (List Bool) → List (List Bool) →
+    List (List Bool) → Type 0
+Solve ForwardMay places from mask gens before after = AreReaching from mask gens before after
+Solve ForwardMust places from mask gens before after = AreAvailable places 0 from mask gens before after
+Solve BackwardMust places from mask gens before after = AreVeryBusy places from mask gens before after
 
--- the sets that solve a problem
+-- the sets that solve a problem, where each node keeps what it doesn't kill
 pub record IsSolved (problem : Problem) (before after : List (List Bool)) : Type 0 where
-  pub gens : List BitVector
-  pub flows : List Draw
-  pub gens_are : AreSetsOf (length problem.labels.items) problem.generates.items gens
-  pub flows_are : AreFlowsOf problem flows
-  pub solved : Solve problem.kind (length problem.labels.items) flows (bits_of gens) before after
+  pub gens : List (List Bool)
+  pub mask : ℕ → ℕ → Bool
+  pub gens_are : AreSetsOf (length problem.labels.items) (lists_of problem.generates.items) gens
+  pub keeps : (n v : ℕ) → (mask n v ≡ true)
+      ↔ (¬ Contains (slice_index_or (lists_of problem.kills.items) n []) v)
+  pub solved : Solve problem.kind (length problem.labels.items) (lists_of problem.from.items) mask gens
+      before after

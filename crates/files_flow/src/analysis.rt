@@ -1,25 +1,24 @@
 //! What holds before and after each node of a flow graph.
-ghost use Rattle.std.specs.Prelude.{◌≡◌, [], length, slice_index_or, IfOk, OnOk};
+ghost use Rattle.std.specs.Prelude.{◌≡◌, [], slice_index_or, IfOk, OnOk};
 ghost use Rattle.std.specs.Io.KnownBytes.{Appends};
-ghost use Rattle.vob.specs.Vobs.{bits_of};
 ghost use Rattle.files_text.specs.Printed.{Writes};
-ghost use Rattle.files_flow.specs.Problems.{AreFlowsOf, AreSetsOf, IsSolved, lists_of};
+ghost use Rattle.files_flow.specs.Problems.{AreSetsOf, IsSolved, lists_of};
 ghost use Rattle.files_flow.specs.FlowText.{ListsDominators, ListsLive, ListsReaching, ListsSolution, dominators_text, labels_text, set_text, sides_text};
 
 use crate::definitions::reaching_problem;
 use crate::fault::FlowFault;
 use crate::flow::{FlowGraph, read_flow};
 use crate::problem::{Kind, Problem, available_problem, busy_problem, labels_of, nodes_before};
-use files_text::{Fault, Names, end_line, put_name, put_next};
+use files_text::{Names, all_below, end_line, put_name, put_next};
 use std::alloc::{AllocError, Global};
 use std::io;
 use std::io::Write;
-use vob::Vob;
-use vob_flow::live::liveness;
+use vob_flow::live::live_rows;
 use vob_flow::{
-    Draw, Mask, SolveError, available_expressions, dominators, reaching_definitions,
+    Masks, SolveError, available_expressions, dominators, reaching_definitions,
     very_busy_expressions,
 };
+use vob_rows::{BitRows, Graph, Row};
 
 /// An analysis of a flow graph.
 #[derive(Clone, Copy, PartialEq, Eq)]
@@ -56,81 +55,63 @@ impl Analysis {
 /// The sets before and after each node, of the numbers of the places.
 #[derive(Drop)]
 struct Sides {
-    before: Vec<Vob>,
-    after: Vec<Vob>,
-}
-
-/// Returns the sets of the numbers in some lists.
-fn sets_of(alloc: Global, places: usize, lists: &[Vec<usize>]) -> Result<Vec<Vob>, FlowFault>
-    ensures { IfOk result (λ sets. AreSetsOf places lists.now sets.items) }
-{
-    let mut sets = Vec::new(alloc);
-    for list in lists {
-        match Vob::<usize>::from_indices(alloc, places, list) {
-            Ok(set) => sets.push(set)?,
-            Err(_) => return Err(FlowFault::Text(Fault::Memory)),
-        }
-    }
-    Ok(sets)
+    before: BitRows,
+    after: BitRows,
 }
 
 /// Returns the fault of lists that don't fit one another.
-fn no_fit(set: usize) -> FlowFault {
-    FlowFault::Sets(SolveError::BadLength { set })
+fn no_fit() -> FlowFault {
+    FlowFault::Sets(SolveError::BadMasks)
 }
 
-/// Returns what each node draws from others: what isn't in its set of those that it kills.
-fn flows_of<'a>(
-    alloc: Global,
-    problem: &'a Problem,
-    kills: &'a [Vob],
-) -> Result<Vec<Draw<'a>>, FlowFault>
-    requires { AreSetsOf (length problem.now.labels.items) problem.now.kills.items kills.now }
-    ensures { IfOk result (λ flows. AreFlowsOf problem.now flows.items) }
+/// Returns the sets of the numbers in some lists.
+fn sets_of(alloc: Global, places: usize, lists: &[Vec<usize>]) -> Result<BitRows, FlowFault>
+    ensures sets { IfOk result (λ sets. AreSetsOf places (lists_of lists.now) sets.rows) }
+    ensures columns { IfOk result (λ sets. sets.columns ≡ places) }
 {
-    if kills.len() != problem.from.len() {
-        return Err(no_fit(kills.len()));
+    let mut sets = BitRows::new(alloc, lists.len(), places)?;
+    for set in 0..lists.len() {
+        let list = &lists[set];
+        if !all_below(list, places) {
+            return Err(no_fit());
+        }
+        sets.set_indices(set, list);
     }
-    let mut flows = Vec::new(alloc);
-    for node in 0..kills.len() {
-        flows.push(Draw {
-            mask: Mask::Without(&kills[node]),
-            from: &problem.from[node],
-        })?;
-    }
-    Ok(flows)
+    // Each set is as long as there are columns: a proof knows it from this call.
+    let _columns = sets.columns();
+    Ok(sets)
 }
 
 /// Solves a problem: returns the least sets that meet its equations, or the greatest ones if it asks
 /// about all paths.
 fn solve(alloc: Global, problem: &Problem) -> Result<Sides, FlowFault>
-    ensures { IfOk result (λ sides.
-        IsSolved problem.now (bits_of sides.before.items) (bits_of sides.after.items)) }
+    ensures { IfOk result (λ sides. IsSolved problem.now sides.before.rows sides.after.rows) }
 {
     let places = problem.labels.len();
     let kills = sets_of(alloc, places, &problem.kills)?;
-    let flows = flows_of(alloc, problem, &kills)?;
+    let masks = Masks::Without(&kills);
+    let from = Graph::from_lists(alloc, &problem.from)?;
     let mut sets = sets_of(alloc, places, &problem.generates)?;
-    if flows.len() != sets.len() {
-        return Err(no_fit(flows.len()));
+    if from.nodes() != sets.rows() {
+        return Err(no_fit());
     }
     match problem.kind {
         Kind::ForwardMay => {
-            let before = reaching_definitions(alloc, places, &mut sets, &flows)?;
+            let before = reaching_definitions(alloc, &mut sets, &from, masks)?;
             Ok(Sides {
                 before,
                 after: sets,
             })
         }
         Kind::ForwardMust => {
-            let before = available_expressions(alloc, places, 0, &mut sets, &flows)?;
+            let before = available_expressions(alloc, 0, &mut sets, &from, masks)?;
             Ok(Sides {
                 before,
                 after: sets,
             })
         }
         Kind::BackwardMust => {
-            let after = very_busy_expressions(alloc, places, &mut sets, &flows)?;
+            let after = very_busy_expressions(alloc, &mut sets, &from, masks)?;
             Ok(Sides {
                 before: sets,
                 after,
@@ -150,9 +131,9 @@ fn label_at(labels: &[Vec<u8>], place: usize) -> &[u8]
 }
 
 /// Writes the labels of the places in a set, a space before each.
-fn put_labels<W: Write>(output: &mut W, labels: &[Vec<u8>], set: &Vob) -> io::Result<()>
+fn put_labels<W: Write>(output: &mut W, labels: &[Vec<u8>], set: &Row<'_>) -> io::Result<()>
     ensures { OnOk result (Appends (W.contents output.old) (W.contents output.new)
-        (labels_text (lists_of labels.now) set.now.bits)) }
+        (labels_text (lists_of labels.now) set.now)) }
 {
     for place in set.iter_set_bits(..) {
         put_next(output, label_at(labels, place))?;
@@ -164,14 +145,14 @@ fn put_labels<W: Write>(output: &mut W, labels: &[Vec<u8>], set: &Vob) -> io::Re
 fn put_set<W: Write>(
     output: &mut W,
     labels: &[Vec<u8>],
-    sets: &[Vob],
+    sets: &BitRows,
     node: usize,
 ) -> io::Result<()>
     ensures { OnOk result (Appends (W.contents output.old) (W.contents output.new)
-        (set_text (lists_of labels.now) (bits_of sets.now) node)) }
+        (set_text (lists_of labels.now) sets.now.rows node)) }
 {
-    if node < sets.len() {
-        put_labels(output, labels, &sets[node])?;
+    if node < sets.rows() {
+        put_labels(output, labels, &sets.row(node))?;
     }
     Ok(())
 }
@@ -185,7 +166,7 @@ fn put_sides<W: Write>(
 ) -> io::Result<()>
     ensures { OnOk result (Appends (W.contents output.old) (W.contents output.new)
         (sides_text names.now (lists_of labels.now)
-        (bits_of sides.now.before.items) (bits_of sides.now.after.items))) }
+        sides.now.before.rows sides.now.after.rows)) }
 {
     for node in 0..names.len() {
         put_name(output, names.name(node))?;
@@ -203,11 +184,11 @@ fn put_dominators<W: Write>(
     output: &mut W,
     names: &Names<'_>,
     labels: &[Vec<u8>],
-    sets: &[Vob],
+    sets: &BitRows,
 ) -> io::Result<()>
     requires { lists_of labels.now ≡ names.now }
     ensures { OnOk result (Appends (W.contents output.old) (W.contents output.new)
-        (dominators_text names.now (bits_of sets.now))) }
+        (dominators_text names.now sets.now.rows)) }
 {
     for node in 0..names.len() {
         put_name(output, names.name(node))?;
@@ -227,7 +208,7 @@ fn print_live<W: Write>(
     ensures { OnOk result (Writes (W.contents output.old) (W.contents output.new)
         (ListsLive graph.now)) }
 {
-    let live = liveness(alloc, graph.variables.len(), &graph.nodes)?;
+    let live = live_rows(alloc, graph.variables.len(), &graph.nodes)?;
     let labels = labels_of(alloc, &graph.variables)?;
     let sides = Sides {
         before: live.before,
@@ -276,7 +257,7 @@ fn print_dominators<W: Write>(
         (ListsDominators graph.now)) }
 {
     let before = nodes_before(alloc, &graph.nodes)?;
-    let sets = dominators(alloc, 0, &before)?;
+    let sets = dominators(alloc, 0, &Graph::from_lists(alloc, &before)?)?;
     let labels = labels_of(alloc, &graph.names)?;
     put_dominators(output, &graph.names, &labels, &sets)?;
     Ok(())

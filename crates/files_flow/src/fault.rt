@@ -5,6 +5,7 @@ use std::alloc::{AllocError, AllocFailed};
 use std::{fmt, io};
 use vob_flow::SolveError;
 use vob_flow::live::LiveError;
+use vob_rows::GraphError;
 
 /// Why no analysis is written.
 #[derive(Debug, Drop)]
@@ -23,6 +24,8 @@ pub enum FlowFault {
         column: usize,
         name: String,
     },
+    /// The edges of the flow graph lead to no nodes.
+    Graph(GraphError),
     /// The sets of the flow graph weren't found.
     Sets(SolveError),
     /// The live variables of the flow graph weren't found.
@@ -40,6 +43,7 @@ impl FlowFault {
             FlowFault::Twice { line, column, name } => {
                 write!(f, "{file}:{line}:{column}: a second node is called {name}")
             }
+            FlowFault::Graph(error) => write!(f, "{file}: {error}"),
             FlowFault::Sets(error) => write!(f, "{file}: {error}"),
             FlowFault::Live(error) => write!(f, "{file}: {error}"),
         }
@@ -67,6 +71,15 @@ impl<T: Drop> From<AllocFailed<T>> for FlowFault {
 impl From<io::Error> for FlowFault {
     fn from(error: io::Error) -> FlowFault {
         FlowFault::Text(Fault::Output(error))
+    }
+}
+
+impl From<GraphError> for FlowFault {
+    fn from(error: GraphError) -> FlowFault {
+        match error {
+            GraphError::Memory => FlowFault::Text(Fault::Memory),
+            _ => FlowFault::Graph(error),
+        }
     }
 }
 

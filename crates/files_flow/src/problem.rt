@@ -5,10 +5,11 @@ ghost use Rattle.files_flow.specs.Definitions.{AreGathered, AreKilled};
 
 use crate::fault::FlowFault;
 use crate::flow::FlowGraph;
-use files_text::{Names, all_below};
+use files_text::Names;
 use std::alloc::{AllocError, Global};
 use vob_flow::live::Flow;
 use vob_flow::reach;
+use vob_rows::Graph;
 
 /// Which paths a problem asks about.
 #[derive(Clone, Copy)]
@@ -117,13 +118,12 @@ fn nodes_next(alloc: Global, nodes: &[Flow]) -> Result<Vec<Vec<usize>>, AllocErr
 
 /// Returns for each node those that come before it and that a path from the entry reaches.
 fn reached_before(alloc: Global, nodes: &[Flow]) -> Result<Vec<Vec<usize>>, FlowFault> {
-    let next = nodes_next(alloc, nodes)?;
+    let next = Graph::from_lists(alloc, &nodes_next(alloc, nodes)?)?;
     let mut before = empty_lists(alloc, nodes.len())?;
-    let entry = [0];
-    if !all_below(&entry, next.len()) {
+    if next.nodes() == 0 {
         return Ok(before);
     }
-    let reached = reach(alloc, &next, &entry)?;
+    let reached = reach(alloc, &next, &[0])?;
     for (number, node) in nodes.iter().enumerate() {
         if reached.get(number) == Some(true) {
             add_to_each(&mut before, &node.next, number)?;

@@ -1,3 +1,2 @@
 pub mod ClosureTextLemmas
 pub mod PathLemmas
-pub mod LengthLemmas

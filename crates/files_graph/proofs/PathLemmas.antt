@@ -1,6 +1,6 @@
 -- The nodes that a node leads to are those that its next nodes reach.
-use Rattle.std.specs.Prelude.{◌↔◌, Contains}
-use Rattle.std.proofs.Common.{◌≡◌, ℕ, Bool, true, List, [], slice_index_or, refl, sym}
+use Rattle.std.specs.Prelude.{◌↔◌}
+use Rattle.std.proofs.Common.{◌≡◌, ℕ, Bool, true, List, [], slice_index_or}
 use Rattle.vob_block.specs.Packing.{item}
 use Rattle.vob_flow.specs.Closure.{IsEdge, Leads}
 use Rattle.vob_flow.specs.Closure.Leads.{by_edge, through}

@@ -1,7 +1,6 @@
 -- What is printed of the closure of a graph.
-use Rattle.std.specs.Prelude.{◌≡◌, ◌↔◌, ◌⊎◌, ℕ, ◌<◌, Bool, List, [], ◌++◌, length, map, codes, slice_index_or, AllPairs, Contains}
+use Rattle.std.specs.Prelude.{◌≡◌, ◌↔◌, ◌⊎◌, ℕ, ◌<◌, Bool, List, [], ◌++◌, map, codes, slice_index_or, AllPairs, Contains}
 use Rattle.std.specs.List.{flat_map, range_with_len}
-use Rattle.vob_flow.specs.Closure.{IsEdge, Leads}
 use Rattle.files_text.specs.Printed.{line_end, members, name_at, name_line}
 
 -- the line of an edge from one node to another

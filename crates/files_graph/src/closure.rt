@@ -1,23 +1,23 @@
 //! The closure of a graph: its edges, what one node leads to, and the fewest edges with the same
 //! closure.
-ghost use Rattle.std.specs.Prelude.{◌≡◌, ◌↔◌, ℕ, true, length, map, slice_get, Some, IfOk, OnOk};
+ghost use Rattle.std.specs.Prelude.{◌≡◌, ◌↔◌, ℕ, true, length, slice_get, Some, IfOk, OnOk};
 ghost use Rattle.std.specs.List.{flat_map};
 ghost use Rattle.std.specs.Io.KnownBytes.{Appends};
-ghost use Rattle.vob.specs.Vobs.{bits_of};
 ghost use Rattle.vob_block.specs.Packing.{item};
 ghost use Rattle.vob_flow.specs.Closure.{Leads};
 ghost use Rattle.files_text.specs.Printed.{Writes, members, name_line};
 ghost use Rattle.files_graph.specs.ClosureText.{ListsEdges, ListsNodes, edge_line, edges_from, edges_of};
 
 use crate::fault::GraphFault;
-use crate::graph::{Graph, read_graph};
+use crate::graph::{NamedGraph, read_graph};
 use crate::reduction::reduction;
-use files_text::{Names, all_below, end_line, put_name, put_next};
+use files_text::{Names, end_line, put_name, put_next};
 use std::alloc::{AllocError, Global};
 use std::io;
 use std::io::Write;
 use vob::Vob;
 use vob_flow::{closure, reach};
+use vob_rows::{BitRows, Row};
 
 /// What is printed of a closure.
 #[derive(Clone, Copy)]
@@ -41,9 +41,14 @@ fn put_edge<W: Write>(output: &mut W, names: &Names<'_>, from: usize, to: usize)
 }
 
 /// Writes the edges from a node to those in a set, one a line.
-fn put_edges<W: Write>(output: &mut W, names: &Names<'_>, from: usize, set: &Vob) -> io::Result<()>
+fn put_edges<W: Write>(
+    output: &mut W,
+    names: &Names<'_>,
+    from: usize,
+    set: &Row<'_>,
+) -> io::Result<()>
     ensures { OnOk result (Appends (W.contents output.old) (W.contents output.new)
-        (flat_map (edge_line names.now) (edges_from from set.now.bits))) }
+        (flat_map (edge_line names.now) (edges_from from set.now))) }
 {
     for node in set.iter_set_bits(..) {
         put_edge(output, names, from, node)?;
@@ -52,12 +57,12 @@ fn put_edges<W: Write>(output: &mut W, names: &Names<'_>, from: usize, set: &Vob
 }
 
 /// Writes the edges from each node to those in its set, one a line.
-fn put_sets<W: Write>(output: &mut W, names: &Names<'_>, sets: &[Vob]) -> io::Result<()>
+fn put_sets<W: Write>(output: &mut W, names: &Names<'_>, sets: &BitRows) -> io::Result<()>
     ensures { OnOk result (Appends (W.contents output.old) (W.contents output.new)
-        (flat_map (edge_line names.now) (edges_of (bits_of sets.now) 0 (length sets.now)))) }
+        (flat_map (edge_line names.now) (edges_of sets.now.rows 0 (length sets.now.rows)))) }
 {
-    for from in 0..sets.len() {
-        put_edges(output, names, from, &sets[from])?;
+    for from in 0..sets.rows() {
+        put_edges(output, names, from, &sets.row(from))?;
     }
     Ok(())
 }
@@ -75,9 +80,13 @@ fn put_nodes<W: Write>(output: &mut W, names: &Names<'_>, set: &Vob) -> io::Resu
 }
 
 /// Writes the edges of the closure of a graph. An edge of it stands for a path of one edge or more.
-fn print_edges<W: Write>(alloc: Global, graph: &Graph<'_>, output: &mut W) -> Result<(), GraphFault>
+fn print_edges<W: Write>(
+    alloc: Global,
+    graph: &NamedGraph<'_>,
+    output: &mut W,
+) -> Result<(), GraphFault>
     ensures { OnOk result (Writes (W.contents output.old) (W.contents output.new)
-        (ListsEdges graph.now.names (Leads (map (λ list. list.items) graph.now.next.items)))) }
+        (ListsEdges graph.now.names (Leads graph.now.next))) }
 {
     let sets = closure(alloc, &graph.next)?;
     put_sets(output, &graph.names, &sets)?;
@@ -90,32 +99,30 @@ fn no_node(alloc: Global, name: &str) -> Result<GraphFault, AllocError> {
 }
 
 /// Returns the nodes to which a path of one edge or more leads from the node with a name.
-fn nodes_from(alloc: Global, graph: &Graph<'_>, from: &str) -> Result<Vob, GraphFault>
+fn nodes_from(alloc: Global, graph: &NamedGraph<'_>, from: &str) -> Result<Vob, GraphFault>
     ensures { IfOk result (λ set. (node : ℕ) × (slice_get graph.now.names node ≡ Some from.now)
         × ((n : ℕ) → (item set.bits n ≡ true)
-        ↔ Leads (map (λ list. list.items) graph.now.next.items) node n)) }
+        ↔ Leads graph.now.next node n)) }
 {
     let Some(node) = graph.names.find(from.as_bytes()) else {
         return Err(no_node(alloc, from)?);
     };
-    match graph.next.get(node) {
-        Some(nodes) if all_below(nodes, graph.next.len()) => {
-            Ok(reach(alloc, &graph.next, nodes)?)
-        }
-        _ => Err(no_node(alloc, from)?),
+    if node >= graph.next.nodes() {
+        return Err(no_node(alloc, from)?);
     }
+    Ok(reach(alloc, &graph.next, graph.next.next(node))?)
 }
 
 /// Writes the nodes to which a path of one edge or more leads from the node with a name.
 fn print_nodes<W: Write>(
     alloc: Global,
-    graph: &Graph<'_>,
+    graph: &NamedGraph<'_>,
     from: &str,
     output: &mut W,
 ) -> Result<(), GraphFault>
     ensures { OnOk result ((node : ℕ) × (slice_get graph.now.names node ≡ Some from.now)
         × Writes (W.contents output.old) (W.contents output.new) (ListsNodes graph.now.names
-        (Leads (map (λ list. list.items) graph.now.next.items) node))) }
+        (Leads graph.now.next node))) }
 {
     let nodes = nodes_from(alloc, graph, from)?;
     put_nodes(output, &graph.names, &nodes)?;
@@ -125,7 +132,7 @@ fn print_nodes<W: Write>(
 /// Writes the fewest edges that have the same closure as a graph.
 fn print_fewest<W: Write>(
     alloc: Global,
-    graph: &Graph<'_>,
+    graph: &NamedGraph<'_>,
     output: &mut W,
 ) -> Result<(), GraphFault> {
     let sets = closure(alloc, &graph.next)?;

@@ -3,7 +3,7 @@
 use files_text::Fault;
 use std::alloc::AllocError;
 use std::{fmt, io};
-use vob_flow::SolveError;
+use vob_rows::GraphError;
 
 /// Why no closure is written.
 #[derive(Debug, Drop)]
@@ -12,8 +12,8 @@ pub enum GraphFault {
     Text(Fault),
     /// The graph has no node with this name.
     Name(String),
-    /// The sets of the graph weren't found.
-    Sets(SolveError),
+    /// The graph wasn't made.
+    Graph(GraphError),
 }
 
 impl GraphFault {
@@ -22,7 +22,7 @@ impl GraphFault {
         match self {
             GraphFault::Text(fault) => fault.write(f, file),
             GraphFault::Name(name) => write!(f, "{file}: no node is called {name}"),
-            GraphFault::Sets(error) => write!(f, "{file}: {error}"),
+            GraphFault::Graph(error) => write!(f, "{file}: {error}"),
         }
     }
 }
@@ -45,11 +45,11 @@ impl From<io::Error> for GraphFault {
     }
 }
 
-impl From<SolveError> for GraphFault {
-    fn from(error: SolveError) -> GraphFault {
+impl From<GraphError> for GraphFault {
+    fn from(error: GraphError) -> GraphFault {
         match error {
-            SolveError::Memory => GraphFault::Text(Fault::Memory),
-            _ => GraphFault::Sets(error),
+            GraphError::Memory => GraphFault::Text(Fault::Memory),
+            _ => GraphFault::Graph(error),
         }
     }
 }

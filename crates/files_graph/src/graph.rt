@@ -1,19 +1,23 @@
 //! Graphs whose edges stand in a text, one a line.
 
+use crate::fault::GraphFault;
 use files_text::{Fault, Names, Word, words_of};
-use std::alloc::{AllocError, Global};
+use std::alloc::Global;
+use vob_rows::Graph;
 
-/// A graph: the names of its nodes, and the nodes to which edges lead from each.
+/// A graph whose nodes have names.
 #[derive(Drop)]
-pub struct Graph<'a> {
+pub struct NamedGraph<'a> {
     pub names: Names<'a>,
-    pub next: Vec<Vec<usize>>,
+    pub next: Graph,
 }
 
-/// A graph as it is read: the first name of the edge at hand, and the line of the last edge.
+/// A graph as it is read: its edges, the first name of the edge at hand, and the line of the last
+/// edge.
 #[derive(Drop)]
 struct Reader<'a> {
-    graph: Graph<'a>,
+    names: Names<'a>,
+    edges: Vec<(usize, usize)>,
     from: Option<Word<'a>>,
     line: usize,
 }
@@ -27,37 +31,17 @@ fn no_second(from: &Word<'_>) -> Fault {
     }
 }
 
-impl<'a> Graph<'a> {
-    /// Returns the number of the node with a name, which is added if it is new.
-    fn node(&mut self, alloc: Global, name: &'a [u8]) -> Result<usize, AllocError> {
-        let node = self.names.number(name)?;
-        if node >= self.next.len() {
-            self.next.push(Vec::new(alloc))?;
-        }
-        Ok(node)
-    }
-
-    /// Adds an edge.
-    fn add(&mut self, alloc: Global, from: &'a [u8], to: &'a [u8]) -> Result<(), AllocError> {
-        let from = self.node(alloc, from)?;
-        let to = self.node(alloc, to)?;
-        if let Some(next) = self.next.get_mut(from) {
-            next.push(to)?;
-        }
-        Ok(())
-    }
-}
-
 impl<'a> Reader<'a> {
     /// Takes a word: the first or the second name of a line.
-    fn take(&mut self, alloc: Global, word: &Word<'a>) -> Result<(), Fault> {
+    fn take(&mut self, word: &Word<'a>) -> Result<(), Fault> {
         match self.from {
             Some(from) if from.line != word.line => return Err(no_second(&from)),
             _ => word.check_no_comma()?,
         }
         match self.from {
             Some(from) => {
-                self.graph.add(alloc, from.text, word.text)?;
+                let node = self.names.number(from.text)?;
+                self.edges.push((node, self.names.number(word.text)?))?;
                 self.from = None;
                 self.line = word.line;
             }
@@ -72,21 +56,23 @@ impl<'a> Reader<'a> {
 
 /// Reads a graph: two names a line, the nodes from which and to which an edge leads. Fails at the
 /// first word that can't stand where it does, as a comma, or at the end of a line with one name.
-pub fn read_graph(alloc: Global, text: &[u8]) -> Result<Graph<'_>, Fault> {
+pub fn read_graph(alloc: Global, text: &[u8]) -> Result<NamedGraph<'_>, GraphFault> {
     let words = words_of(alloc, text, b",")?;
     let mut reader = Reader {
-        graph: Graph {
-            names: Names::new(alloc),
-            next: Vec::new(alloc),
-        },
+        names: Names::new(alloc),
+        edges: Vec::new(alloc),
         from: None,
         line: 0,
     };
     for word in words.iter() {
-        reader.take(alloc, word)?;
+        reader.take(word)?;
     }
-    match reader.from {
-        Some(from) => Err(no_second(&from)),
-        None => Ok(reader.graph),
+    if let Some(from) = reader.from {
+        return Err(no_second(&from).into());
     }
+    let next = Graph::from_edges(alloc, reader.names.len(), &reader.edges)?;
+    Ok(NamedGraph {
+        names: reader.names,
+        next,
+    })
 }

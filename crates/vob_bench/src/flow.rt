@@ -3,9 +3,9 @@
 use crate::checksum::{checksum_all, sample};
 use crate::rounds::Missing;
 use std::alloc::{AllocError, Global};
-use vob::Vob;
-use vob_flow::live::{Flow, Live, liveness};
-use vob_flow::{Draw, Mask, available_expressions, closure};
+use vob_flow::live::{Flow, LiveRows, live_rows};
+use vob_flow::{Masks, available_expressions, closure};
+use vob_rows::{BitRows, Graph};
 
 /// A graph of four numbers a node: what it reads, what it writes, and two nodes that may come next.
 fn nodes_of(alloc: Global, numbers: &[usize]) -> Result<Vec<Flow>, AllocError> {
@@ -33,13 +33,13 @@ pub(crate) fn live(
     rounds: usize,
 ) -> Result<u64, Missing> {
     let mut times: u64 = 0;
-    let mut last = Vec::new(alloc);
+    let mut last = BitRows::new(alloc, 0, 0)?;
     let nodes = nodes_of(alloc, numbers)?;
     for _ in 0..rounds {
-        let Ok(found) = liveness(alloc, vars, &nodes) else {
+        let Ok(found) = live_rows(alloc, vars, &nodes) else {
             return Err(Missing::Memory);
         };
-        let Live {
+        let LiveRows {
             before,
             after: _,
             rounds: _,
@@ -47,22 +47,24 @@ pub(crate) fn live(
         times = times.wrapping_add(1);
         last = before;
     }
-    Ok(checksum_all(&last, times))
+    Ok(checksum_all(&last.to_vobs(alloc)?, times))
 }
 
-/// The nodes before each node of a graph of four numbers a node.
-fn nodes_before(alloc: Global, numbers: &[usize]) -> Result<Vec<Vec<usize>>, AllocError> {
-    let mut before = Vec::new(alloc);
-    for _ in 0..numbers.len() / 4 {
-        before.push(Vec::new(alloc))?;
-    }
+/// The edges to the nodes before each node of a graph of four numbers a node.
+fn edges_before(alloc: Global, numbers: &[usize]) -> Result<Vec<(usize, usize)>, AllocError> {
+    let mut edges = Vec::new(alloc);
     for number in 0..numbers.len() {
-        let next = numbers[number];
-        if 2 <= number % 4 && next < before.len() {
-            before[next].push(number / 4)?;
+        if 2 <= number % 4 {
+            edges.push((numbers[number], number / 4))?;
         }
     }
-    Ok(before)
+    Ok(edges)
+}
+
+/// The graph of these edges.
+fn nodes_before(alloc: Global, numbers: &[usize]) -> Result<Graph, Missing> {
+    let edges = edges_before(alloc, numbers)?;
+    Graph::from_edges(alloc, numbers.len() / 4, &edges).or(Err(Missing::Memory))
 }
 
 /// A set for each node, of the number at this place of its four.
@@ -71,36 +73,15 @@ fn sets_at(
     numbers: &[usize],
     place: usize,
     len: usize,
-) -> Result<Vec<Vob>, AllocError> {
-    let mut sets = Vec::new(alloc);
-    for node in numbers.chunks(4) {
-        let mut set = Vob::from_elem(alloc, false, len)?;
-        let number = node.get(place).copied().unwrap_or(len);
-        if number < set.len() {
-            set.set(number, true);
+) -> Result<BitRows, AllocError> {
+    let mut sets = BitRows::new(alloc, numbers.len() / 4, len)?;
+    for (node, four) in numbers.chunks(4).enumerate() {
+        let number = four.get(place).copied().unwrap_or(len);
+        if node < sets.rows() && number < sets.columns() {
+            sets.set(node, number, true);
         }
-        sets.push(set)?;
     }
     Ok(sets)
-}
-
-/// What is killed at each node, and from where it draws: at an entry from nowhere, which keeps nothing.
-fn draws_of<'a>(
-    alloc: Global,
-    none: &'a Vob,
-    kills: &'a [Vob],
-    before: &'a [Vec<usize>],
-) -> Result<Vec<Draw<'a>>, AllocError> {
-    let mut draws = Vec::new(alloc);
-    for (kill, from) in kills.iter().zip(before) {
-        let mask = if from.is_empty() {
-            Mask::Keep(none)
-        } else {
-            Mask::Without(kill)
-        };
-        draws.push(Draw { mask, from })?;
-    }
-    Ok(draws)
 }
 
 /// Which expressions are available at the ends of the nodes a round, and the checksum of these sets.
@@ -112,43 +93,43 @@ pub(crate) fn available(
     rounds: usize,
 ) -> Result<u64, Missing> {
     let mut times: u64 = 0;
-    let mut last = Vec::new(alloc);
+    let mut last = BitRows::new(alloc, 0, 0)?;
     let before = nodes_before(alloc, numbers)?;
-    let none_before = before.iter().enumerate().find(|(_, from)| from.is_empty());
-    let entry = none_before.map_or(0, |(node, _)| node);
-    let none = Vob::from_elem(alloc, false, expressions)?;
+    let entry = (0..before.nodes())
+        .find(|node| before.next(*node).is_empty())
+        .unwrap_or(0);
     for _ in 0..rounds {
         let kills = sets_at(alloc, numbers, 1, expressions)?;
         let mut ends = sets_at(alloc, numbers, 0, expressions)?;
-        let draws = draws_of(alloc, &none, &kills, &before)?;
-        if draws.len() != ends.len() {
+        if before.nodes() != ends.rows() {
             return Err(Missing::Name);
         }
-        if available_expressions(alloc, expressions, entry, &mut ends, &draws).is_err() {
+        let masks = Masks::Without(&kills);
+        if available_expressions(alloc, entry, &mut ends, &before, masks).is_err() {
             return Err(Missing::Memory);
         }
         times = times.wrapping_add(1);
         last = ends;
     }
-    Ok(checksum_all(&last, times))
+    Ok(checksum_all(&last.to_vobs(alloc)?, times))
 }
 
-/// The lists of a graph with edges of two numbers each: from which node, and to which.
-fn lists_of(alloc: Global, steps: &[usize], nodes: usize) -> Result<Vec<Vec<usize>>, AllocError> {
-    let mut lists = Vec::new(alloc);
-    for _ in 0..nodes {
-        lists.push(Vec::new(alloc))?;
-    }
+/// Edges of two numbers each: from which node, and to which.
+fn edges_of(alloc: Global, steps: &[usize]) -> Result<Vec<(usize, usize)>, AllocError> {
+    let mut edges = Vec::with_capacity(alloc, steps.len() / 2)?;
     for step in 0..steps.len() / 2 {
-        let from = steps[2 * step];
-        if from < lists.len() {
-            lists[from].push(steps[2 * step + 1])?;
-        }
+        edges.push((steps[2 * step], steps[2 * step + 1]))?;
     }
-    Ok(lists)
+    Ok(edges)
 }
 
-/// The closure of a graph given by lists a round, and the checksum of its sets.
+/// The graph of these edges.
+fn graph_of(alloc: Global, steps: &[usize], nodes: usize) -> Result<Graph, Missing> {
+    let edges = edges_of(alloc, steps)?;
+    Graph::from_edges(alloc, nodes, &edges).or(Err(Missing::Memory))
+}
+
+/// The closure of a graph a round, and the checksum of its sets.
 #[inline(never)]
 pub(crate) fn close_lists(
     alloc: Global,
@@ -157,17 +138,15 @@ pub(crate) fn close_lists(
     rounds: usize,
 ) -> Result<u64, Missing> {
     let mut times: u64 = 0;
-    let mut last = Vec::new(alloc);
+    let mut last = BitRows::new(alloc, 0, 0)?;
     for round in 0..rounds {
-        let next = lists_of(alloc, steps, nodes)?;
-        let Ok(sets) = closure(alloc, &next) else {
-            return Err(Missing::Memory);
-        };
+        let sets = closure(alloc, &graph_of(alloc, steps, nodes)?)?;
         let node = if nodes == 0 { 0 } else { round % nodes };
-        if node < sets.len() {
-            times = times.wrapping_add(sample(&sets[node], round) as u64);
+        if node < sets.rows() {
+            let set = sets.row(node).to_vob(alloc)?;
+            times = times.wrapping_add(sample(&set, round) as u64);
         }
         last = sets;
     }
-    Ok(checksum_all(&last, times))
+    Ok(checksum_all(&last.to_vobs(alloc)?, times))
 }

@@ -1,52 +1,27 @@
 -- A set that got what it draws, as the code leaves it.
-use Rattle.std.proofs.Common.{All, ◌≡◌, ◌↔◌, ℕ, ◌<◌, ◌+◌, ◌⊎◌, Bool, true, false, ◌&&◌, ◌||◌, inl, inr, List, [], length, take}
+use Rattle.std.proofs.Common.{◌≡◌, ◌↔◌, ℕ, ◌<◌, ◌+◌, ◌⊎◌, Bool, true, false, not, ◌&&◌, ◌||◌, inl, inr, List, [], length, take}
 use Rattle.std.proofs.Common.{get_or, set, refl, sym, ap, ◌∙◌, subst, arith}
-use Rattle.std.proofs.lemmas.Bool.{cases_eq, false≢true}
-use Rattle.std.proofs.lemmas.List.{length-map, length-set, get_or-map, map-set, get_or-set_same, get_or-set_other, set-get_or}
+use Rattle.std.proofs.lemmas.Bool.{cases_eq, false≢true, not-true}
+use Rattle.std.proofs.lemmas.List.{length-set, get_or-set_same, get_or-set_other, set-get_or}
 use Rattle.vob_block.specs.Packing.{item}
 use Rattle.vob_block.specs.Pointwise.{pointwise, without}
-use Rattle.vob.specs.Bits.{AreCombined, GainsBits}
-use Rattle.vob.specs.Vob.{BitVector}
-use Rattle.vob.specs.Vobs.{AreOfLength, bits_of, total_count}
+use Rattle.vob.specs.Bits.{GainsBits}
+use Rattle.vob.specs.Vobs.{total_count}
 use Rattle.vob.proofs.BitsLemmas.{AreCombined-pointwise, and_true, or_true, without_true}
-use Rattle.vob.proofs.VobsLemmas.{any_next, of_length_at, total_count_set}
-use Rattle.vob_flow.specs.declared.draw.Mask.{Mask}
-use Rattle.vob_flow.specs.Draws.{IsIn, IsKept}
-use Rattle.vob_flow.specs.Gains.{HasGained, HasNews, IsAdded, IsLetThrough, IsNews, IsSomeNews}
+use Rattle.vob_block.proofs.PointwiseLemmas.{length-pointwise}
+use Rattle.vob.proofs.VobsLemmas.{any_next, total_count_set}
+use Rattle.vob_flow.specs.declared.draw.Masks.{Masks}
+use Rattle.vob_flow.specs.Draws.{FitMasks, IsIn}
+use Rattle.vob_flow.specs.Gains.{HasGained, HasNews, IsLetThrough, IsNews, IsSomeNews}
 use Rattle.vob_flow.proofs.UnderwayLemmas.{HaveShape-refl, HaveShape-trans}
 
--- the length of one of some Vobs
-pub vob_long : (places : ℕ) (sets : List BitVector) (k : ℕ) (d : BitVector) →
-    AreOfLength places (bits_of sets) → k < length sets → length (get_or sets k d).bits ≡ places
-vob_long places sets k d long less =
-    ap length (sym (get_or-map (λ v. v.bits) sets k d [] less))
-    ∙ of_length_at places (bits_of sets) k [] long (omega (arith, less, length-map sets (λ v. v.bits)))
-
--- one that a list names, read
-module _ (sets : List BitVector) (from : List ℕ) (k : ℕ) (set : BitVector)
-    (named : All (λ m. m < length sets) from) (less : k < length from)
-    (is : set ≡ get_or sets (get_or from k 0) set) where
-  pub read_bits : get_or (bits_of sets) (get_or from k 0) [] ≡ set.bits
-  read_bits = get_or-map (λ v. v.bits) sets _ set [] (named k 0 less) ∙ ap (λ v. v.bits) (sym is)
-
-  pub read_long : (places : ℕ) → AreOfLength places (bits_of sets) → length set.bits ≡ places
-  read_long places long =
-      ap (λ v. length v.bits) is ∙ vob_long places sets (get_or from k 0) set long (named k 0 less)
+-- masks fit as many sets with as many places
+pub fits_after : {count places after_count after_places : ℕ} (masks : Masks) → FitMasks count places masks
+    → after_count ≡ count → after_places ≡ places → FitMasks after_count after_places masks
+fits_after {count} {places} {after_count} {after_places} masks fits same also =
+    subst (λ m. FitMasks m after_places masks) (sym same) (subst (λ m. FitMasks count m masks) (sym also) fits)
 
 -- ---- what a mask lets through of another list
-
-pub IsAdded-by : (mask : Mask) (source bits after masked : List Bool) (grew : Bool)
-    → AreCombined ◌||◌ bits masked after → GainsBits grew bits after
-    → ((v : ℕ) → (item masked v ≡ true) ↔ (IsKept mask v × (item source v ≡ true)))
-    → IsAdded mask source bits after grew
-IsAdded-by mask source bits after masked grew added gains is = record {
-  len = added.len;
-  each = λ v. let either = or_true bits masked after v added in (
-    (λ e. elim (either.0 e) [ inl old ↦ inl old | inr new ↦ inr ((is v).0 new) ]),
-    (λ x. either.1 (elim x [ inl old ↦ inl old | inr new ↦ inr ((is v).1 new) ])),
-  );
-  gains = gains;
-}
 
 module _ (source kept : List Bool) (same : length source ≡ length kept) (v : ℕ) where
   pub kept_of : (item (pointwise ◌&&◌ source kept) v ≡ true)
@@ -57,11 +32,11 @@ module _ (source kept : List Bool) (same : length source ≡ length kept) (v : �
       ((λ e. let p = both.0 e in (p.1, p.0)), (λ p. both.1 (p.1, p.0)))
 
   pub left_of : (item (pointwise without source kept) v ≡ true)
-      ↔ ((item kept v ≡ false) × (item source v ≡ true))
+      ↔ ((not (item kept v) ≡ true) × (item source v ≡ true))
   left_of =
       let both = without_true source kept (pointwise without source kept) v
       (AreCombined-pointwise without source kept same refl) in
-      ((λ e. let p = both.0 e in (p.1, p.0)), (λ p. both.1 (p.1, p.0)))
+      ((λ e. let p = both.0 e in (ap not p.1, p.0)), (λ p. both.1 (p.1, not-true (item kept v) p.0)))
 
 -- ---- one set is written
 
@@ -91,19 +66,26 @@ module _ (sets : List (List Bool)) (n : ℕ) (P : ℕ → Type 0) (row : List Bo
     more = λ up. omega (arith, gains.more up, total_count_set sets n row inside);
   }
 
--- the same of some Vobs, where a mask let through some of set m
-pub HasGained-added : (items after : List BitVector) (n m : ℕ) (mask : Mask) (row other : List Bool)
-    (new : BitVector) (grew : Bool) → n < length items → get_or (bits_of items) n [] ≡ row
-    → get_or (bits_of items) m [] ≡ other → after ≡ set items n new
-    → IsAdded mask other row new.bits grew
-    → HasGained (bits_of items) n (IsLetThrough (bits_of items) mask m) (bits_of after) grew
-HasGained-added items after n m mask row other new grew inside first second is added =
-    subst (λ (rows : List (List Bool)). HasGained (bits_of items) n
-    (IsLetThrough (bits_of items) mask m) rows grew)
-    (sym (ap bits_of is ∙ map-set (λ (v : BitVector). v.bits) items n new))
-    (HasGained-set (bits_of items) n (IsLetThrough (bits_of items) mask m) new.bits grew
-    (omega (arith, inside, length-map items (λ v. v.bits))) (rw (← first) at added.len)
-    (λ v. rw (← first, ← second) at (added.each v)) (rw (← first) at added.gains))
+-- the same, where it got some bits that a mask let through of set m
+pub HasGained-row : (sets : List (List Bool)) (n m : ℕ) (mask : ℕ → Bool) (masked : List Bool)
+    (after : List (List Bool)) (grew : Bool) → n < length sets
+    → length (get_or sets n []) ≡ length masked
+    → ((v : ℕ) → (item masked v ≡ true) ↔ IsLetThrough sets mask m v)
+    → after ≡ set sets n (pointwise ◌||◌ (get_or sets n []) masked)
+    → GainsBits grew (get_or sets n []) (get_or after n [])
+    → HasGained sets n (IsLetThrough sets mask m) after grew
+HasGained-row sets n m mask masked after grew inside same through is gains =
+    let row = get_or sets n [] in
+    let both = pointwise ◌||◌ row masked in
+    let here : get_or after n [] ≡ both =
+    ap (λ rows. get_or rows n []) is ∙ get_or-set_same sets n both [] inside in
+    subst (λ (rows : List (List Bool)). HasGained sets n (IsLetThrough sets mask m) rows grew) (sym is)
+    (HasGained-set sets n (IsLetThrough sets mask m) both grew inside
+    (length-pointwise ◌||◌ row masked same) (λ v.
+    let either = or_true row masked both v (AreCombined-pointwise ◌||◌ row masked same refl) in (
+      (λ e. elim (either.0 e) [ inl old ↦ inl old | inr new ↦ inr ((through v).0 new) ]),
+      (λ x. either.1 (elim x [ inl old ↦ inl old | inr new ↦ inr ((through v).1 new) ])),
+    )) (subst (λ (bits : List Bool). GainsBits grew row bits) here gains))
 
 -- ---- places that a set gets one after another
 
@@ -120,7 +102,7 @@ HasGained-none sets n P has = record {
 
 -- those of a set that has news
 pub HasGained-news : {sets after : List (List Bool)} {n : ℕ} (first : Bool) (grown : List Bool)
-    (mask : Mask) (m : ℕ) {grew : Bool} → HasNews first grown m
+    (mask : ℕ → Bool) (m : ℕ) {grew : Bool} → HasNews first grown m
     → HasGained sets n (IsLetThrough sets mask m) after grew
     → HasGained sets n (IsNews sets first grown mask m) after grew
 HasGained-news first grown mask m news h = record {
@@ -150,7 +132,7 @@ grew_neither false b same still e = still e ∙ same refl
 
 -- and those of one set more
 module _ {sets mid after : List (List Bool)} (n : ℕ) (first : Bool) (grown : List Bool)
-    (mask : Mask) (from : List ℕ) (k m : ℕ) {a b : Bool} (less : k < length from)
+    (mask : ℕ → Bool) (from : List ℕ) (k m : ℕ) {a b : Bool} (less : k < length from)
     (is : m ≡ get_or from k m)
     (h : HasGained sets n (IsSomeNews sets first grown mask (take k from)) mid a)
     (d : HasGained mid n (IsNews mid first grown mask m) after b) where

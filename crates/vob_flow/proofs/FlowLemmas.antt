@@ -1,5 +1,5 @@
 -- The nodes of a flow graph, and the first at which something is wrong.
-use Rattle.std.proofs.Common.{◌≡◌, ◌↔◌, ℕ, List, Result, Err, All, sym, ap, subst}
+use Rattle.std.proofs.Common.{◌≡◌, ◌≢◌, ◌↔◌, ℕ, List, Result, Ok, Err, All, sym, ap, subst}
 use Rattle.vob_flow.specs.declared.live.Flow.{Flow}
 use Rattle.vob_flow.specs.declared.live.LiveError.{LiveError}
 use Rattle.vob_flow.specs.declared.live.LiveError.TheVariants.{Memory, BadVariable, BadNext}
@@ -53,3 +53,22 @@ module _ (vars : ℕ) (nodes : List Flow) where
     (λ h. ap (λ k. Err (BadNext k)) (one_first (IsSound vars nodes) nodes m n is.flow h.flow
         is.lower h.lower is.is h.is (λ sound. is.bad sound.1) (λ sound. h.bad sound.1))),
   )
+
+-- ---- the same refusals of what is made of an answer
+
+module _ {A B P : Type 0} where
+  pub refuses_too : (e f : LiveError) → (◌≡◌ {A = Result A LiveError} (Err e) (Err f) ↔ P)
+      → ◌≡◌ {A = Result B LiveError} (Err e) (Err f) ↔ P
+  refuses_too e f same = (
+    (λ is. let one : e ≡ f = cc in same.0 (ap Err one)),
+    (λ p. let is = same.1 p in let one : e ≡ f = cc in ap Err one),
+  )
+
+  pub answers_too : (a : A) (b : B) (f : LiveError) → (◌≡◌ {A = Result A LiveError} (Ok a) (Err f) ↔ P)
+      → ◌≡◌ {A = Result B LiveError} (Ok b) (Err f) ↔ P
+  answers_too a b f same = ((λ is. cc), (λ p. let is = same.1 p in cc))
+
+  pub refuses_other : (a : A) (e f : LiveError) → (◌≡◌ {A = Result A LiveError} (Ok a) (Err f) ↔ P)
+      → e ≢ f → ◌≡◌ {A = Result B LiveError} (Err e) (Err f) ↔ P
+  refuses_other a e f same other =
+      ((λ is. let one : e ≡ f = cc in absurd (other one)), (λ p. let is = same.1 p in cc))

@@ -1,57 +1,69 @@
--- Sets that begin empty, beside others of one length.
-use Rattle.std.proofs.Common.{◌≡◌, ℕ, Bool, false, inl, inr, List, [], length, replicate, sym, ap, ◌∙◌, subst, arith}
-use Rattle.std.specs.List.{All}
-use Rattle.std.proofs.lemmas.Bool.{cases_lt}
-use Rattle.std.proofs.lemmas.List.{get_or_past, length-map, length-replicate}
-use Rattle.vob.specs.Vob.{BitVector}
-use Rattle.vob.specs.Vobs.{AreOfLength, bits_of}
-use Rattle.vob.proofs.VobsLemmas.{of_length_at, of_length_replicate}
-use Rattle.vob_flow.specs.Draws.{HaveShape}
-use Rattle.vob_flow.proofs.DrawLemmas.{vob_long}
+-- Sets that get what is in some of others, or become what is in all of them.
+use Rattle.std.proofs.Common.{◌≡◌, ◌||◌, ◌&&◌, ℕ, ◌<◌, Bool, true, false, inl, inr, List, [], length, get_or, set, refl, sym, ◌∙◌, arith}
+use Rattle.std.specs.List.{Contains}
+use Rattle.std.proofs.lemmas.Bool.{cases_eq}
+use Rattle.std.proofs.lemmas.List.{length-set, get_or-set_same, get_or-set_other}
+use Rattle.vob_block.specs.Pointwise.{pointwise}
+use Rattle.vob_block.proofs.PointwiseLemmas.{length-pointwise}
+use Rattle.vob.specs.Indices.{IsSetAt}
+use Rattle.vob.proofs.BitsLemmas.{AreCombined-pointwise, and_true, or_true, row_inside}
+use Rattle.vob_flow.specs.Changes.{Becomes, EachGets, Gets}
+use Rattle.vob_flow.specs.Draws.{IsIn, IsInSome}
+use Rattle.vob_flow.specs.Gathered.{AreGathered}
+use Rattle.vob_flow.proofs.AnyLemmas.{edge_inside}
+use Rattle.vob_flow.proofs.ChangesLemmas.{Becomes-row, EachGets-all, Gets-row}
 
-module _ (places n : ℕ) (sums : List BitVector)
-    (empty : bits_of sums ≡ replicate n (replicate places false)) where
-  pub empty_count : length sums ≡ n
-  empty_count = sym (length-map sums (λ v. v.bits)) ∙ ap length empty
-      ∙ length-replicate n (replicate places false)
+module _ (sets : List (List Bool)) {mid after : List (List Bool)} (n m : ℕ) (inside : n < length mid)
+    (same : length (get_or mid n []) ≡ length (get_or sets m [])) where
+  pub Gets-or : after ≡ set mid n (pointwise ◌||◌ (get_or mid n []) (get_or sets m []))
+      → Gets mid n (IsIn sets m) after
+  Gets-or put =
+      let old = get_or mid n [] in
+      let other = get_or sets m [] in
+      Gets-row n (IsIn sets m) (pointwise ◌||◌ old other) inside put (length-pointwise ◌||◌ old other same)
+      (λ v. or_true old other _ v (AreCombined-pointwise ◌||◌ old other same refl))
 
-  pub empty_long : AreOfLength places (bits_of sums)
-  empty_long = subst (λ (lists : List (List Bool)). AreOfLength places lists) (sym empty)
-      (of_length_replicate places n (replicate places false) (length-replicate places false))
+  pub Becomes-and : after ≡ set mid n (pointwise ◌&&◌ (get_or mid n []) (get_or sets m []))
+      → Becomes mid n (λ v. IsIn mid n v × IsIn sets m v) after
+  Becomes-and put =
+      let old = get_or mid n [] in
+      let other = get_or sets m [] in
+      Becomes-row n _ (pointwise ◌&&◌ old other) inside put (length-pointwise ◌&&◌ old other same)
+      (λ v less. and_true old other _ v (AreCombined-pointwise ◌&&◌ old other same refl))
 
-  -- as many and as long as others
-  pub empty_shape : (sets : List (List Bool)) → length sets ≡ n → AreOfLength places sets →
-      HaveShape sets (bits_of sums)
-  empty_shape sets count long =
-      let same : length (bits_of sums) ≡ length sets =
-      length-map sums (λ v. v.bits) ∙ empty_count ∙ sym count in
-      record {
-        count = same;
-        long = λ k. elim (cases_lt k (length sets)) [
-          | inl less ↦
-              of_length_at places (bits_of sums) k [] empty_long (omega (arith, less, same))
-              ∙ sym (of_length_at places sets k [] long less)
-          | inr past ↦ ap length (get_or_past (bits_of sums) k [] (omega (arith, past, same))
-              ∙ sym (get_or_past sets k [] past))
-        ];
-      }
+-- some places more
+pub Gets-indices : {sets after : List (List Bool)} (n : ℕ) (indices : List ℕ) → n < length sets
+    → after ≡ set sets n (get_or after n []) → IsSetAt indices (get_or sets n []) (get_or after n [])
+    → Gets sets n (Contains indices) after
+Gets-indices n indices inside put h = Gets-row n (Contains indices) _ inside put h.len h.each
 
-  -- each is as long as others
-  pub empty_beside : (sets : List (List Bool)) → AreOfLength places sets →
-      All (λ sum. AreOfLength (length sum.bits) sets) sums
-  empty_beside sets long k d less i e low =
-      long i e low ∙ sym (vob_long places sums k d empty_long less)
+-- one place more
+pub Gets-place : {sets after : List (List Bool)} (n j : ℕ) → n < length sets
+    → j < length (get_or sets n []) → after ≡ set sets n (set (get_or sets n []) j true)
+    → Gets sets n (λ v. j ≡ v) after
+Gets-place {sets} n j inside low put =
+    let row = get_or sets n [] in
+    Gets-row n _ (set row j true) inside put (length-set row j true) (λ v. (
+      (λ e. elim (cases_eq v j) [
+        | inl here ↦ inr (sym here)
+        | inr other ↦ inl (sym (get_or-set_other row j v true false other) ∙ e)
+      ]),
+      (λ either. elim (cases_eq v j) [
+        | inl here ↦ rw here (get_or-set_same row j true false low)
+        | inr other ↦ elim either [
+          | inl old ↦ get_or-set_other row j v true false other ∙ old
+          | inr same ↦ absurd (other (sym same))
+        ]
+      ]),
+    ))
 
--- copies of some Vobs
-pub copies_count : (copies sets : List BitVector) → bits_of copies ≡ bits_of sets →
-    length copies ≡ length sets
-copies_count copies sets same =
-    sym (length-map copies (λ v. v.bits)) ∙ ap length same ∙ length-map sets (λ v. v.bits)
-
--- each is as long as others
-pub copies_beside : (places : ℕ) (copies sets : List BitVector) → bits_of copies ≡ bits_of sets →
-    AreOfLength places (bits_of sets) → (others : List (List Bool)) →
-    AreOfLength places others → All (λ copy. AreOfLength (length copy.bits) others) copies
-copies_beside places copies sets same long others other_long k d less i e low =
-    let copies_long = subst (λ (lists : List (List Bool)). AreOfLength places lists) (sym same) long in
-    other_long i e low ∙ sym (vob_long places copies k d copies_long less)
+-- all sums of some empty sets
+pub AreGathered-all : (next : List (List ℕ)) (sets sums after : List (List Bool)) (k : ℕ)
+    → length next ≡ k → length sums ≡ k → ((n v : ℕ) → ¬ IsIn sums n v)
+    → EachGets sums (λ n v. IsInSome sets (get_or next n []) v) after k → AreGathered next sets after
+AreGathered-all next sets sums after k nodes count none h = record {
+  count = h.shape.count ∙ count ∙ sym nodes;
+  each = EachGets-all _ h count none
+      (λ n v some. omega (arith, nodes, edge_inside next n some.1 (some.0, some.2, some.3)))
+      (λ n v e. omega (arith, row_inside after n v e, h.shape.count, count));
+}

@@ -1,8 +1,6 @@
 -- What comes to a set, in every solution.
 use Rattle.std.proofs.Common.{◌≡◌, ℕ, ◌<◌, Bool, inl, inr, List, length, Some, slice_get, arith}
 use Rattle.std.proofs.lemmas.Option.{slice_get_cases}
-use Rattle.vob.proofs.BitsLemmas.{row_inside}
-use Rattle.vob_flow.specs.declared.draw.Draw.{Draw}
 use Rattle.vob_flow.specs.Draws.{IsIn, Comes, IsSolution}
 use Rattle.vob_flow.specs.Draws.Comes.{starts_in, drawn}
 
@@ -14,11 +12,9 @@ element_at xs n less = elim (slice_get_cases xs n).1 [
   | inr past ↦ absurd (omega (arith, past.0))
 ]
 
-module _ (draws : List Draw) (starts others : List (List Bool)) (count : length draws ≡ length starts)
-    (s : IsSolution draws starts others) where
-  pub within_solution : {n v : ℕ} → Comes draws starts n v → IsIn others n v
-  within_solution {n} {v} (starts_in e) =
-      let draw = element_at draws n (omega (arith, count, row_inside starts n v e)) in
-      (s.meets n v draw.0 draw.1).1 (inl e)
-  within_solution {n} {v} (drawn draw is keeps (k, less, e) c) =
-      (s.meets n v draw is).1 (inr (keeps, (k, _, less, e, within_solution c)))
+module _ (next : List (List ℕ)) (mask : ℕ → ℕ → Bool) (starts others : List (List Bool))
+    (s : IsSolution next mask starts others) where
+  pub within_solution : {n v : ℕ} → Comes next mask starts n v → IsIn others n v
+  within_solution {n} {v} (starts_in e) = (s.meets n v).1 (inl e)
+  within_solution {n} {v} (drawn keeps (k, less, e) c) =
+      (s.meets n v).1 (inr (keeps, (k, _, less, e, within_solution c)))

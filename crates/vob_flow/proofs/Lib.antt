@@ -1,11 +1,11 @@
 mod AnyLemmas
 mod AvailableLemmas
+mod BlankLemmas
 mod ChangesLemmas
 mod ClosureLemmas
 mod CountLemmas
 mod DominatorLemmas
 mod DrawLemmas
-mod FaultLemmas
 pub mod FirstLemmas
 mod FlowLemmas
 mod GatherLemmas

@@ -1,16 +1,14 @@
 -- The turns of a pass, one after another.
 use Rattle.std.proofs.Common.{◌≡◌, ◌≢◌, ◌↔◌, ℕ, ◌+◌, ◌*◌, ◌^◌, ◌-◌, ◌<◌, ◌≤◌, Bool, true, false, inl, inr}
-use Rattle.std.proofs.Common.{List, [], length, get_or, Some, slice_get, refl, sym, ap, subst, ◌∙◌, arith}
+use Rattle.std.proofs.Common.{List, [], length, get_or, refl, sym, ap, subst, ◌∙◌, arith}
 use Rattle.std.proofs.Common.{mul-le-mul_left}
 use Rattle.std.proofs.lemmas.Bool.{cases_eq, false≢true, false_from_ne_true}
-use Rattle.std.proofs.lemmas.List.{length-map, get_or_default}
+use Rattle.std.proofs.lemmas.List.{get_or_default}
 use Rattle.vob_block.specs.Packing.{item}
 use Rattle.vob.specs.Sets.{HasBit}
-use Rattle.vob.specs.Vob.{BitVector}
-use Rattle.vob.specs.Vobs.{AreOfLength, bits_of, total_count}
+use Rattle.vob.specs.Vobs.{AreOfLength, total_count}
 use Rattle.vob_block.proofs.PackingLemmas.{true_inside}
 use Rattle.vob.proofs.VobsLemmas.{of_length_at, total_count_at_most}
-use Rattle.vob_flow.specs.declared.draw.Draw.{Draw}
 use Rattle.vob_flow.specs.Draws.{HaveShape, IsTurn}
 use Rattle.vob_flow.specs.Turns.{IsOrder, TakeTurns}
 use Rattle.vob_flow.specs.Turns.TakeTurns.{no_turn, one_more}
@@ -42,25 +40,19 @@ AreMore-gained {sets} {after} {n} {P} {grew} d = record {
   total = total_le grew sets after d.same d.more;
 }
 
--- of one length still, and as many Vobs
+-- of one length still
 pub shape_long : (places : ℕ) (starts sets : List (List Bool)) → HaveShape starts sets →
     AreOfLength places starts → AreOfLength places sets
 shape_long places starts sets h long k d less =
     ap length (get_or_default sets k d [] less) ∙ h.long k
     ∙ of_length_at places starts k [] long (omega (arith, less, h.count))
 
-pub shape_count : (starts sets : List BitVector) → HaveShape (bits_of starts) (bits_of sets) →
-    length sets ≡ length starts
-shape_count starts sets h =
-    sym (length-map sets (λ v. v.bits)) ∙ h.count ∙ length-map starts (λ v. v.bits)
-
 -- ---- how many passes there are
 
 -- at most as many bits are true as there are places
-pub few_true : (places : ℕ) (starts : List BitVector) {sets : List (List Bool)}
-    → AreMore (bits_of starts) sets → AreOfLength places (bits_of starts)
-    → total_count sets ≤ length starts * places
-few_true places starts more long = rw (← length-map starts (λ v. v.bits), ← more.shape.count)
+pub few_true : (places : ℕ) (starts : List (List Bool)) {sets : List (List Bool)}
+    → AreMore starts sets → AreOfLength places starts → total_count sets ≤ length starts * places
+few_true places starts more long = rw (← more.shape.count)
     (total_count_at_most places _ (shape_long _ _ _ more.shape long))
 
 pub product_fits : (n places : ℕ) → n < 2 ^ 64 → places < 2 ^ 64 → n * places + 1 < 2 ^ 128
@@ -70,13 +62,12 @@ product_fits n places few small =
 
 -- ---- a turn
 
-module _ {count : ℕ} {order : List ℕ} (one : IsOrder count order) {draws : List Draw} {first : Bool}
-    {sets : List (List Bool)} {grown : List Bool} {mid : List (List Bool)} {grown_mid : List Bool}
-    {i n : ℕ} {draw : Draw} {after : List (List Bool)} {grown' : List Bool}
-    (h : HadTurns one.place order draws first sets grown mid grown_mid i)
-    (few : length draws ≡ count) (bits : length grown ≡ count) (less : i < length order)
-    (named : get_or order i 0 ≡ n) (at : slice_get draws n ≡ Some draw)
-    (t : HadTurn mid grown_mid n draw first after grown') where
+module _ {count : ℕ} {order : List ℕ} (one : IsOrder count order) {next : List (List ℕ)}
+    {mask : ℕ → ℕ → Bool} {first : Bool} {sets : List (List Bool)} {grown : List Bool}
+    {mid : List (List Bool)} {grown_mid : List Bool} {i n : ℕ} {after : List (List Bool)}
+    {grown' : List Bool} (h : HadTurns one.place order next mask first sets grown mid grown_mid i)
+    (few : length next ≡ count) (bits : length grown ≡ count) (less : i < length order)
+    (named : get_or order i 0 ≡ n) (t : HadTurn next mask mid grown_mid n first after grown') where
   here : one.place n ≡ i
   here = ap one.place (sym named) ∙ one.places i less
 
@@ -106,24 +97,24 @@ module _ {count : ℕ} {order : List ℕ} (one : IsOrder count order) {draws : L
       ∙ h.same (λ m low. sym (t.written.others m (λ e. omega (arith, ap one.place e, here, low)))
       ∙ none m (omega (arith, low)))
 
-  pub HadTurns-more : HadTurns one.place order draws first sets grown after grown' (i + 1)
+  pub HadTurns-more : HadTurns one.place order next mask first sets grown after grown' (i + 1)
   HadTurns-more = record {
     sets_more = AreMore-trans h.sets_more (AreMore-gained t.drawn);
     len = t.written.len ∙ h.len;
-    underway = λ starts u. AreUnderway-turn draw (h.underway starts u) at here
+    underway = λ starts u. AreUnderway-turn (h.underway starts u) here
         (λ k inside. apart k (omega (arith, inside, few))) t.drawn t.written;
     turns = λ starts u. one_more (h.turns starts u)
-        (subst (λ k. IsTurn draws k mid after) (sym named)
-        (IsTurn-underway draw (h.underway starts u) at here
+        (subst (λ k. IsTurn next mask k mid after) (sym named)
+        (IsTurn-underway (h.underway starts u) here
         (λ k inside. apart k (omega (arith, inside, few))) t.drawn t.written));
     more = turns_more (AreMore-gained t.drawn) t.drawn.more;
     same = turns_same t.drawn.same;
   }
 
-pub HadTurns-start : (place : ℕ → ℕ) (order : List ℕ) (draws : List Draw) (first : Bool)
-    (sets : List (List Bool)) (grown : List Bool) →
-    HadTurns place order draws first sets grown sets grown 0
-HadTurns-start place order draws first sets grown = record {
+pub HadTurns-start : (place : ℕ → ℕ) (order : List ℕ) (next : List (List ℕ)) (mask : ℕ → ℕ → Bool)
+    (first : Bool) (sets : List (List Bool)) (grown : List Bool) →
+    HadTurns place order next mask first sets grown sets grown 0
+HadTurns-start place order next mask first sets grown = record {
   sets_more = AreMore-refl sets;
   len = refl;
   underway = λ starts u. u;
@@ -134,13 +125,13 @@ HadTurns-start place order draws first sets grown = record {
 
 -- ---- a pass
 
-pub HadPass-whole : {count : ℕ} {order : List ℕ} (one : IsOrder count order) {draws : List Draw}
-    {first : Bool} {sets : List (List Bool)} {grown : List Bool} {after : List (List Bool)}
-    {grown' : List Bool} {i : ℕ} (any : Bool) →
-    HadTurns one.place order draws first sets grown after grown' i → i ≡ length order →
-    length draws ≡ count → length grown ≡ count → ((any ≡ true) ↔ HasBit true grown') →
-    HadPass one.place order draws first sets grown after grown' any
-HadPass-whole {count} {order} one {draws} {first} {sets} {grown} {after} {grown'} {i} any h past few
+pub HadPass-whole : {count : ℕ} {order : List ℕ} (one : IsOrder count order) {next : List (List ℕ)}
+    {mask : ℕ → ℕ → Bool} {first : Bool} {sets : List (List Bool)} {grown : List Bool}
+    {after : List (List Bool)} {grown' : List Bool} {i : ℕ} (any : Bool) →
+    HadTurns one.place order next mask first sets grown after grown' i → i ≡ length order →
+    length next ≡ count → length grown ≡ count → ((any ≡ true) ↔ HasBit true grown') →
+    HadPass one.place order next mask first sets grown after grown' any
+HadPass-whole {count} {order} one {next} {mask} {first} {sets} {grown} {after} {grown'} {i} any h past few
     bits answer =
     let inside : (k : ℕ) → k < count → one.place k < i =
     λ k less. omega (arith, place_inside one k less, past) in
@@ -152,7 +143,7 @@ HadPass-whole {count} {order} one {draws} {first} {sets} {grown} {after} {grown'
       len = h.len;
       underway = λ starts u. AreUnderway-again (h.underway starts u)
           (λ k less. inside k (omega (arith, less, few)));
-      turns = λ starts u. subst (λ k. TakeTurns (IsTurn draws) order sets k after) past
+      turns = λ starts u. subst (λ k. TakeTurns (IsTurn next mask) order sets k after) past
           (h.turns starts u);
       more = λ up.
           let there = answer.0 up in

@@ -1,7 +1,7 @@
 -- The nodes that were reached, one after another.
 use Rattle.std.proofs.Common.{◌≡◌, ℕ, ◌+◌, ◌<◌, ◌⊎◌, Bool, true, false, inl, inr}
 use Rattle.std.proofs.Common.{List, [], ◌∷◌, ◌++◌, length, get_or, take, replicate, refl, sym, ap, ◌∙◌, subst, arith}
-use Rattle.std.specs.List.{All, Contains}
+use Rattle.std.specs.List.{Contains}
 use Rattle.std.proofs.lemmas.Bool.{cases_eq, false≢true}
 use Rattle.std.proofs.lemmas.List.{length-replicate, length_push, take_more}
 use Rattle.std.proofs.lemmas.List.Elements.{Contains-append_left, Contains-push, Contains-push_cases}
@@ -11,7 +11,6 @@ use Rattle.vob.specs.Bits.{IsWritten}
 use Rattle.vob_block.proofs.PackingLemmas.{true_inside}
 use Rattle.vob.proofs.BitsLemmas.{item_false}
 use Rattle.vob_flow.specs.Closure.{IsEdge}
-use Rattle.vob_flow.specs.Lists.{NameNodes}
 use Rattle.vob_flow.specs.Reach.{AreOnTheWay, AreReached, HaveEntered, Reaches}
 use Rattle.vob_flow.specs.Reach.Reaches.{at_start, along}
 use Rattle.vob_flow.proofs.OrderLemmas.{steps_seen, still_seen}
@@ -179,14 +178,8 @@ module _ (next : List (List ℕ)) (from : List ℕ) (set : List Bool)
     each = λ n. (h.reaches n, reached_in);
   }
 
--- a node that waits has a list
-pub list_names : (next : List (List ℕ)) (count : ℕ) (from : List ℕ) (reached : List Bool)
-    (waiting : List ℕ) (node : ℕ) → length next ≡ count → NameNodes next count →
-    AreOnTheWay next from reached waiting → Contains waiting node →
-    (node < count) × All (λ n. n < length reached) (get_or next node [])
-list_names next count from reached waiting node same names h waits =
-    let inside : node < count =
-    omega (arith, true_inside reached node (h.waits node waits), h.len, same) in (
-      inside,
-      (λ k d less. omega (arith, names node inside k d less, h.len)),
-    )
+-- a node that waits is there
+pub waiting_inside : (next : List (List ℕ)) (from : List ℕ) (reached : List Bool) (waiting : List ℕ)
+    (node : ℕ) → AreOnTheWay next from reached waiting → Contains waiting node → node < length next
+waiting_inside next from reached waiting node h waits =
+    omega (arith, true_inside reached node (h.waits node waits), h.len)

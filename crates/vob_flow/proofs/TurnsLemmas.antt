@@ -1,6 +1,6 @@
 -- Passes over sets, seen through a function of them.
-use Rattle.std.proofs.Common.{◌≡◌, ◌≢◌, ℕ, Bool, List, length}
-use Rattle.vob_flow.specs.Turns.{ArePasses, ChangeInPasses, IsOrder, TakeTurns}
+use Rattle.std.proofs.Common.{◌≡◌, ℕ, Bool, List, length}
+use Rattle.vob_flow.specs.Turns.{ArePasses, ChangeInPasses, TakeTurns}
 use Rattle.vob_flow.specs.Turns.TakeTurns.{no_turn, one_more as one_more_turn}
 use Rattle.vob_flow.specs.Turns.ChangeInPasses.{no_pass, one_more as one_more_pass}
 

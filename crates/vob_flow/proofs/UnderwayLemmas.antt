@@ -1,19 +1,18 @@
 -- Sets on the way to the least ones, turn after turn.
-use Rattle.std.proofs.Common.{◌≡◌, ◌≢◌, ℕ, ◌↔◌, ◌+◌, ◌<◌, ◌⊎◌, Bool, true, false, inl, inr}
+use Rattle.std.proofs.Common.{◌≡◌, ◌≢◌, ℕ, ◌+◌, ◌<◌, ◌⊎◌, Bool, true, false, inl, inr}
 use Rattle.std.proofs.Common.{List, [], length, get_or, Some, slice_get, refl, sym, ap, ◌∙◌, subst, arith}
 use Rattle.std.specs.List.{Contains}
 use Rattle.std.proofs.lemmas.Bool.{cases_eq, cases_lt, cases_Bool, false≢true}
 use Rattle.std.proofs.lemmas.List.{get_or_default}
-use Rattle.std.proofs.lemmas.Option.{slice_get_within, same_Some}
+use Rattle.std.proofs.lemmas.Option.{same_Some}
 use Rattle.vob_block.specs.Packing.{item}
 use Rattle.vob.specs.Bits.{IsWritten}
-use Rattle.vob_flow.specs.declared.draw.Draw.{Draw}
 use Rattle.vob_flow.specs.Draws.{IsIn, IsDrawn, IsTurn, Comes, HaveShape, AreLeast}
 use Rattle.vob_flow.specs.Draws.Comes.{starts_in, drawn}
 use Rattle.vob_flow.specs.Turns.{IsOrder}
 use Rattle.vob_flow.specs.Gains.{HasGained, HasNews, IsNews, IsSomeNews}
 use Rattle.vob_flow.specs.Passes.{HasAllOf, IsSince, IsWaiting, AreUnderway}
-use Rattle.vob_flow.proofs.AnyLemmas.{Any-contained}
+use Rattle.vob_flow.proofs.AnyLemmas.{Any-contained, edge_inside}
 
 -- an element is one element
 pub same_at : {X : Type 0} (xs : List X) (n k : ℕ) (a b : X) → n ≡ k → slice_get xs n ≡ Some a →
@@ -53,11 +52,11 @@ module _ {count : ℕ} {order : List ℕ} (one : IsOrder count order) (k : ℕ) 
 
 -- ---- a turn
 
-module _ {place : ℕ → ℕ} {draws : List Draw} {starts sets after : List (List Bool)} {first : Bool}
-    {grown grown' : List Bool} {i n : ℕ} (draw : Draw) {grew : Bool}
-    (h : AreUnderway place draws starts sets first grown i) (at : slice_get draws n ≡ Some draw)
-    (here : place n ≡ i) (apart : (k : ℕ) → k < length draws → k ≢ n → place k ≢ i)
-    (d : HasGained sets n (IsSomeNews sets first grown draw.mask draw.from.now) after grew)
+module _ {place : ℕ → ℕ} {next : List (List ℕ)} {mask : ℕ → ℕ → Bool}
+    {starts sets after : List (List Bool)} {first : Bool} {grown grown' : List Bool} {i n : ℕ}
+    {grew : Bool} (h : AreUnderway place next mask starts sets first grown i)
+    (here : place n ≡ i) (apart : (k : ℕ) → k < length next → k ≢ n → place k ≢ i)
+    (d : HasGained sets n (IsSomeNews sets first grown (mask n) (get_or next n [])) after grew)
     (w : IsWritten grown n grew grown') where
   -- v in set k, which isn't set n
   other_in : (k v : ℕ) → k ≢ n → IsIn after k v → IsIn sets k v
@@ -70,17 +69,17 @@ module _ {place : ℕ → ℕ} {draws : List Draw} {starts sets after : List (Li
     | inr other ↦ ap (λ row. item row v) (d.others k other) ∙ e
   ]
 
-  comes_here : (v : ℕ) → IsIn after n v → Comes draws starts n v
+  comes_here : (v : ℕ) → IsIn after n v → Comes next mask starts n v
   comes_here v e = elim ((d.here v).0 e) [
     | inl old ↦ h.comes n v old
     | inr new ↦
         let of = new.4 in
-        drawn draw at of.1.0 (new.0, new.2, new.3) (h.comes new.1 v of.1.1)
+        drawn of.1.0 (new.0, new.2, new.3) (h.comes new.1 v of.1.1)
   ]
 
-  comes_after : (k v : ℕ) → IsIn after k v → Comes draws starts k v
+  comes_after : (k v : ℕ) → IsIn after k v → Comes next mask starts k v
   comes_after k v e = elim (cases_eq k n) [
-    | inl same ↦ subst (λ j. Comes draws starts j v) (sym same)
+    | inl same ↦ subst (λ j. Comes next mask starts j v) (sym same)
         (comes_here v (subst (λ j. IsIn after j v) same e))
     | inr other ↦ h.comes k v (other_in k v other e)
   ]
@@ -90,48 +89,43 @@ module _ {place : ℕ → ℕ} {draws : List Draw} {starts sets after : List (Li
   news_of m which = elim which [ inl f ↦ inl f.0 | inr since ↦ inr since.1 ]
 
   -- the set whose turn it was has all that it draws
-  done_here : (m : ℕ) → Contains draw.from.now m → HasAllOf after n draw.mask m
+  done_here : (m : ℕ) → Contains (get_or next n []) m → HasAllOf after n (mask n) m
   done_here m within v through = elim (cases_eq m n) [
     | inl own ↦ subst (λ j. IsIn after j v) own through.1
     | inr other ↦
-        elim (h.waits n m draw at within) [
+        elim (h.waits n m within) [
           | inl done ↦ (d.here v).1 (inl (done v (through.0, other_in m v other through.1)))
           | inr waiting ↦ (d.here v).1 (inr (Any-contained
-              (λ j. IsNews sets first grown draw.mask j v) draw.from.now m within
+              (λ j. IsNews sets first grown (mask n) j v) (get_or next n []) m within
               (news_of m waiting, (through.0, other_in m v other through.1))))
         ]
   ]
 
   -- what it draws without news it has, so it had its turn
-  turn_here : (v : ℕ) → IsIn after n v ↔ (IsIn sets n v ⊎ IsDrawn sets draw v)
-  turn_here v = (
-    (λ e. elim ((d.here v).0 e) [
-      | inl old ↦ inl old
-      | inr new ↦
-          let of = new.4 in
-          inr (of.1.0, (new.0, new.1, new.2, new.3, of.1.1))
-    ]),
-    (λ either. elim either [
-      | inl old ↦ kept_in n v old
-      | inr new ↦
-          let of = new.1 in
-          done_here of.1 (of.0, of.2, of.3) v (new.0, kept_in of.1 v of.4)
-    ]),
-  )
-
-  pub IsTurn-underway : IsTurn draws n sets after
+  pub IsTurn-underway : IsTurn next mask n sets after
   IsTurn-underway = record {
     shape = d.shape;
-    here = λ v there is.
-        subst (λ (x : Draw). IsIn after n v ↔ (IsIn sets n v ⊎ IsDrawn sets x v))
-        (same_at draws n n draw there refl at is) (turn_here v);
+    here = λ v. (
+      (λ e. elim ((d.here v).0 e) [
+        | inl old ↦ inl old
+        | inr new ↦
+            let of = new.4 in
+            inr (of.1.0, (new.0, new.1, new.2, new.3, of.1.1))
+      ]),
+      (λ either. elim either [
+        | inl old ↦ kept_in n v old
+        | inr new ↦
+            let of = new.1 in
+            done_here of.1 (of.0, of.2, of.3) v (new.0, kept_in of.1 v of.4)
+      ]),
+    );
     others = d.others;
   }
 
   -- another one that had all of set m has so still, or is to draw from it
-  module _ (k m : ℕ) (there : Draw) (is : slice_get draws k ≡ Some there) (other : k ≢ n) where
+  module _ (k m : ℕ) (within : Contains (get_or next k []) m) (other : k ≢ n) where
     away : place k ≢ i
-    away = apart k (slice_get_within draws k there is) other
+    away = apart k (edge_inside next k m within) other
 
     since_other : IsSince i (place k) (place m) → m ≢ n
     since_other s e =
@@ -180,38 +174,35 @@ module _ {place : ℕ → ℕ} {draws : List Draw} {starts sets after : List (Li
         }
 
     -- set n is set m, or it isn't
-    done_or : HasAllOf sets k there.mask m →
-        HasAllOf after k there.mask m ⊎ IsWaiting place first grown' (i + 1) (place k) m
+    done_or : HasAllOf sets k (mask k) m →
+        HasAllOf after k (mask k) m ⊎ IsWaiting place first grown' (i + 1) (place k) m
     done_or done = elim (cases_eq m n) [
       | inl same ↦ elim (cases_Bool grew) [
         | inl up ↦ inr (inr (since_here same, ap (item grown') same ∙ w.there ∙ up))
-        | inr quiet ↦ inl (subst (λ (xs : List (List Bool)). HasAllOf xs k there.mask m)
+        | inr quiet ↦ inl (subst (λ (xs : List (List Bool)). HasAllOf xs k (mask k) m)
             (sym (d.same quiet)) done)
       ]
       | inr apart_m ↦ inl (λ v through.
           kept_in k v (done v (through.0, other_in m v apart_m through.1)))
     ]
 
-    pub waits_other : HasAllOf sets k there.mask m ⊎ IsWaiting place first grown i (place k) m →
-        HasAllOf after k there.mask m ⊎ IsWaiting place first grown' (i + 1) (place k) m
+    pub waits_other : HasAllOf sets k (mask k) m ⊎ IsWaiting place first grown i (place k) m →
+        HasAllOf after k (mask k) m ⊎ IsWaiting place first grown' (i + 1) (place k) m
     waits_other which = elim which [
       | inl done ↦ done_or done
       | inr waiting ↦ inr (still_waiting waiting)
     ]
 
-  waits_after : (k m : ℕ) (there : Draw) → slice_get draws k ≡ Some there →
-      Contains there.from.now m →
-      HasAllOf after k there.mask m ⊎ IsWaiting place first grown' (i + 1) (place k) m
-  waits_after k m there is within = elim (cases_eq k n) [
+  waits_after : (k m : ℕ) → Contains (get_or next k []) m →
+      HasAllOf after k (mask k) m ⊎ IsWaiting place first grown' (i + 1) (place k) m
+  waits_after k m within = elim (cases_eq k n) [
     | inl same ↦
-        let this = same_at draws k n there draw same is at in
-        let done = done_here m (subst (λ (x : Draw). Contains x.from.now m) this within) in
-        inl (subst (λ (x : Draw). HasAllOf after k x.mask m) (sym this)
-        (subst (λ j. HasAllOf after j draw.mask m) (sym same) done))
-    | inr other ↦ waits_other k m there is other (h.waits k m there is within)
+        let done = done_here m (subst (λ j. Contains (get_or next j []) m) same within) in
+        inl (subst (λ j. HasAllOf after j (mask j) m) (sym same) done)
+    | inr other ↦ waits_other k m within other (h.waits k m within)
   ]
 
-  pub AreUnderway-turn : AreUnderway place draws starts after first grown' (i + 1)
+  pub AreUnderway-turn : AreUnderway place next mask starts after first grown' (i + 1)
   AreUnderway-turn = record {
     shape = HaveShape-trans h.shape d.shape;
     kept = λ m v e. kept_in m v (h.kept m v e);
@@ -221,28 +212,29 @@ module _ {place : ℕ → ℕ} {draws : List Draw} {starts sets after : List (Li
 
 -- ---- a pass
 
-pub AreUnderway-start : (place : ℕ → ℕ) (draws : List Draw) (starts : List (List Bool))
-    (grown : List Bool) → AreUnderway place draws starts starts true grown 0
-AreUnderway-start place draws starts grown = record {
+pub AreUnderway-start : (place : ℕ → ℕ) (next : List (List ℕ)) (mask : ℕ → ℕ → Bool)
+    (starts : List (List Bool)) (grown : List Bool) →
+    AreUnderway place next mask starts starts true grown 0
+AreUnderway-start place next mask starts grown = record {
   shape = HaveShape-refl starts;
   kept = λ n v e. e;
   comes = λ n v e. starts_in e;
-  waits = λ k m draw is within. inr (inl (refl, omega arith));
+  waits = λ k m within. inr (inl (refl, omega arith));
 }
 
 -- after the last turn of a pass, another one begins
-pub AreUnderway-again : {place : ℕ → ℕ} {draws : List Draw} {starts sets : List (List Bool)}
-    {first : Bool} {grown : List Bool} {i : ℕ} →
-    AreUnderway place draws starts sets first grown i →
-    ((k : ℕ) → k < length draws → place k < i) →
-    AreUnderway place draws starts sets false grown 0
-AreUnderway-again {place} {draws} {starts} {sets} {first} {grown} {i} h past = record {
+pub AreUnderway-again : {place : ℕ → ℕ} {next : List (List ℕ)} {mask : ℕ → ℕ → Bool}
+    {starts sets : List (List Bool)} {first : Bool} {grown : List Bool} {i : ℕ} →
+    AreUnderway place next mask starts sets first grown i →
+    ((k : ℕ) → k < length next → place k < i) →
+    AreUnderway place next mask starts sets false grown 0
+AreUnderway-again {place} {next} {mask} {starts} {sets} {first} {grown} {i} h past = record {
   shape = h.shape;
   kept = h.kept;
   comes = h.comes;
-  waits = λ k m draw is within.
-      let inside = past k (slice_get_within draws k draw is) in
-      elim (h.waits k m draw is within) [
+  waits = λ k m within.
+      let inside = past k (edge_inside next k m within) in
+      elim (h.waits k m within) [
         | inl done ↦ inl done
         | inr waiting ↦ elim waiting [
           | inl f ↦ absurd (omega (arith, f.1, inside))
@@ -258,12 +250,12 @@ AreUnderway-again {place} {draws} {starts} {sets} {first} {grown} {i} h past = r
 }
 
 -- no set grew in a pass: all are done
-pub AreUnderway-done : {place : ℕ → ℕ} {draws : List Draw} {starts sets : List (List Bool)}
-    {grown : List Bool} → AreUnderway place draws starts sets false grown 0 →
+pub AreUnderway-done : {place : ℕ → ℕ} {next : List (List ℕ)} {mask : ℕ → ℕ → Bool}
+    {starts sets : List (List Bool)} {grown : List Bool} →
+    AreUnderway place next mask starts sets false grown 0 →
     ((m : ℕ) → item grown m ≡ false) →
-    (k m : ℕ) (draw : Draw) → slice_get draws k ≡ Some draw → Contains draw.from.now m →
-    HasAllOf sets k draw.mask m
-AreUnderway-done {grown = grown} h none k m draw is within = elim (h.waits k m draw is within) [
+    (k m : ℕ) → Contains (get_or next k []) m → HasAllOf sets k (mask k) m
+AreUnderway-done {grown = grown} h none k m within = elim (h.waits k m within) [
   | inl done ↦ done
   | inr waiting ↦ elim waiting [
     | inl f ↦ absurd (false≢true f.0)
@@ -271,32 +263,29 @@ AreUnderway-done {grown = grown} h none k m draw is within = elim (h.waits k m d
   ]
 ]
 
-module _ {place : ℕ → ℕ} {draws : List Draw} {starts sets : List (List Bool)} {first : Bool}
-    {grown : List Bool} {i : ℕ} (h : AreUnderway place draws starts sets first grown i)
-    (done : (k m : ℕ) (draw : Draw) → slice_get draws k ≡ Some draw → Contains draw.from.now m →
-    HasAllOf sets k draw.mask m) where
-  all_in : {n v : ℕ} → Comes draws starts n v → IsIn sets n v
+module _ {place : ℕ → ℕ} {next : List (List ℕ)} {mask : ℕ → ℕ → Bool} {starts sets : List (List Bool)}
+    {first : Bool} {grown : List Bool} {i : ℕ}
+    (h : AreUnderway place next mask starts sets first grown i)
+    (done : (k m : ℕ) → Contains (get_or next k []) m → HasAllOf sets k (mask k) m) where
+  all_in : {n v : ℕ} → Comes next mask starts n v → IsIn sets n v
   all_in (starts_in e) = h.kept _ _ e
-  all_in (drawn draw is keeps within c) = done _ _ draw is within _ (keeps, all_in c)
+  all_in (drawn keeps within c) = done _ _ within _ (keeps, all_in c)
 
-  drawn_in : (n v : ℕ) (draw : Draw) → slice_get draws n ≡ Some draw → Comes draws starts n v →
-      IsIn starts n v ⊎ IsDrawn sets draw v
-  drawn_in n v draw is (starts_in e) = inl e
-  drawn_in n v draw is (drawn draw' is' keeps (k, less, e) c) =
-      let same = same_at draws n n draw' draw refl is' is in
-      inr (subst (λ (x : Draw). IsDrawn sets x v) same (keeps, (k, _, less, e, all_in c)))
+  drawn_in : (n v : ℕ) → Comes next mask starts n v → IsIn starts n v ⊎ IsDrawn next mask sets n v
+  drawn_in n v (starts_in e) = inl e
+  drawn_in n v (drawn keeps (k, less, e) c) = inr (keeps, (k, _, less, e, all_in c))
 
-  pub AreLeast-done : AreLeast draws starts sets
+  pub AreLeast-done : AreLeast next mask starts sets
   AreLeast-done = record {
     solution = record {
       shape = h.shape;
-      meets = λ n v draw is. (
-        (λ e. drawn_in n v draw is (h.comes n v e)),
+      meets = λ n v. (
+        (λ e. drawn_in n v (h.comes n v e)),
         (λ either. elim either [
           | inl start ↦ h.kept n v start
           | inr new ↦
               let of = new.1 in
-              done n of.1 draw is (of.0, of.2, of.3) v (new.0, of.4)
+              done n of.1 (of.0, of.2, of.3) v (new.0, of.4)
         ]),
       );
     };
@@ -304,11 +293,18 @@ module _ {place : ℕ → ℕ} {draws : List Draw} {starts sets : List (List Boo
   }
 
 -- no sets draw nothing
-pub AreLeast-none : (draws : List Draw) → length draws ≡ 0 → AreLeast draws [] []
-AreLeast-none draws none = record {
+pub AreLeast-none : (next : List (List ℕ)) (mask : ℕ → ℕ → Bool) → length next ≡ 0 →
+    AreLeast next mask [] []
+AreLeast-none next mask none = record {
   solution = record {
     shape = HaveShape-refl [];
-    meets = λ n v draw is. absurd (omega (arith, none, slice_get_within draws n draw is));
+    meets = λ n v. (
+      (λ e. inl e),
+      (λ either. elim either [
+        | inl e ↦ e
+        | inr new ↦ absurd (omega (arith, none, edge_inside next n new.1.1 (new.1.0, new.1.2, new.1.3)))
+      ]),
+    );
   };
   least = λ n v e. starts_in e;
 }

@@ -1,22 +1,13 @@
 -- A set that gains places from others. No public clause cites this page.
-use Rattle.std.specs.Prelude.{◌≡◌, ◌≢◌, ◌↔◌, ◌⊎◌, ℕ, ◌<◌, Bool, true, false, List, [], length, slice_index_or, Any}
+use Rattle.std.specs.Prelude.{◌≡◌, ◌≢◌, ◌↔◌, ◌⊎◌, ℕ, ◌<◌, Bool, true, false, List, [], slice_index_or, Any}
 use Rattle.vob_block.specs.Packing.{item}
-use Rattle.vob.specs.Bits.{GainsBits, IsWritten}
+use Rattle.vob.specs.Bits.{IsWritten}
 use Rattle.vob.specs.Vobs.{total_count}
-use Rattle.vob_flow.specs.declared.draw.Draw.{Draw}
-use Rattle.vob_flow.specs.declared.draw.Mask.{Mask}
-use Rattle.vob_flow.specs.Draws.{IsIn, IsKept, HaveShape}
-
--- a list got what a mask lets through of another
-pub record IsAdded (mask : Mask) (source bits after : List Bool) (grew : Bool) : Type 0 where
-  pub len : length after ≡ length bits
-  pub each : (v : ℕ) → (item after v ≡ true)
-      ↔ ((item bits v ≡ true) ⊎ (IsKept mask v × (item source v ≡ true)))
-  pub gains : GainsBits grew bits after
+use Rattle.vob_flow.specs.Draws.{IsIn, HaveShape}
 
 -- a mask lets v through of set m
-abbrev pub IsLetThrough : List (List Bool) → Mask → ℕ → ℕ → Type 0
-IsLetThrough sets mask m v = IsKept mask v × IsIn sets m v
+abbrev pub IsLetThrough : List (List Bool) → (ℕ → Bool) → ℕ → ℕ → Type 0
+IsLetThrough sets mask m v = (mask v ≡ true) × IsIn sets m v
 
 -- set n got the places that P holds of, and no other set changed
 pub record HasGained (sets : List (List Bool)) (n : ℕ) (P : ℕ → Type 0) (after : List (List Bool))
@@ -32,16 +23,18 @@ abbrev pub HasNews : Bool → List Bool → ℕ → Type 0
 HasNews first grown m = (first ≡ true) ⊎ (item grown m ≡ true)
 
 -- a set has news, and a mask lets v through of it
-abbrev pub IsNews : List (List Bool) → Bool → List Bool → Mask → ℕ → ℕ → Type 0
+abbrev pub IsNews : List (List Bool) → Bool → List Bool → (ℕ → Bool) → ℕ → ℕ → Type 0
 IsNews sets first grown mask m v = HasNews first grown m × IsLetThrough sets mask m v
 
 -- one of some sets does
-abbrev pub IsSomeNews : List (List Bool) → Bool → List Bool → Mask → List ℕ → ℕ → Type 0
+abbrev pub IsSomeNews : List (List Bool) → Bool → List Bool → (ℕ → Bool) → List ℕ → ℕ → Type 0
 IsSomeNews sets first grown mask from v = Any (λ m. IsNews sets first grown mask m v) from
 
 -- set n had its turn: it got what it draws from those sets that have news
-pub record HadTurn (sets : List (List Bool)) (grown : List Bool) (n : ℕ) (draw : Draw)
-    (first : Bool) (after : List (List Bool)) (grown' : List Bool) : Type 0 where
+pub record HadTurn (next : List (List ℕ)) (mask : ℕ → ℕ → Bool) (sets : List (List Bool))
+    (grown : List Bool) (n : ℕ) (first : Bool) (after : List (List Bool)) (grown' : List Bool)
+    : Type 0 where
   pub grew : Bool
   pub written : IsWritten grown n grew grown'
-  pub drawn : HasGained sets n (IsSomeNews sets first grown draw.mask draw.from.now) after grew
+  pub drawn : HasGained sets n (IsSomeNews sets first grown (mask n) (slice_index_or next n [])) after
+      grew

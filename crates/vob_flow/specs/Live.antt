@@ -1,47 +1,14 @@
--- Which variables are live at the nodes of a flow graph: the sets that solve its flow equations.
-use Rattle.std.specs.Prelude.{◌≡◌, ◌≢◌, ℕ, ◌+◌, ◌*◌, ◌≤◌, ◌⊎◌, ◌↔◌, Bool, true, List, [], length, slice_index_or, slice_get, Some, Any, Contains}
-use Rattle.vob_block.specs.Packing.{item}
-use Rattle.vob.specs.Vobs.{AreOfLength}
+-- Which variables are live at the nodes of a flow graph: the least sets that solve its flow equations, and
+-- the rounds that find them.
+use Rattle.std.specs.Prelude.{◌≡◌, ◌≢◌, ℕ, ◌+◌, ◌*◌, ◌≤◌, ◌⊎◌, ◌↔◌, Bool, List, [], length, slice_index_or, slice_get, Some, Contains}
 pub use Rattle.vob.specs.Vobs.{bits_of}
 pub use Rattle.vob_flow.specs.Draws.{AreWithin}
+pub use Rattle.vob_flow.specs.LiveEquations.{AreSets, AreLeastLive, IsLive, IsLiveHere, IsLiveNext, IsSolution}
 use Rattle.vob_flow.specs.Draws.{HaveShape}
 use Rattle.vob_flow.specs.Turns.{ArePasses}
 use Rattle.vob_flow.specs.declared.live.Flow.{Flow}
 use Rattle.vob_flow.specs.declared.live.Live.{Live}
-
--- a set for each of some nodes, and in each set a bit for each variable
-pub record AreSets (vars nodes : ℕ) (sets : List (List Bool)) : Type 0 where
-  pub count : length sets ≡ nodes
-  pub long : AreOfLength vars sets
-
--- whether variable v is in the set of node n
-abbrev pub IsLive : List (List Bool) → ℕ → ℕ → Type 0
-IsLive sets n v = item (slice_index_or sets n []) v ≡ true
-
--- live before some node that comes next
-abbrev pub IsLiveNext : List (List Bool) → Flow → ℕ → Type 0
-IsLiveNext before flow v = Any (λ m. IsLive before m v) flow.next.items
-
--- read by a node, or live after it and not written by it
-abbrev pub IsLiveHere : List (List Bool) → Flow → ℕ → ℕ → Type 0
-IsLiveHere after flow n v =
-    Contains flow.reads.items v ⊎ (IsLive after n v × ¬ Contains flow.writes.items v)
-
--- sets that meet both flow equations at every node
-pub record IsSolution (vars : ℕ) (nodes : List Flow) (before after : List (List Bool))
-    : Type 0 where
-  pub before_sets : AreSets vars (length nodes) before
-  pub after_sets : AreSets vars (length nodes) after
-  pub before_is : (n : ℕ) (flow : Flow) → slice_get nodes n ≡ Some flow →
-      (v : ℕ) → IsLive before n v ↔ IsLiveHere after flow n v
-  pub after_is : (n : ℕ) (flow : Flow) → slice_get nodes n ≡ Some flow →
-      (v : ℕ) → IsLive after n v ↔ IsLiveNext before flow v
-
--- sets that are within those of every solution
-abbrev pub AreLeastLive : ℕ → List Flow → List (List Bool) → List (List Bool) → Type 0
-AreLeastLive vars nodes before after = (others others_after : List (List Bool)) →
-    IsSolution vars nodes others others_after →
-    AreWithin before others × AreWithin after others_after
+use Rattle.vob_flow.specs.declared.live.LiveRows.{LiveRows}
 
 -- what is live before each node is read there
 abbrev pub AreRead : List Flow → List (List Bool) → Type 0
@@ -73,10 +40,20 @@ pub record AreRounds (vars : ℕ) (nodes : List Flow) (before : List (List Bool)
 
 -- the least sets that meet the flow equations, found in at most one pass for each place and one
 -- more; no pass was enough only if there are no nodes, and one only if it added nothing to the reads
-pub record AreLive (vars : ℕ) (nodes : List Flow) (live : Live) : Type 0 where
-  pub solution : IsSolution vars nodes (bits_of live.before.items) (bits_of live.after.items)
-  pub least : AreLeastLive vars nodes (bits_of live.before.items) (bits_of live.after.items)
-  pub rounds : live.rounds ≤ 1 + length nodes * vars
-  pub no_round : live.rounds ≡ 0 → nodes ≡ []
-  pub one_round : live.rounds ≡ 1 → AreRead nodes (bits_of live.before.items)
-  pub count : live.rounds ≢ 0 → AreRounds vars nodes (bits_of live.before.items) live.rounds
+pub record AreLiveSets (vars : ℕ) (nodes : List Flow) (before after : List (List Bool)) (passes : ℕ)
+    : Type 0 where
+  pub solution : IsSolution vars nodes before after
+  pub least : AreLeastLive vars nodes before after
+  pub rounds : passes ≤ 1 + length nodes * vars
+  pub no_round : passes ≡ 0 → nodes ≡ []
+  pub one_round : passes ≡ 1 → AreRead nodes before
+  pub count : passes ≢ 0 → AreRounds vars nodes before passes
+
+-- the same in Vobs
+abbrev pub AreLive : ℕ → List Flow → Live → Type 0
+AreLive vars nodes live =
+    AreLiveSets vars nodes (bits_of live.before.items) (bits_of live.after.items) live.rounds
+
+-- and in rows
+abbrev pub AreLiveRows : ℕ → List Flow → LiveRows → Type 0
+AreLiveRows vars nodes live = AreLiveSets vars nodes live.before.rows live.after.rows live.rounds

@@ -1,26 +1,29 @@
 -- Liveness as sets that draw from one another. No public clause cites this page.
-use Rattle.std.specs.Prelude.{◌≡◌, ◌↔◌, ℕ, List, Contains}
-use Rattle.std.specs.List.{AllZip}
-use Rattle.vob.specs.Indices.{IsMadeOf}
-use Rattle.vob.specs.Vob.{BitVector}
-use Rattle.vob_flow.specs.declared.draw.Draw.{Draw}
+use Rattle.std.specs.Prelude.{◌≡◌, ◌↔◌, ℕ, ◌<◌, List, [], length, slice_get, slice_index_or, Some, Contains}
 use Rattle.vob_flow.specs.declared.live.Flow.{Flow}
-use Rattle.vob_flow.specs.Draws.{FitsMask, IsKept}
 
--- the variables that each node reads
-abbrev pub AreReads : ℕ → List Flow → List BitVector → Type 0
-AreReads vars nodes sets = AllZip (λ flow set. IsMadeOf vars flow.reads.items set.bits) nodes sets
+-- node n has v in a list of its own
+abbrev pub Names : (Flow → List ℕ) → List Flow → ℕ → ℕ → Type 0
+Names part nodes n v = (flow : Flow) × (slice_get nodes n ≡ Some flow) × Contains (part flow) v
 
--- the variables that each node writes
-abbrev pub AreWrites : ℕ → List Flow → List BitVector → Type 0
-AreWrites vars nodes sets = AllZip (λ flow set. IsMadeOf vars flow.writes.items set.bits) nodes sets
+-- node n reads v
+abbrev pub Reads : List Flow → ℕ → ℕ → Type 0
+Reads nodes n v = Names (λ flow. flow.reads.items) nodes n v
 
--- a node draws from those that come next what it doesn't write
-pub record IsDrawOf (vars : ℕ) (flow : Flow) (draw : Draw) : Type 0 where
-  pub from : draw.from.now ≡ flow.next.items
-  pub mask : FitsMask vars draw.mask
-  pub kept : (v : ℕ) → IsKept draw.mask v ↔ (¬ Contains flow.writes.items v)
+-- node n writes v
+abbrev pub Writes : List Flow → ℕ → ℕ → Type 0
+Writes nodes n v = Names (λ flow. flow.writes.items) nodes n v
 
--- what each node draws
-abbrev pub AreDraws : ℕ → List Flow → List Draw → Type 0
-AreDraws vars nodes draws = AllZip (IsDrawOf vars) nodes draws
+-- node m comes next to node n
+abbrev pub LeadsTo : List Flow → ℕ → ℕ → Type 0
+LeadsTo nodes n m = Names (λ flow. flow.next.items) nodes n m
+
+-- the edges of the first k nodes
+abbrev pub AreEdges : List Flow → ℕ → List (ℕ × ℕ) → Type 0
+AreEdges nodes k edges =
+    (n m : ℕ) → Contains edges (n, m) ↔ ((n < k) × LeadsTo nodes n m)
+
+-- the graph with those of all nodes
+pub record IsFlowGraph (nodes : List Flow) (next : List (List ℕ)) : Type 0 where
+  pub count : length next ≡ length nodes
+  pub each : (n m : ℕ) → Contains (slice_index_or next n []) m ↔ LeadsTo nodes n m

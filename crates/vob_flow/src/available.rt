@@ -1,171 +1,122 @@
 //! What holds on all paths of a flow graph: available and very busy expressions.
-ghost use Rattle.std.specs.Prelude.{◌≡◌, ◌≢◌, ◌↔◌, ℕ, ◌<◌, [], false, length, replicate, All, Err, IfErr, IfOk, IsOk, OnErr};
-ghost use Rattle.vob.specs.Vobs.{AreOfLength, bits_of};
-ghost use Rattle.vob_flow.specs.Available.{AreAvailable, AreVeryBusy};
-ghost use Rattle.vob_flow.specs.Changes.{AreChangedBelow};
-ghost use Rattle.vob_flow.specs.Draws.{DrawsInside, FitsMask};
-ghost use Rattle.vob_flow.specs.EntryDraws.{AreEntryFlows, IsEntryFlow};
-ghost use Rattle.vob_flow.specs.Gathered.{BecomesCommon};
-ghost use Rattle.vob_flow.specs.Greatest.{AreGreatest};
-ghost use Rattle.vob_flow.specs.SolveFaults.{AreSound, IsBadLength, IsBadSet, IsNoNode, MayRefuseFlows, MayRefuseSets};
+ghost use Rattle.std.specs.Prelude.{◌≡◌, ◌≢◌, ◌↔◌, ◌<◌, ℕ, None, Some, length, Err, IfErr, IfOk, IsOk, OnErr};
+ghost use Rattle.vob_flow.specs.Available.{AreAvailable, AreVeryBusy, HoldOnAll, IsEntry};
+ghost use Rattle.vob_flow.specs.Draws.{FitMasks, HaveShape, IsIn, mask_of};
+ghost use Rattle.vob_flow.specs.SolveFaults.{IsNoNode, MayRefuseFlows, MayRefuseSets};
 
-use crate::complement::{copies, solve_beside};
-use crate::draw::{Draw, Mask};
-use crate::faults::{SolveError, check_entry, check_sets};
+use crate::complement::solve_beside;
+use crate::draw::Masks;
+use crate::faults::{SolveError, check_entry, check_masks};
 use crate::gather::intersect_each;
 use std::alloc::{AllocError, Global};
-use vob::Vob;
+use vob_rows::{BitRows, Graph};
+
+/// Clears the set of the entry, if there is one.
+fn clear_entry(sets: &mut BitRows, entry: Option<usize>)
+    ensures shape { HaveShape sets.old.rows sets.new.rows }
+    ensures cleared { (n v : ℕ)
+        → IsIn sets.new.rows n v ↔ (IsIn sets.old.rows n v × (¬ IsEntry entry n)) }
+    ensures columns { sets.new.columns ≡ sets.old.columns }
+{
+    // Each set is as long as there are columns: a proof knows it from this call.
+    let _columns = sets.columns();
+    let Some(node) = entry else {
+        return;
+    };
+    if node < sets.rows() {
+        sets.fill_row(node, false);
+    }
+}
 
 /// Makes the far side of each node what the equations ask for, and returns the near sides. These hold
 /// what the far sides start with until it isn't needed. No sets take no memory.
 fn solve_on_all(
     alloc: Global,
-    places: usize,
-    far: &mut [Vob],
-    flows: &[Draw<'_>],
-) -> Result<Vec<Vob>, AllocError>
-    requires count { length flows.now ≡ length far.old }
-    requires masks { All (λ flow. FitsMask places flow.mask) flows.now }
-    requires from { All (DrawsInside (length far.old)) flows.now }
-    requires long { AreOfLength places (bits_of far.old) }
-    ensures greatest { IfOk result (λ near.
-        AreGreatest places flows.now (bits_of far.old) (bits_of far.new)) }
-    ensures common { IfOk result (λ near. AreChangedBelow (BecomesCommon flows.now (bits_of far.new))
-        (bits_of far.old) (bits_of near.items) (length flows.now)) }
+    far: &mut BitRows,
+    graph: &Graph,
+    masks: Masks<'_>,
+    entry: Option<usize>,
+) -> Result<BitRows, AllocError>
+    requires count { length graph.now ≡ length far.old.rows }
+    requires masks { FitMasks (length far.old.rows) far.old.columns masks }
+    ensures hold { IfOk result (λ near. HoldOnAll far.old.columns entry graph.now
+        (mask_of masks.entry) far.old.rows near.rows far.new.rows) }
+    ensures near { IfOk result (λ near. near.columns ≡ far.old.columns) }
+    ensures columns { far.new.columns ≡ far.old.columns }
     ensures err { OnErr result (far.new ≡ far.old) }
-    ensures nothing { far.old ≡ [] → IsOk result }
+    ensures nothing { length far.old.rows ≡ 0 → IsOk result }
 {
-    let mut near = copies(alloc, far)?;
-    solve_beside(alloc, places, far, flows, &near)?;
-    intersect_each(&mut near, flows, far);
-    Ok(near)
-}
-
-/// Returns what a node draws: what its flow says, but nothing if it is the entry.
-fn entry_flow<'a, 'b: 'a>(node: usize, entry: usize, none: &'a Vob, flow: &Draw<'b>) -> Draw<'a>
-    requires { none.now.bits ≡ replicate (length none.now.bits) false }
-    ensures { IsEntryFlow (length none.now.bits) node entry flow.now result }
-{
-    let mask = match flow.mask {
-        _ if node == entry => Mask::Keep(none),
-        Mask::All => Mask::All,
-        Mask::Keep(kept) => Mask::Keep(kept),
-        Mask::Without(others) => Mask::Without(others),
-    };
-    Draw {
-        mask,
-        from: flow.from,
-    }
-}
-
-/// Returns what each node draws: what its flow says, but nothing if it is the entry.
-fn entry_flows<'a, 'b: 'a>(
-    alloc: Global,
-    entry: usize,
-    none: &'a Vob,
-    flows: &[Draw<'b>],
-) -> Result<Vec<Draw<'a>>, AllocError>
-    requires { none.now.bits ≡ replicate (length none.now.bits) false }
-    ensures { IfOk result (λ draws.
-        AreEntryFlows (length none.now.bits) entry flows.now draws.items (length flows.now)) }
-{
-    let mut draws = Vec::with_capacity(alloc, flows.len())?;
-    for node in 0..flows.len() {
-        draws.push(entry_flow(node, entry, none, &flows[node]))?;
-    }
-    Ok(draws)
-}
-
-/// Does the same as `solve_on_all`, where nothing comes to the entry.
-fn solve_from_entry(
-    alloc: Global,
-    places: usize,
-    entry: usize,
-    far: &mut [Vob],
-    flows: &[Draw<'_>],
-) -> Result<Vec<Vob>, AllocError>
-    requires count { length flows.now ≡ length far.old }
-    requires masks { All (λ flow. FitsMask places flow.mask) flows.now }
-    requires from { All (DrawsInside (length far.old)) flows.now }
-    requires long { AreOfLength places (bits_of far.old) }
-    requires entry { far.old ≢ [] → entry < length far.old }
-    ensures available { IfOk result (λ near. AreAvailable places entry flows.now
-        (bits_of far.old) (bits_of near.items) (bits_of far.new)) }
-    ensures err { OnErr result (far.new ≡ far.old) }
-    ensures nothing { far.old ≡ [] → IsOk result }
-{
-    if far.is_empty() {
-        return Ok(Vec::new(alloc));
-    }
-    let none = Vob::from_elem(alloc, false, places)?;
-    let draws = entry_flows(alloc, entry, &none, flows)?;
-    let mut near = solve_on_all(alloc, places, far, &draws)?;
-    near[entry].set_all(false);
+    // Each set is as long as there are columns: a proof knows it from this call.
+    let _columns = far.columns();
+    let mut near = far.clone()?;
+    solve_beside(alloc, far, graph, masks, entry, &near)?;
+    intersect_each(&mut near, graph, far);
+    clear_entry(&mut near, entry);
     Ok(near)
 }
 
 /// Returns the expressions that are available at the start of each node: those that were computed on
 /// each path to it from the entry, and not killed since. Nothing is available at the start of the
 /// entry, whatever leads back to it. `ends` are the expressions that each node generates, and become
-/// those that are available at its end. `flows` says of a node which expressions it kills, by
-/// `Mask::Without`, and which nodes come before it. A node to which no path leads from the entry has
-/// everything at its start.
+/// those that are available at its end. The edges of `before` lead from a node to those that come
+/// before it; `masks` say which expressions each node kills, by `Masks::Without`. A node to which no
+/// path leads from the entry has everything at its start.
 ///
 /// Fails as `least` does, and if there are nodes and the entry isn't one. A failed call changes
 /// nothing.
 pub fn available_expressions(
     alloc: Global,
-    expressions: usize,
     entry: usize,
-    ends: &mut [Vob],
-    flows: &[Draw<'_>],
-) -> Result<Vec<Vob>, SolveError>
-    requires { length flows.now ≡ length ends.old }
-    ensures available { IfOk result (λ starts. AreAvailable expressions entry flows.now
-        (bits_of ends.old) (bits_of starts.items) (bits_of ends.new)) }
+    ends: &mut BitRows,
+    before: &Graph,
+    masks: Masks<'_>,
+) -> Result<BitRows, SolveError>
+    requires { length before.now ≡ length ends.old.rows }
+    ensures available { IfOk result (λ starts. AreAvailable ends.old.columns entry before.now
+        (mask_of masks.entry) ends.old.rows starts.rows ends.new.rows) }
+    ensures columns { IfOk result (λ starts. starts.columns ≡ ends.old.columns) }
+    ensures same_columns { ends.new.columns ≡ ends.old.columns }
     ensures err { OnErr result (ends.new ≡ ends.old) }
-    ensures bad_length { (n : ℕ) → (result ≡ Err (SolveError.BadLength n))
-        ↔ IsBadLength expressions (bits_of ends.old) flows.now n }
-    ensures bad_set { (n : ℕ) → (result ≡ Err (SolveError.BadSet n))
-        ↔ IsBadSet expressions (bits_of ends.old) flows.now n }
+    ensures bad_masks { (result ≡ Err SolveError.BadMasks)
+        ↔ (¬ FitMasks (length ends.old.rows) ends.old.columns masks.entry) }
     ensures bad_entry { (result ≡ Err SolveError.BadEntry)
-        ↔ (AreSound expressions (bits_of ends.old) flows.now × IsNoNode (length ends.old) entry) }
-    ensures memory { result ≡ Err SolveError.Memory → ends.old ≢ [] }
+        ↔ (FitMasks (length ends.old.rows) ends.old.columns masks.entry
+        × IsNoNode (length ends.old.rows) entry) }
     ensures refused { IfErr result
-        (MayRefuseFlows expressions entry (bits_of ends.old) flows.now) }
+        (MayRefuseFlows entry (length ends.old.rows) ends.old.columns masks.entry) }
 {
-    check_sets(expressions, ends, flows)?;
-    check_entry(ends.len(), entry)?;
-    let starts = solve_from_entry(alloc, expressions, entry, ends, flows)?;
+    check_masks(ends, masks)?;
+    check_entry(ends.rows(), entry)?;
+    let starts = solve_on_all(alloc, ends, before, masks, Some(entry))?;
     Ok(starts)
 }
 
 /// Returns the expressions that are very busy at the end of each node: those that are used on each
 /// path from it, before they are killed. `starts` are those that each node uses, and become those
-/// that are very busy at its start. `flows` says of a node which expressions it kills, by
-/// `Mask::Without`, and which nodes come next. A node from which no edge leads has everything at its
-/// end, so the mask of an exit keeps nothing.
+/// that are very busy at its start. The edges of `next` lead from a node to those that come next;
+/// `masks` say which expressions each node kills, by `Masks::Without`. A node from which no edge leads
+/// has everything at its end, so the mask of an exit keeps nothing.
 ///
 /// Fails as `least` does. A failed call changes nothing.
 pub fn very_busy_expressions(
     alloc: Global,
-    expressions: usize,
-    starts: &mut [Vob],
-    flows: &[Draw<'_>],
-) -> Result<Vec<Vob>, SolveError>
-    requires { length flows.now ≡ length starts.old }
-    ensures busy { IfOk result (λ ends. AreVeryBusy expressions flows.now
-        (bits_of starts.old) (bits_of starts.new) (bits_of ends.items)) }
+    starts: &mut BitRows,
+    next: &Graph,
+    masks: Masks<'_>,
+) -> Result<BitRows, SolveError>
+    requires { length next.now ≡ length starts.old.rows }
+    ensures busy { IfOk result (λ ends. AreVeryBusy starts.old.columns next.now
+        (mask_of masks.entry) starts.old.rows starts.new.rows ends.rows) }
+    ensures columns { IfOk result (λ ends. ends.columns ≡ starts.old.columns) }
+    ensures same_columns { starts.new.columns ≡ starts.old.columns }
     ensures err { OnErr result (starts.new ≡ starts.old) }
-    ensures bad_length { (n : ℕ) → (result ≡ Err (SolveError.BadLength n))
-        ↔ IsBadLength expressions (bits_of starts.old) flows.now n }
-    ensures bad_set { (n : ℕ) → (result ≡ Err (SolveError.BadSet n))
-        ↔ IsBadSet expressions (bits_of starts.old) flows.now n }
+    ensures bad_masks { (result ≡ Err SolveError.BadMasks)
+        ↔ (¬ FitMasks (length starts.old.rows) starts.old.columns masks.entry) }
     ensures no_entry { result ≢ Err SolveError.BadEntry }
-    ensures memory { result ≡ Err SolveError.Memory → starts.old ≢ [] }
-    ensures refused { IfErr result (MayRefuseSets expressions (bits_of starts.old) flows.now) }
+    ensures refused { IfErr result
+        (MayRefuseSets (length starts.old.rows) starts.old.columns masks.entry) }
 {
-    check_sets(expressions, starts, flows)?;
-    let ends = solve_on_all(alloc, expressions, starts, flows)?;
+    check_masks(starts, masks)?;
+    let ends = solve_on_all(alloc, starts, next, masks, None)?;
     Ok(ends)
 }

@@ -1,182 +1,176 @@
 //! The greatest sets that meet an equation at each node of a graph: the complements of the least ones
 //! of what they lack.
-ghost use Rattle.std.specs.Prelude.{◌≡◌, ◌≢◌, ◌↔◌, ℕ, [], length, All, Err, IfErr, IfOk, IsOk, OnErr, OnOk};
-ghost use Rattle.vob.specs.Vobs.{AreOfLength, bits_of};
-ghost use Rattle.vob_flow.specs.Draws.{DrawsInside, FitsMask};
-ghost use Rattle.vob_flow.specs.Greatest.{AreGreatest, IsPassCount};
-ghost use Rattle.vob_flow.specs.SolveFaults.{AreSound, IsBadLength, IsBadSet, MayRefuseSets};
-ghost use Rattle.vob_flow.specs.Turned.{AreLacking, AreNegated, AreTurned, HaveMasks, IsLacking};
+ghost use Rattle.std.specs.Prelude.{◌≡◌, ◌≢◌, ◌↔◌, ◌<◌, false, length, Err, IfErr, IfOk, IsOk, IsTrue, OnErr, OnOk};
+ghost use Rattle.vob_flow.specs.Available.{IsEntry};
+ghost use Rattle.vob_flow.specs.Changes.{Becomes, EachBecomes, IsLacking, IsOut};
+ghost use Rattle.vob_flow.specs.Draws.{FitMasks, IsIn, mask_of};
+ghost use Rattle.vob_flow.specs.Greatest.{AreGreatest, IsPassCount, mask_from};
+ghost use Rattle.vob_flow.specs.SolveFaults.{MayRefuseSets};
 
-use crate::draw::{Draw, Mask};
-use crate::faults::{SolveError, check_sets};
+use crate::draw::Masks;
+use crate::faults::{SolveError, check_masks};
 use crate::order::postorder;
 use crate::passes::settle;
 use std::alloc::{AllocError, Global};
 use vob::Vob;
+use vob_rows::{BitRows, Graph};
 
-/// Turns a set into the places that it neither starts with nor has let through by its mask.
-fn turn_start(mask: &Mask<'_>, set: &mut Vob)
-    requires { FitsMask (length set.old.bits) mask.now }
-    ensures { IsLacking mask.now set.old.bits set.new.bits }
+/// Takes the places off a set that its mask lets through.
+fn take_kept(sets: &mut BitRows, set: usize, masks: Masks<'_>)
+    requires set { set < length sets.old.rows }
+    requires masks { FitMasks (length sets.old.rows) sets.old.columns masks }
+    ensures left { Becomes sets.old.rows set
+        (λ v. IsIn sets.old.rows set v × (mask_of masks.entry set v ≡ false)) sets.new.rows }
+    ensures columns { sets.new.columns ≡ sets.old.columns }
 {
-    set.negate();
-    match mask {
-        Mask::All => set.set_all(false),
-        Mask::Keep(kept) => {
-            set.and_not(kept);
+    // Each set is as long as there are columns: a proof knows it from this call.
+    let _columns = sets.columns();
+    match masks {
+        Masks::All => sets.fill_row(set, false),
+        Masks::Keep(kept) => {
+            sets.and_not_with(set, &kept.row(set));
         }
-        Mask::Without(others) => {
-            set.and(others);
+        Masks::Without(others) => {
+            sets.and_with(set, &others.row(set));
         }
     }
 }
 
-/// Makes each set what it lacks at first.
-fn turn_starts(sets: &mut [Vob], draws: &[Draw<'_>])
-    requires count { length draws.now ≡ length sets.old }
-    requires masks { HaveMasks (bits_of sets.old) draws.now }
-    ensures { AreLacking draws.now (bits_of sets.old) (bits_of sets.new)
-        (length (bits_of sets.old)) }
+/// Whether a set is that of the entry.
+fn is_entry(set: usize, entry: Option<usize>) -> bool
+    ensures { IsTrue result ↔ IsEntry entry set }
 {
-    for set in 0..draws.len() {
-        turn_start(&draws[set].mask, &mut sets[set]);
+    match entry {
+        Some(node) => set == node,
+        None => false,
+    }
+}
+
+/// Turns a set into the places that it neither starts with nor has let through by its mask.
+fn turn_start(sets: &mut BitRows, set: usize, masks: Masks<'_>, entry: Option<usize>)
+    requires set { set < length sets.old.rows }
+    requires masks { FitMasks (length sets.old.rows) sets.old.columns masks }
+    ensures lacking { Becomes sets.old.rows set
+        (IsLacking (mask_from entry masks.entry) sets.old.rows set) sets.new.rows }
+    ensures columns { sets.new.columns ≡ sets.old.columns }
+{
+    sets.negate_row(set);
+    if is_entry(set, entry) {
+        return;
+    }
+    take_kept(sets, set, masks);
+}
+
+/// Makes each set what it lacks at first.
+fn turn_starts(sets: &mut BitRows, masks: Masks<'_>, entry: Option<usize>)
+    requires { FitMasks (length sets.old.rows) sets.old.columns masks }
+    ensures lacking { EachBecomes sets.old.rows (IsLacking (mask_from entry masks.entry) sets.old.rows)
+        sets.new.rows (length sets.old.rows) }
+    ensures columns { sets.new.columns ≡ sets.old.columns }
+{
+    for set in 0..sets.rows() {
+        turn_start(sets, set, masks, entry);
     }
 }
 
 /// Negates each bit of each set.
-fn negate_each(sets: &mut [Vob])
-    ensures { AreNegated (bits_of sets.old) (bits_of sets.new) (length (bits_of sets.old)) }
+fn negate_each(sets: &mut BitRows)
+    ensures negated { EachBecomes sets.old.rows (IsOut sets.old.rows) sets.new.rows
+        (length sets.old.rows) }
+    ensures columns { sets.new.columns ≡ sets.old.columns }
 {
-    for set in 0..sets.len() {
-        sets[set].negate();
+    for set in 0..sets.rows() {
+        sets.negate_row(set);
     }
 }
 
-/// Returns a copy of each set. No sets take no memory.
-pub(crate) fn copies(alloc: Global, sets: &[Vob]) -> Result<Vec<Vob>, AllocError>
-    ensures copies { IfOk result (λ made. bits_of made.items ≡ bits_of sets.now) }
-    ensures nothing { sets.now ≡ [] → IsOk result }
-{
-    let mut made = Vec::with_capacity(alloc, sets.len())?;
-    for set in sets {
-        made.push(set.clone()?)?;
-    }
-    Ok(made)
-}
-
-/// Makes some sets the greatest that meet their equations, by what they draw of what they lack.
-fn solve_turned(
-    alloc: Global,
-    places: usize,
-    sets: &mut [Vob],
-    draws: &[Draw<'_>],
-    turned: &[Draw<'_>],
-) -> Result<u128, AllocError>
-    requires count { length draws.now ≡ length sets.old }
-    requires masks { All (λ draw. FitsMask places draw.mask) draws.now }
-    requires from { All (DrawsInside (length sets.old)) draws.now }
-    requires long { AreOfLength places (bits_of sets.old) }
-    requires turned { AreTurned draws.now (bits_of sets.old) turned.now
-        (length (bits_of sets.old)) }
-    ensures greatest { OnOk result
-        (AreGreatest places draws.now (bits_of sets.old) (bits_of sets.new)) }
-    ensures passes { IfOk result
-        (IsPassCount places draws.now (bits_of sets.old) (bits_of sets.new)) }
-    ensures err { OnErr result (sets.new ≡ sets.old) }
-{
-    let order = postorder(alloc, turned)?;
-    let mut grown = Vob::from_elem(alloc, false, sets.len())?;
-    turn_starts(sets, draws);
-    let passes = settle(sets, turned, &order, places, &mut grown);
-    negate_each(sets);
-    Ok(passes)
-}
-
-/// Makes some sets the greatest that meet their equations, beside copies of what they start with. A
+/// Makes some sets the greatest that meet their equations, beside a copy of what they start with. A
 /// set draws of what it lacks from the same sets, and not what it starts with. No sets take no memory.
 pub(crate) fn solve_beside(
     alloc: Global,
-    places: usize,
-    sets: &mut [Vob],
-    draws: &[Draw<'_>],
-    starts: &[Vob],
+    sets: &mut BitRows,
+    graph: &Graph,
+    masks: Masks<'_>,
+    entry: Option<usize>,
+    starts: &BitRows,
 ) -> Result<u128, AllocError>
-    requires count { length draws.now ≡ length sets.old }
-    requires masks { All (λ draw. FitsMask places draw.mask) draws.now }
-    requires from { All (DrawsInside (length sets.old)) draws.now }
-    requires long { AreOfLength places (bits_of sets.old) }
-    requires starts { bits_of starts.now ≡ bits_of sets.old }
-    ensures greatest { OnOk result
-        (AreGreatest places draws.now (bits_of sets.old) (bits_of sets.new)) }
-    ensures passes { IfOk result
-        (IsPassCount places draws.now (bits_of sets.old) (bits_of sets.new)) }
+    requires count { length graph.now ≡ length sets.old.rows }
+    requires masks { FitMasks (length sets.old.rows) sets.old.columns masks }
+    requires starts { starts.now ≡ sets.old }
+    ensures greatest { OnOk result (AreGreatest sets.old.columns graph.now
+        (mask_from entry masks.entry) sets.old.rows sets.new.rows) }
+    ensures passes { IfOk result (IsPassCount sets.old.columns graph.now
+        (mask_from entry masks.entry) sets.old.rows sets.new.rows) }
+    ensures columns { sets.new.columns ≡ sets.old.columns }
     ensures err { OnErr result (sets.new ≡ sets.old) }
-    ensures nothing { sets.old ≡ [] → IsOk result }
+    ensures nothing { length sets.old.rows ≡ 0 → IsOk result }
 {
-    if sets.is_empty() {
+    // Each set is as long as there are columns: a proof knows it from this call.
+    let _columns = sets.columns();
+    let count = graph.nodes();
+    if count == 0 {
         return Ok(0);
     }
-    let mut turned = Vec::with_capacity(alloc, draws.len())?;
-    for set in 0..draws.len() {
-        turned.push(Draw {
-            mask: Mask::Without(&starts[set]),
-            from: draws[set].from,
-        })?;
-    }
-    solve_turned(alloc, places, sets, draws, &turned)
+    let order = postorder(alloc, graph)?;
+    let mut grown = Vob::from_elem(alloc, false, count)?;
+    turn_starts(sets, masks, entry);
+    let passes = settle(sets, graph, Masks::Without(starts), &order, &mut grown);
+    negate_each(sets);
+    Ok(passes)
 }
 
 /// Makes some sets the greatest that meet their equations. No sets take no memory.
 pub(crate) fn solve_greatest(
     alloc: Global,
-    places: usize,
-    sets: &mut [Vob],
-    draws: &[Draw<'_>],
+    sets: &mut BitRows,
+    graph: &Graph,
+    masks: Masks<'_>,
+    entry: Option<usize>,
 ) -> Result<u128, AllocError>
-    requires count { length draws.now ≡ length sets.old }
-    requires masks { All (λ draw. FitsMask places draw.mask) draws.now }
-    requires from { All (DrawsInside (length sets.old)) draws.now }
-    requires long { AreOfLength places (bits_of sets.old) }
-    ensures greatest { OnOk result
-        (AreGreatest places draws.now (bits_of sets.old) (bits_of sets.new)) }
-    ensures passes { IfOk result
-        (IsPassCount places draws.now (bits_of sets.old) (bits_of sets.new)) }
+    requires count { length graph.now ≡ length sets.old.rows }
+    requires masks { FitMasks (length sets.old.rows) sets.old.columns masks }
+    ensures greatest { OnOk result (AreGreatest sets.old.columns graph.now
+        (mask_from entry masks.entry) sets.old.rows sets.new.rows) }
+    ensures passes { IfOk result (IsPassCount sets.old.columns graph.now
+        (mask_from entry masks.entry) sets.old.rows sets.new.rows) }
+    ensures columns { sets.new.columns ≡ sets.old.columns }
     ensures err { OnErr result (sets.new ≡ sets.old) }
-    ensures nothing { sets.old ≡ [] → IsOk result }
+    ensures nothing { length sets.old.rows ≡ 0 → IsOk result }
 {
-    let starts = copies(alloc, sets)?;
-    solve_beside(alloc, places, sets, draws, &starts)
+    let starts = sets.clone()?;
+    solve_beside(alloc, sets, graph, masks, entry, &starts)
 }
 
 /// Makes each set the greatest that has what it starts with, and of its mask the places that all sets
-/// have that it draws from. Returns the number of passes over all sets. There is one draw for each
-/// set. A set that draws from none has all of its mask, so the mask of an entry keeps nothing.
+/// have that it draws from. Returns the number of passes over all sets. Set n draws from the sets that
+/// the edges of node n lead to; the graph must have a node for each set. A set that draws from none has
+/// all of its mask, but nothing is let through to the entry, if there is one.
 ///
 /// Fails as `least` does. A failed call changes nothing.
 pub fn greatest(
     alloc: Global,
-    places: usize,
-    sets: &mut [Vob],
-    draws: &[Draw<'_>],
+    sets: &mut BitRows,
+    graph: &Graph,
+    masks: Masks<'_>,
+    entry: Option<usize>,
 ) -> Result<u128, SolveError>
-    requires { length draws.now ≡ length sets.old }
-    ensures greatest { OnOk result
-        (AreGreatest places draws.now (bits_of sets.old) (bits_of sets.new)) }
-    ensures passes { IfOk result
-        (IsPassCount places draws.now (bits_of sets.old) (bits_of sets.new)) }
+    requires { length graph.now ≡ length sets.old.rows }
+    ensures greatest { OnOk result (AreGreatest sets.old.columns graph.now
+        (mask_from entry masks.entry) sets.old.rows sets.new.rows) }
+    ensures passes { IfOk result (IsPassCount sets.old.columns graph.now
+        (mask_from entry masks.entry) sets.old.rows sets.new.rows) }
+    ensures columns { sets.new.columns ≡ sets.old.columns }
     ensures err { OnErr result (sets.new ≡ sets.old) }
 
-    // The sets are checked first, and memory is asked for only if there are sets.
-    ensures sound { OnOk result (AreSound places (bits_of sets.old) draws.now) }
-    ensures bad_length { (n : ℕ) → (result ≡ Err (SolveError.BadLength n))
-        ↔ IsBadLength places (bits_of sets.old) draws.now n }
-    ensures bad_set { (n : ℕ) → (result ≡ Err (SolveError.BadSet n))
-        ↔ IsBadSet places (bits_of sets.old) draws.now n }
+    // The masks are checked first, and memory is asked for only if there are sets.
+    ensures fit { OnOk result (FitMasks (length sets.old.rows) sets.old.columns masks.entry) }
+    ensures bad_masks { (result ≡ Err SolveError.BadMasks)
+        ↔ (¬ FitMasks (length sets.old.rows) sets.old.columns masks.entry) }
     ensures no_entry { result ≢ Err SolveError.BadEntry }
-    ensures memory { result ≡ Err SolveError.Memory → sets.old ≢ [] }
-    ensures refused { IfErr result (MayRefuseSets places (bits_of sets.old) draws.now) }
+    ensures refused { IfErr result
+        (MayRefuseSets (length sets.old.rows) sets.old.columns masks.entry) }
 {
-    check_sets(places, sets, draws)?;
-    let passes = solve_greatest(alloc, places, sets, draws)?;
+    check_masks(sets, masks)?;
+    let passes = solve_greatest(alloc, sets, graph, masks, entry)?;
     Ok(passes)
 }

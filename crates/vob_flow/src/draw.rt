@@ -1,21 +1,14 @@
-//! What a set draws from others.
+//! Which places are let through of what sets draw.
 
-use vob::Vob;
+use vob_rows::BitRows;
 
-/// Which places are let through of the sets that are drawn from.
+/// Which places each set lets through of the sets that it draws from.
 #[derive(Clone, Copy)]
-pub enum Mask<'a> {
+pub enum Masks<'a> {
     /// All places.
     All,
-    /// The places of this set.
-    Keep(&'a Vob<usize>),
-    /// The places that this set doesn't have.
-    Without(&'a Vob<usize>),
-}
-
-/// What a set draws: the places that its mask lets through of the sets with these numbers.
-#[derive(Clone, Copy)]
-pub struct Draw<'a> {
-    pub mask: Mask<'a>,
-    pub from: &'a [usize],
+    /// The places of the row with the set's number.
+    Keep(&'a BitRows),
+    /// The places that the row with the set's number doesn't have.
+    Without(&'a BitRows),
 }

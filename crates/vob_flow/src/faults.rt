@@ -1,23 +1,20 @@
-//! What can be wrong with sets that draw from one another, and the first that is.
-ghost use Rattle.std.specs.Prelude.{◌≡◌, ◌↔◌, ◌<◌, length, All, IsTrue, IfErr, OnOk};
-ghost use Rattle.vob.specs.Vobs.{bits_of};
-ghost use Rattle.vob_flow.specs.Draws.{FitsMask};
-ghost use Rattle.vob_flow.specs.SolveFaults.{AreSound, IsEntryFault, IsFault};
+//! What can be wrong with sets that draw from one another.
+ghost use Rattle.std.specs.Prelude.{◌≡◌, ◌↔◌, ◌<◌, length, IsTrue, IfErr, OnOk};
+ghost use Rattle.vob_flow.specs.Draws.{FitMasks};
+ghost use Rattle.vob_flow.specs.SolveFaults.{IsEntryFault, IsMaskFault};
 
-use crate::draw::{Draw, Mask};
+use crate::draw::Masks;
 use std::alloc::AllocError;
 use std::{error, fmt};
-use vob::Vob;
+use vob_rows::BitRows;
 
 /// Why a call on sets that draw from one another failed.
 #[derive(Clone, Copy, Debug, PartialEq, Eq)]
 pub enum SolveError {
     /// There was no memory for the sets.
     Memory,
-    /// A set or its mask doesn't have a bit for each of the places.
-    BadLength { set: usize },
-    /// A set draws from a set that isn't there.
-    BadSet { set: usize },
+    /// There isn't one mask for each set, or masks don't have a bit for each of the places.
+    BadMasks,
     /// There are nodes, and the entry isn't one.
     BadEntry,
 }
@@ -31,8 +28,7 @@ impl fmt::Display for SolveError {
     fn fmt<W: fmt::Write>(&self, f: &mut fmt::Formatter<W>) -> fmt::Result {
         match self {
             SolveError::Memory => f.write_str("out of memory"),
-            SolveError::BadLength { set } => write!(f, "set {set} has another length"),
-            SolveError::BadSet { set } => write!(f, "set {set} draws from no set"),
+            SolveError::BadMasks => f.write_str("the masks don't fit the sets"),
             SolveError::BadEntry => f.write_str("the entry is no node"),
         }
     }
@@ -51,22 +47,35 @@ impl From<AllocError> for SolveError {
     }
 }
 
-/// Whether a mask has a bit for each of the places.
-fn fits_mask(places: usize, mask: &Mask<'_>) -> bool
-    ensures { IsTrue result ↔ FitsMask places mask.now }
+/// Whether rows are as many as some sets, with a bit for each of their places.
+fn fit(sets: &BitRows, rows: &BitRows) -> bool
+    ensures { IsTrue result ↔ ((length rows.now.rows ≡ length sets.now.rows)
+        × (rows.now.columns ≡ sets.now.columns)) }
 {
-    match mask {
-        Mask::All => true,
-        Mask::Keep(set) => set.len() == places,
-        Mask::Without(set) => set.len() == places,
+    rows.rows() == sets.rows() && rows.columns() == sets.columns()
+}
+
+/// Whether there is a mask for each set, with a bit for each of its places.
+fn fit_masks(sets: &BitRows, masks: Masks<'_>) -> bool
+    ensures { IsTrue result ↔ FitMasks (length sets.now.rows) sets.now.columns masks.entry }
+{
+    match masks {
+        Masks::All => true,
+        Masks::Keep(kept) => fit(sets, kept),
+        Masks::Without(others) => fit(sets, others),
     }
 }
 
-/// Whether all numbers are below `end`.
-pub(crate) fn all_below(numbers: &[usize], end: usize) -> bool
-    ensures { IsTrue result ↔ All (λ number. number < end) numbers.now }
+/// Fails if there isn't a mask for each set, with a bit for each of its places.
+pub(crate) fn check_masks(sets: &BitRows, masks: Masks<'_>) -> Result<(), SolveError>
+    ensures ok { OnOk result (FitMasks (length sets.now.rows) sets.now.columns masks.entry) }
+    ensures err { IfErr result
+        (IsMaskFault (length sets.now.rows) sets.now.columns masks.entry) }
 {
-    numbers.iter().all(|number| *number < end)
+    if !fit_masks(sets, masks) {
+        return Err(SolveError::BadMasks);
+    }
+    Ok(())
 }
 
 /// Fails if there are nodes and the entry isn't one.
@@ -76,25 +85,6 @@ pub(crate) fn check_entry(nodes: usize, entry: usize) -> Result<(), SolveError>
 {
     if nodes > 0 && entry >= nodes {
         return Err(SolveError::BadEntry);
-    }
-    Ok(())
-}
-
-/// Returns what is wrong with the first set at fault. Each set and its mask must have a bit for each
-/// of the places, and draw from sets that are there.
-pub(crate) fn check_sets(places: usize, sets: &[Vob], draws: &[Draw<'_>]) -> Result<(), SolveError>
-    requires count { length draws.now ≡ length sets.now }
-    ensures ok { OnOk result (AreSound places (bits_of sets.now) draws.now) }
-    ensures err { IfErr result (IsFault places (bits_of sets.now) draws.now) }
-{
-    for set in 0..sets.len() {
-        let draw = &draws[set];
-        if sets[set].len() != places || !fits_mask(places, &draw.mask) {
-            return Err(SolveError::BadLength { set });
-        }
-        if !all_below(draw.from, sets.len()) {
-            return Err(SolveError::BadSet { set });
-        }
     }
     Ok(())
 }

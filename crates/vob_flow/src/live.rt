@@ -1,17 +1,18 @@
 //! Which variables a program still needs at each of its steps: a dataflow analysis, backward along
 //! the edges.
-ghost use Rattle.std.specs.Prelude.{◌≡◌, ◌≢◌, ◌↔◌, ℕ, [], All, IsTrue, IfOk, IfErr, OnOk, IsOk, Err};
+ghost use Rattle.std.specs.Prelude.{◌≡◌, ◌≢◌, ◌↔◌, ◌<◌, ◌++◌, ℕ, [], length, map, All, IsTrue, IfOk, IfErr, OnOk, IsOk, Err};
 ghost use Rattle.vob_flow.specs.FlowFaults.{IsBadNext, IsBadVariable, IsFlowFault, IsSound, MayRefuseNodes, NamesVariables};
-ghost use Rattle.vob_flow.specs.Live.{AreLive};
-ghost use Rattle.vob_flow.specs.LiveDraws.{AreDraws, AreReads, AreWrites};
+ghost use Rattle.vob_flow.specs.Draws.{IsIn};
+ghost use Rattle.vob_flow.specs.Live.{AreLive, AreLiveRows, bits_of};
+ghost use Rattle.vob_flow.specs.LiveDraws.{AreEdges, IsFlowGraph, Reads, Writes};
 
-use crate::draw::{Draw, Mask};
-use crate::faults::all_below;
-use crate::gather::{empty_sets, gather_each, set_of};
+use crate::draw::Masks;
+use crate::gather::gather_each;
 use crate::solver::solve;
 use std::alloc::{AllocError, Global};
 use std::{error, fmt};
 use vob::Vob;
+use vob_rows::{BitRows, Graph};
 
 /// A node of a flow graph: the variables that it reads, those that it then writes, and the nodes
 /// that may come next.
@@ -28,6 +29,14 @@ pub struct Flow {
 pub struct Live {
     pub before: Vec<Vob<usize>>,
     pub after: Vec<Vob<usize>>,
+    pub rounds: u128,
+}
+
+/// The same in rows: row n of each has the variables that are live before node n, or after it.
+#[derive(Drop)]
+pub struct LiveRows {
+    pub before: BitRows,
+    pub after: BitRows,
     pub rounds: u128,
 }
 
@@ -86,6 +95,13 @@ impl From<AllocError> for LiveError {
     }
 }
 
+/// Whether all numbers are below `end`.
+fn all_below(numbers: &[usize], end: usize) -> bool
+    ensures { IsTrue result ↔ All (λ number. number < end) numbers.now }
+{
+    numbers.iter().all(|number| *number < end)
+}
+
 /// Whether a node reads and writes variables alone.
 fn names_variables(vars: usize, flow: &Flow) -> bool
     ensures { IsTrue result ↔ NamesVariables vars flow.now }
@@ -112,71 +128,129 @@ fn check_nodes(vars: usize, nodes: &[Flow]) -> Result<(), LiveError>
 }
 
 /// Returns the variables that each node reads.
-fn read_sets(alloc: Global, vars: usize, nodes: &[Flow]) -> Result<Vec<Vob>, AllocError>
-    ensures { IfOk result (λ sets. AreReads vars nodes.now sets.items) }
+fn read_sets(alloc: Global, vars: usize, nodes: &[Flow]) -> Result<BitRows, AllocError>
+    requires { All (IsSound vars nodes.now) nodes.now }
+    ensures reads { IfOk result (λ sets. (n v : ℕ) → IsIn sets.rows n v ↔ Reads nodes.now n v) }
+    ensures count { IfOk result (λ sets. length sets.rows ≡ length nodes.now) }
+    ensures columns { IfOk result (λ sets. sets.columns ≡ vars) }
+    ensures nothing { nodes.now ≡ [] → IsOk result }
 {
-    let mut sets = Vec::with_capacity(alloc, nodes.len())?;
-    for flow in nodes {
-        sets.push(set_of(alloc, vars, &flow.reads)?)?;
+    let mut sets = BitRows::new(alloc, nodes.len(), vars)?;
+    for node in 0..nodes.len() {
+        sets.set_indices(node, &nodes[node].reads);
     }
     Ok(sets)
 }
 
 /// Returns the variables that each node writes.
-fn write_sets(alloc: Global, vars: usize, nodes: &[Flow]) -> Result<Vec<Vob>, AllocError>
-    ensures { IfOk result (λ sets. AreWrites vars nodes.now sets.items) }
+fn write_sets(alloc: Global, vars: usize, nodes: &[Flow]) -> Result<BitRows, AllocError>
+    requires { All (IsSound vars nodes.now) nodes.now }
+    ensures writes { IfOk result (λ sets. (n v : ℕ) → IsIn sets.rows n v ↔ Writes nodes.now n v) }
+    ensures count { IfOk result (λ sets. length sets.rows ≡ length nodes.now) }
+    ensures columns { IfOk result (λ sets. sets.columns ≡ vars) }
 {
-    let mut sets = Vec::with_capacity(alloc, nodes.len())?;
-    for flow in nodes {
-        sets.push(set_of(alloc, vars, &flow.writes)?)?;
+    let mut sets = BitRows::new(alloc, nodes.len(), vars)?;
+    for node in 0..nodes.len() {
+        sets.set_indices(node, &nodes[node].writes);
     }
     Ok(sets)
 }
 
-/// Returns what each node draws: what is live before a node that comes next, and not written.
-/// `_vars` is for the contract alone.
-fn draws_of<'a>(
-    alloc: Global,
-    _vars: usize,
-    nodes: &'a [Flow],
-    writes: &'a [Vob],
-) -> Result<Vec<Draw<'a>>, AllocError>
-    requires { AreWrites _vars nodes.now writes.now }
-    ensures { IfOk result (λ draws. AreDraws _vars nodes.now draws.items) }
+/// Appends the edges from a node to some others.
+fn push_edges(
+    node: usize,
+    next: &[usize],
+    edges: &mut Vec<(usize, usize)>,
+) -> Result<(), AllocError>
+    ensures { OnOk result
+        (edges.new.items ≡ edges.old.items ++ map (λ end. (node, end)) next.now) }
 {
-    let mut draws = Vec::with_capacity(alloc, nodes.len())?;
-    for node in 0..nodes.len() {
-        draws.push(Draw {
-            mask: Mask::Without(&writes[node]),
-            from: &nodes[node].next,
-        })?;
+    for end in next {
+        edges.push((node, *end))?;
     }
-    Ok(draws)
+    Ok(())
 }
 
-/// Returns the least sets that meet the flow equations. No nodes take no memory.
-fn live_sets(alloc: Global, vars: usize, nodes: &[Flow]) -> Result<Live, AllocError>
+/// Returns the edges from each node to those that come next.
+fn edges_of(alloc: Global, nodes: &[Flow]) -> Result<Vec<(usize, usize)>, AllocError>
+    ensures { IfOk result (λ edges. AreEdges nodes.now (length nodes.now) edges.items) }
+{
+    let mut edges = Vec::with_capacity(alloc, nodes.len())?;
+    for node in 0..nodes.len() {
+        push_edges(node, &nodes[node].next, &mut edges)?;
+    }
+    Ok(edges)
+}
+
+/// Returns the graph whose edges lead from each node to those that come next.
+fn graph_of(alloc: Global, nodes: &[Flow]) -> Result<Graph, AllocError>
+    ensures { IfOk result (IsFlowGraph nodes.now) }
+{
+    let edges = edges_of(alloc, nodes)?;
+    match Graph::from_edges(alloc, nodes.len(), &edges) {
+        Ok(graph) => Ok(graph),
+        Err(_) => Err(AllocError),
+    }
+}
+
+/// Returns the least sets that meet the flow equations, of nodes that name variables and nodes alone.
+/// No nodes take no memory.
+fn solve_live(alloc: Global, vars: usize, nodes: &[Flow]) -> Result<LiveRows, AllocError>
     requires { All (IsSound vars nodes.now) nodes.now }
-    ensures live { IfOk result (AreLive vars nodes.now) }
+    ensures live { IfOk result (AreLiveRows vars nodes.now) }
     ensures nothing { nodes.now ≡ [] → IsOk result }
 {
+    let mut before = read_sets(alloc, vars, nodes)?;
+    let mut after = BitRows::new(alloc, nodes.len(), vars)?;
     if nodes.is_empty() {
-        return Ok(Live {
-            before: Vec::new(alloc),
-            after: Vec::new(alloc),
+        return Ok(LiveRows {
+            before,
+            after,
             rounds: 0,
         });
     }
+    let next = graph_of(alloc, nodes)?;
     let writes = write_sets(alloc, vars, nodes)?;
-    let draws = draws_of(alloc, vars, nodes, &writes)?;
-    let mut after = empty_sets(alloc, vars, nodes.len())?;
-    let mut before = read_sets(alloc, vars, nodes)?;
-    let rounds = solve(alloc, vars, &mut before, &draws)?;
-    gather_each(&mut after, &draws, &before);
-    Ok(Live {
+    // Each set is as long as there are columns: a proof knows it from this call.
+    let _columns = before.columns();
+    let rounds = solve(alloc, &mut before, &next, Masks::Without(&writes))?;
+    gather_each(&mut after, &next, &before);
+    Ok(LiveRows {
         before,
         after,
         rounds,
+    })
+}
+
+/// Returns the least sets that meet the flow equations, in rows, as `liveness` does in Vobs.
+pub fn live_rows(alloc: Global, vars: usize, nodes: &[Flow]) -> Result<LiveRows, LiveError>
+    ensures live { IfOk result (AreLiveRows vars nodes.now) }
+
+    // The nodes are checked first, and memory is asked for only if there are nodes.
+    ensures bad_variable { (node : ℕ)
+        → (result ≡ Err (LiveError.BadVariable node)) ↔ IsBadVariable vars nodes.now node }
+    ensures bad_next { (node : ℕ)
+        → (result ≡ Err (LiveError.BadNext node)) ↔ IsBadNext vars nodes.now node }
+    ensures refused { IfErr result (MayRefuseNodes vars nodes.now) }
+{
+    check_nodes(vars, nodes)?;
+    let live = solve_live(alloc, vars, nodes)?;
+    Ok(live)
+}
+
+/// Returns the rows in Vobs.
+fn in_vobs(alloc: Global, live: LiveRows) -> Result<Live, AllocError>
+    ensures before { IfOk result (λ made. bits_of made.before.items ≡ live.before.rows) }
+    ensures after { IfOk result (λ made. bits_of made.after.items ≡ live.after.rows) }
+    ensures rounds { IfOk result (λ made. made.rounds ≡ live.rounds) }
+    ensures nothing { live.before.rows ≡ [] → live.after.rows ≡ [] → IsOk result }
+{
+    let before = live.before.to_vobs(alloc)?;
+    let after = live.after.to_vobs(alloc)?;
+    Ok(Live {
+        before,
+        after,
+        rounds: live.rounds,
     })
 }
 
@@ -195,7 +269,8 @@ pub fn liveness(alloc: Global, vars: usize, nodes: &[Flow]) -> Result<Live, Live
     ensures memory { result ≡ Err LiveError.Memory → nodes.now ≢ [] }
     ensures refused { IfErr result (MayRefuseNodes vars nodes.now) }
 {
-    check_nodes(vars, nodes)?;
-    let live = live_sets(alloc, vars, nodes)?;
-    Ok(live)
+    match live_rows(alloc, vars, nodes) {
+        Ok(rows) => Ok(in_vobs(alloc, rows)?),
+        Err(refusal) => Err(refusal),
+    }
 }

@@ -3,13 +3,12 @@
 ghost use Rattle.std.specs.Prelude.{◌≡◌, ◌+◌, ◌<◌, [], ◌∷◌, ◌++◌, true, false, length, All, IfOk, IfSome, OnOk};
 ghost use Rattle.vob.specs.Bits.{IsWritten};
 ghost use Rattle.vob_block.specs.Packing.{item};
-ghost use Rattle.vob_flow.specs.Draws.{DrawsInside};
 ghost use Rattle.vob_flow.specs.Order.{IsVisited, SeesMore, root_of, sets_of, steps_left};
 ghost use Rattle.vob_flow.specs.Turns.{IsOrder};
 
-use crate::draw::Draw;
 use std::alloc::{AllocError, Global};
 use vob::Vob;
+use vob_rows::Graph;
 
 /// A set that waits until those that it draws from are in the order, and how many of them were
 /// looked at.
@@ -49,21 +48,20 @@ fn enter(set: usize, seen: &mut Vob, stack: &mut Vec<Visit>) -> Result<(), Alloc
 /// Goes on with the set that waited last: to a set that it draws from, or into the order.
 fn advance(
     top: Visit,
-    draws: &[Draw<'_>],
+    graph: &Graph,
     seen: &mut Vob,
     stack: &mut Vec<Visit>,
     order: &mut Vec<usize>,
 ) -> Result<(), AllocError>
-    requires draws { All (DrawsInside (length draws.now)) draws.now }
-    requires visited { IsVisited (length draws.now) seen.old.bits
+    requires visited { IsVisited (length graph.now) seen.old.bits
         (sets_of stack.old.items ++ top.set ∷ []) order.old.items }
-    ensures visited { OnOk result (IsVisited (length draws.now) seen.new.bits
+    ensures visited { OnOk result (IsVisited (length graph.now) seen.new.bits
         (sets_of stack.new.items) order.new.items) }
     ensures seen { OnOk result (SeesMore seen.old.bits seen.new.bits) }
     ensures fewer { OnOk result (steps_left seen.new.bits (sets_of stack.new.items)
         < steps_left seen.old.bits (sets_of stack.old.items) + 1) }
 {
-    let from = draws[top.set].from;
+    let from = graph.next(top.set);
     if let Some(next) = next_unseen(from, top.looked, seen) {
         stack.push(Visit {
             set: top.set,
@@ -80,16 +78,15 @@ fn advance(
 /// Puts a set and those that it draws from into the order, as far as they weren't seen.
 fn order_from(
     root: usize,
-    draws: &[Draw<'_>],
+    graph: &Graph,
     seen: &mut Vob,
     stack: &mut Vec<Visit>,
     order: &mut Vec<usize>,
 ) -> Result<(), AllocError>
-    requires root { root < length draws.now }
-    requires draws { All (DrawsInside (length draws.now)) draws.now }
-    requires visited { IsVisited (length draws.now) seen.old.bits [] order.old.items }
+    requires root { root < length graph.now }
+    requires visited { IsVisited (length graph.now) seen.old.bits [] order.old.items }
     requires empty { stack.old.items ≡ [] }
-    ensures visited { OnOk result (IsVisited (length draws.now) seen.new.bits [] order.new.items) }
+    ensures visited { OnOk result (IsVisited (length graph.now) seen.new.bits [] order.new.items) }
     ensures empty { OnOk result (stack.new.items ≡ []) }
     ensures seen { OnOk result (SeesMore seen.old.bits seen.new.bits) }
     ensures root { OnOk result (item seen.new.bits root ≡ true) }
@@ -99,7 +96,7 @@ fn order_from(
     }
     enter(root, seen, stack)?;
     'visits: while let Some(top) = stack.pop() {
-        advance(top, draws, seen, stack, order)?;
+        advance(top, graph, seen, stack, order)?;
     }
     Ok(())
 }
@@ -112,12 +109,13 @@ fn count_below(numbers: &[usize], end: usize) -> usize {
 /// Whether most draws are from sets with lower numbers, so that what is drawn flows up. An order then
 /// begins at the last set, and else at the first: each set is right, but one that no path leads on from
 /// lets a pass carry on furthest.
-fn flows_up(draws: &[Draw<'_>]) -> bool {
+fn flows_up(graph: &Graph) -> bool {
     let mut below: usize = 0;
     let mut all: usize = 0;
-    for set in 0..draws.len() {
-        below = below.saturating_add(count_below(draws[set].from, set));
-        all = all.saturating_add(draws[set].from.len());
+    for set in 0..graph.nodes() {
+        let from = graph.next(set);
+        below = below.saturating_add(count_below(from, set));
+        all = all.saturating_add(from.len());
     }
     below > all / 2
 }
@@ -134,17 +132,17 @@ fn root_at(from_last: bool, count: usize, step: usize) -> usize
 
 /// Returns an order that names each set once: those that a set draws from before it, where no cycle
 /// leads back to it. Fails if memory runs out.
-pub(crate) fn postorder(alloc: Global, draws: &[Draw<'_>]) -> Result<Vec<usize>, AllocError>
-    requires { All (DrawsInside (length draws.now)) draws.now }
-    ensures { IfOk result (λ order. IsOrder (length draws.now) order.items) }
+pub(crate) fn postorder(alloc: Global, graph: &Graph) -> Result<Vec<usize>, AllocError>
+    ensures { IfOk result (λ order. IsOrder (length graph.now) order.items) }
 {
-    let mut seen = Vob::from_elem(alloc, false, draws.len())?;
-    let mut stack = Vec::with_capacity(alloc, draws.len())?;
-    let mut order = Vec::with_capacity(alloc, draws.len())?;
-    let from_last = flows_up(draws);
-    for step in 0..draws.len() {
-        let root = root_at(from_last, draws.len(), step);
-        order_from(root, draws, &mut seen, &mut stack, &mut order)?;
+    let count = graph.nodes();
+    let mut seen = Vob::from_elem(alloc, false, count)?;
+    let mut stack = Vec::with_capacity(alloc, count)?;
+    let mut order = Vec::with_capacity(alloc, count)?;
+    let from_last = flows_up(graph);
+    for step in 0..count {
+        let root = root_at(from_last, count, step);
+        order_from(root, graph, &mut seen, &mut stack, &mut order)?;
     }
     Ok(order)
 }

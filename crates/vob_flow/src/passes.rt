@@ -1,58 +1,40 @@
 //! Passes over sets that draw from one another. A pass looks again only at those sets that grew since
 //! they were looked at.
-ghost use Rattle.std.specs.Prelude.{◌≡◌, ◌↔◌, ◌<◌, length, All, IsTrue};
-ghost use Rattle.vob.specs.Vobs.{AreOfLength, bits_of};
-ghost use Rattle.vob_flow.specs.Draws.{AreLeast, DrawsInside, FitsMask, TakePasses};
-ghost use Rattle.vob_flow.specs.Gains.{HadTurn, HasGained, HasNews, IsAdded, IsLetThrough, IsNews, IsSomeNews};
+ghost use Rattle.std.specs.Prelude.{◌≡◌, ◌↔◌, ◌<◌, List, length, All, IsTrue, ℕ};
+ghost use Rattle.vob_flow.specs.Draws.{AreLeast, FitMasks, TakePasses, mask_of};
+ghost use Rattle.vob_flow.specs.Gains.{HadTurn, HasGained, HasNews, IsLetThrough, IsNews, IsSomeNews};
 ghost use Rattle.vob_flow.specs.Passes.{HadPass};
 ghost use Rattle.vob_flow.specs.Turns.{IsOrder};
 
-use crate::draw::{Draw, Mask};
+use crate::draw::Masks;
 use vob::Vob;
+use vob_rows::{BitRows, Graph};
 
-/// Adds to a set what a mask lets through of another, and returns whether that was more.
-#[inline(always)]
-fn add(set: &mut Vob, source: &Vob, mask: &Mask<'_>) -> bool
-    requires source { length source.now.bits ≡ length set.old.bits }
-    requires mask { FitsMask (length set.old.bits) mask.now }
-    ensures { IsAdded mask.now source.now.bits set.old.bits set.new.bits result }
-{
-    match mask {
-        Mask::All => set.or(source),
-        Mask::Keep(kept) => set.or_and(source, kept),
-        Mask::Without(others) => set.or_and_not(source, others),
-    }
-}
-
-/// Adds to a set what a mask lets through of another of them, and returns whether that was more. From
-/// itself it gets nothing. `_grown` and `_first` say by `news` alone that no set is looked at for
-/// nothing.
+/// Adds to a set what its mask lets through of another of them, and returns whether that was more.
+/// `_grown` and `_first` say by `news` alone that no set is looked at for nothing.
 #[inline(always)]
 fn add_from(
-    sets: &mut [Vob],
+    sets: &mut BitRows,
     set: usize,
     source: usize,
-    mask: &Mask<'_>,
-    _places: usize,
+    masks: Masks<'_>,
     _grown: &Vob,
     _first: bool,
 ) -> bool
     requires news { HasNews _first _grown.now.bits source }
-    requires set { set < length sets.old }
-    requires source { source < length sets.old }
-    requires mask { FitsMask _places mask.now }
-    requires long { AreOfLength _places (bits_of sets.old) }
-    ensures { HasGained (bits_of sets.old) set (IsLetThrough (bits_of sets.old) mask.now source)
-        (bits_of sets.new) result }
+    requires set { set < length sets.old.rows }
+    requires source { source < length sets.old.rows }
+    requires masks { FitMasks (length sets.old.rows) sets.old.columns masks }
+    ensures gained { HasGained sets.old.rows set
+        (IsLetThrough sets.old.rows (mask_of masks.entry set) source) sets.new.rows result }
+    ensures columns { sets.new.columns ≡ sets.old.columns }
 {
-    if set < source {
-        let (low, high) = sets.split_at_mut(source);
-        add(&mut low[set], &high[0], mask)
-    } else if source < set {
-        let (low, high) = sets.split_at_mut(set);
-        add(&mut high[0], &low[source], mask)
-    } else {
-        false
+    // Each set is as long as there are columns: a proof knows it from this call.
+    let _columns = sets.columns();
+    match masks {
+        Masks::All => sets.or_row(set, source),
+        Masks::Keep(kept) => sets.or_row_and(set, source, &kept.row(set)),
+        Masks::Without(others) => sets.or_row_and_not(set, source, &others.row(set)),
     }
 }
 
@@ -65,53 +47,53 @@ fn has_news(source: usize, grown: &Vob, first: bool) -> bool
     first || grown.get_unchecked(source)
 }
 
-/// Adds to a set what a mask lets through of another of them, if that has news, and returns whether
+/// Adds to a set what its mask lets through of another of them, if that has news, and returns whether
 /// that was more.
 #[inline(always)]
 fn add_news(
-    sets: &mut [Vob],
+    sets: &mut BitRows,
     set: usize,
     source: usize,
-    mask: &Mask<'_>,
-    places: usize,
+    masks: Masks<'_>,
     grown: &Vob,
     first: bool,
 ) -> bool
-    requires set { set < length sets.old }
-    requires source { source < length sets.old }
-    requires mask { FitsMask places mask.now }
-    requires long { AreOfLength places (bits_of sets.old) }
-    requires grown { length grown.now.bits ≡ length sets.old }
-    ensures { HasGained (bits_of sets.old) set
-        (IsNews (bits_of sets.old) first grown.now.bits mask.now source) (bits_of sets.new) result }
+    requires set { set < length sets.old.rows }
+    requires source { source < length sets.old.rows }
+    requires masks { FitMasks (length sets.old.rows) sets.old.columns masks }
+    requires grown { length grown.now.bits ≡ length sets.old.rows }
+    ensures gained { HasGained sets.old.rows set
+        (IsNews sets.old.rows first grown.now.bits (mask_of masks.entry set) source) sets.new.rows result }
+    ensures columns { sets.new.columns ≡ sets.old.columns }
 {
     if has_news(source, grown, first) {
-        add_from(sets, set, source, mask, places, grown, first)
+        add_from(sets, set, source, masks, grown, first)
     } else {
         false
     }
 }
 
-/// Adds to a set what it draws from the sets that have news, and returns whether that was more.
+/// Adds to a set what it draws from those of some sets that have news, and returns whether that was
+/// more.
 fn draw_set(
-    sets: &mut [Vob],
+    sets: &mut BitRows,
     set: usize,
-    draw: &Draw<'_>,
-    places: usize,
+    from: &[usize],
+    masks: Masks<'_>,
     grown: &Vob,
     first: bool,
 ) -> bool
-    requires set { set < length sets.old }
-    requires mask { FitsMask places draw.now.mask }
-    requires from { DrawsInside (length sets.old) draw.now }
-    requires long { AreOfLength places (bits_of sets.old) }
-    requires grown { length grown.now.bits ≡ length sets.old }
-    ensures { HasGained (bits_of sets.old) set (IsSomeNews (bits_of sets.old) first grown.now.bits
-        draw.now.mask draw.now.from.now) (bits_of sets.new) result }
+    requires set { set < length sets.old.rows }
+    requires from { All (λ source. source < length sets.old.rows) from.now }
+    requires masks { FitMasks (length sets.old.rows) sets.old.columns masks }
+    requires grown { length grown.now.bits ≡ length sets.old.rows }
+    ensures gained { HasGained sets.old.rows set (IsSomeNews sets.old.rows first grown.now.bits
+        (mask_of masks.entry set) from.now) sets.new.rows result }
+    ensures columns { sets.new.columns ≡ sets.old.columns }
 {
     let mut grew = false;
-    for source in draw.from {
-        grew |= add_news(sets, set, *source, &draw.mask, places, grown, first);
+    for source in from {
+        grew |= add_news(sets, set, *source, masks, grown, first);
     }
     grew
 }
@@ -119,63 +101,73 @@ fn draw_set(
 /// Gives a set its turn: it gets what it draws from the sets that have news. `grown` has a bit for each
 /// set: whether it grew at its latest turn.
 #[inline(always)]
-fn turn(sets: &mut [Vob], set: usize, draw: &Draw<'_>, places: usize, grown: &mut Vob, first: bool)
-    requires set { set < length sets.old }
-    requires mask { FitsMask places draw.now.mask }
-    requires from { DrawsInside (length sets.old) draw.now }
-    requires long { AreOfLength places (bits_of sets.old) }
-    requires grown { length grown.old.bits ≡ length sets.old }
-    ensures { HadTurn (bits_of sets.old) grown.old.bits set draw.now first
-        (bits_of sets.new) grown.new.bits }
+fn turn(
+    sets: &mut BitRows,
+    set: usize,
+    graph: &Graph,
+    masks: Masks<'_>,
+    grown: &mut Vob,
+    first: bool,
+)
+    requires set { set < length sets.old.rows }
+    requires count { length graph.now ≡ length sets.old.rows }
+    requires masks { FitMasks (length sets.old.rows) sets.old.columns masks }
+    requires grown { length grown.old.bits ≡ length sets.old.rows }
+    ensures turn { HadTurn graph.now (mask_of masks.entry) sets.old.rows grown.old.bits set first
+        sets.new.rows grown.new.bits }
+    ensures columns { sets.new.columns ≡ sets.old.columns }
 {
-    let grew = draw_set(sets, set, draw, places, grown, first);
+    let grew = draw_set(sets, set, graph.next(set), masks, grown, first);
     grown.set(set, grew);
 }
 
 /// Gives each set its turn, and returns whether one of them grew.
 fn pass(
-    sets: &mut [Vob],
-    draws: &[Draw<'_>],
+    sets: &mut BitRows,
+    graph: &Graph,
+    masks: Masks<'_>,
     order: &[usize],
-    places: usize,
     grown: &mut Vob,
     first: bool,
 ) -> bool
-    requires count { length draws.now ≡ length sets.old }
-    requires masks { All (λ draw. FitsMask places draw.mask) draws.now }
-    requires from { All (DrawsInside (length sets.old)) draws.now }
-    requires long { AreOfLength places (bits_of sets.old) }
-    requires order { IsOrder (length draws.now) order.now }
-    requires grown { length grown.old.bits ≡ length sets.old }
-    ensures { (one : IsOrder (length draws.now) order.now) → HadPass one.place order.now draws.now first
-        (bits_of sets.old) grown.old.bits (bits_of sets.new) grown.new.bits result }
+    requires count { length graph.now ≡ length sets.old.rows }
+    requires masks { FitMasks (length sets.old.rows) sets.old.columns masks }
+    requires order { IsOrder (length graph.now) order.now }
+    requires grown { length grown.old.bits ≡ length sets.old.rows }
+    ensures pass { (one : IsOrder (length graph.now) order.now) → HadPass one.place order.now
+        graph.now (mask_of masks.entry) first sets.old.rows grown.old.bits sets.new.rows grown.new.bits
+        result }
+    ensures columns { sets.new.columns ≡ sets.old.columns }
 {
     for set in order {
-        turn(sets, *set, &draws[*set], places, grown, first);
+        turn(sets, *set, graph, masks, grown, first);
     }
     grown.any()
 }
 
 /// Goes over all sets until none grows, and returns how often.
 pub(crate) fn settle(
-    sets: &mut [Vob],
-    draws: &[Draw<'_>],
+    sets: &mut BitRows,
+    graph: &Graph,
+    masks: Masks<'_>,
     order: &[usize],
-    places: usize,
     grown: &mut Vob,
 ) -> u128
-    requires count { length draws.now ≡ length sets.old }
-    requires masks { All (λ draw. FitsMask places draw.mask) draws.now }
-    requires from { All (DrawsInside (length sets.old)) draws.now }
-    requires long { AreOfLength places (bits_of sets.old) }
-    requires order { IsOrder (length draws.now) order.now }
-    requires grown { length grown.old.bits ≡ length sets.old }
-    ensures least { AreLeast draws.now (bits_of sets.old) (bits_of sets.new) }
-    ensures passes { TakePasses draws.now (bits_of sets.old) (bits_of sets.new) result }
+    requires count { length graph.now ≡ length sets.old.rows }
+    requires masks { FitMasks (length sets.old.rows) sets.old.columns masks }
+    requires order { IsOrder (length graph.now) order.now }
+    requires grown { length grown.old.bits ≡ length sets.old.rows }
+    ensures least { AreLeast graph.now (mask_of masks.entry) sets.old.rows sets.new.rows }
+    ensures passes { TakePasses graph.now (mask_of masks.entry) sets.old.rows sets.new.rows result }
+    ensures columns { sets.new.columns ≡ sets.old.columns }
 {
+    // Each set is as long as there are columns, and both counts are in the range of their types: a
+    // proof knows it from these calls.
+    let _places = sets.columns();
+    let _count = sets.rows();
     let mut passes = 1;
     let mut first = true;
-    'passes: while pass(sets, draws, order, places, grown, first) {
+    'passes: while pass(sets, graph, masks, order, grown, first) {
         first = false;
         passes += 1;
     }

@@ -1,81 +1,42 @@
 //! The nodes to which the paths of a graph lead.
-ghost use Rattle.std.specs.Prelude.{◌≡◌, ◌≢◌, ◌↔◌, ℕ, ◌<◌, [], length, map, All, Err, IfErr, IfOk, IsOk, OnOk};
-ghost use Rattle.vob.specs.Vobs.{bits_of};
-ghost use Rattle.vob_flow.specs.Closure.{IsClosure};
-ghost use Rattle.vob_flow.specs.EntryDraws.{AreListDraws, AreListSets};
+ghost use Rattle.std.specs.Prelude.{◌≡◌, ◌↔◌, ◌<◌, ℕ, length, All, IfOk, IsOk, OnOk};
+ghost use Rattle.vob_flow.specs.Closure.{IsClosure, IsEdge};
+ghost use Rattle.vob_flow.specs.Draws.{IsIn};
 ghost use Rattle.vob_flow.specs.Reach.{AreReached, HaveEntered};
-ghost use Rattle.vob_flow.specs.Lists.{IsBadList, MayRefuseLists, NameNodes};
 
-use crate::draw::{Draw, Mask};
-use crate::faults::SolveError;
-use crate::gather::set_of;
-use crate::lists::check_lists;
+use crate::draw::Masks;
 use crate::solver::solve;
 use std::alloc::{AllocError, Global};
 use vob::Vob;
+use vob_rows::{BitRows, Graph};
 
-/// Returns for each node the set of the nodes in its list.
-fn list_sets(alloc: Global, lists: &[Vec<usize>]) -> Result<Vec<Vob>, AllocError>
-    ensures { IfOk result (λ sets. AreListSets (map (λ list. list.items) lists.now)
-        (length lists.now) sets.items (length lists.now)) }
+/// Returns for each node the set of the nodes to which its edges lead.
+fn edge_sets(alloc: Global, next: &Graph) -> Result<BitRows, AllocError>
+    ensures edges { IfOk result (λ sets. (n m : ℕ) → IsIn sets.rows n m ↔ IsEdge next.now n m) }
+    ensures count { IfOk result (λ sets. length sets.rows ≡ length next.now) }
+    ensures columns { IfOk result (λ sets. sets.columns ≡ length next.now) }
+    ensures nothing { length next.now ≡ 0 → IsOk result }
 {
-    let mut sets = Vec::with_capacity(alloc, lists.len())?;
-    for node in 0..lists.len() {
-        sets.push(set_of(alloc, lists.len(), &lists[node])?)?;
+    let count = next.nodes();
+    let mut sets = BitRows::new(alloc, count, count)?;
+    for node in 0..count {
+        sets.set_indices(node, next.next(node));
     }
     Ok(sets)
 }
 
-/// Returns what each node draws: all that the nodes in its list have.
-fn list_draws(alloc: Global, lists: &[Vec<usize>]) -> Result<Vec<Draw<'_>>, AllocError>
-    ensures { IfOk result (λ draws. AreListDraws (map (λ list. list.items) lists.now) draws.items
-        (length lists.now)) }
+/// Returns for each node the set of the nodes to which a path of one edge or more leads from it. For a
+/// sparse graph it takes far fewer steps than the closure of a matrix. Fails if memory runs out; no
+/// nodes take none.
+pub fn closure(alloc: Global, next: &Graph) -> Result<BitRows, AllocError>
+    ensures closure { IfOk result (λ sets. IsClosure next.now sets.rows) }
+    ensures columns { IfOk result (λ sets. sets.columns ≡ length next.now) }
+    ensures nothing { length next.now ≡ 0 → IsOk result }
 {
-    let mut draws = Vec::with_capacity(alloc, lists.len())?;
-    for node in 0..lists.len() {
-        draws.push(Draw {
-            mask: Mask::All,
-            from: &lists[node],
-        })?;
-    }
-    Ok(draws)
-}
-
-/// Returns the closure of lists that name nodes alone. No nodes take no memory.
-fn solve_closure(alloc: Global, next: &[Vec<usize>]) -> Result<Vec<Vob>, AllocError>
-    requires { NameNodes (map (λ list. list.items) next.now) (length next.now) }
-    ensures closure { IfOk result (λ sets.
-        IsClosure (map (λ list. list.items) next.now) (bits_of sets.items)) }
-    ensures nothing { next.now ≡ [] → IsOk result }
-{
-    if next.is_empty() {
-        return Ok(Vec::new(alloc));
-    }
-    let draws = list_draws(alloc, next)?;
-    let mut sets = list_sets(alloc, next)?;
-    solve(alloc, next.len(), &mut sets, &draws)?;
-    Ok(sets)
-}
-
-/// Returns for each node the set of the nodes to which a path of one edge or more leads from it.
-/// Each list names the nodes to which edges lead from one. For a sparse graph it takes far fewer
-/// steps than the closure of a matrix.
-///
-/// Fails with the first list that names a node that isn't there, or if memory runs out.
-pub fn closure(alloc: Global, next: &[Vec<usize>]) -> Result<Vec<Vob>, SolveError>
-    ensures closure { IfOk result (λ sets.
-        IsClosure (map (λ list. list.items) next.now) (bits_of sets.items)) }
-
-    // The lists are checked first, and memory is asked for only if there are nodes.
-    ensures bad_set { (n : ℕ) → (result ≡ Err (SolveError.BadSet n))
-        ↔ IsBadList (map (λ list. list.items) next.now) n }
-    ensures bad_length { (n : ℕ) → result ≢ Err (SolveError.BadLength n) }
-    ensures no_entry { result ≢ Err SolveError.BadEntry }
-    ensures memory { result ≡ Err SolveError.Memory → next.now ≢ [] }
-    ensures refused { IfErr result (MayRefuseLists (map (λ list. list.items) next.now)) }
-{
-    check_lists(next)?;
-    let sets = solve_closure(alloc, next)?;
+    let mut sets = edge_sets(alloc, next)?;
+    // Each set is as long as there are columns: a proof knows it from this call.
+    let _columns = sets.columns();
+    solve(alloc, &mut sets, next, Masks::All)?;
     Ok(sets)
 }
 
@@ -93,36 +54,17 @@ fn enter_all(nodes: &[usize], reached: &mut Vob, waiting: &mut Vec<usize>) -> Re
     Ok(())
 }
 
-/// Returns the nodes that lists which name nodes alone lead to. No nodes take no memory.
-fn reach_from(alloc: Global, next: &[Vec<usize>], from: &[usize]) -> Result<Vob, AllocError>
-    requires names { NameNodes (map (λ list. list.items) next.now) (length next.now) }
-    requires from { All (λ node. node < length next.now) from.now }
-    ensures { IfOk result (λ set.
-        AreReached (map (λ list. list.items) next.now) from.now set.bits) }
+/// Returns the set of the nodes that a path of any number of edges leads to from some nodes. Each edge
+/// is looked at once at most. Fails if memory runs out.
+pub fn reach(alloc: Global, next: &Graph, from: &[usize]) -> Result<Vob, AllocError>
+    requires { All (λ node. node < length next.now) from.now }
+    ensures { IfOk result (λ set. AreReached next.now from.now set.bits) }
 {
-    let mut reached = Vob::from_elem(alloc, false, next.len())?;
-    let mut waiting = Vec::with_capacity(alloc, next.len())?;
+    let mut reached = Vob::from_elem(alloc, false, next.nodes())?;
+    let mut waiting = Vec::with_capacity(alloc, next.nodes())?;
     enter_all(from, &mut reached, &mut waiting)?;
     'turns: while let Some(node) = waiting.pop() {
-        enter_all(&next[node], &mut reached, &mut waiting)?;
+        enter_all(next.next(node), &mut reached, &mut waiting)?;
     }
     Ok(reached)
-}
-
-/// Returns the set of the nodes that a path of any number of edges leads to from some nodes. Each
-/// list names the nodes to which edges lead from one. Each edge is looked at once at most.
-///
-/// Fails with the first list that names a node that isn't there, or if memory runs out.
-pub fn reach(alloc: Global, next: &[Vec<usize>], from: &[usize]) -> Result<Vob, SolveError>
-    requires { All (λ node. node < length next.now) from.now }
-    ensures reached { IfOk result (λ set.
-        AreReached (map (λ list. list.items) next.now) from.now set.bits) }
-    ensures bad_set { (n : ℕ) → (result ≡ Err (SolveError.BadSet n))
-        ↔ IsBadList (map (λ list. list.items) next.now) n }
-    ensures bad_length { (n : ℕ) → result ≢ Err (SolveError.BadLength n) }
-    ensures no_entry { result ≢ Err SolveError.BadEntry }
-{
-    check_lists(next)?;
-    let set = reach_from(alloc, next, from)?;
-    Ok(set)
 }

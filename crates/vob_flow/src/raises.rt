@@ -1,27 +1,27 @@
 //! Which errors the functions of a program may return: an analysis of one's own, by `least`.
 ghost use Rattle.std.specs.Prelude.{◌≡◌, length, OnErr, OnOk};
-ghost use Rattle.vob.specs.Vobs.{bits_of};
-ghost use Rattle.vob_flow.specs.Draws.{AreLeast};
+ghost use Rattle.vob_flow.specs.Draws.{AreLeast, mask_of};
 
-use crate::draw::Draw;
+use crate::draw::Masks;
 use crate::faults::SolveError;
 use crate::solver::least;
 use std::alloc::Global;
-use vob::Vob;
+use vob_rows::{BitRows, Graph};
 
 /// Adds to the errors that each function raises those that come from the functions that it calls
-/// and that it doesn't handle. `calls` says of each which errors it handles, by `Mask::Without`, and
-/// which functions it calls.
+/// and that it doesn't handle. The edges of `calls` lead from a function to those that it calls;
+/// `masks` say which errors each handles, by `Masks::Without`.
 pub fn add_raised(
     alloc: Global,
-    errors: usize,
-    raised: &mut [Vob],
-    calls: &[Draw<'_>],
+    raised: &mut BitRows,
+    calls: &Graph,
+    masks: Masks<'_>,
 ) -> Result<(), SolveError>
-    requires { length calls.now ≡ length raised.old }
-    ensures raised { OnOk result (AreLeast calls.now (bits_of raised.old) (bits_of raised.new)) }
+    requires { length calls.now ≡ length raised.old.rows }
+    ensures raised { OnOk result
+        (AreLeast calls.now (mask_of masks.entry) raised.old.rows raised.new.rows) }
     ensures err { OnErr result (raised.new ≡ raised.old) }
 {
-    least(alloc, errors, raised, calls)?;
+    least(alloc, raised, calls, masks)?;
     Ok(())
 }

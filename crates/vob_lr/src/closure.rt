@@ -91,9 +91,9 @@ fn expansions_of(
     requires rules { All (IsRuleOf grammar.now) grammar.now.rules.items }
     ensures { IfOk result (λ rows. AreExpansions grammar.now (bits_of rows.items)) }
 {
-    let (mut sets, lists) = expansion_equations(alloc, grammar, items)?;
-    solve(alloc, items.len(), &mut sets, &lists)?;
-    Ok(sets)
+    let (sets, lists) = expansion_equations(alloc, grammar, items)?;
+    let expansions = solve(alloc, items.len(), &sets, &lists)?;
+    Ok(expansions)
 }
 
 /// Adds to a set of items what a symbol behind a dot brings into its closure.

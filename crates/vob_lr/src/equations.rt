@@ -1,15 +1,15 @@
 //! Sets of terminals, each with some to start with and others to draw from: the least such sets.
 ghost use Rattle.std.specs.Prelude.{◌≡◌, [], false, length, replicate, IfOk, OnOk};
-ghost use Rattle.vob.specs.Vobs.{bits_of};
+ghost use Rattle.vob.specs.Vobs.{AreOfLength, bits_of};
 ghost use Rattle.vob_flow.specs.Draws.{HaveShape};
-ghost use Rattle.vob_flow.specs.EntryDraws.{AreListDraws};
 ghost use Rattle.vob_lr.specs.Equations.{AreSolved, GainsSymbols, HasAt, lists_of};
 ghost use Rattle.vob_lr.specs.Heads.{HasPlace};
 
 use crate::grammar::Symbol;
 use std::alloc::{AllocError, Global};
 use vob::Vob;
-use vob_flow::{Draw, Mask, least};
+use vob_flow::{Masks, least};
+use vob_rows::{BitRows, Graph};
 
 /// Returns the given number of empty sets, with these places each.
 pub(crate) fn empty_sets(alloc: Global, places: usize, count: usize) -> Result<Vec<Vob>, AllocError>
@@ -52,36 +52,26 @@ pub(crate) fn add_symbol(
     Ok(())
 }
 
-/// Returns what each set draws: all that the sets in its list have.
-fn draws_of(alloc: Global, lists: &[Vec<usize>]) -> Result<Vec<Draw<'_>>, AllocError>
-    ensures { IfOk result (λ draws.
-        AreListDraws (lists_of lists.now) draws.items (length lists.now)) }
-{
-    let mut draws = Vec::with_capacity(alloc, lists.len())?;
-    for set in 0..lists.len() {
-        draws.push(Draw {
-            mask: Mask::All,
-            from: &lists[set],
-        })?;
-    }
-    Ok(draws)
-}
-
-/// Adds to sets, which start with what they have, what they draw from one another.
+/// Returns sets that have what others start with, and what they draw from one another.
 pub(crate) fn solve(
     alloc: Global,
     places: usize,
-    sets: &mut [Vob],
+    sets: &[Vob],
     lists: &[Vec<usize>],
-) -> Result<(), AllocError>
-    requires { length lists.now ≡ length sets.old }
-    ensures shape { OnOk result (HaveShape (bits_of sets.old) (bits_of sets.new)) }
-    ensures solved { OnOk result
-        (AreSolved (HasAt (bits_of sets.old) (lists_of lists.now)) (bits_of sets.new)) }
+) -> Result<Vec<Vob>, AllocError>
+    requires count { length lists.now ≡ length sets.now }
+    requires long { AreOfLength places (bits_of sets.now) }
+    ensures shape { IfOk result (λ made. HaveShape (bits_of sets.now) (bits_of made.items)) }
+    ensures solved { IfOk result (λ made.
+        AreSolved (HasAt (bits_of sets.now) (lists_of lists.now)) (bits_of made.items)) }
 {
-    let draws = draws_of(alloc, lists)?;
-    match least(alloc, places, sets, &draws) {
-        Ok(_) => Ok(()),
-        Err(_) => Err(AllocError),
-    }
+    let Ok(graph) = Graph::from_lists(alloc, lists) else {
+        return Err(AllocError);
+    };
+    let mut rows = BitRows::from_vobs(alloc, places, sets)?;
+    let Ok(_) = least(alloc, &mut rows, &graph, Masks::All) else {
+        return Err(AllocError);
+    };
+    let solved = rows.to_vobs(alloc)?;
+    Ok(solved)
 }

@@ -90,9 +90,9 @@ pub(crate) fn solve_first(
     if grammar.nonterminals == 0 {
         return Ok(Vec::new(alloc));
     }
-    let (mut sets, lists) = first_equations(alloc, grammar, nullable)?;
-    solve(alloc, grammar.terminals, &mut sets, &lists)?;
-    Ok(sets)
+    let (sets, lists) = first_equations(alloc, grammar, nullable)?;
+    let first = solve(alloc, grammar.terminals, &sets, &lists)?;
+    Ok(first)
 }
 
 /// Returns a set for each nonterminal, of the terminals that can begin what it becomes.

@@ -197,9 +197,9 @@ fn solve_follow(
     if grammar.nonterminals == 0 {
         return Ok(Vec::new(alloc));
     }
-    let (mut sets, lists) = follow_equations(alloc, grammar, nullable, first)?;
-    solve(alloc, grammar.terminals, &mut sets, &lists)?;
-    Ok(sets)
+    let (sets, lists) = follow_equations(alloc, grammar, nullable, first)?;
+    let follow = solve(alloc, grammar.terminals, &sets, &lists)?;
+    Ok(follow)
 }
 
 /// Returns a set for each nonterminal, of the terminals that can follow it where a nonterminal is

@@ -72,8 +72,8 @@ fn solve_lookaheads(
         nodes,
         moves: &automaton.moves,
     };
-    let (mut rows, lists) = flows.equations(alloc)?;
-    solve(alloc, grammar.terminals, &mut rows, &lists)?;
+    let (sets, lists) = flows.equations(alloc)?;
+    let rows = solve(alloc, grammar.terminals, &sets, &lists)?;
     Ok(rows)
 }
 

@@ -5,6 +5,7 @@ use std::process::Abort;
 use vob::Vob;
 use vob_flow::closure;
 use vob_matrix::matrix::BitMatrix;
+use vob_rows::Graph;
 
 /// A matrix whose entries are all false.
 pub fn none(rt: &(impl Abort + AllocGlobal), rows: usize, columns: usize) -> BitMatrix {
@@ -150,7 +151,9 @@ fn lists_of(rt: &(impl Abort + AllocGlobal), matrix: &BitMatrix) -> Vec<Vec<usiz
 fn closures_by_a_table_are_those_of_lists(rt: HostRuntime) {
     for nodes in [256, 257, 263] {
         let mut matrix = random(&rt, nodes, nodes, 400);
-        let wanted = closure(rt.alloc(), &lists_of(&rt, &matrix)).expect(&rt, "lists");
+        let next = Graph::from_lists(rt.alloc(), &lists_of(&rt, &matrix)).expect(&rt, "lists");
+        let sets = closure(rt.alloc(), &next).expect(&rt, "sets");
+        let wanted = sets.to_vobs(rt.alloc()).expect(&rt, "memory");
         matrix.close(rt.alloc());
         for row in 0..matrix.rows() {
             same(&rt, "row", row, Some(matrix.row(row)), wanted.get(row));

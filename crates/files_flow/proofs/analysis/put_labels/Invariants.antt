@@ -11,5 +11,5 @@ invariant-loop-place g l = record {
   is_finite : (goal.iterator-loop-place g).is_finite l.place-iterator;
   wrote : AppendsItems (λ place. codes " " ++ name_at (lists_of l.labels) place)
       (g.W.Write.contents l.fn.output) (g.W.Write.contents l.output)
-      (members l.set.bits) l.place-iterator.rest;
+      (members l.set) l.place-iterator.rest;
 }

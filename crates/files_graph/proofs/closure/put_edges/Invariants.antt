@@ -9,5 +9,5 @@ invariant-loop-node g l = record {
   can_next : (goal.iterator-loop-node g).can_next l.node-iterator;
   is_finite : (goal.iterator-loop-node g).is_finite l.node-iterator;
   wrote : AppendsItems (λ to. edge_line l.names (l.from, to)) (g.W.Write.contents l.fn.output)
-      (g.W.Write.contents l.output) (members l.set.bits) l.node-iterator.rest;
+      (g.W.Write.contents l.output) (members l.set) l.node-iterator.rest;
 }

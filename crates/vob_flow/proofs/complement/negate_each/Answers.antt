@@ -1,20 +1,19 @@
 -- One set more is negated.
-use Rattle.std.proofs.Common.{◌≡◌, length, not, subst, arith}
-use Rattle.std.proofs.lemmas.List.{length-map}
-use Rattle.vob.specs.Bits.{IsChanged}
-use Rattle.vob.specs.Vobs.{bits_of}
-use Rattle.vob_flow.specs.Turned.{AreNegated}
-use Rattle.vob_flow.proofs.ChangesLemmas.{AreChangedBelow-more}
+use Rattle.std.proofs.Common.{◌∙◌, ap, refl, sym, arith}
+use Rattle.vob_block.specs.Packing.{item}
+use Rattle.vob_flow.specs.Changes.{IsOut}
+use Rattle.vob_flow.proofs.ChangesLemmas.{EachBecomes-next, EachBecomes-none}
+use Rattle.vob_flow.proofs.CountLemmas.{Becomes-negated}
 use Rattle.vob_flow.proofs.complement.negate_each.Goals as goal
 
-pub loop-set-preserved : goal.loop-set-preserved
-loop-set-preserved c =
-    AreChangedBelow-more (λ n bits others. IsChanged not bits others) (bits_of c.args.sets.now)
-    c.loop-set.sets c.loop-set.set c.index-sets-set.result c.negate.new.self c.loop-set.invariant
-    (omega arith) c.negate.ensures.each
+pub loop-set-init : goal.loop-set-init
+loop-set-init c = (EachBecomes-none _ _, refl)
 
-pub returns : goal.returns
-returns c =
-    let sets = c.args.sets.now in
-    let whole : c.loop-set.set ≡ length (bits_of sets) = omega (arith, length-map sets (λ v. v.bits)) in
-    subst (λ k. AreNegated (bits_of sets) (bits_of c.loop-set.sets) k) whole c.loop-set.invariant
+pub loop-set-preserved : goal.loop-set-preserved
+loop-set-preserved c = (
+  EachBecomes-next (IsOut c.args.sets.now.rows) c.loop-set.invariant.0
+      (Becomes-negated c.loop-set.set (omega (arith, c.loop-set.invariant.0.shape.count))
+      c.negate_row.ensures.rows) (λ row v.
+      let bit = ap (λ bits. item bits v) row in ((λ p. bit ∙ p), (λ q. sym bit ∙ q))),
+  c.negate_row.ensures.columns ∙ c.loop-set.invariant.1,
+)

@@ -1,10 +1,10 @@
--- The sets so far have what is in each of theirs.
-use Rattle.vob.specs.Vobs.{bits_of}
-use Rattle.vob_flow.specs.Changes.{AreChangedBelow}
-use Rattle.vob_flow.specs.Gathered.{BecomesCommon}
+-- The sets so far are what is in each of theirs.
+use Rattle.std.proofs.Common.{◌≡◌, [], get_or}
+use Rattle.vob_flow.specs.Changes.{EachBecomes}
+use Rattle.vob_flow.specs.Greatest.{IsInAll}
 use Rattle.vob_flow.proofs.gather.intersect_each.Given as goal
 
 abbrev pub invariant-loop-common : goal.invariant-loop-common
 invariant-loop-common l =
-    AreChangedBelow (BecomesCommon l.draws (bits_of l.sets)) (bits_of l.fn.commons)
-    (bits_of l.commons) l.common
+    EachBecomes l.fn.commons.rows (λ n. IsInAll l.sets.rows (get_or l.graph n [])) l.commons.rows
+    l.common × (l.commons.columns ≡ l.fn.commons.columns)

@@ -1,7 +1,10 @@
--- The sets so far are those of the nodes so far.
-use Rattle.std.proofs.Common.{take}
-use Rattle.vob_flow.specs.LiveDraws.{AreWrites}
+-- The nodes so far have their sets.
+use Rattle.std.proofs.Common.{◌≡◌, length}
+use Rattle.vob_flow.specs.Changes.{EachGets}
+use Rattle.vob_flow.specs.LiveDraws.{Writes}
+use Rattle.vob_flow.proofs.BlankLemmas.{blank}
 use Rattle.vob_flow.proofs.live.write_sets.Given as goal
 
-abbrev pub invariant-loop-flow : goal.invariant-loop-flow
-invariant-loop-flow l = AreWrites l.vars (take l.flow-index l.nodes) l.sets.items
+abbrev pub invariant-loop-node : goal.invariant-loop-node
+invariant-loop-node l =
+    EachGets (blank (length l.nodes) l.vars) (Writes l.nodes) l.sets.rows l.node × (l.sets.columns ≡ l.vars)

@@ -5,15 +5,12 @@ use Rattle.vob_flow.specs.Order.{IsVisited, sets_of}
 use Rattle.vob_flow.proofs.OrderLemmas.{IsVisited-enter, IsVisited-leave, sets_of_push, steps_seen, waiting_inside}
 use Rattle.vob_flow.proofs.order.advance.Goals as goal
 
-pub bounds-draws-top : goal.bounds-draws-top
-bounds-draws-top c = waiting_inside (sets_of c.args.stack.now.items) c.args.top.set c.requires.visited
+pub next-from-requires : goal.next-from-requires
+next-from-requires c = waiting_inside (sets_of c.args.stack.now.items) c.args.top.set c.requires.visited
 
 pub next_unseen-requires : goal.next_unseen-requires
 next_unseen-requires c =
-    let top = c.args.top.set in
-    let inside = waiting_inside (sets_of c.args.stack.now.items) top c.requires.visited in
-    let all = c.requires.draws top c.index-draws-top.result inside in
-    λ k d less. omega (arith, all k d less, c.requires.visited.len)
+    λ k d less. omega (arith, c.next-from.ensures.inside k d less, c.requires.visited.len)
 
 -- the sets that wait then
 waiting : (c : goal.In_ok-enter) → sets_of c.enter.new.stack.items
@@ -24,7 +21,7 @@ waiting c =
 
 pub returns-in_ok-enter-clause-visited : goal.returns-in_ok-enter-clause-visited
 returns-in_ok-enter-clause-visited c =
-    subst (λ (waits : List ℕ). IsVisited (length c.args.draws.now) c.enter.new.seen.bits waits
+    subst (λ (waits : List ℕ). IsVisited (length c.args.graph.now) c.enter.new.seen.bits waits
     c.args.order.now.items) (sym (waiting c))
     (IsVisited-enter c.in-Some.next.set c.requires.visited c.in-Some.ensures.unseen
     c.enter.ensures.seen)
@@ -42,6 +39,6 @@ returns-in_ok-enter-clause-fewer c =
 
 pub returns-in_ok-push-2-clause-visited : goal.returns-in_ok-push-2-clause-visited
 returns-in_ok-push-2-clause-visited c =
-    subst (λ (order : List ℕ). IsVisited (length c.args.draws.now) c.args.seen.now.bits
+    subst (λ (order : List ℕ). IsVisited (length c.args.graph.now) c.args.seen.now.bits
     (sets_of c.args.stack.now.items) order) (sym c.in_ok-push-2.ensures.items)
     (IsVisited-leave c.args.top.set c.requires.visited (omega arith))

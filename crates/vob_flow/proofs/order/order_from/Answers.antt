@@ -10,7 +10,7 @@ visits-init c =
     let seen = c.enter.new.seen.bits in
     let alone = c.in_ok-enter.ensures.stack ∙ ap (λ visits. sets_of visits ++ root ∷ []) c.requires.empty in
     record {
-      visited = subst (λ (waiting : List ℕ). IsVisited (length c.args.draws.now) seen waiting c.args.order.now.items) (sym alone)
+      visited = subst (λ (waiting : List ℕ). IsVisited (length c.args.graph.now) seen waiting c.args.order.now.items) (sym alone)
           (IsVisited-enter root c.requires.visited (sym c.get_unchecked.ensures.item ∙ c.if-get_unchecked.false) c.enter.ensures.seen);
       seen_more = still_seen root c.enter.ensures.seen;
       root = c.enter.ensures.seen.there;

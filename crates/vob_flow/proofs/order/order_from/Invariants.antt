@@ -7,7 +7,7 @@ use Rattle.vob_flow.proofs.order.order_from.Given as goal
 abbrev pub invariant-visits : goal.invariant-visits
 invariant-visits l =
     record {
-      visited : IsVisited (length l.draws) l.seen.bits (sets_of l.stack.items) l.order.items;
+      visited : IsVisited (length l.graph) l.seen.bits (sets_of l.stack.items) l.order.items;
       seen_more : SeesMore l.fn.seen.bits l.seen.bits;
       root : item l.seen.bits l.root ≡ true;
     }

@@ -7,8 +7,8 @@ use Rattle.vob_flow.proofs.order.postorder.Given as goal
 abbrev pub invariant-loop-step : goal.invariant-loop-step
 invariant-loop-step l =
     record {
-      visited : IsVisited (length l.draws) l.seen.bits [] l.order.items;
+      visited : IsVisited (length l.graph) l.seen.bits [] l.order.items;
       empty : l.stack.items ≡ [];
       roots : (k : ℕ) → k < l.step →
-          item l.seen.bits (root_of l.from_last (length l.draws) k) ≡ true;
+          item l.seen.bits (root_of l.from_last (length l.graph) k) ≡ true;
     }

@@ -1,55 +1,45 @@
--- The sets are cut in two parts, one set in either; or the set is the same one.
-use Rattle.std.proofs.Common.{◌∙◌, ◌≡◌, sym, subst, arith}
-use Rattle.vob.specs.Vobs.{bits_of}
-use Rattle.vob_flow.specs.Draws.{FitsMask, IsIn}
-use Rattle.vob_flow.specs.Gains.{IsLetThrough}
-use Rattle.vob_flow.proofs.DrawLemmas.{HasGained-added, HasGained-none}
-use Rattle.vob.proofs.HalvesLemmas.{bits-low, bits-high, long-low, long-high, set-low, set-high}
+-- What the mask lets through is a row, or what it and the mask's row combine to.
+use Rattle.std.proofs.Common.{◌≡◌, ◌&&◌, ◌∙◌, true, ap, refl, sym, get_or, [], length}
+use Rattle.vob_block.specs.Pointwise.{pointwise, without}
+use Rattle.vob_block.proofs.PointwiseLemmas.{length-pointwise}
+use Rattle.vob_flow.proofs.DrawLemmas.{HasGained-row, kept_of, left_of}
 use Rattle.vob_flow.proofs.passes.add_from.Goals as goal
 
-pub add-requires-clause-source : goal.add-requires-clause-source
-add-requires-clause-source c =
-    let cut = c.split_at_mut-low.ensures in
-    long-high _ _ _ _ cut.value cut.front_len _ c.requires.long _ c.requires.source
-    ∙ sym (long-low _ _ _ _ cut.value cut.front_len _ c.requires.long _ _ c.if-set-source.true)
+pub returns-in-All-clause-gained : goal.returns-in-All-clause-gained
+returns-in-All-clause-gained c =
+    let sets = c.args.sets.now.rows in
+    let long = c.columns-columns.ensures.long in
+    rw c.in-All.is (HasGained-row sets c.args.set c.args.source (λ v. true)
+    (get_or sets c.args.source []) _ _ c.requires.set
+    (long c.args.set [] c.requires.set ∙ sym (long c.args.source [] c.requires.source))
+    (λ v. ((λ e. (refl, e)), (λ p. p.1))) c.or_row.ensures.rows c.or_row.ensures.more)
 
-pub add-requires-clause-mask : goal.add-requires-clause-mask
-add-requires-clause-mask c =
-    let cut = c.split_at_mut-low.ensures in
-    subst (λ n. FitsMask n c.args.mask.now) (sym (long-low _ _ _ _ cut.value cut.front_len _
-    c.requires.long _ _ c.if-set-source.true)) c.requires.mask
+pub returns-in-Keep-clause-gained : goal.returns-in-Keep-clause-gained
+returns-in-Keep-clause-gained c =
+    let sets = c.args.sets.now.rows in
+    let long = c.columns-columns.ensures.long in
+    let source = get_or sets c.args.source [] in
+    let fits = rw c.in-Keep.is at c.requires.masks in
+    let kept = get_or c.in-Keep.kept.now.rows c.args.set [] in
+    let same : length source ≡ length kept = long c.args.source [] c.requires.source
+    ∙ c.columns-columns.ensures.columns ∙ sym fits.1 ∙ sym c.row.ensures.long
+    ∙ ap length c.row.ensures.bits in
+    rw c.in-Keep.is (HasGained-row sets c.args.set c.args.source _ (pointwise ◌&&◌ source kept) _ _
+    c.requires.set (long c.args.set [] c.requires.set ∙ sym (long c.args.source [] c.requires.source)
+    ∙ sym (length-pointwise ◌&&◌ source kept same)) (kept_of source kept same)
+    (rw c.row.ensures.bits at c.or_row_and.ensures.rows) c.or_row_and.ensures.more)
 
-pub add-requires-then-source-set-clause-source : goal.add-requires-then-source-set-clause-source
-add-requires-then-source-set-clause-source c =
-    let cut = c.split_at_mut-low-then-source-set.ensures in
-    long-low _ _ _ _ cut.value cut.front_len _ c.requires.long _ _ c.if-source-set.true
-    ∙ sym (long-high _ _ _ _ cut.value cut.front_len _ c.requires.long _ c.requires.set)
-
-pub add-requires-then-source-set-clause-mask : goal.add-requires-then-source-set-clause-mask
-add-requires-then-source-set-clause-mask c =
-    let cut = c.split_at_mut-low-then-source-set.ensures in
-    subst (λ n. FitsMask n c.args.mask.now) (sym (long-high _ _ _ _ cut.value cut.front_len _
-    c.requires.long _ c.requires.set)) c.requires.mask
-
-pub returns-then-set-source : goal.returns-then-set-source
-returns-then-set-source c =
-    let cut = c.split_at_mut-low.ensures in
-    HasGained-added _ _ _ _ _ _ _ _ _ c.requires.set
-    (bits-low _ _ _ _ cut.value cut.front_len _ _ c.if-set-source.true)
-    (bits-high _ _ _ _ cut.value cut.front_len _ c.requires.source)
-    (set-low _ _ _ _ cut.value cut.front_len _ _ c.if-set-source.true) c.add.ensures
-
-pub returns-then-source-set : goal.returns-then-source-set
-returns-then-source-set c =
-    let cut = c.split_at_mut-low-then-source-set.ensures in
-    HasGained-added _ _ _ _ _ _ _ _ _ c.requires.set
-    (bits-high _ _ _ _ cut.value cut.front_len _ c.requires.set)
-    (bits-low _ _ _ _ cut.value cut.front_len _ _ c.if-source-set.true)
-    (set-high _ _ _ _ cut.value cut.front_len _) c.add-then-source-set.ensures
-
-pub returns-else-source-set : goal.returns-else-source-set
-returns-else-source-set c =
-    let own : c.args.source ≡ c.args.set = omega arith in
-    let sets = bits_of c.args.sets.now in
-    HasGained-none sets c.args.set (IsLetThrough sets c.args.mask.now c.args.source)
-    (λ v p. subst (λ k. IsIn sets k v) own p.1)
+pub returns-in-Without-clause-gained : goal.returns-in-Without-clause-gained
+returns-in-Without-clause-gained c =
+    let sets = c.args.sets.now.rows in
+    let long = c.columns-columns.ensures.long in
+    let source = get_or sets c.args.source [] in
+    let others = get_or c.in-Without.others.now.rows c.args.set [] in
+    let fits = rw c.in-Without.is at c.requires.masks in
+    let same : length source ≡ length others = long c.args.source [] c.requires.source
+    ∙ c.columns-columns.ensures.columns ∙ sym fits.1 ∙ sym c.row-in-Without.ensures.long
+    ∙ ap length c.row-in-Without.ensures.bits in
+    rw c.in-Without.is (HasGained-row sets c.args.set c.args.source _ (pointwise without source others) _
+    _ c.requires.set (long c.args.set [] c.requires.set ∙ sym (long c.args.source [] c.requires.source)
+    ∙ sym (length-pointwise without source others same)) (left_of source others same)
+    (rw c.row-in-Without.ensures.bits at c.or_row_and_not.ensures.rows) c.or_row_and_not.ensures.more)

@@ -1,36 +1,39 @@
 -- One source more was drawn from.
-use Rattle.std.proofs.Common.{take, sym, arith, subst}
+use Rattle.std.proofs.Common.{take, refl, sym, ◌∙◌, arith, subst}
 use Rattle.std.proofs.lemmas.Grind.{get_or_default_zero}
 use Rattle.std.proofs.lemmas.List.{length-take-le, take_all}
-use Rattle.vob.specs.Vobs.{bits_of}
+use Rattle.vob_flow.specs.Draws.{mask_of}
 use Rattle.vob_flow.specs.Gains.{HasGained, IsSomeNews}
-use Rattle.vob_flow.proofs.DrawLemmas.{HasGained-more, HasGained-none}
-use Rattle.vob_flow.proofs.PassLemmas.{shape_long}
+use Rattle.vob_flow.proofs.DrawLemmas.{HasGained-more, HasGained-none, fits_after}
 use Rattle.vob_flow.proofs.passes.draw_set.Goals as goal
 
 pub loop-source-init : goal.loop-source-init
 loop-source-init c =
-    let none = length-take-le 0 c.args.draw.now.from.now (omega arith) in
-    HasGained-none (bits_of c.args.sets.now) c.args.set
-    (IsSomeNews (bits_of c.args.sets.now) c.args.first c.args.grown.now.bits c.args.draw.now.mask
-    (take 0 c.args.draw.now.from.now)) (λ v p. absurd (omega (arith, p.2, none)))
+    let none = length-take-le 0 c.args.from.now (omega arith) in (
+      HasGained-none c.args.sets.now.rows c.args.set
+          (IsSomeNews c.args.sets.now.rows c.args.first c.args.grown.now.bits (mask_of c.args.masks c.args.set)
+          (take 0 c.args.from.now)) (λ v p. absurd (omega (arith, p.2, none))),
+      refl,
+    )
 
-pub add_news-grew-requires-clause-long : goal.add_news-grew-requires-clause-long
-add_news-grew-requires-clause-long c =
-    shape_long _ _ _ c.loop-source.invariant.shape c.requires.long
+pub add_news-grew-requires-clause-masks : goal.add_news-grew-requires-clause-masks
+add_news-grew-requires-clause-masks c = fits_after c.args.masks c.requires.masks
+    c.loop-source.invariant.0.shape.count c.loop-source.invariant.1
 
 pub loop-source-preserved : goal.loop-source-preserved
 loop-source-preserved c =
-    let from = c.args.draw.now.from.now in
-    let k = c.loop-source.source-index in
-    HasGained-more c.args.set c.args.first c.args.grown.now.bits c.args.draw.now.mask from k _
-    c.loop-source-test.true (sym (get_or_default_zero from k _ c.loop-source-test.true))
-    c.loop-source.invariant c.add_news-grew.ensures
+    let from = c.args.from.now in
+    let k = c.loop-source.source-index in (
+      HasGained-more c.args.set c.args.first c.args.grown.now.bits (mask_of c.args.masks c.args.set) from k _
+          c.loop-source-test.true (sym (get_or_default_zero from k _ c.loop-source-test.true))
+          c.loop-source.invariant.0 c.add_news-grew.ensures.gained,
+      c.add_news-grew.ensures.columns ∙ c.loop-source.invariant.1,
+    )
 
-pub returns : goal.returns
-returns c =
-    let from = c.args.draw.now.from.now in
+pub returns-clause-gained : goal.returns-clause-gained
+returns-clause-gained c =
+    let from = c.args.from.now in
     let all = take_all c.loop-source.source-index from (omega arith) in
-    subst (λ xs. HasGained (bits_of c.args.sets.now) c.args.set
-    (IsSomeNews (bits_of c.args.sets.now) c.args.first c.args.grown.now.bits c.args.draw.now.mask xs)
-    (bits_of c.loop-source.sets) c.loop-source.grew) all c.loop-source.invariant
+    subst (λ xs. HasGained c.args.sets.now.rows c.args.set
+    (IsSomeNews c.args.sets.now.rows c.args.first c.args.grown.now.bits (mask_of c.args.masks c.args.set) xs)
+    c.loop-source.sets.rows c.loop-source.grew) all c.loop-source.invariant.0

@@ -1,6 +1,5 @@
 -- The least sets that flow so are the lookaheads.
-use Rattle.std.proofs.Common.{◌∙◌, ap, length, subst, sym}
-use Rattle.std.proofs.lemmas.List.{with_items_is}
+use Rattle.std.proofs.Common.{subst}
 use Rattle.vob.specs.Vobs.{bits_of}
 use Rattle.vob_lr.specs.Equations.{AreEquations, lists_of}
 use Rattle.vob_lr.specs.Expansions.{Expands}
@@ -39,11 +38,7 @@ returns c =
     (subst (λ (g : Grammar). AreEquations g.nonterminals (item_total g.rules.items)
     (Expands g.rules.items) opens (lists_of c.in_ok-opens.field-0-1.items)) same
     c.in_ok-opens.ensures) in
-    let whole = with_items_is c.in_ok-rows.rows c.solve.new.sets
-    (c.solve.auto.sets ∙ ap length c.deref_mut.ensures.value ∙ sym c.in_ok-rows.rows.ok.0) in
-    let shape = rw c.deref_mut.ensures.value at c.in_ok-solve.ensures.shape in
-    let solved = rw (c.deref_mut.ensures.value, c.deref-4.ensures.value)
-    at c.in_ok-solve.ensures.solved in
-    let e = rw (c.requires.nodes, c.deref-3.ensures.value) at c.in_ok-rows.ensures in
-    rw whole (HaveLookaheads-solved (machine_of c.args.items.now c.args.automaton.now) _ _ _ h _ _ _
-    e shape solved)
+    let shape = rw c.deref-4.ensures.value at c.in_ok-rows.ensures.shape in
+    let solved = rw (c.deref-4.ensures.value, c.deref-5.ensures.value) at c.in_ok-rows.ensures.solved in
+    let e = rw (c.requires.nodes, c.deref-3.ensures.value) at c.in_ok-sets.ensures in
+    HaveLookaheads-solved (machine_of c.args.items.now c.args.automaton.now) _ _ _ h _ _ _ e shape solved
