@@ -11,6 +11,7 @@ use vob::Vob;
 use vob_lr::{
     Cell, Grammar, Item, Lookaheads, Move, Rule, Symbol, Table, first_sets, follow_sets, nullable,
 };
+use vob_rows::Row;
 
 /// Writes how many symbols, rules, states and conflicts there are.
 fn put_counts<W: Write>(
@@ -38,7 +39,7 @@ fn put_counts<W: Write>(
 }
 
 /// Writes the names of some terminals, each after a space.
-fn put_terminals<W: Write>(output: &mut W, names: &SymbolNames, set: &Vob) -> io::Result<()> {
+fn put_terminals<W: Write>(output: &mut W, names: &SymbolNames, set: &Row<'_>) -> io::Result<()> {
     for terminal in set.iter_set_bits(..) {
         put_next(output, names.terminal(terminal))?;
     }
@@ -54,7 +55,7 @@ fn put_set<W: Write>(
 ) -> io::Result<()> {
     output.write_all(word)?;
     if let Some(set) = set {
-        put_terminals(output, names, set)?;
+        put_terminals(output, names, &Row::of(set))?;
     }
     output.write_all(b"\n")
 }
@@ -129,10 +130,14 @@ fn put_item<W: Write>(
 }
 
 /// Writes the lookaheads of an item in brackets.
-fn put_ahead<W: Write>(output: &mut W, names: &SymbolNames, ahead: Option<&Vob>) -> io::Result<()> {
+fn put_ahead<W: Write>(
+    output: &mut W,
+    names: &SymbolNames,
+    ahead: Option<Row<'_>>,
+) -> io::Result<()> {
     if let Some(set) = ahead {
         output.write_all(b"  [")?;
-        put_terminals(output, names, set)?;
+        put_terminals(output, names, &set)?;
         output.write_all(b" ]")?;
     }
     Ok(())

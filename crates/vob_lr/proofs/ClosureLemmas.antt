@@ -12,15 +12,14 @@ use Rattle.vob.specs.Vobs.{AreOfLength, bits_of}
 use Rattle.vob_block.proofs.PackingLemmas.{true_inside}
 use Rattle.vob.proofs.BitsLemmas.{or_true}
 use Rattle.vob_flow.proofs.FirstLemmas.{all_at}
-use Rattle.vob_flow.specs.Draws.{HaveShape, IsIn}
-use Rattle.vob_lr.specs.Equations.{AreEquations, AreSolved, GainEach, HasAt, Reaches}
+use Rattle.vob_flow.specs.Draws.{IsIn}
+use Rattle.vob_lr.specs.Equations.{AreEquations, AreSolved, HasAt, Reaches, System}
 use Rattle.vob_lr.specs.Equations.Reaches.{at_start, along}
 use Rattle.vob_lr.specs.Expansions.{Advances, AreExpansions, Brings, Expands, Gains, HasOpening, HasRow, IsBrought, IsGathered, IsOpening}
 use Rattle.vob_lr.specs.Faults.{IsRuleOf, IsSymbol}
 use Rattle.vob_lr.specs.ItemSets.{Has, InClosure, IsAdvanced, IsItemClosure, IsGoto, IsItemSet}
 use Rattle.vob_lr.specs.ItemSets.InClosure.{inside, expands}
 use Rattle.vob_lr.specs.Items.{HasNext, IsItem, first_item, item_total}
-use Rattle.vob_lr.proofs.EquationLemmas.{AreEquations-gained, shape_long, vob_long}
 use Rattle.vob_lr.proofs.ItemLemmas.{next_is}
 use Rattle.vob_lr.proofs.SolvedLemmas.{AreSolved-as}
 use Rattle.vob_lr.specs.declared.grammar.Grammar.{Grammar}
@@ -347,38 +346,16 @@ module _ (rules : List Rule) where
         (r, omega (arith, less, all), rule, is, left, (first_next r rule is (Nonterminal b)).1 there)),
   )
 
--- a set is as long as it was
-pub gained_place : (P : ℕ → Symbol → Type 0) (places : ℕ) (sets : List (List Bool))
-    (lists : List (List ℕ)) (mid : List BitVector) (draws : List (List ℕ)) →
-    GainEach P sets lists (bits_of mid) draws → AreOfLength places sets → (i : ℕ) (d : BitVector) →
-    i < length mid → length (get_or mid i d).bits ≡ places
-gained_place P places sets lists mid draws h long i d less =
-    vob_long places mid i d (shape_long places sets (bits_of mid) h.shape long) less
-
-pub AreEquations-opened : (rules : List Rule) (count places : ℕ) (sets : List (List Bool))
-    (lists : List (List ℕ)) → GainEach (HasOpening rules (length rules))
-    (replicate count (replicate places false)) (replicate count []) sets lists →
-    AreEquations count places (Expands rules) sets lists
-AreEquations-opened rules count places sets lists h =
-    let e = AreEquations-gained (HasOpening rules (length rules)) count places sets lists h in record {
-      count = e.count;
-      same = e.same;
-      long = e.long;
-      each = λ n x.
-          let is = HasOpening-all rules (length rules) refl n x in
-          ((λ there. is.0 ((e.each n x).0 there)), (λ there. (e.each n x).1 (is.1 there)));
-    }
-
-pub AreExpansions-solved : (grammar : Grammar) (sets : List (List Bool)) (lists : List (List ℕ))
-    (rows : List (List Bool)) → All (IsRuleOf grammar) grammar.rules.items →
-    AreEquations grammar.nonterminals (item_total grammar.rules.items)
-    (Expands grammar.rules.items) sets lists →
-    HaveShape sets rows → AreSolved (HasAt sets lists) rows → AreExpansions grammar rows
-AreExpansions-solved grammar sets lists rows sound e shape solved = record {
+pub AreExpansions-solved : (grammar : Grammar) {system : System} (rows : List (List Bool)) →
+    All (IsRuleOf grammar) grammar.rules.items → AreEquations grammar.nonterminals
+    (item_total grammar.rules.items) (Expands grammar.rules.items) system →
+    length rows ≡ length system.starts → AreOfLength system.places rows →
+    AreSolved (HasAt system) rows → AreExpansions grammar rows
+AreExpansions-solved grammar {system} rows sound e count long solved = record {
   rules = sound;
-  count = shape.count ∙ e.count;
-  long = shape_long (item_total grammar.rules.items) sets rows shape e.long;
-  solved = AreSolved-as (HasAt sets lists) (Expands grammar.rules.items) e.each rows solved;
+  count = count ∙ e.count;
+  long = rw e.width at long;
+  solved = AreSolved-as (HasAt system) (Expands grammar.rules.items) e.each rows solved;
 }
 
 -- no bit is true

@@ -3,16 +3,16 @@ use Rattle.std.proofs.Common.{◌≡◌, ◌↔◌, ℕ, zero, suc, ◌+◌, ◌
 use Rattle.std.specs.List.{All}
 use Rattle.std.proofs.lemmas.List.{drop_more}
 use Rattle.std.proofs.lemmas.List.Elements.{All-weaker}
-use Rattle.vob_flow.specs.Draws.{HaveShape, IsIn}
+use Rattle.vob.specs.Vobs.{AreOfLength}
+use Rattle.vob_flow.specs.Draws.{IsIn}
 use Rattle.vob_lr.specs.Behind.{IsStart}
-use Rattle.vob_lr.specs.Equations.{AreEquations, AreSolved, HasAt, Reaches}
+use Rattle.vob_lr.specs.Equations.{AreEquations, AreSolved, HasAt, Reaches, System}
 use Rattle.vob_lr.specs.Equations.Reaches.{at_start, along}
 use Rattle.vob_lr.specs.Faults.{IsRuleOf, IsSymbol}
 use Rattle.vob_lr.specs.Grammar.{AreFirst, AreNullable, BecomesEmpty, BeginsWith, HasRule}
 use Rattle.vob_lr.specs.Grammar.BeginsWith.{here, by_rule, behind}
 use Rattle.vob_lr.specs.Heads.{HasHead, HasPlace, IsHead}
 use Rattle.vob_lr.specs.Passes.{IsNull}
-use Rattle.vob_lr.proofs.EquationLemmas.{shape_long}
 use Rattle.vob_lr.proofs.SolvedLemmas.{AreSolved-as}
 use Rattle.vob_lr.specs.declared.grammar.Grammar.{Grammar}
 use Rattle.vob_lr.specs.declared.grammar.Rule.{Rule}
@@ -146,12 +146,13 @@ module _ (grammar : Grammar) (nullable : List Bool) (n : AreNullable grammar nul
     )
 
   -- the least sets of the heads
-  pub AreFirst-solved : (sets : List (List Bool)) (lists : List (List ℕ))
-      (rows : List (List Bool)) → AreEquations grammar.nonterminals grammar.terminals
-      (HasHead nullable grammar.rules.items) sets lists → HaveShape sets rows → AreSolved (HasAt sets lists) rows → AreFirst grammar rows
-  AreFirst-solved sets lists rows e shape solved = record {
-    count = shape.count ∙ e.count;
-    long = shape_long grammar.terminals sets rows shape e.long;
+  pub AreFirst-solved : {system : System} (rows : List (List Bool)) →
+      AreEquations grammar.nonterminals grammar.terminals (HasHead nullable grammar.rules.items)
+      system → length rows ≡ length system.starts → AreOfLength system.places rows →
+      AreSolved (HasAt system) rows → AreFirst grammar rows
+  AreFirst-solved {system} rows e count long solved = record {
+    count = count ∙ e.count;
+    long = rw e.width at long;
     each = first_each rows
-        (AreSolved-as (HasAt sets lists) (HasHead nullable grammar.rules.items) e.each rows solved);
+        (AreSolved-as (HasAt system) (HasHead nullable grammar.rules.items) e.each rows solved);
   }

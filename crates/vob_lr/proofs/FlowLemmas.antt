@@ -5,13 +5,13 @@ use Rattle.std.proofs.lemmas.Bool.{cases_eq, cases_lt, false≢true}
 use Rattle.std.proofs.lemmas.List.Elements.{All-drop}
 use Rattle.std.proofs.lemmas.Option.{get_or_from_slice_get, same_Some, slice_get-get_or, slice_get_within}
 use Rattle.std.specs.declared.ops.Bound.TheVariants.{Unbounded}
-use Rattle.vob.specs.Vobs.{total_count}
+use Rattle.vob.specs.Vobs.{AreOfLength, total_count}
 use Rattle.vob_block.proofs.PackingLemmas.{true_inside}
 use Rattle.vob.proofs.BitsLemmas.{row_inside}
 use Rattle.vob_flow.proofs.FirstLemmas.{all_at}
-use Rattle.vob_flow.specs.Draws.{HaveShape, IsIn}
+use Rattle.vob_flow.specs.Draws.{IsIn}
 use Rattle.vob_lr.specs.Behind.{IsOfTrailer, IsTrailer, StandsBehind}
-use Rattle.vob_lr.specs.Equations.{AreEquations, AreSolved, GainEach, HasAt, Reaches}
+use Rattle.vob_lr.specs.Equations.{AreEquations, AreSolved, GainEach, HasAt, Reaches, System}
 use Rattle.vob_lr.specs.Equations.Reaches.{at_start, along}
 use Rattle.vob_lr.specs.Expansions.{Expands}
 use Rattle.vob_lr.specs.Faults.{IsRuleOf, IsSymbol}
@@ -24,7 +24,6 @@ use Rattle.vob_lr.specs.Lookaheads.LooksAhead.{begins, passes, keeps}
 use Rattle.vob_lr.specs.Nodes.{node}
 use Rattle.vob_lr.specs.Grammar.{AreFirst, AreNullable}
 use Rattle.vob_lr.specs.States.{AreStates}
-use Rattle.vob_lr.proofs.EquationLemmas.{shape_long}
 use Rattle.vob_lr.proofs.FollowLemmas.{of_trailer}
 use Rattle.vob_lr.proofs.ItemLemmas.{next_is, one_item}
 use Rattle.vob_lr.proofs.MemberLemmas.{member_advances, member_closed}
@@ -42,15 +41,14 @@ use Rattle.vob_walk.proofs.IndexLemmas.{first_value, left_all, left_none, left_o
 
 -- ---- what a walk over a set gives to others
 
-module _ (Each : ℕ → ℕ → Symbol → Type 0) (set : List Bool) (sets : List (List Bool))
-    (lists : List (List ℕ)) where
+module _ (Each : ℕ → ℕ → Symbol → Type 0) (set : List Bool) (before : System) where
   pub GainWalked-start : (left : List ℕ) → left ≡ matches set true Unbounded Unbounded →
-      GainWalked Each set left sets lists sets lists
+      GainWalked Each set left before before
   GainWalked-start left all = record {
     matches = subst (λ (xs : List ℕ). AreMatches set true Unbounded Unbounded xs) (sym all)
         (matches_all set true Unbounded Unbounded);
-    shape = record { count = refl; long = λ n. refl };
     count = refl;
+    places = refl;
     kept = λ n y there. there;
     done = λ j n y own gone has.
         let here = left_all set true Unbounded Unbounded j (true_inside set j own) refl own in
@@ -58,25 +56,20 @@ module _ (Each : ℕ → ℕ → Symbol → Type 0) (set : List Bool) (sets : Li
     only = λ n y there. inl there;
   }
 
-  module _ (given : List ℕ) (mid : List (List Bool)) (draws : List (List ℕ))
-      (h : GainWalked Each set given sets lists mid draws) where
+  module _ (given : List ℕ) (mid : System) (h : GainWalked Each set given before mid) where
     pub walked_own : (j : ℕ) (left : List ℕ) → given ≡ j ∷ left → Has set j
     walked_own j left is =
         first_value set true Unbounded Unbounded j left
         (subst (λ (xs : List ℕ). AreMatches set true Unbounded Unbounded xs) is h.matches)
 
     -- one member more
-    pub GainWalked-step : (j : ℕ) (left : List ℕ) → given ≡ j ∷ left → (after : List (List Bool))
-        (others : List (List ℕ)) → GainEach (Each j) mid draws after others →
-        GainWalked Each set left sets lists after others
-    GainWalked-step j left is after others g = record {
+    pub GainWalked-step : (j : ℕ) (left : List ℕ) → given ≡ j ∷ left → (after : System) →
+        GainEach (Each j) mid after → GainWalked Each set left before after
+    GainWalked-step j left is after g = record {
       matches = matches_after set true Unbounded Unbounded j left
           (subst (λ (xs : List ℕ). AreMatches set true Unbounded Unbounded xs) is h.matches);
-      shape = record {
-        count = g.shape.count ∙ h.shape.count;
-        long = λ n. g.shape.long n ∙ h.shape.long n;
-      };
       count = g.count ∙ h.count;
+      places = g.places ∙ h.places;
       kept = λ n y there. (g.each n y).1 (inl (h.kept n y there));
       done = λ k n y own gone has. elim (cases_eq k j) [
         | inl same ↦ (g.each n y).1 (inr (subst (λ (i : ℕ). Each i n y) same has))
@@ -91,10 +84,10 @@ module _ (Each : ℕ → ℕ → Symbol → Type 0) (set : List Bool) (sets : Li
     }
 
     -- none is left
-    pub GainEach-walked : given ≡ [] → GainEach (IsOfMember set Each) sets lists mid draws
+    pub GainEach-walked : given ≡ [] → GainEach (IsOfMember set Each) before mid
     GainEach-walked none = record {
-      shape = h.shape;
       count = h.count;
+      places = h.places;
       each = λ n y. (
         h.only n y,
         (λ a. elim a [
@@ -126,21 +119,6 @@ module _ (Each : ℕ → ℕ → Symbol → Type 0) where
       | inr low ↦ (low.0, omega (arith, low.1), low.2)
     ]),
   )
-
-pub GainEach-as : (P Q : ℕ → Symbol → Type 0) → ((n : ℕ) (y : Symbol) → P n y ↔ Q n y) →
-    (sets : List (List Bool)) (lists : List (List ℕ)) (after : List (List Bool))
-    (draws : List (List ℕ)) → GainEach P sets lists after draws → GainEach Q sets lists after draws
-GainEach-as P Q same sets lists after draws g = record {
-  shape = g.shape;
-  count = g.count;
-  each = λ n y. (
-    (λ there. elim ((g.each n y).0 there) [ inl old ↦ inl old | inr new ↦ inr ((same n y).0 new) ]),
-    (λ a. elim a [
-      | inl old ↦ (g.each n y).1 (inl old)
-      | inr new ↦ (g.each n y).1 (inr ((same n y).1 new))
-    ]),
-  );
-}
 
 -- ---- what stands behind one dot
 
@@ -361,17 +339,17 @@ module _ (m : Machine) (nullable : List Bool) (first opens : List (List Bool))
               (q, (j, own, inl (x, p, next, move, refl, refl))) there,
         )
 
-  pub HaveLookaheads-solved : (sets : List (List Bool)) (lists : List (List ℕ))
-      (rows : List (List Bool)) →
-      AreEquations (total_count m.sets) m.grammar.terminals (FlowsTo m) sets lists →
-      HaveShape sets rows → AreSolved (HasAt sets lists) rows → HaveLookaheads m rows
-  HaveLookaheads-solved sets lists rows e shape solved =
-      let s = AreSolved-as (HasAt sets lists) (FlowsTo m) e.each rows solved in
-      let long = shape_long m.grammar.terminals sets rows shape e.long in record {
-        count = shape.count ∙ e.count;
+  pub HaveLookaheads-solved : {system : System} (rows : List (List Bool)) →
+      AreEquations (total_count m.sets) m.grammar.terminals (FlowsTo m) system →
+      length rows ≡ length system.starts → AreOfLength system.places rows →
+      AreSolved (HasAt system) rows → HaveLookaheads m rows
+  HaveLookaheads-solved {system} rows e count long solved =
+      let s = AreSolved-as (HasAt system) (FlowsTo m) e.each rows solved in
+      record {
+        count = count ∙ e.count;
         each = λ q i there.
             let less = node_inside m.sets q i there in record {
-              len = long (node m.sets q i) [] (omega (arith, less, shape.count, e.count));
+              len = long (node m.sets q i) [] (omega (arith, less, count, e.count)) ∙ e.width;
               each = λ t. (
                 (λ bit. ahead_sound rows s (s.least (node m.sets q i) t bit) q i there refl),
                 (λ l. (ahead_complete rows s l).1),
@@ -381,13 +359,13 @@ module _ (m : Machine) (nullable : List Bool) (first opens : List (List Bool))
 
 -- ---- what lookaheads are found by
 
-pub HasTables-of : (m : Machine) (nullable : List Bool) (first opens : List (List Bool))
-    (lists : List (List ℕ)) → All (IsRuleOf m.grammar) m.grammar.rules.items →
+pub HasTables-of : (m : Machine) (nullable : List Bool) (first : List (List Bool)) (opens : System) →
+    All (IsRuleOf m.grammar) m.grammar.rules.items →
     AreStates m.grammar.rules.items m.sets m.moves → AreNullable m.grammar nullable →
     AreFirst m.grammar first → AreEquations m.grammar.nonterminals
-    (item_total m.grammar.rules.items) (Expands m.grammar.rules.items) opens lists →
-    HasTables m nullable first opens
-HasTables-of m nullable first opens lists sound states empties firsts e = record {
+    (item_total m.grammar.rules.items) (Expands m.grammar.rules.items) opens →
+    HasTables m nullable first opens.starts
+HasTables-of m nullable first opens sound states empties firsts e = record {
   rules = sound;
   states = states;
   empties = empties;

@@ -4,9 +4,10 @@ use Rattle.std.specs.List.{Contains}
 use Rattle.std.proofs.lemmas.Bool.{cases_lt, false≢true}
 use Rattle.std.proofs.lemmas.List.{drop_more, get_or-replicate, get_or_past, length-replicate}
 use Rattle.vob_block.specs.Packing.{item}
-use Rattle.vob_flow.specs.Draws.{HaveShape, IsIn}
+use Rattle.vob.specs.Vobs.{AreOfLength}
+use Rattle.vob_flow.specs.Draws.{IsIn}
 use Rattle.vob_lr.specs.Behind.{HasBehind, IsBehind, IsOfTrailer, IsStart, IsTrailer, StandsBehind}
-use Rattle.vob_lr.specs.Equations.{AreEquations, AreSolved, HasAt, Reaches}
+use Rattle.vob_lr.specs.Equations.{AreEquations, AreSolved, HasAt, Reaches, System}
 use Rattle.vob_lr.specs.Equations.Reaches.{at_start, along}
 use Rattle.vob_lr.specs.Grammar.{AreFirst, AreFollow, AreNullable, BecomesEmpty, BeginsWith, Follows, HasRule}
 use Rattle.vob_lr.specs.Grammar.BecomesEmpty.{nothing, by_rule as by_empty}
@@ -18,7 +19,6 @@ use Rattle.vob_lr.specs.declared.grammar.Rule.{Rule}
 use Rattle.vob_lr.specs.declared.grammar.Symbol.{Symbol}
 use Rattle.vob_lr.specs.declared.grammar.Symbol.TheVariants.{Terminal, Nonterminal}
 use Rattle.vob_lr.proofs.EmptyLemmas.{BecomesEmpty-append}
-use Rattle.vob_lr.proofs.EquationLemmas.{shape_long}
 use Rattle.vob_lr.proofs.FirstLemmas.{BeginsWith-append, empty_symbol, null_symbol}
 use Rattle.vob_lr.proofs.SolvedLemmas.{AreSolved-as}
 
@@ -193,14 +193,14 @@ module _ (rules : List Rule) where
     follow_each a t = ((λ there. follow_sound (h.least a t there)), (λ f. follow_complete f))
 
 -- the least sets of what stands behind
-pub AreFollow-solved : (grammar : Grammar) (sets : List (List Bool)) (lists : List (List ℕ))
-    (rows : List (List Bool)) → AreEquations grammar.nonterminals grammar.terminals
-    (HasBehind grammar.rules.items grammar.rules.items) sets lists → HaveShape sets rows →
-    AreSolved (HasAt sets lists) rows → AreFollow grammar rows
-AreFollow-solved grammar sets lists rows e shape solved = record {
-  count = shape.count ∙ e.count;
-  long = shape_long grammar.terminals sets rows shape e.long;
+pub AreFollow-solved : (grammar : Grammar) {system : System} (rows : List (List Bool)) →
+    AreEquations grammar.nonterminals grammar.terminals
+    (HasBehind grammar.rules.items grammar.rules.items) system →
+    length rows ≡ length system.starts → AreOfLength system.places rows →
+    AreSolved (HasAt system) rows → AreFollow grammar rows
+AreFollow-solved grammar {system} rows e count long solved = record {
+  count = count ∙ e.count;
+  long = rw e.width at long;
   each = follow_each grammar.rules.items rows
-      (AreSolved-as (HasAt sets lists) (HasBehind grammar.rules.items grammar.rules.items) e.each
-      rows solved);
+      (AreSolved-as (HasAt system) (HasBehind grammar.rules.items grammar.rules.items) e.each rows solved);
 }

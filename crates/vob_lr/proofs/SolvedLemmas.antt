@@ -1,23 +1,41 @@
--- The least sets that draw from others by lists.
-use Rattle.std.proofs.Common.{◌≡◌, ◌↔◌, ℕ, inl, inr, Bool, true, List, refl}
+-- The least sets that draw from others along edges.
+use Rattle.std.proofs.Common.{◌≡◌, ◌↔◌, ℕ, ◌<◌, inl, inr, Bool, true, List, [], length, get_or, refl, arith}
+use Rattle.std.specs.List.{Contains}
+use Rattle.std.proofs.lemmas.Bool.{cases_lt}
+use Rattle.std.proofs.lemmas.List.{get_or_past}
+use Rattle.std.proofs.lemmas.List.Elements.{All-contains}
 use Rattle.vob_flow.specs.Draws.{AreLeast, Comes}
 use Rattle.vob_flow.specs.Draws.Comes.{starts_in, drawn}
-use Rattle.vob_lr.specs.Equations.{AreSolved, HasAt, Reaches}
+use Rattle.vob_lr.specs.Equations.{AreFromSets, AreSolved, HasAt, Reaches, System}
 use Rattle.vob_lr.specs.Equations.Reaches.{at_start, along}
 use Rattle.vob_lr.specs.declared.grammar.Symbol.{Symbol}
 use Rattle.vob_lr.specs.declared.grammar.Symbol.TheVariants.{Terminal, Nonterminal}
 
-module _ (lists : List (List ℕ)) (starts sets : List (List Bool))
-    (h : AreLeast lists (λ n v. true) starts sets) where
-  reached : {n t : ℕ} → Comes lists (λ n v. true) starts n t → Reaches (HasAt starts lists) t n
-  reached (starts_in e) = at_start e
-  reached (drawn keeps within c) = along within (reached c)
+module _ (system : System) (next : List (List ℕ)) (from : AreFromSets system.starts system.edges)
+    (count : length next ≡ length system.starts)
+    (each : (n m : ℕ) → n < length system.starts →
+    Contains (get_or next n []) m ↔ Contains system.edges (n, m)) where
+  node_below : (n m : ℕ) → Contains (get_or next n []) m → n < length system.starts
+  node_below n m there = elim (cases_lt n (length next)) [
+    | inl low ↦ omega (arith, low, count)
+    | inr past ↦
+        let none = rw (get_or_past {X = List ℕ} next n [] past) at there in
+        omega (arith, none.1)
+  ]
 
-  pub AreSolved-least : AreSolved (HasAt starts lists) sets
-  AreSolved-least = record {
+  reached : {n t : ℕ} → Comes next (λ n v. true) system.starts n t → Reaches (HasAt system) t n
+  reached (starts_in e) = at_start e
+  reached (drawn {n} {v} {m} keeps within c) =
+      along ((each n m (node_below n m within)).0 within) (reached c)
+
+  pub AreSolved-least : (sets : List (List Bool)) →
+      AreLeast next (λ n v. true) system.starts sets → AreSolved (HasAt system) sets
+  AreSolved-least sets h = record {
     starts = λ n t e. (h.solution.meets n t).1 (inl e);
     draws = λ n m t within e.
-        (h.solution.meets n t).1 (inr (refl, (within.0, m, within.1, within.2, e)));
+        let below = All-contains (λ edge. edge.0 < length system.starts) system.edges (n, m) from within in
+        let there = (each n m below).1 within in
+        (h.solution.meets n t).1 (inr (refl, (there.0, m, there.1, there.2, e)));
     least = λ n t e. reached (h.least n t e);
   }
 

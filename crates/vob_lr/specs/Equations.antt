@@ -1,38 +1,54 @@
 -- Sets of terminals, each with some to start with and others to draw from. No public clause cites
 -- this page.
-use Rattle.std.specs.Prelude.{◌≡◌, ◌↔◌, ◌⊎◌, ℕ, Bool, true, List, [], length, map, slice_index_or, Contains, Vec}
-use Rattle.std.specs.declared.alloc.Global.{Global}
+use Rattle.std.specs.Prelude.{◌≡◌, ◌↔◌, ◌⊎◌, ◌<◌, ℕ, Bool, true, List, length, All, Contains}
 use Rattle.vob_block.specs.Packing.{item}
-use Rattle.vob.specs.Vobs.{AreOfLength}
-use Rattle.vob_flow.specs.Draws.{HaveShape, IsIn}
+use Rattle.vob_flow.specs.Draws.{IsIn}
 use Rattle.vob_lr.specs.declared.grammar.Symbol.{Symbol}
 use Rattle.vob_lr.specs.declared.grammar.Symbol.TheVariants.{Terminal, Nonterminal}
 
--- the numbers in some lists
-abbrev pub lists_of : List (Vec ℕ Global) → List (List ℕ)
-lists_of lists = map (λ list. list.items) lists
+-- what some sets start with, how many places each has, and an edge from a set to each that it draws
+-- from
+pub record System : Type 0 where
+  pub starts : List (List Bool)
+  pub places : ℕ
+  pub edges : List (ℕ × ℕ)
 
--- a set starts with a terminal, or draws from the set of a nonterminal
-abbrev pub HasSymbol : List Bool → List ℕ → Symbol → Type 0
-HasSymbol starts from (Terminal t) = item starts t ≡ true
-HasSymbol starts from (Nonterminal a) = Contains from a
+-- each edge is from a set
+abbrev pub AreFromSets : List (List Bool) → List (ℕ × ℕ) → Type 0
+AreFromSets starts edges = All (λ edge. edge.0 < length starts) edges
 
--- set n does
-abbrev pub HasAt : List (List Bool) → List (List ℕ) → ℕ → Symbol → Type 0
-HasAt sets lists n x = HasSymbol (slice_index_or sets n []) (slice_index_or lists n []) x
+-- set n starts with a terminal, or draws from the set of a nonterminal
+abbrev pub HasAt : System → ℕ → Symbol → Type 0
+HasAt system n (Terminal t) = IsIn system.starts n t
+HasAt system n (Nonterminal a) = Contains system.edges (n, a)
 
--- a set that starts with or draws from what it did, and the symbols of which P holds
-pub record GainsSymbols (P : Symbol → Type 0) (starts : List Bool) (from : List ℕ)
-    (after : List Bool) (list : List ℕ) : Type 0 where
-  pub len : length after ≡ length starts
-  pub each : (x : Symbol) → HasSymbol after list x ↔ (HasSymbol starts from x ⊎ P x)
+-- symbols of set n alone
+abbrev pub At : ℕ → (Symbol → Type 0) → ℕ → Symbol → Type 0
+At n P k x = (n ≡ k) × P x
 
--- each set n does, and those of which P n holds
-pub record GainEach (P : ℕ → Symbol → Type 0) (sets : List (List Bool)) (lists : List (List ℕ))
-    (after : List (List Bool)) (draws : List (List ℕ)) : Type 0 where
-  pub shape : HaveShape sets after
-  pub count : length draws ≡ length lists
-  pub each : (n : ℕ) (x : Symbol) → HasAt after draws n x ↔ (HasAt sets lists n x ⊎ P n x)
+-- a terminal of a set
+abbrev pub IsTerminalOf : List Bool → Symbol → Type 0
+IsTerminalOf set (Terminal t) = item set t ≡ true
+IsTerminalOf set (Nonterminal a) = ⊥
+
+-- each set n has what it had, and the symbols of which P n holds
+pub record GainEach (P : ℕ → Symbol → Type 0) (before after : System) : Type 0 where
+  pub count : length after.starts ≡ length before.starts
+  pub places : after.places ≡ before.places
+  pub each : (n : ℕ) (x : Symbol) → HasAt after n x ↔ (HasAt before n x ⊎ P n x)
+
+-- so it is once each set n gains those of which Rest n holds
+pub record GainEachRest (P Rest : ℕ → Symbol → Type 0) (before after : System) : Type 0 where
+  pub count : length after.starts ≡ length before.starts
+  pub places : after.places ≡ before.places
+  pub each : (n : ℕ) (x : Symbol) → (HasAt after n x ⊎ Rest n x) ↔ (HasAt before n x ⊎ P n x)
+
+-- so many sets with so many places, which have the symbols of which Has holds
+pub record AreEquations (total places : ℕ) (Has : ℕ → Symbol → Type 0) (system : System)
+    : Type 0 where
+  pub count : length system.starts ≡ total
+  pub width : system.places ≡ places
+  pub each : (n : ℕ) (x : Symbol) → HasAt system n x ↔ Has n x
 
 -- t comes to set n: it starts there, or comes to a set from which n draws
 pub data Reaches (Has : ℕ → Symbol → Type 0) (t : ℕ) : ℕ → Type 0 where
@@ -44,26 +60,3 @@ pub record AreSolved (Has : ℕ → Symbol → Type 0) (sets : List (List Bool))
   pub starts : (n t : ℕ) → Has n (Terminal t) → IsIn sets n t
   pub draws : (n m t : ℕ) → Has n (Nonterminal m) → IsIn sets m t → IsIn sets n t
   pub least : (n t : ℕ) → IsIn sets n t → Reaches Has t n
-
--- a set that has what it is to have once it gains the symbols of which Rest holds
-pub record GainsRest (P Rest : Symbol → Type 0) (starts : List Bool) (from : List ℕ)
-    (after : List Bool) (list : List ℕ) : Type 0 where
-  pub len : length after ≡ length starts
-  pub each : (x : Symbol) →
-      (HasSymbol after list x ⊎ Rest x) ↔ (HasSymbol starts from x ⊎ P x)
-
--- each set n does once it gains those of which Rest n holds
-pub record GainEachRest (P Rest : ℕ → Symbol → Type 0) (sets : List (List Bool))
-    (lists : List (List ℕ)) (after : List (List Bool)) (draws : List (List ℕ)) : Type 0 where
-  pub shape : HaveShape sets after
-  pub count : length draws ≡ length lists
-  pub each : (n : ℕ) (x : Symbol) →
-      (HasAt after draws n x ⊎ Rest n x) ↔ (HasAt sets lists n x ⊎ P n x)
-
--- so many sets with so many places, which have the symbols of which Has holds
-pub record AreEquations (total places : ℕ) (Has : ℕ → Symbol → Type 0) (sets : List (List Bool))
-    (lists : List (List ℕ)) : Type 0 where
-  pub count : length sets ≡ total
-  pub same : length lists ≡ total
-  pub long : AreOfLength places sets
-  pub each : (n : ℕ) (x : Symbol) → HasAt sets lists n x ↔ Has n x

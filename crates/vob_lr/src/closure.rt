@@ -1,7 +1,7 @@
 //! Sets of items: their closures, and what is left of them when the dot passes a symbol.
 ghost use Rattle.std.specs.Prelude.{◌≡◌, ◌≢◌, ◌↔◌, ℕ, ◌<◌, length, All, Err, IfOk, IsTrue, OnOk, Some};
 ghost use Rattle.vob.specs.Vobs.{AreOfLength, bits_of};
-ghost use Rattle.vob_lr.specs.Equations.{AreEquations, GainEach, GainsSymbols, lists_of};
+ghost use Rattle.vob_lr.specs.Equations.{AreEquations, At, GainEach};
 ghost use Rattle.vob_lr.specs.Expansions.{Advances, AreExpansions, Brings, Expands, Gains, HasOpening, HasRow, IsBrought, IsOpening};
 ghost use Rattle.vob_lr.specs.Faults.{IsBadRule, IsRuleOf};
 ghost use Rattle.vob_lr.specs.ItemSets.{IsAdvanced, IsItemClosure, IsGoto, IsItemSet};
@@ -10,55 +10,50 @@ ghost use Rattle.vob_lr.specs.Ahead.{AreAhead};
 ghost use Rattle.vob_lr.specs.States.{IsStart};
 
 use crate::ahead::ahead_of;
-use crate::equations::{empty_lists, empty_sets, solve};
+use crate::equations::Equations;
 use crate::grammar::{Grammar, GrammarError, Symbol, check_rules};
 use crate::items::Items;
 use std::alloc::{AllocError, Global};
 use std::marker::Model;
 use vob::Vob;
 
-/// Lets a set start with a rule's first item, and draw from that of the nonterminal behind its dot.
+/// Lets the set of a left side start with a rule's first item, and draw from that of the nonterminal
+/// behind its dot.
 fn open_rule(
     first: usize,
     right: &[Symbol],
-    starts: &mut Vob,
-    from: &mut Vec<usize>,
+    left: usize,
+    equations: &mut Equations,
 ) -> Result<(), AllocError>
-    requires { first < length starts.old.bits }
-    ensures { OnOk result (GainsSymbols (IsOpening first right.now)
-        starts.old.bits from.old.items starts.new.bits from.new.items) }
+    requires set { left < length equations.old.starts }
+    requires place { first < equations.old.places }
+    ensures { OnOk result
+        (GainEach (At left (IsOpening first right.now)) equations.old equations.new) }
 {
-    starts.set(first, true);
+    equations.start(left, first);
     if let Some(Symbol::Nonterminal(nonterminal)) = right.first() {
-        from.push(*nonterminal)?;
+        equations.draw(left, *nonterminal)?;
     }
     Ok(())
 }
 
-/// Does that for all rules, in the sets of their left sides.
+/// Does that for all rules.
 fn open_rules(
     grammar: &Grammar,
     items: &Items<'_>,
-    sets: &mut [Vob],
-    lists: &mut [Vec<usize>],
+    equations: &mut Equations,
 ) -> Result<(), AllocError>
     requires items { items.now ≡ grammar.now }
     requires rules { All (IsRuleOf grammar.now) grammar.now.rules.items }
-    requires sets { length sets.old ≡ grammar.now.nonterminals }
-    requires lists { length lists.old ≡ grammar.now.nonterminals }
-    requires long { AreOfLength (item_total grammar.now.rules.items) (bits_of sets.old) }
+    requires sets { length equations.old.starts ≡ grammar.now.nonterminals }
+    requires places { equations.old.places ≡ item_total grammar.now.rules.items }
     ensures { OnOk result
         (GainEach (HasOpening grammar.now.rules.items (length grammar.now.rules.items))
-        (bits_of sets.old) (lists_of lists.old) (bits_of sets.new) (lists_of lists.new)) }
+        equations.old equations.new) }
 {
     for number in 0..grammar.rules.len() {
         let rule = &grammar.rules[number];
-        open_rule(
-            items.first(number),
-            &rule.right,
-            &mut sets[rule.left],
-            &mut lists[rule.left],
-        )?;
+        open_rule(items.first(number), &rule.right, rule.left, equations)?;
     }
     Ok(())
 }
@@ -68,17 +63,15 @@ pub(crate) fn expansion_equations(
     alloc: Global,
     grammar: &Grammar,
     items: &Items<'_>,
-) -> Result<(Vec<Vob>, Vec<Vec<usize>>), AllocError>
+) -> Result<Equations, AllocError>
     requires items { items.now ≡ grammar.now }
     requires rules { All (IsRuleOf grammar.now) grammar.now.rules.items }
-    ensures { IfOk result (λ made.
-        AreEquations grammar.now.nonterminals (item_total grammar.now.rules.items)
-        (Expands grammar.now.rules.items) (bits_of made.0.items) (lists_of made.1.items)) }
+    ensures { IfOk result (AreEquations grammar.now.nonterminals
+        (item_total grammar.now.rules.items) (Expands grammar.now.rules.items)) }
 {
-    let mut sets = empty_sets(alloc, items.len(), grammar.nonterminals)?;
-    let mut lists = empty_lists(alloc, grammar.nonterminals)?;
-    open_rules(grammar, items, &mut sets, &mut lists)?;
-    Ok((sets, lists))
+    let mut equations = Equations::new(alloc, grammar.nonterminals, items.len())?;
+    open_rules(grammar, items, &mut equations)?;
+    Ok(equations)
 }
 
 /// Returns for each nonterminal of a grammar with sound rules the items that it brings.
@@ -91,8 +84,9 @@ fn expansions_of(
     requires rules { All (IsRuleOf grammar.now) grammar.now.rules.items }
     ensures { IfOk result (λ rows. AreExpansions grammar.now (bits_of rows.items)) }
 {
-    let (sets, lists) = expansion_equations(alloc, grammar, items)?;
-    let expansions = solve(alloc, items.len(), &sets, &lists)?;
+    let equations = expansion_equations(alloc, grammar, items)?;
+    let rows = equations.solve(alloc)?;
+    let expansions = rows.to_vobs(alloc)?;
     Ok(expansions)
 }
 

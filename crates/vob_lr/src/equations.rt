@@ -1,77 +1,145 @@
 //! Sets of terminals, each with some to start with and others to draw from: the least such sets.
-ghost use Rattle.std.specs.Prelude.{◌≡◌, [], false, length, replicate, IfOk, OnOk};
-ghost use Rattle.vob.specs.Vobs.{AreOfLength, bits_of};
-ghost use Rattle.vob_flow.specs.Draws.{HaveShape};
-ghost use Rattle.vob_lr.specs.Equations.{AreSolved, GainsSymbols, HasAt, lists_of};
+ghost use Rattle.std.specs.Prelude.{◌≡◌, ◌<◌, [], false, length, replicate, slice_index_or, IfOk, OnOk};
+ghost use Rattle.vob.specs.Vobs.{AreOfLength};
+ghost use Rattle.vob_lr.specs.Behind.{IsOfTrailer};
+ghost use Rattle.vob_lr.specs.Equations.{AreSolved, At, GainEach, HasAt, IsTerminalOf};
 ghost use Rattle.vob_lr.specs.Heads.{HasPlace};
+ghost use Rattle.vob_lr.specs.declared.grammar.Symbol.TheVariants.{Nonterminal, Terminal};
 
 use crate::grammar::Symbol;
 use std::alloc::{AllocError, Global};
+use std::marker::Model;
 use vob::Vob;
 use vob_flow::{Masks, least};
-use vob_rows::{BitRows, Graph};
+use vob_rows::{BitRows, Graph, Row};
 
-/// Returns the given number of empty sets, with these places each.
-pub(crate) fn empty_sets(alloc: Global, places: usize, count: usize) -> Result<Vec<Vob>, AllocError>
-    ensures { IfOk result (λ sets. bits_of sets.items ≡ replicate count (replicate places false)) }
-{
-    let mut sets = Vec::with_capacity(alloc, count)?;
-    for _ in 0..count {
-        sets.push(Vob::from_elem(alloc, false, places)?)?;
-    }
-    Ok(sets)
+/// What some sets start with, and from which others they draw. A contract sees the sets, how many
+/// places each has, and an edge from a set to each that it draws from.
+#[derive(Drop)]
+pub(crate) struct Equations {
+    starts: BitRows,
+    edges: Vec<(usize, usize)>,
 }
 
-/// Returns the given number of empty lists.
-pub(crate) fn empty_lists(alloc: Global, count: usize) -> Result<Vec<Vec<usize>>, AllocError>
-    ensures { IfOk result (λ lists. lists_of lists.items ≡ replicate count []) }
-{
-    let mut lists = Vec::with_capacity(alloc, count)?;
-    for _ in 0..count {
-        lists.push(Vec::new(alloc))?;
-    }
-    Ok(lists)
+impl Model for Equations {
+    ghost use Rattle.vob_lr.specs.Equations.{AreFromSets, System};
+
+    ghost Value = { System };
+
+    ghost view = { λ e. record {
+      starts = e.starts.rows;
+      places = e.starts.columns;
+      edges = e.edges.items;
+    } };
+
+    ghost invariant = { λ e. AreFromSets e.starts.rows e.edges.items };
 }
 
-/// Lets a set start with a terminal, or draw from the set of a nonterminal.
-pub(crate) fn add_symbol(
-    symbol: &Symbol,
-    starts: &mut Vob,
-    from: &mut Vec<usize>,
-) -> Result<(), AllocError>
-    requires { HasPlace (length starts.old.bits) symbol.now }
-    ensures { OnOk result (GainsSymbols (λ x. symbol.now ≡ x) starts.old.bits from.old.items
-        starts.new.bits from.new.items) }
-{
-    match symbol {
-        Symbol::Terminal(terminal) => {
-            starts.set(*terminal, true);
+impl Equations {
+    /// Makes equations of sets with these places each, which start with nothing and draw from none.
+    pub fn new(alloc: Global, sets: usize, places: usize) -> Result<Equations, AllocError>
+        ensures starts { IfOk result (λ made.
+            made.starts ≡ replicate sets (replicate places false)) }
+        ensures places { IfOk result (λ made. made.places ≡ places) }
+        ensures edges { IfOk result (λ made. made.edges ≡ []) }
+    {
+        let starts = BitRows::new(alloc, sets, places)?;
+        let edges = Vec::new(alloc);
+        Ok(Equations { starts, edges })
+    }
+
+    /// Returns what a set starts with.
+    pub fn starts(&self, set: usize) -> Row<'_>
+        requires { set < length self.now.starts }
+        ensures { result ≡ slice_index_or self.now.starts set [] }
+    {
+        self.starts.row(set)
+    }
+
+    /// Lets a set start with a terminal.
+    pub fn start(&mut self, set: usize, terminal: usize)
+        requires set { set < length self.old.starts }
+        requires place { terminal < self.old.places }
+        ensures { GainEach (At set (λ x. Terminal terminal ≡ x)) self.old self.new }
+    {
+        // Each set has as many places: a proof knows it from this call.
+        let _places = self.starts.columns();
+        self.starts.set(set, terminal, true);
+    }
+
+    /// Lets a set start with some terminals.
+    fn start_with(&mut self, set: usize, terminals: &Vob)
+        requires set { set < length self.old.starts }
+        requires long { length terminals.now.bits ≡ self.old.places }
+        ensures { GainEach (At set (IsTerminalOf terminals.now.bits)) self.old self.new }
+    {
+        // Each set has as many places: a proof knows it from this call.
+        let _places = self.starts.columns();
+        self.starts.or_with(set, &Row::of(terminals));
+    }
+
+    /// Lets a set draw from another.
+    pub fn draw(&mut self, set: usize, from: usize) -> Result<(), AllocError>
+        requires { set < length self.old.starts }
+        ensures { OnOk result (GainEach (At set (λ x. Nonterminal from ≡ x)) self.old self.new) }
+    {
+        self.edges.push((set, from))?;
+        Ok(())
+    }
+
+    /// Lets a set start with a terminal, or draw from the set of a nonterminal.
+    pub fn add(&mut self, set: usize, symbol: &Symbol) -> Result<(), AllocError>
+        requires set { set < length self.old.starts }
+        requires place { HasPlace self.old.places symbol.now }
+        ensures { OnOk result (GainEach (At set (λ x. symbol.now ≡ x)) self.old self.new) }
+    {
+        match symbol {
+            Symbol::Terminal(terminal) => {
+                self.start(set, *terminal);
+                Ok(())
+            }
+            Symbol::Nonterminal(nonterminal) => self.draw(set, *nonterminal),
         }
-        Symbol::Nonterminal(nonterminal) => from.push(*nonterminal)?,
     }
-    Ok(())
-}
 
-/// Returns sets that have what others start with, and what they draw from one another.
-pub(crate) fn solve(
-    alloc: Global,
-    places: usize,
-    sets: &[Vob],
-    lists: &[Vec<usize>],
-) -> Result<Vec<Vob>, AllocError>
-    requires count { length lists.now ≡ length sets.now }
-    requires long { AreOfLength places (bits_of sets.now) }
-    ensures shape { IfOk result (λ made. HaveShape (bits_of sets.now) (bits_of made.items)) }
-    ensures solved { IfOk result (λ made.
-        AreSolved (HasAt (bits_of sets.now) (lists_of lists.now)) (bits_of made.items)) }
-{
-    let Ok(graph) = Graph::from_lists(alloc, lists) else {
-        return Err(AllocError);
-    };
-    let mut rows = BitRows::from_vobs(alloc, places, sets)?;
-    let Ok(_) = least(alloc, &mut rows, &graph, Masks::All) else {
-        return Err(AllocError);
-    };
-    let solved = rows.to_vobs(alloc)?;
-    Ok(solved)
+    /// Lets a set start with what can begin some symbols, and draw from another where they can become
+    /// empty.
+    pub fn add_trailer(
+        &mut self,
+        set: usize,
+        begins: &Vob,
+        empty: bool,
+        from: usize,
+    ) -> Result<(), AllocError>
+        requires set { set < length self.old.starts }
+        requires long { length begins.now.bits ≡ self.old.places }
+        ensures { OnOk result
+            (GainEach (At set (IsOfTrailer from begins.now.bits empty)) self.old self.new) }
+    {
+        self.start_with(set, begins);
+        if !empty {
+            return Ok(());
+        }
+        self.draw(set, from)
+    }
+
+    /// Returns sets that have what they start with, and what they draw from one another.
+    pub fn solve(self, alloc: Global) -> Result<BitRows, AllocError>
+        ensures count { IfOk result (λ made. length made.rows ≡ length self.starts) }
+        ensures columns { IfOk result (λ made. made.columns ≡ self.places) }
+        ensures long { IfOk result (λ made. AreOfLength self.places made.rows) }
+        ensures solved { IfOk result (λ made. AreSolved (HasAt self) made.rows) }
+    {
+        let Equations { starts, edges } = self;
+        let mut sets = starts;
+        let Ok(graph) = Graph::from_edges(alloc, sets.rows(), &edges) else {
+            return Err(AllocError);
+        };
+        let Ok(_) = least(alloc, &mut sets, &graph, Masks::All) else {
+            return Err(AllocError);
+        };
+        // Each set has as many places: a proof knows it from this call.
+        let _places = sets.columns();
+        Ok(sets)
+    }
 }

@@ -1,31 +1,32 @@
 //! Which terminals can begin what the nonterminals of a grammar become.
-ghost use Rattle.std.specs.Prelude.{◌≡◌, ◌≢◌, ◌↔◌, ℕ, length, All, IfErr, IfOk, IsOk, OnOk, Err};
-ghost use Rattle.vob.specs.Vobs.{AreOfLength, bits_of};
-ghost use Rattle.vob_lr.specs.Equations.{AreEquations, GainEach, GainsSymbols, lists_of};
+ghost use Rattle.std.specs.Prelude.{◌≡◌, ◌≢◌, ◌↔◌, ◌<◌, ℕ, length, All, IfErr, IfOk, IsOk, OnOk, Err};
+ghost use Rattle.vob.specs.Vobs.{bits_of};
+ghost use Rattle.vob_lr.specs.Equations.{AreEquations, At, GainEach};
 ghost use Rattle.vob_lr.specs.Faults.{IsBadRule, IsRuleOf, MayRefuseRules};
 ghost use Rattle.vob_lr.specs.Grammar.{AreFirst, AreNullable};
 ghost use Rattle.vob_lr.specs.Heads.{HasHead, HasPlace, IsHead};
 
 use crate::empty::{is_null, solve_nullable};
-use crate::equations::{add_symbol, empty_lists, empty_sets, solve};
+use crate::equations::Equations;
 use crate::grammar::{Grammar, GrammarError, Symbol, check_rules};
 use std::alloc::{AllocError, Global};
 use vob::Vob;
 
-/// Lets a set start with the terminals that stand on a right side behind nullable symbols alone,
-/// and draw from the nonterminals that do.
+/// Lets the set of a left side start with the terminals that stand on a right side behind nullable
+/// symbols alone, and draw from the nonterminals that do.
 fn add_heads(
     nullable: &Vob,
     right: &[Symbol],
-    starts: &mut Vob,
-    from: &mut Vec<usize>,
+    left: usize,
+    equations: &mut Equations,
 ) -> Result<(), AllocError>
-    requires { All (HasPlace (length starts.old.bits)) right.now }
-    ensures { OnOk result (GainsSymbols (IsHead nullable.now.bits right.now)
-        starts.old.bits from.old.items starts.new.bits from.new.items) }
+    requires set { left < length equations.old.starts }
+    requires places { All (HasPlace equations.old.places) right.now }
+    ensures { OnOk result (GainEach (At left (IsHead nullable.now.bits right.now))
+        equations.old equations.new) }
 {
     for symbol in right {
-        add_symbol(symbol, starts, from)?;
+        equations.add(left, symbol)?;
         if !is_null(nullable, symbol) {
             return Ok(());
         }
@@ -33,27 +34,16 @@ fn add_heads(
     Ok(())
 }
 
-/// Does that for the right sides of all rules, in the sets of their left sides.
-fn add_rules(
-    nullable: &Vob,
-    grammar: &Grammar,
-    sets: &mut [Vob],
-    lists: &mut [Vec<usize>],
-) -> Result<(), AllocError>
+/// Does that for the right sides of all rules.
+fn add_rules(nullable: &Vob, grammar: &Grammar, equations: &mut Equations) -> Result<(), AllocError>
     requires rules { All (IsRuleOf grammar.now) grammar.now.rules.items }
-    requires sets { length sets.old ≡ grammar.now.nonterminals }
-    requires lists { length lists.old ≡ grammar.now.nonterminals }
-    requires long { AreOfLength grammar.now.terminals (bits_of sets.old) }
+    requires sets { length equations.old.starts ≡ grammar.now.nonterminals }
+    requires places { equations.old.places ≡ grammar.now.terminals }
     ensures { OnOk result (GainEach (HasHead nullable.now.bits grammar.now.rules.items)
-        (bits_of sets.old) (lists_of lists.old) (bits_of sets.new) (lists_of lists.new)) }
+        equations.old equations.new) }
 {
     for rule in &grammar.rules {
-        add_heads(
-            nullable,
-            &rule.right,
-            &mut sets[rule.left],
-            &mut lists[rule.left],
-        )?;
+        add_heads(nullable, &rule.right, rule.left, equations)?;
     }
     Ok(())
 }
@@ -63,16 +53,14 @@ fn first_equations(
     alloc: Global,
     grammar: &Grammar,
     nullable: &Vob,
-) -> Result<(Vec<Vob>, Vec<Vec<usize>>), AllocError>
+) -> Result<Equations, AllocError>
     requires { All (IsRuleOf grammar.now) grammar.now.rules.items }
-    ensures { IfOk result (λ made. AreEquations grammar.now.nonterminals grammar.now.terminals
-        (HasHead nullable.now.bits grammar.now.rules.items)
-        (bits_of made.0.items) (lists_of made.1.items)) }
+    ensures { IfOk result (AreEquations grammar.now.nonterminals grammar.now.terminals
+        (HasHead nullable.now.bits grammar.now.rules.items)) }
 {
-    let mut sets = empty_sets(alloc, grammar.terminals, grammar.nonterminals)?;
-    let mut lists = empty_lists(alloc, grammar.nonterminals)?;
-    add_rules(nullable, grammar, &mut sets, &mut lists)?;
-    Ok((sets, lists))
+    let mut equations = Equations::new(alloc, grammar.nonterminals, grammar.terminals)?;
+    add_rules(nullable, grammar, &mut equations)?;
+    Ok(equations)
 }
 
 /// Returns the first sets of a grammar with sound rules, given its nullable nonterminals. No
@@ -90,8 +78,9 @@ pub(crate) fn solve_first(
     if grammar.nonterminals == 0 {
         return Ok(Vec::new(alloc));
     }
-    let (sets, lists) = first_equations(alloc, grammar, nullable)?;
-    let first = solve(alloc, grammar.terminals, &sets, &lists)?;
+    let equations = first_equations(alloc, grammar, nullable)?;
+    let rows = equations.solve(alloc)?;
+    let first = rows.to_vobs(alloc)?;
     Ok(first)
 }
 

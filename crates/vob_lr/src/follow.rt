@@ -3,7 +3,7 @@ ghost use Rattle.std.specs.Prelude.{◌≡◌, ◌≢◌, ◌↔◌, ◌⊎◌, 
 ghost use Rattle.vob_block.specs.Packing.{item};
 ghost use Rattle.vob.specs.Vobs.{AreOfLength, bits_of};
 ghost use Rattle.vob_lr.specs.Behind.{HasBehind, IsBehind, IsBelow, IsOfTrailer, IsStart};
-ghost use Rattle.vob_lr.specs.Equations.{AreEquations, GainEach, GainsSymbols, lists_of};
+ghost use Rattle.vob_lr.specs.Equations.{AreEquations, GainEach};
 ghost use Rattle.vob_lr.specs.Faults.{IsBadRule, IsRuleOf, MayRefuseRules};
 ghost use Rattle.vob_lr.specs.Grammar.{AreFirst, AreFollow, AreNullable};
 ghost use Rattle.vob_lr.specs.Heads.{HasPlace};
@@ -11,7 +11,7 @@ ghost use Rattle.vob_lr.specs.Passes.{IsNull};
 ghost use Rattle.vob_lr.specs.declared.grammar.Symbol.TheVariants.{Nonterminal};
 
 use crate::empty::{is_null, solve_nullable};
-use crate::equations::{empty_lists, empty_sets, solve};
+use crate::equations::Equations;
 use crate::first::solve_first;
 use crate::grammar::{Grammar, GrammarError, Rule, Symbol, check_rules};
 use std::alloc::{AllocError, Global};
@@ -59,46 +59,24 @@ pub(crate) fn put_before(
     vanishes && empty
 }
 
-/// Lets a set start with what can begin the symbols behind a nonterminal, and draw from the left
-/// side where they can become empty.
-pub(crate) fn add_trailer(
-    left: usize,
-    begins: &Vob,
-    empty: bool,
-    starts: &mut Vob,
-    from: &mut Vec<usize>,
-) -> Result<(), AllocError>
-    requires { length begins.now.bits ≡ length starts.old.bits }
-    ensures { OnOk result (GainsSymbols (IsOfTrailer left begins.now.bits empty)
-        starts.old.bits from.old.items starts.new.bits from.new.items) }
-{
-    starts.or(begins);
-    if !empty {
-        return Ok(());
-    }
-    from.push(left)?;
-    Ok(())
-}
-
-/// Does that for the set of a symbol, if it is a nonterminal.
+/// Lets the set of a symbol, if it is a nonterminal, start with what can begin the symbols behind it,
+/// and draw from the left side where they can become empty.
 fn add_behind(
     left: usize,
     symbol: &Symbol,
     begins: &Vob,
     empty: bool,
-    sets: &mut [Vob],
-    lists: &mut [Vec<usize>],
+    equations: &mut Equations,
 ) -> Result<(), AllocError>
-    requires lists { length lists.old ≡ length sets.old }
-    requires below { IsBelow (length sets.old) symbol.now }
-    requires long { AreOfLength (length begins.now.bits) (bits_of sets.old) }
+    requires below { IsBelow (length equations.old.starts) symbol.now }
+    requires long { length begins.now.bits ≡ equations.old.places }
     ensures { OnOk result (GainEach
         (λ a y. (symbol.now ≡ Nonterminal a) × IsOfTrailer left begins.now.bits empty y)
-        (bits_of sets.old) (lists_of lists.old) (bits_of sets.new) (lists_of lists.new)) }
+        equations.old equations.new) }
 {
     match symbol {
         Symbol::Terminal(_) => Ok(()),
-        Symbol::Nonterminal(a) => add_trailer(left, begins, empty, &mut sets[*a], &mut lists[*a]),
+        Symbol::Nonterminal(a) => equations.add_trailer(*a, begins, empty, left),
     }
 }
 
@@ -109,26 +87,24 @@ fn add_rule(
     first: &[Vob],
     rule: &Rule,
     begins: &mut Vob,
-    sets: &mut [Vob],
-    lists: &mut [Vec<usize>],
+    equations: &mut Equations,
 ) -> Result<(), AllocError>
     requires rule { IsRuleOf grammar.now rule.now }
     requires nullable { AreNullable grammar.now nullable.now.bits }
     requires first { AreFirst grammar.now (bits_of first.now) }
     requires begins { length begins.old.bits ≡ grammar.now.terminals }
-    requires sets { length sets.old ≡ grammar.now.nonterminals }
-    requires lists { length lists.old ≡ grammar.now.nonterminals }
-    requires long { AreOfLength grammar.now.terminals (bits_of sets.old) }
+    requires sets { length equations.old.starts ≡ grammar.now.nonterminals }
+    requires places { equations.old.places ≡ grammar.now.terminals }
     ensures begins { length begins.new.bits ≡ length begins.old.bits }
     ensures behind { OnOk result
         (GainEach (IsBehind grammar.now.rules.items rule.now.left rule.now.right.items)
-        (bits_of sets.old) (lists_of lists.old) (bits_of sets.new) (lists_of lists.new)) }
+        equations.old equations.new) }
 {
     begins.set_all(false);
     let mut empty = true;
     for back in 0..rule.right.len() {
         let symbol = &rule.right[rule.right.len() - 1 - back];
-        add_behind(rule.left, symbol, begins, empty, sets, lists)?;
+        add_behind(rule.left, symbol, begins, empty, equations)?;
         empty = put_before(nullable, first, symbol, begins, empty);
     }
     Ok(())
@@ -140,22 +116,20 @@ fn add_rules(
     nullable: &Vob,
     first: &[Vob],
     begins: &mut Vob,
-    sets: &mut [Vob],
-    lists: &mut [Vec<usize>],
+    equations: &mut Equations,
 ) -> Result<(), AllocError>
     requires rules { All (IsRuleOf grammar.now) grammar.now.rules.items }
     requires nullable { AreNullable grammar.now nullable.now.bits }
     requires first { AreFirst grammar.now (bits_of first.now) }
     requires begins { length begins.old.bits ≡ grammar.now.terminals }
-    requires sets { length sets.old ≡ grammar.now.nonterminals }
-    requires lists { length lists.old ≡ grammar.now.nonterminals }
-    requires long { AreOfLength grammar.now.terminals (bits_of sets.old) }
+    requires sets { length equations.old.starts ≡ grammar.now.nonterminals }
+    requires places { equations.old.places ≡ grammar.now.terminals }
     ensures { OnOk result
         (GainEach (HasBehind grammar.now.rules.items grammar.now.rules.items)
-        (bits_of sets.old) (lists_of lists.old) (bits_of sets.new) (lists_of lists.new)) }
+        equations.old equations.new) }
 {
     for rule in &grammar.rules {
-        add_rule(grammar, nullable, first, rule, begins, sets, lists)?;
+        add_rule(grammar, nullable, first, rule, begins, equations)?;
     }
     Ok(())
 }
@@ -166,19 +140,17 @@ fn follow_equations(
     grammar: &Grammar,
     nullable: &Vob,
     first: &[Vob],
-) -> Result<(Vec<Vob>, Vec<Vec<usize>>), AllocError>
+) -> Result<Equations, AllocError>
     requires rules { All (IsRuleOf grammar.now) grammar.now.rules.items }
     requires nullable { AreNullable grammar.now nullable.now.bits }
     requires first { AreFirst grammar.now (bits_of first.now) }
-    ensures { IfOk result (λ made. AreEquations grammar.now.nonterminals grammar.now.terminals
-        (HasBehind grammar.now.rules.items grammar.now.rules.items)
-        (bits_of made.0.items) (lists_of made.1.items)) }
+    ensures { IfOk result (AreEquations grammar.now.nonterminals grammar.now.terminals
+        (HasBehind grammar.now.rules.items grammar.now.rules.items)) }
 {
     let mut begins = Vob::from_elem(alloc, false, grammar.terminals)?;
-    let mut sets = empty_sets(alloc, grammar.terminals, grammar.nonterminals)?;
-    let mut lists = empty_lists(alloc, grammar.nonterminals)?;
-    add_rules(grammar, nullable, first, &mut begins, &mut sets, &mut lists)?;
-    Ok((sets, lists))
+    let mut equations = Equations::new(alloc, grammar.nonterminals, grammar.terminals)?;
+    add_rules(grammar, nullable, first, &mut begins, &mut equations)?;
+    Ok(equations)
 }
 
 /// Returns the follow sets of a grammar with sound rules. No nonterminals take no memory.
@@ -197,8 +169,9 @@ fn solve_follow(
     if grammar.nonterminals == 0 {
         return Ok(Vec::new(alloc));
     }
-    let (sets, lists) = follow_equations(alloc, grammar, nullable, first)?;
-    let follow = solve(alloc, grammar.terminals, &sets, &lists)?;
+    let equations = follow_equations(alloc, grammar, nullable, first)?;
+    let rows = equations.solve(alloc)?;
+    let follow = rows.to_vobs(alloc)?;
     Ok(follow)
 }
 

@@ -10,7 +10,6 @@ ghost use Rattle.vob_lr.specs.States.{AreStates};
 
 use crate::closure::expansion_equations;
 use crate::empty::solve_nullable;
-use crate::equations::solve;
 use crate::first::solve_first;
 use crate::flows::Flows;
 use crate::grammar::{Grammar, GrammarError, Symbol, check_rules};
@@ -19,7 +18,7 @@ use crate::nodes::{Nodes, offsets_of};
 use crate::state::{Automaton, find_move, states};
 use std::alloc::{AllocError, Global};
 use std::marker::Model;
-use vob::Vob;
+use vob_rows::{BitRows, Row};
 
 /// The states of a grammar, and for each item of each state its lookaheads: the terminals that may
 /// follow once it is complete. A contract sees the grammar, its states and their moves.
@@ -30,7 +29,7 @@ pub struct Lookaheads<'a> {
     // The number of the first node of each state.
     offsets: Vec<usize>,
     // A set for each node, with a bit for each terminal.
-    rows: Vec<Vob>,
+    rows: BitRows,
 }
 
 impl<'a> Model for Lookaheads<'a> {
@@ -43,7 +42,7 @@ impl<'a> Model for Lookaheads<'a> {
     ghost view = { λ a. machine_of a.items a.automaton };
 
     ghost invariant = { λ a.
-        AreFilled (machine_of a.items a.automaton) a.offsets.items (bits_of a.rows.items) };
+        AreFilled (machine_of a.items a.automaton) a.offsets.items a.rows.rows };
 }
 
 /// Returns the lookaheads of the nodes of a grammar with sound rules.
@@ -52,18 +51,18 @@ fn solve_lookaheads(
     items: &Items<'_>,
     automaton: &Automaton,
     nodes: &Nodes<'_>,
-) -> Result<Vec<Vob>, AllocError>
+) -> Result<BitRows, AllocError>
     requires rules { All (IsRuleOf items.now) items.now.rules.items }
     requires states { AreStates items.now.rules.items (bits_of automaton.now.sets.items)
         (rows_of automaton.now.moves.items) }
     requires nodes { nodes.now ≡ bits_of automaton.now.sets.items }
     ensures { IfOk result (λ rows.
-        HaveLookaheads (machine_of items.now automaton.now) (bits_of rows.items)) }
+        HaveLookaheads (machine_of items.now automaton.now) rows.rows) }
 {
     let grammar = items.grammar();
     let nullable = solve_nullable(alloc, grammar)?;
     let first = solve_first(alloc, grammar, &nullable)?;
-    let (opens, _) = expansion_equations(alloc, grammar, items)?;
+    let opens = expansion_equations(alloc, grammar, items)?;
     let flows = Flows {
         items,
         nullable: &nullable,
@@ -72,8 +71,8 @@ fn solve_lookaheads(
         nodes,
         moves: &automaton.moves,
     };
-    let (sets, lists) = flows.equations(alloc)?;
-    let rows = solve(alloc, grammar.terminals, &sets, &lists)?;
+    let equations = flows.equations(alloc)?;
+    let rows = equations.solve(alloc)?;
     Ok(rows)
 }
 
@@ -133,8 +132,8 @@ impl<'a> Lookaheads<'a> {
 
     /// Returns the lookaheads of an item of a state, with a bit for each terminal, or `None` if the
     /// state doesn't have the item.
-    pub fn of(&self, state: usize, item: usize) -> Option<&Vob>
-        ensures some { IfSome result (λ set. AreLookaheads self.now state item set.now.bits) }
+    pub fn of(&self, state: usize, item: usize) -> Option<Row<'_>>
+        ensures some { IfSome result (λ set. AreLookaheads self.now state item set) }
         ensures none { IfNone result (¬ IsIn self.now.sets state item) }
     {
         let set = self.automaton.sets.get(state)?;
@@ -145,7 +144,7 @@ impl<'a> Lookaheads<'a> {
             sets: &self.automaton.sets,
             offsets: &self.offsets,
         };
-        Some(&self.rows[nodes.number(state, item)])
+        Some(self.rows.row(nodes.number(state, item)))
     }
 
     /// Returns whether a parser may reduce by a rule in a state if a terminal is ahead: whether it is

@@ -1,22 +1,14 @@
--- Sets that were empty have what opens rules.
-use Rattle.std.proofs.Common.{◌∙◌, ap, length, sym}
-use Rattle.std.proofs.lemmas.List.{with_items_is}
-use Rattle.vob_lr.proofs.ClosureLemmas.{AreEquations-opened}
+-- Sets that had nothing have what opens rules.
+use Rattle.std.proofs.Common.{◌∙◌, length, refl}
+use Rattle.vob_lr.specs.Expansions.{Expands}
+use Rattle.vob_lr.proofs.ClosureLemmas.{HasOpening-all}
+use Rattle.vob_lr.proofs.EquationLemmas.{AreEquations-gained, GainEach-as}
 use Rattle.vob_lr.proofs.closure.expansion_equations.Goals as goal
 
 pub returns : goal.returns
 returns c =
-    let sets = with_items_is c.in_ok-sets.sets c.open_rules.new.sets
-    (c.open_rules.auto.sets ∙ ap length c.deref_mut.ensures.value ∙ sym c.in_ok-sets.sets.ok.0) in
-    let lists = with_items_is c.in_ok-lists.lists c.open_rules.new.lists
-    (c.open_rules.auto.lists ∙ ap length c.deref_mut-2.ensures.value
-    ∙ sym c.in_ok-lists.lists.ok.0) in
-    rw (sets, lists) (AreEquations-opened _ _ _ _ _
-    (rw (
-      c.deref_mut.ensures.value,
-      c.deref_mut-2.ensures.value,
-      c.in_ok-sets.ensures,
-      c.in_ok-lists.ensures,
-      c.len.ensures,
-      c.requires.items,
-    ) at c.in_ok-open_rules.ensures))
+    let rules = c.args.grammar.now.rules.items in
+    let made = c.in_ok-equations.ensures in
+    let len = rw c.requires.items at c.len.ensures in
+    AreEquations-gained _ _ (rw len at made.starts) (made.places ∙ len) made.edges
+    (GainEach-as (Expands rules) c.in_ok-open_rules.ensures (HasOpening-all rules (length rules) refl))

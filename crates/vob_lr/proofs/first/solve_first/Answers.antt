@@ -3,6 +3,7 @@ use Rattle.vob_lr.proofs.FirstLemmas.{AreFirst-solved}
 use Rattle.vob_lr.proofs.first.solve_first.Goals as goal
 
 pub returns-clause-first : goal.returns-clause-first
-returns-clause-first c = AreFirst-solved _ _ c.requires.nullable _ _ _ c.in_ok-sets.ensures
-    (rw c.deref.ensures.value at c.in_ok-first.ensures.shape)
-    (rw (c.deref.ensures.value, c.deref-2.ensures.value) at c.in_ok-first.ensures.solved)
+returns-clause-first c =
+    let rows = c.in_ok-rows.ensures in
+    rw c.in_ok-first.ensures.vobs
+    (AreFirst-solved _ _ c.requires.nullable _ c.in_ok-equations.ensures rows.count rows.long rows.solved)

@@ -15,7 +15,7 @@ loop-back-init c =
     rw none record {
       len = c.set_all.ensures.each.len;
       trailer = rw c.set_all.ensures.bits (IsTrailer-nothing rules _);
-      behind = GainEach-none (IsBehind rules c.args.rule.now.left []) _ _ (λ n x h. h);
+      behind = GainEach-none (IsBehind rules c.args.rule.now.left []) _ (λ n x h. h);
     }
 
 pub loop-back-preserved : goal.loop-back-preserved
@@ -33,7 +33,7 @@ loop-back-preserved c =
           (bits_of c.args.first.now) c.requires.nullable c.requires.first x
           (drop (length right - back) right) _ _ _ _ trailer c.put_before-empty.ensures.each
           c.put_before-empty.ensures.empty;
-      behind = GainEach-both _ _ _ _ _ _ _ _ _ c.in_ok-add_behind.ensures
+      behind = GainEach-both _ c.in_ok-add_behind.ensures
           c.loop-back.invariant.behind
           (behind_more rules c.args.rule.now.left x (drop (length right - back) right) _ _ trailer);
     }

@@ -1,8 +1,7 @@
 -- The last symbols gave what stands behind nonterminals among them.
 use Rattle.std.proofs.Common.{◌≡◌, ◌-◌, drop, length}
-use Rattle.vob.specs.Vobs.{bits_of}
 use Rattle.vob_lr.specs.Behind.{IsBehind, IsTrailer}
-use Rattle.vob_lr.specs.Equations.{GainEach, lists_of}
+use Rattle.vob_lr.specs.Equations.{GainEach}
 use Rattle.vob_lr.proofs.follow.add_rule.Given as goal
 
 abbrev pub invariant-loop-back : goal.invariant-loop-back
@@ -13,5 +12,5 @@ invariant-loop-back l =
       len : length l.begins.bits ≡ length l.fn.begins.bits;
       trailer : IsTrailer l.grammar.rules.items last l.begins.bits l.empty;
       behind : GainEach (IsBehind l.grammar.rules.items l.rule.left last)
-          (bits_of l.fn.sets) (lists_of l.fn.lists) (bits_of l.sets) (lists_of l.lists);
+          l.fn.equations l.equations;
     }

@@ -4,6 +4,7 @@ use Rattle.vob_lr.proofs.FollowLemmas.{AreFollow-solved}
 use Rattle.vob_lr.proofs.follow.solve_follow.Goals as goal
 
 pub returns-clause-follow : goal.returns-clause-follow
-returns-clause-follow c = AreFollow-solved _ _ _ _ c.in_ok-sets.ensures
-    (rw c.deref.ensures.value at c.in_ok-follow.ensures.shape)
-    (rw (c.deref.ensures.value, c.deref-2.ensures.value) at c.in_ok-follow.ensures.solved)
+returns-clause-follow c =
+    let rows = c.in_ok-rows.ensures in
+    rw c.in_ok-follow.ensures.vobs
+    (AreFollow-solved _ _ c.in_ok-equations.ensures rows.count rows.long rows.solved)

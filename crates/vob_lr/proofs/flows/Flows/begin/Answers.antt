@@ -23,7 +23,7 @@ loop-back-preserved c =
     let m = c.args.self.now in
     let own = c.self.inside in
     let h = subst (λ (z : Machine). HasTables z c.self.inside.nullable.now.bits
-    (bits_of c.self.inside.first.now) (bits_of c.self.inside.opens.now)) c.self.view_is
+    (bits_of c.self.inside.first.now) c.self.inside.opens.now.starts) c.self.view_is
     c.self.invariant in
     let right = c.args.rule.now.right.items in
     let back = c.loop-back.back in

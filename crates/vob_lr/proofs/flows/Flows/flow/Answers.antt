@@ -3,18 +3,18 @@ use Rattle.std.proofs.Common.{ap, inl, inr, subst, sym}
 use Rattle.std.proofs.lemmas.Option.{none-some}
 use Rattle.std.proofs.lemmas.Result.{on_ok_weaker}
 use Rattle.vob.specs.Vobs.{bits_of}
-use Rattle.vob_lr.specs.Flows.{FlowsFrom, HasTables, IsKept, IsOpened}
+use Rattle.vob_lr.specs.Flows.{FlowsFrom, HasTables}
 use Rattle.vob_lr.specs.Items.{HasNext, item_total}
 use Rattle.vob_lr.specs.Lookaheads.{Machine}
 use Rattle.vob_lr.specs.declared.grammar.Symbol.{Symbol}
-use Rattle.vob_lr.proofs.EquationLemmas.{GainEach-both, GainEach-none, shape_long}
-use Rattle.vob_lr.proofs.FlowLemmas.{GainEach-as, flows_kept, flows_nowhere, state_inside}
+use Rattle.vob_lr.proofs.EquationLemmas.{GainEach-as, GainEach-both, GainEach-none}
+use Rattle.vob_lr.proofs.FlowLemmas.{flows_kept, flows_nowhere, state_inside}
 use Rattle.vob_lr.proofs.flows.Flows.flow.Goals as goal
 
 pub next-requires : goal.next-requires
 next-requires c =
     let h = subst (λ (z : Machine). HasTables z c.self.inside.nullable.now.bits
-    (bits_of c.self.inside.first.now) (bits_of c.self.inside.opens.now)) c.self.view_is
+    (bits_of c.self.inside.first.now) c.self.inside.opens.now.starts) c.self.view_is
     c.self.invariant in
     rw (ap (λ (m : Machine). item_total m.grammar.rules.items) c.self.view_is)
     (state_inside _ _ _ _ h c.args.state c.args.number c.requires.item)
@@ -22,9 +22,9 @@ next-requires c =
 pub returns-in-None-clause-flows : goal.returns-in-None-clause-flows
 returns-in-None-clause-flows c =
     let h = subst (λ (z : Machine). HasTables z c.self.inside.nullable.now.bits
-    (bits_of c.self.inside.first.now) (bits_of c.self.inside.opens.now)) c.self.view_is
+    (bits_of c.self.inside.first.now) c.self.inside.opens.now.starts) c.self.view_is
     c.self.invariant in
-    GainEach-none _ _ _ (flows_nowhere _ _ _ _ h c.args.state c.args.number
+    GainEach-none _ _ (flows_nowhere _ _ _ _ h c.args.state c.args.number
     (λ x next. none-some x ((c.in-None.ensures x).1
     (subst (λ (z : Machine). HasNext z.grammar.rules.items c.args.number x) (sym c.self.view_is) next))))
 
@@ -35,11 +35,6 @@ open-requires-clause-next c =
     c.self.view_is ((c.next.ensures c.in-Some.symbol).0 c.in-Some.is) in
     subst (λ (x : Symbol). HasNext c.args.self.now.grammar.rules.items j x) c.in-Nonterminal.is ahead
 
-pub open-requires-clause-long : goal.open-requires-clause-long
-open-requires-clause-long c =
-    shape_long c.args.self.now.grammar.terminals (bits_of c.args.sets.now) _
-    c.in_ok-keep.ensures.shape c.requires.long
-
 pub returns-in-Terminal-clause-flows : goal.returns-in-Terminal-clause-flows
 returns-in-Terminal-clause-flows c =
     let m = c.args.self.now in
@@ -48,11 +43,10 @@ returns-in-Terminal-clause-flows c =
     let ahead = subst (λ (z : Machine). HasNext z.grammar.rules.items j c.in-Some.symbol)
     c.self.view_is ((c.next.ensures c.in-Some.symbol).0 c.in-Some.is) in
     let h = subst (λ (z : Machine). HasTables z c.self.inside.nullable.now.bits
-    (bits_of c.self.inside.first.now) (bits_of c.self.inside.opens.now)) c.self.view_is
+    (bits_of c.self.inside.first.now) c.self.inside.opens.now.starts) c.self.view_is
     c.self.invariant in
     let next = subst (λ (x : Symbol). HasNext m.grammar.rules.items j x) c.in-Terminal.is ahead in
-    GainEach-as (IsKept m q j) (FlowsFrom m q j) (flows_kept m _ _ _ h q j _ next) _ _ _ _
-    c.in_ok-keep.ensures
+    GainEach-as (FlowsFrom m q j) c.in_ok-keep.ensures (flows_kept m _ _ _ h q j _ next)
 
 pub returns-in-Nonterminal-clause-flows : goal.returns-in-Nonterminal-clause-flows
 returns-in-Nonterminal-clause-flows c =
@@ -60,8 +54,7 @@ returns-in-Nonterminal-clause-flows c =
     let q = c.args.state in
     let j = c.args.number in
     on_ok_weaker c.open.result (λ made.
-    GainEach-both (IsKept m q j) (IsOpened m q j) (FlowsFrom m q j) _ _ _ _ _ _ made
-    c.in_ok-keep.ensures (λ n y. (
+    GainEach-both (FlowsFrom m q j) made c.in_ok-keep.ensures (λ n y. (
       (λ a. elim a [ inl kept ↦ inr kept | inr opened ↦ inl opened ]),
       (λ a. elim a [ inl opened ↦ inr opened | inr kept ↦ inl kept ]),
     ))) c.open.ensures.opened

@@ -1,7 +1,6 @@
 -- The states so far flow.
 use Rattle.std.proofs.Common.{◌≡◌, length}
-use Rattle.vob.specs.Vobs.{bits_of}
-use Rattle.vob_lr.specs.Equations.{GainEach, lists_of}
+use Rattle.vob_lr.specs.Equations.{GainEach}
 use Rattle.vob_lr.specs.Flows.{FlowsOf}
 use Rattle.vob_lr.specs.Walked.{IsOfFirst}
 use Rattle.vob_lr.proofs.flows.Flows.flow_all.Given as goal
@@ -10,5 +9,5 @@ abbrev pub invariant-loop-state : goal.invariant-loop-state
 invariant-loop-state l = record {
   len : length l.begins.bits ≡ length l.fn.begins.bits;
   flows : GainEach (IsOfFirst l.state (λ q n y. FlowsOf l.self q n y))
-      (bits_of l.fn.sets) (lists_of l.fn.lists) (bits_of l.sets) (lists_of l.lists);
+      l.fn.equations l.equations;
 }

@@ -1,7 +1,5 @@
 -- The items so far flow.
 use Rattle.std.proofs.Common.{◌≡◌, [], length, slice_index_or}
-use Rattle.vob.specs.Vobs.{bits_of}
-use Rattle.vob_lr.specs.Equations.{lists_of}
 use Rattle.vob_lr.specs.Flows.{FlowsFrom}
 use Rattle.vob_lr.specs.Walked.{GainWalked}
 use Rattle.vob_lr.proofs.flows.Flows.flow_state.Given as goal
@@ -12,6 +10,5 @@ invariant-loop-number l = record {
   is_finite : (goal.iterator-loop-number).is_finite l.number-iterator;
   len : length l.begins.bits ≡ length l.fn.begins.bits;
   walked : GainWalked (FlowsFrom l.self l.state) (slice_index_or l.self.sets l.state [])
-      l.number-iterator.rest (bits_of l.fn.sets) (lists_of l.fn.lists) (bits_of l.sets)
-      (lists_of l.lists);
+      l.number-iterator.rest l.fn.equations l.equations;
 }

@@ -1,6 +1,5 @@
 -- The moves so far keep the lookaheads.
-use Rattle.vob.specs.Vobs.{bits_of}
-use Rattle.vob_lr.specs.Equations.{GainEach, lists_of}
+use Rattle.vob_lr.specs.Equations.{GainEach}
 use Rattle.vob_lr.specs.Flows.{IsKeptAt}
 use Rattle.vob_lr.specs.Walked.{IsOfFirst}
 use Rattle.vob_lr.proofs.flows.Flows.keep.Given as goal
@@ -8,4 +7,4 @@ use Rattle.vob_lr.proofs.flows.Flows.keep.Given as goal
 abbrev pub invariant-loop-step : goal.invariant-loop-step
 invariant-loop-step l =
     GainEach (IsOfFirst l.step (IsKeptAt l.self l.state l.number l.symbol))
-    (bits_of l.fn.sets) (lists_of l.fn.lists) (bits_of l.sets) (lists_of l.lists)
+    l.fn.equations l.equations

@@ -1,12 +1,10 @@
 -- What an item brings is opened.
-use Rattle.std.proofs.Common.{◌≡◌, ◌↔◌, ◌+◌, ◌<◌, ◌∙◌, ℕ, Bool, List, [], ap, arith, drop, get_or, length, subst, sym}
-use Rattle.std.proofs.lemmas.List.{get_or-map, length-map}
+use Rattle.std.proofs.Common.{◌≡◌, ◌↔◌, ◌+◌, ◌∙◌, ℕ, Bool, List, ap, arith, drop, get_or, length, subst, sym}
 use Rattle.std.proofs.lemmas.Option.{get_or_from_slice_get, slice_get_within}
 use Rattle.std.proofs.lemmas.Result.{on_ok_weaker}
-use Rattle.vob.specs.Vob.{BitVector}
 use Rattle.vob.specs.Vobs.{bits_of}
 use Rattle.vob_lr.specs.Behind.{IsOfTrailer, IsTrailer}
-use Rattle.vob_lr.specs.Equations.{GainEach, lists_of}
+use Rattle.vob_lr.specs.Equations.{GainEach}
 use Rattle.vob_lr.specs.Flows.{HasTables, IsOpened}
 use Rattle.vob_lr.specs.Walked.{IsOfMember}
 use Rattle.vob_lr.specs.ItemSets.{Has, Opens}
@@ -16,15 +14,16 @@ use Rattle.vob_lr.specs.Nodes.{node}
 use Rattle.vob_lr.specs.declared.grammar.Grammar.{Grammar}
 use Rattle.vob_lr.specs.declared.grammar.Rule.{Rule}
 use Rattle.vob_lr.specs.declared.grammar.Symbol.TheVariants.{Nonterminal}
+use Rattle.vob_lr.proofs.EquationLemmas.{GainEach-as}
 use Rattle.vob_lr.proofs.FirstLemmas.{rule_read}
 use Rattle.vob_lr.proofs.MemberLemmas.{member_closed}
-use Rattle.vob_lr.proofs.FlowLemmas.{GainEach-as, next_dot, next_then, opened_is, state_inside, symbol_there}
+use Rattle.vob_lr.proofs.FlowLemmas.{next_dot, next_then, opened_is, state_inside, symbol_there}
 use Rattle.vob_lr.proofs.flows.Flows.open.Goals as goal
 
 pub item-item-requires : goal.item-item-requires
 item-item-requires c =
     let h = subst (λ (z : Machine). HasTables z c.self.inside.nullable.now.bits
-    (bits_of c.self.inside.first.now) (bits_of c.self.inside.opens.now)) c.self.view_is
+    (bits_of c.self.inside.first.now) c.self.inside.opens.now.starts) c.self.view_is
     c.self.invariant in
     rw (ap (λ (m : Machine). item_total m.grammar.rules.items) c.self.view_is)
     (state_inside _ _ _ _ h c.args.state c.args.number c.requires.item)
@@ -39,7 +38,7 @@ index-rule-requires c =
 pub begin-empty-requires-clause-rule : goal.begin-empty-requires-clause-rule
 begin-empty-requires-clause-rule c =
     let h = subst (λ (z : Machine). HasTables z c.self.inside.nullable.now.bits
-    (bits_of c.self.inside.first.now) (bits_of c.self.inside.opens.now)) c.self.view_is
+    (bits_of c.self.inside.first.now) c.self.inside.opens.now.starts) c.self.view_is
     c.self.invariant in
     let g = c.args.self.now.grammar in
     let is = c.item-item.ensures in
@@ -67,37 +66,22 @@ begin-empty-requires-clause-dot c =
       ap (λ (r : Rule). length r.right.items) read,
     )
 
-pub bounds-opens-nonterminal : goal.bounds-opens-nonterminal
-bounds-opens-nonterminal c =
+pub starts-opened-requires : goal.starts-opened-requires
+starts-opened-requires c =
     let h = subst (λ (z : Machine). HasTables z c.self.inside.nullable.now.bits
-    (bits_of c.self.inside.first.now) (bits_of c.self.inside.opens.now)) c.self.view_is
+    (bits_of c.self.inside.first.now) c.self.inside.opens.now.starts) c.self.view_is
     c.self.invariant in
     let there = symbol_there _ _ _ _ h c.args.number (Nonterminal c.args.nonterminal)
     c.requires.next in
-    omega (
-      arith,
-      there,
-      h.openings.count,
-      length-map c.self.inside.opens.now (λ (v : BitVector). v.bits),
-    )
+    omega (arith, there, h.openings.count)
 
 pub open_items-requires-clause-opened : goal.open_items-requires-clause-opened
 open_items-requires-clause-opened c = λ i own.
     let h = subst (λ (z : Machine). HasTables z c.self.inside.nullable.now.bits
-    (bits_of c.self.inside.first.now) (bits_of c.self.inside.opens.now)) c.self.view_is
+    (bits_of c.self.inside.first.now) c.self.inside.opens.now.starts) c.self.view_is
     c.self.invariant in
-    let opens = c.self.inside.opens.now in
     let a = c.args.nonterminal in
-    let low : a < length opens =
-    omega (
-      arith,
-      symbol_there _ _ _ _ h c.args.number (Nonterminal a) c.requires.next,
-      h.openings.count,
-      length-map opens (λ (v : BitVector). v.bits),
-    ) in
-    let row = get_or-map (λ (v : BitVector). v.bits) opens a c.index-opens-nonterminal.result [] low
-    ∙ ap (λ (v : BitVector). v.bits) (sym c.index-opens-nonterminal.is) in
-    let there = subst (λ (bits : List Bool). Has bits i) (sym row) own in
+    let there = subst (λ (bits : List Bool). Has bits i) c.starts-opened.ensures own in
     member_closed c.args.self.now h.states c.args.state c.args.number a i c.requires.item c.requires.next
     ((h.openings.each a i).0 there)
 
@@ -108,25 +92,15 @@ returns-clause-opened c =
     let q = c.args.state in
     let j = c.args.number in
     let a = c.args.nonterminal in
-    let opens = c.self.inside.opens.now in
     let item = c.item-item.result in
-    let row = c.index-opens-nonterminal.result.bits in
+    let row = c.starts-opened.result in
     let starts = c.begin-empty.new.begins.bits in
     let empty = c.begin-empty.result in
     let h = subst (λ (z : Machine). HasTables z c.self.inside.nullable.now.bits
-    (bits_of c.self.inside.first.now) (bits_of c.self.inside.opens.now)) c.self.view_is
+    (bits_of c.self.inside.first.now) c.self.inside.opens.now.starts) c.self.view_is
     c.self.invariant in
-    let low : a < length opens =
-    omega (
-      arith,
-      symbol_there _ _ _ _ h j (Nonterminal a) c.requires.next,
-      h.openings.count,
-      length-map opens (λ (v : BitVector). v.bits),
-    ) in
-    let same = get_or-map (λ (v : BitVector). v.bits) opens a c.index-opens-nonterminal.result [] low
-    ∙ ap (λ (v : BitVector). v.bits) (sym c.index-opens-nonterminal.is) in
-    let brought = subst (λ (bits : List Bool). (i : ℕ) → Has bits i ↔ Opens rules a i) same
-    (h.openings.each a) in
+    let brought = subst (λ (bits : List Bool). (i : ℕ) → Has bits i ↔ Opens rules a i)
+    (sym c.starts-opened.ensures) (h.openings.each a) in
     let is = subst (λ (z : Machine). IsItem z.grammar.rules.items j item) c.self.view_is
     c.item-item.ensures in
     let here = c.grammar.ensures ∙ ap (λ (z : Machine). z.grammar) c.self.view_is in
@@ -137,11 +111,9 @@ returns-clause-opened c =
     read c.begin-empty.ensures.trailer in
     let from = c.number-from.ensures.number ∙ ap (λ (z : Machine). node z.sets q j) c.self.view_is in
     on_ok_weaker c.open_items.result (λ made.
-    GainEach-as (IsOfMember row (λ i n y. (node m.sets q i ≡ n)
-    × IsOfTrailer (node m.sets q j) starts empty y)) (IsOpened m q j)
-    (opened_is m _ _ _ h q j a (drop (item.dot + 1) is.rule.right.items) row starts empty
-    (next_then rules j a item is c.requires.next) brought trailer) _ _ _ _
+    GainEach-as (IsOpened m q j)
     (subst (λ (k : ℕ). GainEach (IsOfMember row (λ i n y. (node m.sets q i ≡ n)
-    × IsOfTrailer k starts empty y)) (bits_of c.args.sets.now) (lists_of c.args.lists.now)
-    (bits_of c.open_items.new.sets) (lists_of c.open_items.new.lists)) from made))
+    × IsOfTrailer k starts empty y)) c.args.equations.now c.open_items.new.equations) from made)
+    (opened_is m _ _ _ h q j a (drop (item.dot + 1) is.rule.right.items) row starts empty
+    (next_then rules j a item is c.requires.next) brought trailer))
     c.open_items.ensures

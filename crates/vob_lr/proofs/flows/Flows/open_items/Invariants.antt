@@ -1,8 +1,6 @@
 -- The items so far start with the terminals, and draw from the node.
 use Rattle.std.proofs.Common.{◌≡◌}
-use Rattle.vob.specs.Vobs.{bits_of}
 use Rattle.vob_lr.specs.Behind.{IsOfTrailer}
-use Rattle.vob_lr.specs.Equations.{lists_of}
 use Rattle.vob_lr.specs.Walked.{GainWalked}
 use Rattle.vob_lr.specs.Nodes.{node}
 use Rattle.vob_lr.proofs.flows.Flows.open_items.Given as goal
@@ -13,6 +11,5 @@ invariant-loop-item l = record {
   is_finite : (goal.iterator-loop-item).is_finite l.item-iterator;
   walked : GainWalked
       (λ i n y. (node l.self.sets l.state i ≡ n) × IsOfTrailer l.from l.begins.bits l.empty y)
-      l.opened.bits l.item-iterator.rest (bits_of l.fn.sets) (lists_of l.fn.lists)
-      (bits_of l.sets) (lists_of l.lists);
+      l.opened l.item-iterator.rest l.fn.equations l.equations;
 }
