@@ -6,13 +6,13 @@ use Rattle.std.proofs.lemmas.List.{length-set, get_or-set_same, get_or-set_other
 use Rattle.vob_block.specs.Packing.{item}
 use Rattle.vob_block.specs.Pointwise.{pointwise, without}
 use Rattle.vob.specs.Bits.{GainsBits}
-use Rattle.vob.specs.Vobs.{total_count}
 use Rattle.vob.proofs.BitsLemmas.{AreCombined-pointwise, and_true, or_true, without_true}
 use Rattle.vob_block.proofs.PointwiseLemmas.{length-pointwise}
 use Rattle.vob.proofs.VobsLemmas.{any_next, total_count_set}
 use Rattle.vob_flow.specs.declared.draw.Masks.{Masks}
-use Rattle.vob_flow.specs.Draws.{FitMasks, IsIn}
-use Rattle.vob_flow.specs.Gains.{HasGained, HasNews, IsLetThrough, IsNews, IsSomeNews}
+use Rattle.vob_flow.specs.Draws.{FitMasks, IsIn, IsInSome}
+use Rattle.vob_flow.specs.Gains.{HasGained, IsDrawnOf, IsLetThrough}
+use Rattle.vob_flow.proofs.GrowLemmas.{grew_either, grew_neither}
 use Rattle.vob_flow.proofs.UnderwayLemmas.{HaveShape-refl, HaveShape-trans}
 
 -- masks fit as many sets with as many places
@@ -100,83 +100,47 @@ HasGained-none sets n P has = record {
   more = λ e. absurd (false≢true e);
 }
 
--- those of a set that has news
-pub HasGained-news : {sets after : List (List Bool)} {n : ℕ} (first : Bool) (grown : List Bool)
-    (mask : ℕ → Bool) (m : ℕ) {grew : Bool} → HasNews first grown m
-    → HasGained sets n (IsLetThrough sets mask m) after grew
-    → HasGained sets n (IsNews sets first grown mask m) after grew
-HasGained-news first grown mask m news h = record {
-  shape = h.shape;
-  here = λ v. (
-    (λ e. elim ((h.here v).0 e) [ inl old ↦ inl old | inr new ↦ inr (news, new) ]),
-    (λ either. (h.here v).1 (elim either [ inl old ↦ inl old | inr new ↦ inr new.1 ])),
-  );
-  others = h.others;
-  same = h.same;
-  more = h.more;
-}
-
-grew_either : (a b : Bool) {sets mid after : List (List Bool)}
-    → (a ≡ true → total_count sets < total_count mid) → (a ≡ false → mid ≡ sets)
-    → (b ≡ true → total_count mid < total_count after) → (b ≡ false → after ≡ mid)
-    → (a || b) ≡ true → total_count sets < total_count after
-grew_either true true up same more still e = omega (arith, up refl, more refl)
-grew_either true false up same more still e = omega (arith, up refl, ap total_count (still refl))
-grew_either false true up same more still e = omega (arith, more refl, ap total_count (same refl))
-grew_either false false up same more still e = absurd (false≢true e)
-
-grew_neither : (a b : Bool) {sets mid after : List (List Bool)} → (a ≡ false → mid ≡ sets)
-    → (b ≡ false → after ≡ mid) → (a || b) ≡ false → after ≡ sets
-grew_neither true b same still e = absurd (false≢true (sym e))
-grew_neither false b same still e = still e ∙ same refl
-
 -- and those of one set more
-module _ {sets mid after : List (List Bool)} (n : ℕ) (first : Bool) (grown : List Bool)
-    (mask : ℕ → Bool) (from : List ℕ) (k m : ℕ) {a b : Bool} (less : k < length from)
-    (is : m ≡ get_or from k m)
-    (h : HasGained sets n (IsSomeNews sets first grown mask (take k from)) mid a)
-    (d : HasGained mid n (IsNews mid first grown mask m) after b) where
-  next : (v : ℕ) → IsSomeNews sets first grown mask (take (k + 1) from) v
-      ↔ (IsSomeNews sets first grown mask (take k from) v ⊎ IsNews sets first grown mask m v)
-  next v = any_next (λ j. IsNews sets first grown mask j v) from k m less is
+module _ {sets mid after : List (List Bool)} (n : ℕ) (mask : ℕ → Bool) (from : List ℕ) (k m : ℕ)
+    {a b : Bool} (less : k < length from) (is : m ≡ get_or from k m)
+    (h : HasGained sets n (IsDrawnOf sets mask (take k from)) mid a)
+    (d : HasGained mid n (IsLetThrough mid mask m) after b) where
+  next : (v : ℕ) → IsInSome sets (take (k + 1) from) v ↔ (IsInSome sets (take k from) v ⊎ IsIn sets m v)
+  next v = any_next (λ j. IsIn sets j v) from k m less is
 
-  had : (v : ℕ) → IsIn mid n v
-      → IsIn sets n v ⊎ IsSomeNews sets first grown mask (take (k + 1) from) v
+  had : (v : ℕ) → IsIn mid n v → IsIn sets n v ⊎ IsDrawnOf sets mask (take (k + 1) from) v
   had v e = elim ((h.here v).0 e) [
     | inl start ↦ inl start
-    | inr drawn ↦ inr ((next v).1 (inl drawn))
+    | inr drawn ↦ inr (drawn.0, (next v).1 (inl drawn.1))
   ]
 
-  has : (v : ℕ) → IsIn after n v
-      → IsIn sets n v ⊎ IsSomeNews sets first grown mask (take (k + 1) from) v
+  has : (v : ℕ) → IsIn after n v → IsIn sets n v ⊎ IsDrawnOf sets mask (take (k + 1) from) v
   has v e = elim ((d.here v).0 e) [
     | inl old ↦ had v old
     | inr new ↦ elim (cases_eq m n) [
-      | inl own ↦ had v (subst (λ j. IsIn mid j v) own new.1.1)
-      | inr other ↦ inr ((next v).1
-          (inr (new.0, (new.1.0, sym (ap (λ bs. item bs v) (h.others m other)) ∙ new.1.1))))
+      | inl own ↦ had v (subst (λ j. IsIn mid j v) own new.1)
+      | inr other ↦
+          inr (new.0, (next v).1 (inr (sym (ap (λ bs. item bs v) (h.others m other)) ∙ new.1)))
     ]
   ]
 
   stays : (v : ℕ) → IsIn sets n v → IsIn after n v
   stays v e = (d.here v).1 (inl ((h.here v).1 (inl e)))
 
-  gets : (v : ℕ) → IsIn sets n v ⊎ IsSomeNews sets first grown mask (take (k + 1) from) v
-      → IsIn after n v
+  gets : (v : ℕ) → IsIn sets n v ⊎ IsDrawnOf sets mask (take (k + 1) from) v → IsIn after n v
   gets v either = elim either [
     | inl start ↦ stays v start
-    | inr drawn ↦ elim ((next v).0 drawn) [
-      | inl old ↦ (d.here v).1 (inl ((h.here v).1 (inr old)))
+    | inr drawn ↦ elim ((next v).0 drawn.1) [
+      | inl old ↦ (d.here v).1 (inl ((h.here v).1 (inr (drawn.0, old))))
       | inr new ↦ elim (cases_eq m n) [
-        | inl own ↦ stays v (subst (λ j. IsIn sets j v) own new.1.1)
-        | inr other ↦ (d.here v).1
-            (inr (new.0, (new.1.0, ap (λ bs. item bs v) (h.others m other) ∙ new.1.1)))
+        | inl own ↦ stays v (subst (λ j. IsIn sets j v) own new)
+        | inr other ↦
+            (d.here v).1 (inr (drawn.0, ap (λ bs. item bs v) (h.others m other) ∙ new))
       ]
     ]
   ]
 
-  pub HasGained-more : HasGained sets n
-      (IsSomeNews sets first grown mask (take (k + 1) from)) after (a || b)
+  pub HasGained-more : HasGained sets n (IsDrawnOf sets mask (take (k + 1) from)) after (a || b)
   HasGained-more = record {
     shape = HaveShape-trans h.shape d.shape;
     here = λ v. (has v, gets v);

@@ -10,6 +10,7 @@ pub mod FirstLemmas
 mod FlowLemmas
 mod GatherLemmas
 mod GreatestLemmas
+mod GrowLemmas
 mod LawLemmas
 mod LiveLemmas
 mod LosingLemmas
@@ -17,5 +18,6 @@ mod OrderLemmas
 mod PassLemmas
 mod ReachLemmas
 mod ReachingLemmas
+mod ScheduleLemmas
 mod TurnsLemmas
 mod UnderwayLemmas

@@ -1,20 +1,22 @@
 -- The turns of a pass, one after another.
-use Rattle.std.proofs.Common.{◌≡◌, ◌≢◌, ◌↔◌, ℕ, ◌+◌, ◌*◌, ◌^◌, ◌-◌, ◌<◌, ◌≤◌, Bool, true, false, inl, inr}
+use Rattle.std.proofs.Common.{◌≡◌, ◌↔◌, ◌⊎◌, ℕ, zero, suc, ◌+◌, ◌*◌, ◌^◌, ◌-◌, ◌<◌, ◌≤◌, ◌||◌, Bool, true, false, inl, inr}
 use Rattle.std.proofs.Common.{List, [], length, get_or, refl, sym, ap, subst, ◌∙◌, arith}
 use Rattle.std.proofs.Common.{mul-le-mul_left}
-use Rattle.std.proofs.lemmas.Bool.{cases_eq, false≢true, false_from_ne_true}
+use Rattle.std.proofs.lemmas.Bool.{cases_eq, cases_lt, false≢true, false_from_ne_true}
 use Rattle.std.proofs.lemmas.List.{get_or_default}
 use Rattle.vob_block.specs.Packing.{item}
-use Rattle.vob.specs.Sets.{HasBit}
+use Rattle.vob.specs.Bits.{IsWritten}
 use Rattle.vob.specs.Vobs.{AreOfLength, total_count}
-use Rattle.vob_block.proofs.PackingLemmas.{true_inside}
 use Rattle.vob.proofs.VobsLemmas.{of_length_at, total_count_at_most}
 use Rattle.vob_flow.specs.Draws.{HaveShape, IsTurn}
 use Rattle.vob_flow.specs.Turns.{IsOrder, TakeTurns}
 use Rattle.vob_flow.specs.Turns.TakeTurns.{no_turn, one_more}
-use Rattle.vob_flow.specs.Gains.{HadTurn, HasGained}
-use Rattle.vob_flow.specs.Passes.{AreMore, HadPass, HadTurns}
-use Rattle.vob_flow.proofs.UnderwayLemmas.{HaveShape-refl, HaveShape-trans, AreUnderway-turn, AreUnderway-again, IsTurn-underway, place_inside, place_other}
+use Rattle.vob_flow.specs.Gains.{HadLook, HasGained}
+use Rattle.vob_flow.specs.Passes.{AreMore, AreUnderway, HadTurns}
+use Rattle.vob_flow.specs.Schedules.{ArePlaces, place_of}
+use Rattle.vob_flow.proofs.ScheduleLemmas.{place_apart}
+use Rattle.vob_flow.proofs.GrowLemmas.{grew_either, grew_neither, neither}
+use Rattle.vob_flow.proofs.UnderwayLemmas.{HaveShape-refl, HaveShape-trans, AreUnderway-look, IsTurn-look, IsTurn-skipped}
 
 -- ---- as many sets, as long as before
 
@@ -60,94 +62,90 @@ product_fits n places few small =
     let at_most : n ≤ 2 ^ 64 - 1 = omega arith in
     omega (arith, mul-le-mul_left places at_most)
 
--- ---- a turn
+-- ---- turns
 
-module _ {count : ℕ} {order : List ℕ} (one : IsOrder count order) {next : List (List ℕ)}
-    {mask : ℕ → ℕ → Bool} {first : Bool} {sets : List (List Bool)} {grown : List Bool}
-    {mid : List (List Bool)} {grown_mid : List Bool} {i n : ℕ} {after : List (List Bool)}
-    {grown' : List Bool} (h : HadTurns one.place order next mask first sets grown mid grown_mid i)
-    (few : length next ≡ count) (bits : length grown ≡ count) (less : i < length order)
-    (named : get_or order i 0 ≡ n) (t : HadTurn next mask mid grown_mid n first after grown') where
-  here : one.place n ≡ i
-  here = ap one.place (sym named) ∙ one.places i less
+-- a bit that was set, and the others
+pub written_true : {bits after : List Bool} (n p : ℕ) → IsWritten bits n true after →
+    (item after p ≡ true) ↔ ((item bits p ≡ true) ⊎ (n ≡ p))
+written_true {bits} {after} n p w = elim (cases_eq p n) [
+  | inl here ↦ ((λ e. inr (sym here)), (λ a. ap (item after) here ∙ w.there))
+  | inr other ↦ (
+    (λ e. inl (sym (w.others p other) ∙ e)),
+    (λ a. elim a [
+      | inl old ↦ w.others p other ∙ old
+      | inr same ↦ absurd (other (sym same))
+    ]),
+  )
+]
 
-  apart : (k : ℕ) → k < count → k ≢ n → one.place k ≢ i
-  apart k inside other = place_other one k inside i n named other
-
-  turns_more : AreMore mid after → (t.grew ≡ true → total_count mid < total_count after) →
-      (m : ℕ) → one.place m < i + 1 → item grown' m ≡ true →
-      total_count sets < total_count after
-  turns_more le more m low on = elim (cases_eq m n) [
-    | inl same ↦
-        let up : t.grew ≡ true = sym t.written.there ∙ sym (ap (item grown') same) ∙ on in
-        omega (arith, h.sets_more.total, more up)
-    | inr other ↦
-        let inside : m < count =
-        omega (arith, true_inside grown' m on, t.written.len, h.len, bits) in
-        let away = apart m inside other in
-        let below : one.place m < i = omega arith in
-        omega (arith, le.total, h.more m below (sym (t.written.others m other) ∙ on))
-  ]
-
-  -- if none grew, no set changed
-  turns_same : (t.grew ≡ false → after ≡ mid) →
-      ((m : ℕ) → one.place m < i + 1 → item grown' m ≡ false) → after ≡ sets
-  turns_same same none =
-      same (sym t.written.there ∙ none n (omega (arith, here)))
-      ∙ h.same (λ m low. sym (t.written.others m (λ e. omega (arith, ap one.place e, here, low)))
-      ∙ none m (omega (arith, low)))
-
-  pub HadTurns-more : HadTurns one.place order next mask first sets grown after grown' (i + 1)
-  HadTurns-more = record {
-    sets_more = AreMore-trans h.sets_more (AreMore-gained t.drawn);
-    len = t.written.len ∙ h.len;
-    underway = λ starts u. AreUnderway-turn (h.underway starts u) here
-        (λ k inside. apart k (omega (arith, inside, few))) t.drawn t.written;
-    turns = λ starts u. one_more (h.turns starts u)
-        (subst (λ k. IsTurn next mask k mid after) (sym named)
-        (IsTurn-underway (h.underway starts u) here
-        (λ k inside. apart k (omega (arith, inside, few))) t.drawn t.written));
-    more = turns_more (AreMore-gained t.drawn) t.drawn.more;
-    same = turns_same t.drawn.same;
+module _ {next : List (List ℕ)} {mask : ℕ → ℕ → Bool} {order places : List ℕ}
+    {sets mid : List (List Bool)} {pending pending_mid : List Bool} {a : Bool} {i : ℕ}
+    (one : IsOrder (length next) order) (at_places : ArePlaces (length next) order places)
+    (h : HadTurns (place_of places) order next mask sets pending mid pending_mid a i) where
+  -- one set more was looked at
+  pub HadTurns-look : {after : List (List Bool)} {pending' : List Bool} {b : Bool} →
+      HadLook next mask order places mid pending_mid i after pending' b →
+      HadTurns (place_of places) order next mask sets pending after pending' (a || b) (i + 1)
+  HadTurns-look {after} {pending'} {b} l = record {
+    sets_more = AreMore-trans h.sets_more (AreMore-gained l.drawn);
+    len = l.len ∙ h.len;
+    underway = λ starts u.
+        AreUnderway-look (h.underway starts u) l.drawn pending' (place_apart one at_places i) l.kept l.users;
+    turns = λ starts u. one_more (h.turns starts u) (IsTurn-look l.drawn);
+    more = grew_either a b h.more h.same l.drawn.more l.drawn.same;
+    same = grew_neither a b h.same l.drawn.same;
+    quiet = λ none p low. false_from_ne_true (item pending' p) (λ on.
+        let both = neither a b none in
+        let own = l.quiet both.1 p on in
+        let below : p < i = omega (arith, low, own.0) in
+        false≢true (sym (h.quiet both.0 p below) ∙ own.1));
   }
 
+  -- some that don't wait were not
+  skipped : (starts : List (List Bool)) →
+      AreUnderway (place_of places) next mask starts sets pending → (d : ℕ) → i + d ≤ length order →
+      ((p : ℕ) → i ≤ p → p < i + d → item pending_mid p ≡ false) →
+      TakeTurns (IsTurn next mask) order sets (i + d) mid
+  skipped starts u zero fits off =
+      let same : i ≡ i + 0 = omega arith in
+      subst (λ k. TakeTurns (IsTurn next mask) order sets k mid) same (h.turns starts u)
+  skipped starts u (suc d) fits off =
+      let before = skipped starts u d (omega (arith, fits)) (λ p past low. off p past (omega (arith, low))) in
+      let place = at_places.named (i + d) (omega (arith, fits)) in
+      let quiet = ap (item pending_mid) place ∙ off (i + d) (omega arith) (omega arith) in
+      let same : i + d + 1 ≡ i + suc d = omega arith in
+      subst (λ k. TakeTurns (IsTurn next mask) order sets k mid) same
+      (one_more before (IsTurn-skipped (get_or order (i + d) 0) (h.underway starts u) quiet))
+
+  pub HadTurns-skipped : (j : ℕ) → i ≤ j → j ≤ length order →
+      ((p : ℕ) → i ≤ p → p < j → item pending_mid p ≡ false) →
+      HadTurns (place_of places) order next mask sets pending mid pending_mid a j
+  HadTurns-skipped j past fits off =
+      let same : i + (j - i) ≡ j = omega (arith, past) in
+      record {
+        sets_more = h.sets_more;
+        len = h.len;
+        underway = h.underway;
+        turns = λ starts u. subst (λ k. TakeTurns (IsTurn next mask) order sets k mid) same
+            (skipped starts u (j - i) (omega (arith, fits, same))
+            (λ p above low. off p above (omega (arith, low, same))));
+        more = h.more;
+        same = h.same;
+        quiet = λ none p low. elim (cases_lt p i) [
+          | inl below ↦ h.quiet none p below
+          | inr above ↦ off p (omega (arith, above)) low
+        ];
+      }
+
 pub HadTurns-start : (place : ℕ → ℕ) (order : List ℕ) (next : List (List ℕ)) (mask : ℕ → ℕ → Bool)
-    (first : Bool) (sets : List (List Bool)) (grown : List Bool) →
-    HadTurns place order next mask first sets grown sets grown 0
-HadTurns-start place order next mask first sets grown = record {
+    (sets : List (List Bool)) (pending : List Bool) →
+    HadTurns place order next mask sets pending sets pending false 0
+HadTurns-start place order next mask sets pending = record {
   sets_more = AreMore-refl sets;
   len = refl;
   underway = λ starts u. u;
   turns = λ starts u. no_turn;
-  more = λ m less. absurd (omega (arith, less));
+  more = λ up. absurd (false≢true up);
   same = λ none. refl;
+  quiet = λ none p low. absurd (omega (arith, low));
 }
-
--- ---- a pass
-
-pub HadPass-whole : {count : ℕ} {order : List ℕ} (one : IsOrder count order) {next : List (List ℕ)}
-    {mask : ℕ → ℕ → Bool} {first : Bool} {sets : List (List Bool)} {grown : List Bool}
-    {after : List (List Bool)} {grown' : List Bool} {i : ℕ} (any : Bool) →
-    HadTurns one.place order next mask first sets grown after grown' i → i ≡ length order →
-    length next ≡ count → length grown ≡ count → ((any ≡ true) ↔ HasBit true grown') →
-    HadPass one.place order next mask first sets grown after grown' any
-HadPass-whole {count} {order} one {next} {mask} {first} {sets} {grown} {after} {grown'} {i} any h past few
-    bits answer =
-    let inside : (k : ℕ) → k < count → one.place k < i =
-    λ k less. omega (arith, place_inside one k less, past) in
-    let none : any ≡ false → (m : ℕ) → item grown' m ≡ false =
-    λ quiet m. false_from_ne_true (item grown' m) (λ on.
-    false≢true (sym quiet ∙ answer.1 (m, true_inside grown' m on, on))) in
-    record {
-      sets_more = h.sets_more;
-      len = h.len;
-      underway = λ starts u. AreUnderway-again (h.underway starts u)
-          (λ k less. inside k (omega (arith, less, few)));
-      turns = λ starts u. subst (λ k. TakeTurns (IsTurn next mask) order sets k after) past
-          (h.turns starts u);
-      more = λ up.
-          let there = answer.0 up in
-          h.more there.0 (inside there.0 (omega (arith, there.1, h.len, bits))) there.2;
-      none = none;
-      same = λ quiet. h.same (λ m low. none quiet m);
-    }

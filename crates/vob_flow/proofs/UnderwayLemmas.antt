@@ -1,17 +1,16 @@
 -- Sets on the way to the least ones, turn after turn.
-use Rattle.std.proofs.Common.{◌≡◌, ◌≢◌, ℕ, ◌+◌, ◌<◌, ◌⊎◌, Bool, true, false, inl, inr}
+use Rattle.std.proofs.Common.{◌≡◌, ◌≢◌, ℕ, ◌<◌, ◌⊎◌, Bool, true, false, inl, inr}
 use Rattle.std.proofs.Common.{List, [], length, get_or, Some, slice_get, refl, sym, ap, ◌∙◌, subst, arith}
 use Rattle.std.specs.List.{Contains}
-use Rattle.std.proofs.lemmas.Bool.{cases_eq, cases_lt, cases_Bool, false≢true}
+use Rattle.std.proofs.lemmas.Bool.{cases_eq, cases_Bool, false≢true}
 use Rattle.std.proofs.lemmas.List.{get_or_default}
 use Rattle.std.proofs.lemmas.Option.{same_Some}
 use Rattle.vob_block.specs.Packing.{item}
-use Rattle.vob.specs.Bits.{IsWritten}
 use Rattle.vob_flow.specs.Draws.{IsIn, IsDrawn, IsTurn, Comes, HaveShape, AreLeast}
 use Rattle.vob_flow.specs.Draws.Comes.{starts_in, drawn}
 use Rattle.vob_flow.specs.Turns.{IsOrder}
-use Rattle.vob_flow.specs.Gains.{HasGained, HasNews, IsNews, IsSomeNews}
-use Rattle.vob_flow.specs.Passes.{HasAllOf, IsSince, IsWaiting, AreUnderway}
+use Rattle.vob_flow.specs.Gains.{HasGained}
+use Rattle.vob_flow.specs.Passes.{HasAllOf, AreUnderway}
 use Rattle.vob_flow.proofs.AnyLemmas.{Any-contained, edge_inside}
 
 -- an element is one element
@@ -50,14 +49,12 @@ module _ {count : ℕ} {order : List ℕ} (one : IsOrder count order) (k : ℕ) 
   pub place_other : (i n : ℕ) → get_or order i 0 ≡ n → k ≢ n → one.place k ≢ i
   place_other i n is other there = other (sym at_place ∙ ap (λ j. get_or order j 0) there ∙ is)
 
--- ---- a turn
+-- ---- a look
 
 module _ {place : ℕ → ℕ} {next : List (List ℕ)} {mask : ℕ → ℕ → Bool}
-    {starts sets after : List (List Bool)} {first : Bool} {grown grown' : List Bool} {i n : ℕ}
-    {grew : Bool} (h : AreUnderway place next mask starts sets first grown i)
-    (here : place n ≡ i) (apart : (k : ℕ) → k < length next → k ≢ n → place k ≢ i)
-    (d : HasGained sets n (IsSomeNews sets first grown (mask n) (get_or next n [])) after grew)
-    (w : IsWritten grown n grew grown') where
+    {starts sets after : List (List Bool)} {pending : List Bool} {n : ℕ} {grew : Bool}
+    (h : AreUnderway place next mask starts sets pending)
+    (d : HasGained sets n (IsDrawn next mask sets n) after grew) where
   -- v in set k, which isn't set n
   other_in : (k v : ℕ) → k ≢ n → IsIn after k v → IsIn sets k v
   other_in k v other e = sym (ap (λ row. item row v) (d.others k other)) ∙ e
@@ -73,8 +70,8 @@ module _ {place : ℕ → ℕ} {next : List (List ℕ)} {mask : ℕ → ℕ → 
   comes_here v e = elim ((d.here v).0 e) [
     | inl old ↦ h.comes n v old
     | inr new ↦
-        let of = new.4 in
-        drawn of.1.0 (new.0, new.2, new.3) (h.comes new.1 v of.1.1)
+        let of = new.1 in
+        drawn new.0 (of.0, of.2, of.3) (h.comes of.1 v of.4)
   ]
 
   comes_after : (k v : ℕ) → IsIn after k v → Comes next mask starts k v
@@ -84,101 +81,29 @@ module _ {place : ℕ → ℕ} {next : List (List ℕ)} {mask : ℕ → ℕ → 
     | inr other ↦ h.comes k v (other_in k v other e)
   ]
 
-  -- a set that it waits for has news
-  news_of : (m : ℕ) → IsWaiting place first grown i (place n) m → HasNews first grown m
-  news_of m which = elim which [ inl f ↦ inl f.0 | inr since ↦ inr since.1 ]
-
-  -- the set whose turn it was has all that it draws
+  -- the set that was looked at has all that it draws
   done_here : (m : ℕ) → Contains (get_or next n []) m → HasAllOf after n (mask n) m
   done_here m within v through = elim (cases_eq m n) [
     | inl own ↦ subst (λ j. IsIn after j v) own through.1
-    | inr other ↦
-        elim (h.waits n m within) [
-          | inl done ↦ (d.here v).1 (inl (done v (through.0, other_in m v other through.1)))
-          | inr waiting ↦ (d.here v).1 (inr (Any-contained
-              (λ j. IsNews sets first grown (mask n) j v) (get_or next n []) m within
-              (news_of m waiting, (through.0, other_in m v other through.1))))
-        ]
+    | inr other ↦ (d.here v).1 (inr (
+      through.0,
+      Any-contained (λ j. IsIn sets j v) (get_or next n []) m
+          within (other_in m v other through.1),
+    ))
   ]
 
-  -- what it draws without news it has, so it had its turn
-  pub IsTurn-underway : IsTurn next mask n sets after
-  IsTurn-underway = record {
-    shape = d.shape;
-    here = λ v. (
-      (λ e. elim ((d.here v).0 e) [
-        | inl old ↦ inl old
-        | inr new ↦
-            let of = new.4 in
-            inr (of.1.0, (new.0, new.1, new.2, new.3, of.1.1))
-      ]),
-      (λ either. elim either [
-        | inl old ↦ kept_in n v old
-        | inr new ↦
-            let of = new.1 in
-            done_here of.1 (of.0, of.2, of.3) v (new.0, kept_in of.1 v of.4)
-      ]),
-    );
-    others = d.others;
-  }
-
-  -- another one that had all of set m has so still, or is to draw from it
-  module _ (k m : ℕ) (within : Contains (get_or next k []) m) (other : k ≢ n) where
-    away : place k ≢ i
-    away = apart k (edge_inside next k m within) other
-
-    since_other : IsSince i (place k) (place m) → m ≢ n
-    since_other s e =
-        let same : place m ≡ i = ap place e ∙ here in
-        elim (cases_lt (place k) i) [
-          | inl less ↦ absurd (omega (arith, (s.early less).1, same))
-          | inr past ↦ elim (s.late past) [
-            | inl less ↦ absurd (omega (arith, less, same))
-            | inr below ↦ absurd (away (omega (arith, past, below, same)))
-          ]
-        ]
-
-    since_next : IsSince i (place k) (place m) → IsSince (i + 1) (place k) (place m)
-    since_next s = record {
-      early = λ less.
-          let below : place k < i = elim (cases_lt (place k) i) [
-            | inl low ↦ low
-            | inr past ↦ absurd (away (omega (arith, less, past)))
-          ] in
-          let p = s.early below in (p.0, omega (arith, p.1));
-      late = λ past. elim (s.late (omega (arith, past))) [
-        | inl less ↦ inl (omega (arith, less))
-        | inr below ↦ inr below
-      ];
-    }
-
-    still_waiting : IsWaiting place first grown i (place k) m →
-        IsWaiting place first grown' (i + 1) (place k) m
-    still_waiting which = elim which [
-      | inl f ↦ inl (
-        f.0,
-        elim (cases_lt i (place k)) [
-          | inl less ↦ omega (arith, less)
-          | inr past ↦ absurd (away (omega (arith, past, f.1)))
-        ],
-      )
-      | inr since ↦ inr (since_next since.0, w.others m (since_other since.0) ∙ since.1)
-    ]
-
-    since_here : m ≡ n → IsSince (i + 1) (place k) (place m)
-    since_here same =
-        let at_i : place m ≡ i = ap place same ∙ here in
-        record {
-          early = λ less. (omega (arith, less, at_i), omega (arith, at_i));
-          late = λ past. inl (omega (arith, at_i));
-        }
-
-    -- set n is set m, or it isn't
-    done_or : HasAllOf sets k (mask k) m →
-        HasAllOf after k (mask k) m ⊎ IsWaiting place first grown' (i + 1) (place k) m
-    done_or done = elim (cases_eq m n) [
+  -- another one waits still, and where that set grew, each that draws from it
+  module _ (pending' : List Bool) {i : ℕ} (apart : (k : ℕ) → k < length next → k ≢ n → place k ≢ i)
+      (kept : (p : ℕ) → p ≢ i → item pending p ≡ true → item pending' p ≡ true)
+      (users : grew ≡ true → (k : ℕ) → Contains (get_or next k []) n → item pending' (place k) ≡ true) where
+    waits_other : (k m : ℕ) → Contains (get_or next k []) m → k ≢ n →
+        HasAllOf sets k (mask k) m ⊎ (item pending (place k) ≡ true) →
+        HasAllOf after k (mask k) m ⊎ (item pending' (place k) ≡ true)
+    waits_other k m within other (inr on) =
+        inr (kept (place k) (apart k (edge_inside next k m within) other) on)
+    waits_other k m within other (inl done) = elim (cases_eq m n) [
       | inl same ↦ elim (cases_Bool grew) [
-        | inl up ↦ inr (inr (since_here same, ap (item grown') same ∙ w.there ∙ up))
+        | inl up ↦ inr (users up k (subst (λ j. Contains (get_or next k []) j) same within))
         | inr quiet ↦ inl (subst (λ (xs : List (List Bool)). HasAllOf xs k (mask k) m)
             (sym (d.same quiet)) done)
       ]
@@ -186,86 +111,77 @@ module _ {place : ℕ → ℕ} {next : List (List ℕ)} {mask : ℕ → ℕ → 
           kept_in k v (done v (through.0, other_in m v apart_m through.1)))
     ]
 
-    pub waits_other : HasAllOf sets k (mask k) m ⊎ IsWaiting place first grown i (place k) m →
-        HasAllOf after k (mask k) m ⊎ IsWaiting place first grown' (i + 1) (place k) m
-    waits_other which = elim which [
-      | inl done ↦ done_or done
-      | inr waiting ↦ inr (still_waiting waiting)
+    waits_after : (k m : ℕ) → Contains (get_or next k []) m →
+        HasAllOf after k (mask k) m ⊎ (item pending' (place k) ≡ true)
+    waits_after k m within = elim (cases_eq k n) [
+      | inl same ↦
+          let done = done_here m (subst (λ j. Contains (get_or next j []) m) same within) in
+          inl (subst (λ j. HasAllOf after j (mask j) m) (sym same) done)
+      | inr other ↦ waits_other k m within other (h.waits k m within)
     ]
 
-  waits_after : (k m : ℕ) → Contains (get_or next k []) m →
-      HasAllOf after k (mask k) m ⊎ IsWaiting place first grown' (i + 1) (place k) m
-  waits_after k m within = elim (cases_eq k n) [
-    | inl same ↦
-        let done = done_here m (subst (λ j. Contains (get_or next j []) m) same within) in
-        inl (subst (λ j. HasAllOf after j (mask j) m) (sym same) done)
-    | inr other ↦ waits_other k m within other (h.waits k m within)
-  ]
+    pub AreUnderway-look : AreUnderway place next mask starts after pending'
+    AreUnderway-look = record {
+      shape = HaveShape-trans h.shape d.shape;
+      kept = λ m v e. kept_in m v (h.kept m v e);
+      comes = comes_after;
+      waits = waits_after;
+    }
 
-  pub AreUnderway-turn : AreUnderway place next mask starts after first grown' (i + 1)
-  AreUnderway-turn = record {
-    shape = HaveShape-trans h.shape d.shape;
-    kept = λ m v e. kept_in m v (h.kept m v e);
-    comes = comes_after;
-    waits = waits_after;
-  }
+-- a look is a turn
+pub IsTurn-look : {next : List (List ℕ)} {mask : ℕ → ℕ → Bool} {sets after : List (List Bool)} {n : ℕ}
+    {grew : Bool} → HasGained sets n (IsDrawn next mask sets n) after grew → IsTurn next mask n sets after
+IsTurn-look d = record { shape = d.shape; here = d.here; others = d.others }
+
+-- and so is none at a set that doesn't wait
+pub IsTurn-skipped : {place : ℕ → ℕ} {next : List (List ℕ)} {mask : ℕ → ℕ → Bool}
+    {starts sets : List (List Bool)} {pending : List Bool} (n : ℕ) →
+    AreUnderway place next mask starts sets pending → item pending (place n) ≡ false →
+    IsTurn next mask n sets sets
+IsTurn-skipped {sets = sets} n h off = record {
+  shape = HaveShape-refl sets;
+  here = λ v. (
+    (λ e. inl e),
+    (λ either. elim either [
+      | inl old ↦ old
+      | inr new ↦
+          let of = new.1 in
+          elim (h.waits n of.1 (of.0, of.2, of.3)) [
+            | inl done ↦ done v (new.0, of.4)
+            | inr on ↦ absurd (false≢true (sym off ∙ on))
+          ]
+    ]),
+  );
+  others = λ k other. refl;
+}
 
 -- ---- a pass
 
+-- at first all wait
 pub AreUnderway-start : (place : ℕ → ℕ) (next : List (List ℕ)) (mask : ℕ → ℕ → Bool)
-    (starts : List (List Bool)) (grown : List Bool) →
-    AreUnderway place next mask starts starts true grown 0
-AreUnderway-start place next mask starts grown = record {
+    (starts : List (List Bool)) (pending : List Bool) →
+    ((k : ℕ) → k < length next → item pending (place k) ≡ true) →
+    AreUnderway place next mask starts starts pending
+AreUnderway-start place next mask starts pending all = record {
   shape = HaveShape-refl starts;
   kept = λ n v e. e;
   comes = λ n v e. starts_in e;
-  waits = λ k m within. inr (inl (refl, omega arith));
+  waits = λ k m within. inr (all k (edge_inside next k m within));
 }
 
--- after the last turn of a pass, another one begins
-pub AreUnderway-again : {place : ℕ → ℕ} {next : List (List ℕ)} {mask : ℕ → ℕ → Bool}
-    {starts sets : List (List Bool)} {first : Bool} {grown : List Bool} {i : ℕ} →
-    AreUnderway place next mask starts sets first grown i →
-    ((k : ℕ) → k < length next → place k < i) →
-    AreUnderway place next mask starts sets false grown 0
-AreUnderway-again {place} {next} {mask} {starts} {sets} {first} {grown} {i} h past = record {
-  shape = h.shape;
-  kept = h.kept;
-  comes = h.comes;
-  waits = λ k m within.
-      let inside = past k (edge_inside next k m within) in
-      elim (h.waits k m within) [
-        | inl done ↦ inl done
-        | inr waiting ↦ elim waiting [
-          | inl f ↦ absurd (omega (arith, f.1, inside))
-          | inr since ↦ inr (inr (
-            record {
-              early = λ less. absurd (omega (arith, less));
-              late = λ _. inr (since.0.early inside).0;
-            },
-            since.1,
-          ))
-        ]
-      ];
-}
-
--- no set grew in a pass: all are done
+-- none waits: all are done
 pub AreUnderway-done : {place : ℕ → ℕ} {next : List (List ℕ)} {mask : ℕ → ℕ → Bool}
-    {starts sets : List (List Bool)} {grown : List Bool} →
-    AreUnderway place next mask starts sets false grown 0 →
-    ((m : ℕ) → item grown m ≡ false) →
+    {starts sets : List (List Bool)} {pending : List Bool} →
+    AreUnderway place next mask starts sets pending →
+    ((k : ℕ) → k < length next → item pending (place k) ≡ false) →
     (k m : ℕ) → Contains (get_or next k []) m → HasAllOf sets k (mask k) m
-AreUnderway-done {grown = grown} h none k m within = elim (h.waits k m within) [
+AreUnderway-done {next = next} h none k m within = elim (h.waits k m within) [
   | inl done ↦ done
-  | inr waiting ↦ elim waiting [
-    | inl f ↦ absurd (false≢true f.0)
-    | inr since ↦ absurd (false≢true (sym (none m) ∙ since.1))
-  ]
+  | inr on ↦ absurd (false≢true (sym (none k (edge_inside next k m within)) ∙ on))
 ]
 
 module _ {place : ℕ → ℕ} {next : List (List ℕ)} {mask : ℕ → ℕ → Bool} {starts sets : List (List Bool)}
-    {first : Bool} {grown : List Bool} {i : ℕ}
-    (h : AreUnderway place next mask starts sets first grown i)
+    {pending : List Bool} (h : AreUnderway place next mask starts sets pending)
     (done : (k m : ℕ) → Contains (get_or next k []) m → HasAllOf sets k (mask k) m) where
   all_in : {n v : ℕ} → Comes next mask starts n v → IsIn sets n v
   all_in (starts_in e) = h.kept _ _ e

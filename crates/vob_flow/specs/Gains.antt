@@ -1,9 +1,9 @@
 -- A set that gains places from others. No public clause cites this page.
-use Rattle.std.specs.Prelude.{◌≡◌, ◌≢◌, ◌↔◌, ◌⊎◌, ℕ, ◌<◌, Bool, true, false, List, [], slice_index_or, Any}
+use Rattle.std.specs.Prelude.{◌≡◌, ◌≢◌, ◌↔◌, ◌⊎◌, ℕ, ◌<◌, Bool, true, false, List, [], length, slice_index_or, Contains}
 use Rattle.vob_block.specs.Packing.{item}
-use Rattle.vob.specs.Bits.{IsWritten}
 use Rattle.vob.specs.Vobs.{total_count}
-use Rattle.vob_flow.specs.Draws.{IsIn, HaveShape}
+use Rattle.vob_flow.specs.Draws.{HaveShape, IsDrawn, IsIn, IsInSome}
+use Rattle.vob_flow.specs.Schedules.{place_of}
 
 -- a mask lets v through of set m
 abbrev pub IsLetThrough : List (List Bool) → (ℕ → Bool) → ℕ → ℕ → Type 0
@@ -18,23 +18,19 @@ pub record HasGained (sets : List (List Bool)) (n : ℕ) (P : ℕ → Type 0) (a
   pub same : grew ≡ false → after ≡ sets
   pub more : grew ≡ true → total_count sets < total_count after
 
--- a set has news for those that draw from it: in the first pass, or as it grew
-abbrev pub HasNews : Bool → List Bool → ℕ → Type 0
-HasNews first grown m = (first ≡ true) ⊎ (item grown m ≡ true)
+-- a mask lets v through, which is in one of some sets
+abbrev pub IsDrawnOf : List (List Bool) → (ℕ → Bool) → List ℕ → ℕ → Type 0
+IsDrawnOf sets mask from v = (mask v ≡ true) × IsInSome sets from v
 
--- a set has news, and a mask lets v through of it
-abbrev pub IsNews : List (List Bool) → Bool → List Bool → (ℕ → Bool) → ℕ → ℕ → Type 0
-IsNews sets first grown mask m v = HasNews first grown m × IsLetThrough sets mask m v
-
--- one of some sets does
-abbrev pub IsSomeNews : List (List Bool) → Bool → List Bool → (ℕ → Bool) → List ℕ → ℕ → Type 0
-IsSomeNews sets first grown mask from v = Any (λ m. IsNews sets first grown mask m v) from
-
--- set n had its turn: it got what it draws from those sets that have news
-pub record HadTurn (next : List (List ℕ)) (mask : ℕ → ℕ → Bool) (sets : List (List Bool))
-    (grown : List Bool) (n : ℕ) (first : Bool) (after : List (List Bool)) (grown' : List Bool)
-    : Type 0 where
-  pub grew : Bool
-  pub written : IsWritten grown n grew grown'
-  pub drawn : HasGained sets n (IsSomeNews sets first grown (mask n) (slice_index_or next n [])) after
-      grew
+-- the set at a place was looked at: it got what it draws and waits no more, and if that was more,
+-- those that draw from it wait
+pub record HadLook (next : List (List ℕ)) (mask : ℕ → ℕ → Bool) (order places : List ℕ)
+    (sets : List (List Bool)) (pending : List Bool) (at : ℕ) (after : List (List Bool))
+    (pending' : List Bool) (grew : Bool) : Type 0 where
+  pub drawn : HasGained sets (slice_index_or order at 0)
+      (IsDrawn next mask sets (slice_index_or order at 0)) after grew
+  pub len : length pending' ≡ length pending
+  pub kept : (p : ℕ) → p ≢ at → item pending p ≡ true → item pending' p ≡ true
+  pub users : grew ≡ true → (k : ℕ) → Contains (slice_index_or next k []) (slice_index_or order at 0)
+      → item pending' (place_of places k) ≡ true
+  pub quiet : grew ≡ false → (p : ℕ) → item pending' p ≡ true → (p ≢ at) × (item pending p ≡ true)

@@ -15,5 +15,6 @@ pub mod Order
 pub mod Passes
 pub mod Reach
 pub mod Reaching
+pub mod Schedules
 pub mod SolveFaults
 pub mod Turns

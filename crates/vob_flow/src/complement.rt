@@ -9,8 +9,8 @@ ghost use Rattle.vob_flow.specs.SolveFaults.{MayRefuseSets};
 
 use crate::draw::Masks;
 use crate::faults::{SolveError, check_masks};
-use crate::order::postorder;
 use crate::passes::settle;
+use crate::schedule::schedule_of;
 use std::alloc::{AllocError, Global};
 use vob::Vob;
 use vob_rows::{BitRows, Graph};
@@ -111,10 +111,10 @@ pub(crate) fn solve_beside(
     if count == 0 {
         return Ok(0);
     }
-    let order = postorder(alloc, graph)?;
-    let mut grown = Vob::from_elem(alloc, false, count)?;
+    let schedule = schedule_of(alloc, graph)?;
+    let mut pending = Vob::from_elem(alloc, true, schedule.order.len())?;
     turn_starts(sets, masks, entry);
-    let passes = settle(sets, graph, Masks::Without(starts), &order, &mut grown);
+    let passes = settle(sets, graph, &schedule, Masks::Without(starts), &mut pending);
     negate_each(sets);
     Ok(passes)
 }

@@ -15,6 +15,7 @@ mod passes;
 mod paths;
 pub mod raises;
 mod reaching;
+mod schedule;
 mod solver;
 
 pub use available::{available_expressions, very_busy_expressions};

@@ -1,27 +1,20 @@
-//! Passes over sets that draw from one another. A pass looks again only at those sets that grew since
-//! they were looked at.
-ghost use Rattle.std.specs.Prelude.{◌≡◌, ◌↔◌, ◌<◌, List, length, All, IsTrue, ℕ};
+//! Passes over sets that draw from one another. A set is looked at again only once one that it draws
+//! from grew.
+ghost use Rattle.std.specs.Prelude.{◌≡◌, ◌↔◌, ◌⊎◌, ◌<◌, ℕ, true, length, replicate, slice_index_or, All, Any};
+ghost use Rattle.vob_block.specs.Packing.{item};
 ghost use Rattle.vob_flow.specs.Draws.{AreLeast, FitMasks, TakePasses, mask_of};
-ghost use Rattle.vob_flow.specs.Gains.{HadTurn, HasGained, HasNews, IsLetThrough, IsNews, IsSomeNews};
-ghost use Rattle.vob_flow.specs.Passes.{HadPass};
-ghost use Rattle.vob_flow.specs.Turns.{IsOrder};
+ghost use Rattle.vob_flow.specs.Gains.{HadLook, HasGained, IsDrawnOf, IsLetThrough};
+ghost use Rattle.vob_flow.specs.Passes.{HadTurns};
+ghost use Rattle.vob_flow.specs.Schedules.{IsSchedule, place_of};
 
 use crate::draw::Masks;
+use crate::schedule::Schedule;
 use vob::Vob;
 use vob_rows::{BitRows, Graph};
 
 /// Adds to a set what its mask lets through of another of them, and returns whether that was more.
-/// `_grown` and `_first` say by `news` alone that no set is looked at for nothing.
 #[inline(always)]
-fn add_from(
-    sets: &mut BitRows,
-    set: usize,
-    source: usize,
-    masks: Masks<'_>,
-    _grown: &Vob,
-    _first: bool,
-) -> bool
-    requires news { HasNews _first _grown.now.bits source }
+fn add_from(sets: &mut BitRows, set: usize, source: usize, masks: Masks<'_>) -> bool
     requires set { set < length sets.old.rows }
     requires source { source < length sets.old.rows }
     requires masks { FitMasks (length sets.old.rows) sets.old.columns masks }
@@ -38,125 +31,103 @@ fn add_from(
     }
 }
 
-/// Whether a set has news for those that draw from it: in the first pass, or as it grew.
-#[inline(always)]
-fn has_news(source: usize, grown: &Vob, first: bool) -> bool
-    requires { source < length grown.now.bits }
-    ensures { IsTrue result ↔ HasNews first grown.now.bits source }
-{
-    first || grown.get_unchecked(source)
-}
-
-/// Adds to a set what its mask lets through of another of them, if that has news, and returns whether
-/// that was more.
-#[inline(always)]
-fn add_news(
-    sets: &mut BitRows,
-    set: usize,
-    source: usize,
-    masks: Masks<'_>,
-    grown: &Vob,
-    first: bool,
-) -> bool
-    requires set { set < length sets.old.rows }
-    requires source { source < length sets.old.rows }
-    requires masks { FitMasks (length sets.old.rows) sets.old.columns masks }
-    requires grown { length grown.now.bits ≡ length sets.old.rows }
-    ensures gained { HasGained sets.old.rows set
-        (IsNews sets.old.rows first grown.now.bits (mask_of masks.entry set) source) sets.new.rows result }
-    ensures columns { sets.new.columns ≡ sets.old.columns }
-{
-    if has_news(source, grown, first) {
-        add_from(sets, set, source, masks, grown, first)
-    } else {
-        false
-    }
-}
-
-/// Adds to a set what it draws from those of some sets that have news, and returns whether that was
-/// more.
-fn draw_set(
-    sets: &mut BitRows,
-    set: usize,
-    from: &[usize],
-    masks: Masks<'_>,
-    grown: &Vob,
-    first: bool,
-) -> bool
+/// Adds to a set what it draws from some sets, and returns whether that was more.
+fn draw_set(sets: &mut BitRows, set: usize, from: &[usize], masks: Masks<'_>) -> bool
     requires set { set < length sets.old.rows }
     requires from { All (λ source. source < length sets.old.rows) from.now }
     requires masks { FitMasks (length sets.old.rows) sets.old.columns masks }
-    requires grown { length grown.now.bits ≡ length sets.old.rows }
-    ensures gained { HasGained sets.old.rows set (IsSomeNews sets.old.rows first grown.now.bits
-        (mask_of masks.entry set) from.now) sets.new.rows result }
+    ensures gained { HasGained sets.old.rows set
+        (IsDrawnOf sets.old.rows (mask_of masks.entry set) from.now) sets.new.rows result }
     ensures columns { sets.new.columns ≡ sets.old.columns }
 {
     let mut grew = false;
     for source in from {
-        grew |= add_news(sets, set, *source, masks, grown, first);
+        grew |= add_from(sets, set, *source, masks);
     }
     grew
 }
 
-/// Gives a set its turn: it gets what it draws from the sets that have news. `grown` has a bit for each
-/// set: whether it grew at its latest turn.
-#[inline(always)]
-fn turn(
-    sets: &mut BitRows,
-    set: usize,
-    graph: &Graph,
-    masks: Masks<'_>,
-    grown: &mut Vob,
-    first: bool,
-)
-    requires set { set < length sets.old.rows }
-    requires count { length graph.now ≡ length sets.old.rows }
-    requires masks { FitMasks (length sets.old.rows) sets.old.columns masks }
-    requires grown { length grown.old.bits ≡ length sets.old.rows }
-    ensures turn { HadTurn graph.now (mask_of masks.entry) sets.old.rows grown.old.bits set first
-        sets.new.rows grown.new.bits }
-    ensures columns { sets.new.columns ≡ sets.old.columns }
+/// Lets some sets wait for a look. `pending` has a bit for each place.
+fn wait(users: &[usize], places: &[usize], pending: &mut Vob)
+    requires users { All (λ user. user < length places.now) users.now }
+    requires places { All (λ place. place < length pending.old.bits) places.now }
+    ensures len { length pending.new.bits ≡ length pending.old.bits }
+    ensures each { (p : ℕ) → (item pending.new.bits p ≡ true) ↔ ((item pending.old.bits p ≡ true)
+        ⊎ Any (λ user. place_of places.now user ≡ p) users.now) }
 {
-    let grew = draw_set(sets, set, graph.next(set), masks, grown, first);
-    grown.set(set, grew);
+    for user in users {
+        pending.set(places[*user], true);
+    }
 }
 
-/// Gives each set its turn, and returns whether one of them grew.
-fn pass(
+/// Looks at the set at a place, which waits for it: the set gets what it draws, and if that was more,
+/// those that draw from it wait. Returns whether it was.
+#[inline(always)]
+fn look(
     sets: &mut BitRows,
+    at: usize,
     graph: &Graph,
+    schedule: &Schedule,
     masks: Masks<'_>,
-    order: &[usize],
-    grown: &mut Vob,
-    first: bool,
+    pending: &mut Vob,
 ) -> bool
+    requires waits { item pending.old.bits at ≡ true }
     requires count { length graph.now ≡ length sets.old.rows }
+    requires schedule { IsSchedule graph.now schedule.now }
     requires masks { FitMasks (length sets.old.rows) sets.old.columns masks }
-    requires order { IsOrder (length graph.now) order.now }
-    requires grown { length grown.old.bits ≡ length sets.old.rows }
-    ensures pass { (one : IsOrder (length graph.now) order.now) → HadPass one.place order.now
-        graph.now (mask_of masks.entry) first sets.old.rows grown.old.bits sets.new.rows grown.new.bits
+    requires pending { length pending.old.bits ≡ length schedule.now.order.items }
+    ensures look { HadLook graph.now (mask_of masks.entry) schedule.now.order.items
+        schedule.now.places.items sets.old.rows pending.old.bits at sets.new.rows pending.new.bits
         result }
     ensures columns { sets.new.columns ≡ sets.old.columns }
 {
-    for set in order {
-        turn(sets, *set, graph, masks, grown, first);
+    let set = schedule.order[at];
+    pending.set(at, false);
+    let grew = draw_set(sets, set, graph.next(set), masks);
+    if grew {
+        wait(schedule.users.next(set), &schedule.places, pending);
     }
-    grown.any()
+    grew
+}
+
+/// Looks at each set that waits, in their order, and returns whether one of them grew.
+fn pass(
+    sets: &mut BitRows,
+    graph: &Graph,
+    schedule: &Schedule,
+    masks: Masks<'_>,
+    pending: &mut Vob,
+) -> bool
+    requires count { length graph.now ≡ length sets.old.rows }
+    requires schedule { IsSchedule graph.now schedule.now }
+    requires masks { FitMasks (length sets.old.rows) sets.old.columns masks }
+    requires pending { length pending.old.bits ≡ length schedule.now.order.items }
+    ensures pass { HadTurns (place_of schedule.now.places.items) schedule.now.order.items graph.now
+        (mask_of masks.entry) sets.old.rows pending.old.bits sets.new.rows pending.new.bits result
+        (length schedule.now.order.items) }
+    ensures columns { sets.new.columns ≡ sets.old.columns }
+{
+    let mut grew = false;
+    let mut from = 0;
+    'looks: while let Some(at) = pending.next_set(from) {
+        grew |= look(sets, at, graph, schedule, masks, pending);
+        from = at + 1;
+    }
+    grew
 }
 
 /// Goes over all sets until none grows, and returns how often.
 pub(crate) fn settle(
     sets: &mut BitRows,
     graph: &Graph,
+    schedule: &Schedule,
     masks: Masks<'_>,
-    order: &[usize],
-    grown: &mut Vob,
+    pending: &mut Vob,
 ) -> u128
     requires count { length graph.now ≡ length sets.old.rows }
+    requires schedule { IsSchedule graph.now schedule.now }
     requires masks { FitMasks (length sets.old.rows) sets.old.columns masks }
-    requires order { IsOrder (length graph.now) order.now }
-    requires grown { length grown.old.bits ≡ length sets.old.rows }
+    requires pending { pending.old.bits ≡ replicate (length schedule.now.order.items) true }
     ensures least { AreLeast graph.now (mask_of masks.entry) sets.old.rows sets.new.rows }
     ensures passes { TakePasses graph.now (mask_of masks.entry) sets.old.rows sets.new.rows result }
     ensures columns { sets.new.columns ≡ sets.old.columns }
@@ -166,9 +137,7 @@ pub(crate) fn settle(
     let _places = sets.columns();
     let _count = sets.rows();
     let mut passes = 1;
-    let mut first = true;
-    'passes: while pass(sets, graph, masks, order, grown, first) {
-        first = false;
+    'passes: while pass(sets, graph, schedule, masks, pending) {
         passes += 1;
     }
     passes

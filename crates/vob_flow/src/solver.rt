@@ -5,8 +5,8 @@ ghost use Rattle.vob_flow.specs.SolveFaults.{MayRefuseSets};
 
 use crate::draw::Masks;
 use crate::faults::{SolveError, check_masks};
-use crate::order::postorder;
 use crate::passes::settle;
+use crate::schedule::schedule_of;
 use std::alloc::{AllocError, Global};
 use vob::Vob;
 use vob_rows::{BitRows, Graph};
@@ -31,15 +31,15 @@ pub(crate) fn solve(
     if sets.rows() == 0 {
         return Ok(0);
     }
-    let order = postorder(alloc, graph)?;
-    let mut grown = Vob::from_elem(alloc, false, sets.rows())?;
-    Ok(settle(sets, graph, masks, &order, &mut grown))
+    let schedule = schedule_of(alloc, graph)?;
+    let mut pending = Vob::from_elem(alloc, true, schedule.order.len())?;
+    Ok(settle(sets, graph, &schedule, masks, &mut pending))
 }
 
 /// Adds to each set what its mask lets through of the sets that it draws from, until none grows.
-/// Returns the number of passes over all sets. A pass draws again only from sets that grew since they
-/// were drawn from. Set n draws from the sets that the edges of node n lead to; the graph must have a
-/// node for each set.
+/// Returns the number of passes over all sets. A set is looked at again only once one that it draws
+/// from grew. Set n draws from the sets that the edges of node n lead to; the graph must have a node
+/// for each set.
 ///
 /// Fails if there isn't a mask for each set, with a bit for each of its places, or if memory runs out.
 /// A failed call changes nothing.
