@@ -2,18 +2,19 @@
 
 use vob::Vob;
 use vob_matrix::matrix::BitMatrix;
+use vob_rows::Row;
 
 // A digest looks at every bit of up to this number, and at every second, third .. one of more.
 const MOST: usize = 0x10_0000;
 
 /// A digest of the length and of the bits, below 2^32. One wrong bit that it looks at changes it.
-fn digest(vob: &Vob) -> u64 {
-    let len = vob.len();
+fn digest(row: &Row<'_>) -> u64 {
+    let len = row.len();
     let mut sum = len as u64;
     let stride = len / (MOST + 1) + 1;
     let mut index: usize = 0;
     for _ in 0..len / stride {
-        let bit = vob.get(index) == Some(true);
+        let bit = row.get(index) == Some(true);
         sum = sum.wrapping_mul(31).wrapping_add(bit as u64);
         index = index.wrapping_add(stride);
     }
@@ -22,7 +23,9 @@ fn digest(vob: &Vob) -> u64 {
 
 /// How often something was so, above the digest of what the rounds left.
 pub(crate) fn checksum(vob: &Vob, times: u64) -> u64 {
-    times.wrapping_mul(0x1_0000_0000).wrapping_add(digest(vob))
+    times
+        .wrapping_mul(0x1_0000_0000)
+        .wrapping_add(digest(&Row::of(vob)))
 }
 
 /// The same above the digests of several.
@@ -36,7 +39,7 @@ fn summed(sum: u64, times: u64) -> u64 {
 pub(crate) fn checksum_all(vobs: &[Vob], times: u64) -> u64 {
     let mut sum: u64 = 0;
     for vob in vobs.iter() {
-        sum = sum.wrapping_mul(31).wrapping_add(digest(vob));
+        sum = sum.wrapping_mul(31).wrapping_add(digest(&Row::of(vob)));
     }
     summed(sum, times)
 }
@@ -45,7 +48,7 @@ pub(crate) fn checksum_all(vobs: &[Vob], times: u64) -> u64 {
 pub(crate) fn checksum_rows(matrix: &BitMatrix, times: u64) -> u64 {
     let mut sum: u64 = 0;
     for row in 0..matrix.rows() {
-        sum = sum.wrapping_mul(31).wrapping_add(digest(matrix.row(row)));
+        sum = sum.wrapping_mul(31).wrapping_add(digest(&matrix.row(row)));
     }
     summed(sum, times)
 }

@@ -1,15 +1,14 @@
 -- Rows that get those of others, one after another.
-use Rattle.std.proofs.Common.{◌≡◌, ◌≢◌, ◌↔◌, ℕ, ◌+◌, ◌<◌, ◌≤◌, Bool, true, false, ◌||◌, List, [], length, get_or, set}
+use Rattle.std.proofs.Common.{◌≡◌, ◌≢◌, ◌↔◌, ℕ, ◌+◌, ◌<◌, ◌≤◌, Bool, true, false, ◌||◌, List, [], length, set}
 use Rattle.std.proofs.Common.{refl, sym, ap, ◌∙◌, arith, inl, inr}
 use Rattle.std.proofs.lemmas.Bool.{cases_Bool, cases_eq, cases_lt, false≢true}
-use Rattle.std.proofs.lemmas.List.{get_or_past, map-set, length-map, set-get_or}
+use Rattle.std.proofs.lemmas.List.{get_or_past, set-get_or}
 use Rattle.vob_block.specs.Packing.{item}
-use Rattle.vob.specs.Bits.{AreCombined}
-use Rattle.vob.specs.Vob.{BitVector}
-use Rattle.vob.specs.Vobs.{bits_of}
-use Rattle.vob_matrix.specs.Matrix.{row_of, entry, HaveShapeOf, AreJoined}
-use Rattle.vob_matrix.proofs.ShapeLemmas.{HaveShapeOf-same, HaveShapeOf-trans, row_of-there, row_of-other, row_of-items}
-use Rattle.vob_matrix.proofs.UnionLemmas.{IsUnionSet-items}
+use Rattle.vob.specs.Bits.{AreCombined, GainsBits}
+use Rattle.vob_rows.specs.Rows.{row_of}
+use Rattle.vob_matrix.specs.Matrix.{entry, HaveShapeOf, AreJoined}
+use Rattle.vob_matrix.proofs.ShapeLemmas.{HaveShapeOf-same, HaveShapeOf-trans, row_of-there, row_of-other}
+use Rattle.vob_matrix.proofs.UnionLemmas.{IsUnionSet-or}
 
 -- the rows before row n got those of others, and no other changed; a flag is true where one did
 pub record AreJoinedBefore (rows others : List (List Bool)) (n : ℕ) (changed : Bool)
@@ -31,43 +30,40 @@ module _ (rows others : List (List Bool)) where
   }
 
   -- row n is joined, and the flag says so if it was not set
-  pub AreJoinedBefore-more : (n : ℕ) (items : List BitVector) (d new : BitVector)
-      (other : List Bool) (before gained after : Bool) → n < length items →
-      other ≡ row_of others n → AreJoinedBefore rows others n before (bits_of items) →
-      AreCombined ◌||◌ (get_or items n d).bits other new.bits →
-      ((gained ≡ true) ↔ (new.bits ≢ (get_or items n d).bits)) →
-      (gained ≡ false → new.bits ≡ (get_or items n d).bits) →
-      ((gained ≡ true) → after ≡ true) → ((gained ≡ false) → after ≡ before) →
-      AreJoinedBefore rows others (n + 1) after (bits_of (set items n new))
-  AreJoinedBefore-more n items d new other before gained after inside is h combined tells stays
-      sets keeps =
-      let made = IsUnionSet-items items n d new other inside combined in
-      let own = row_of-items items n d inside in
-      let list = map-set (λ v. v.bits) items n new in
-      let there = ap (λ rs. row_of rs n) list
-      ∙ row_of-there (bits_of items) n new.bits (omega (arith, inside, length-map items (λ v. v.bits))) in
-      let off = λ (k : ℕ) (apart : k ≢ n). ap (λ rs. row_of rs k) list
-      ∙ row_of-other (bits_of items) n new.bits (omega (arith, inside, length-map items (λ v. v.bits))) k apart in
+  pub AreJoinedBefore-more : (n : ℕ) (now : List (List Bool)) (new : List Bool)
+      (after : List (List Bool)) (before gained flag : Bool) → n < length now →
+      AreJoinedBefore rows others n before now → after ≡ set now n new →
+      AreCombined ◌||◌ (row_of now n) (row_of others n) (row_of after n) →
+      GainsBits gained (row_of now n) (row_of after n) →
+      ((gained ≡ true) ↔ (after ≢ now)) →
+      ((gained ≡ true) → flag ≡ true) → ((gained ≡ false) → flag ≡ before) →
+      AreJoinedBefore rows others (n + 1) flag after
+  AreJoinedBefore-more n now new after before gained flag inside h is combined gains tells sets
+      keeps =
+      let made = IsUnionSet-or now n (row_of others n) new after inside is combined in
+      let there = ap (λ rs. row_of rs n) is ∙ row_of-there now n new inside in
+      let stays = λ (e : row_of after n ≡ row_of now n). is
+      ∙ ap (set now n) (sym there ∙ e) ∙ set-get_or now n [] in
+      let off = λ (k : ℕ) (apart : k ≢ n). ap (λ rs. row_of rs k) is
+      ∙ row_of-other now n new inside k apart in
       record {
         shape = HaveShapeOf-trans rows _ _ h.shape made.shape;
         done = λ i j less. elim (cases_eq i n) [
-          | inl here ↦ ap (λ k. entry (bits_of (set items n new)) k j) here ∙ made.there j
-              ∙ ap (λ r. item r j || item other j) (h.left n (omega arith))
-              ∙ ap (λ r. entry rows n j || item r j) is
+          | inl here ↦ ap (λ k. entry after k j) here ∙ made.there j
+              ∙ ap (λ r. item r j || entry others n j) (h.left n (omega arith))
               ∙ ap (λ k. entry rows k j || entry others k j) (sym here)
           | inr apart ↦ ap (λ r. item r j) (off i apart) ∙ h.done i j (omega (arith, less, apart))
         ];
         left = λ i past. off i (λ here. omega (arith, here, past)) ∙ h.left i (omega (arith, past));
         same = λ unset. elim (cases_Bool gained) [
           | inl more ↦ absurd (false≢true (sym unset ∙ sets more))
-          | inr none ↦ list ∙ ap (set (bits_of items) n) (stays none ∙ sym own)
-              ∙ set-get_or (bits_of items) n [] ∙ h.same (sym (keeps none) ∙ unset)
+          | inr none ↦ stays (gains.same none) ∙ h.same (sym (keeps none) ∙ unset)
         ];
         gained = λ on. elim (cases_Bool gained) [
           | inl more ↦ (
             n,
             omega arith,
-            λ e. tells.0 more (sym there ∙ e ∙ sym (h.left n (omega arith)) ∙ own),
+            λ e. tells.0 more (stays (e ∙ sym (h.left n (omega arith)))),
           )
           | inr none ↦
               let was = h.gained (sym (keeps none) ∙ on) in (

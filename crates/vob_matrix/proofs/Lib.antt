@@ -2,7 +2,6 @@ mod JoinLemmas
 mod MatrixLemmas
 mod PathLemmas
 mod ProductLemmas
-mod SameLemmas
 mod ShapeLemmas
 mod TileLemmas
 mod TurnLemmas

@@ -5,16 +5,16 @@ use Rattle.std.specs.Prelude.{◌↔◌, IsTrue, not}
 use Rattle.std.proofs.Common.{◌≡◌, ◌≢◌, ℕ, ◌+◌, ◌<◌, ◌≤◌, Bool, true, false, ◌||◌, List, []}
 use Rattle.std.proofs.Common.{◌∷◌, length, replicate, refl, sym, ap, ◌∙◌, subst, arith, inl, inr}
 use Rattle.std.proofs.lemmas.Bool.{cases_eq, cases_lt, false≢true}
-use Rattle.std.proofs.lemmas.List.{get_or_past, get_or-replicate, length-replicate, length-map}
+use Rattle.std.proofs.lemmas.List.{get_or_past, get_or-replicate, length-replicate}
 use Rattle.std.proofs.lemmas.List.Elements.{Contains-append_right, Contains-append_cases, Contains-push_cases, Contains-get_or}
 use Rattle.vob_block.specs.Packing.{item}
 use Rattle.vob_walk.specs.Matches.{matches}
 use Rattle.vob_walk.proofs.IndexLemmas.{matches-exactly}
 use Rattle.vob.specs.Bits.{IsWritten}
 use Rattle.vob.specs.Sets.{AreDisjoint, HasShared}
-use Rattle.vob.specs.Vob.{BitVector}
-use Rattle.vob.specs.Vobs.{AreOfLength, bits_of}
-use Rattle.vob_matrix.specs.Matrix.{Matrix, row_of, entry, HaveShapeOf, IsColumnUnion, IsEntryWritten, IsTransposed}
+use Rattle.vob.specs.Vobs.{AreOfLength}
+use Rattle.vob_rows.specs.Rows.{row_of, Matrix}
+use Rattle.vob_matrix.specs.Matrix.{entry, HaveShapeOf, IsColumnUnion, IsEntryWritten, IsTransposed}
 use Rattle.vob_matrix.specs.MatrixRows.{IsColumnMarked, AreColumnsMarked}
 use Rattle.vob_block.proofs.BoolLemmas.{or-false}
 use Rattle.vob_block.proofs.PackingLemmas.{true_inside}
@@ -79,20 +79,13 @@ module _ (rows : List (List Bool)) (column : ℕ) (bits : List Bool) where
   }
 
 -- the next index is that of a row
-pub next_inside : (items now : List BitVector) (column : ℕ) (bits : List Bool) (i : ℕ)
-    (given rest : List ℕ) → given ≡ i ∷ rest → length bits ≡ length items →
-    AreMarkedBut (bits_of items) column bits given (bits_of now) → i < length now
-next_inside items now column bits i given rest is same h =
+pub next_inside : (rows now : List (List Bool)) (column : ℕ) (bits : List Bool) (i : ℕ)
+    (given rest : List ℕ) → given ≡ i ∷ rest → length bits ≡ length rows →
+    AreMarkedBut rows column bits given now → i < length now
+next_inside rows now column bits i given rest is same h =
     let first = subst (λ xs. Contains xs i) (sym is)
     (Contains-get_or (i ∷ rest) 0 i (omega arith)) in
-    omega (
-      arith,
-      same,
-      true_inside bits i (h.left i first),
-      h.shape.count,
-      length-map items (λ v. v.bits),
-      length-map now (λ v. v.bits),
-    )
+    omega (arith, same, true_inside bits i (h.left i first), h.shape.count)
 
 -- ---- columns that are marked, one after another
 

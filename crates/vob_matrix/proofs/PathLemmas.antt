@@ -5,7 +5,8 @@ use Rattle.std.proofs.lemmas.List.{get_or_past}
 use Rattle.vob_block.specs.Packing.{item}
 use Rattle.vob_block.proofs.PackingLemmas.{true_inside}
 use Rattle.vob.specs.Vobs.{AreOfLength}
-use Rattle.vob_matrix.specs.Matrix.{row_of, entry, IsEdge, IsPath, AreClosed}
+use Rattle.vob_rows.specs.Rows.{row_of}
+use Rattle.vob_matrix.specs.Matrix.{entry, IsEdge, IsPath, AreClosed}
 use Rattle.vob_matrix.specs.MatrixPaths.{AreWithin, HasPathWithin, IsLedThrough, AreClosedWithin, IsClosedThrough}
 use Rattle.vob_matrix.specs.Unions.{HasLink, AreLinked}
 use Rattle.vob_matrix.proofs.ShapeLemmas.{HaveShapeOf-same, HaveShapeOf-trans}

@@ -5,10 +5,11 @@ use Rattle.std.proofs.lemmas.Bool.{cases_lt, false≢true}
 use Rattle.std.proofs.lemmas.List.{length-replicate}
 use Rattle.std.proofs.Math.Pow.{pow_mono}
 use Rattle.vob.specs.Vobs.{AreOfLength}
-use Rattle.vob_matrix.specs.Matrix.{IsPath, HasPath, Matrix, entry, IsEdge}
+use Rattle.vob_rows.specs.Rows.{Matrix}
+use Rattle.vob_matrix.specs.Matrix.{IsPath, HasPath, entry, IsEdge}
 use Rattle.vob_matrix.specs.Unions.{AreLinked}
-use Rattle.vob_matrix.specs.Products.{ClosureIsOfPowers, HasPathOf, IsIdentity, IsProduct, IsPower, AreProducts}
-use Rattle.vob_matrix.proofs.ShapeLemmas.{HaveShapeOf-same, HaveShapeOf-trans, AreOfLength-kept, AreOfLength-empty}
+use Rattle.vob_matrix.specs.Products.{ClosureIsOfPowers, HasPathOf, IsIdentity, IsProduct, IsPower}
+use Rattle.vob_matrix.proofs.ShapeLemmas.{HaveShapeOf-same, HaveShapeOf-trans}
 use Rattle.vob_matrix.proofs.MatrixLemmas.{entry-empty}
 use Rattle.vob_matrix.proofs.PathLemmas.{edge_row, edge_column}
 
@@ -52,28 +53,24 @@ module _ (some rows others : List (List Bool)) where
   }
 
 -- rows that had no bit, and were linked to all others
-pub AreProducts-linked : (count columns n : ℕ) (some rows others after : List (List Bool)) →
-    some ≡ replicate count (replicate columns false) → count ≡ length rows → n ≡ length others →
-    AreLinked some rows others 0 n after → AreProducts rows others columns after
-AreProducts-linked count columns n some rows others after blank as_many whole h =
-    let none = λ (i j : ℕ). ap (λ rs. entry rs i j) blank ∙ entry-empty count columns i j in
+pub IsProduct-linked : (first second after : Matrix) (some : List (List Bool)) (columns : ℕ) →
+    some ≡ replicate (length first.rows) (replicate columns false) → after.columns ≡ second.columns →
+    AreLinked some first.rows second.rows 0 (length second.rows) after.rows →
+    IsProduct first second after
+IsProduct-linked first second after some columns blank wide h =
+    let none = λ (i j : ℕ). ap (λ rs. entry rs i j) blank
+    ∙ entry-empty (length first.rows) columns i j in
     record {
-      count = h.shape.count ∙ ap length blank ∙ length-replicate count (replicate columns false)
-          ∙ as_many;
-      long = AreOfLength-kept columns some after
-          (subst (AreOfLength columns) (sym blank) (AreOfLength-empty count columns)) h.shape;
+      count = h.shape.count ∙ ap length blank
+          ∙ length-replicate (length first.rows) (replicate columns false);
+      columns = wide;
       each = λ i j. (
         (λ edge. elim ((h.each i j).0 edge) [
           | inl own ↦ absurd (false≢true (sym (none i j) ∙ own))
           | inr link ↦ (link.0, link.3, link.4)
         ]),
-        (λ two. (h.each i j).1 (inr (
-          two.0,
-          omega arith,
-          omega (arith, whole, edge_row others two.0 j two.2),
-          two.1,
-          two.2,
-        ))),
+        (λ two. (h.each i j).1
+            (inr (two.0, omega arith, edge_row second.rows two.0 j two.2, two.1, two.2))),
       );
     }
 

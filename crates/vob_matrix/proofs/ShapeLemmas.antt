@@ -1,18 +1,18 @@
 -- Rows of a matrix that keep their lengths where one of them is replaced.
-use Rattle.std.proofs.Common.{◌≡◌, ◌≢◌, ℕ, ◌<◌, Bool, true, false, ◌||◌, List, []}
-use Rattle.std.proofs.Common.{length, replicate, get_or, set, refl, sym, ap, ◌∙◌, subst, arith, inl}
+use Rattle.std.proofs.Common.{◌≡◌, ◌≢◌, ℕ, ◌<◌, Bool, false, List, []}
+use Rattle.std.proofs.Common.{length, replicate, set, refl, sym, ap, ◌∙◌, subst, arith, inl}
 use Rattle.std.proofs.Common.{inr}
-use Rattle.std.proofs.lemmas.Bool.{cases_eq, false≢true}
+use Rattle.std.proofs.lemmas.Bool.{cases_eq}
 use Rattle.std.proofs.lemmas.List.{length-set, length-replicate, get_or-set_same}
-use Rattle.std.proofs.lemmas.List.{get_or-set_other, set-get_or, get_or-map, map-set, length-map}
+use Rattle.std.proofs.lemmas.List.{get_or-set_other}
 use Rattle.std.proofs.lemmas.List.Elements.{All-from_get_or}
 use Rattle.vob_block.specs.Packing.{item}
-use Rattle.vob.specs.Bits.{IsWritten, AreCombined, GainsBits}
-use Rattle.vob.specs.Vob.{BitVector}
-use Rattle.vob.specs.Vobs.{AreOfLength, bits_of}
+use Rattle.vob.specs.Bits.{IsWritten}
+use Rattle.vob.specs.Vobs.{AreOfLength}
+use Rattle.vob.proofs.BitsLemmas.{IsWritten-set}
 use Rattle.vob.proofs.VobsLemmas.{of_length_replicate}
-use Rattle.vob_matrix.specs.Matrix.{row_of, entry, HaveShapeOf, IsEntryWritten, GetsRow}
-use Rattle.vob_matrix.specs.MatrixRows.{IsRowCombined}
+use Rattle.vob_rows.specs.Rows.{row_of}
+use Rattle.vob_matrix.specs.Matrix.{entry, HaveShapeOf, IsEntryWritten}
 
 pub HaveShapeOf-same : (rows : List (List Bool)) → HaveShapeOf rows rows
 HaveShapeOf-same rows = record { count = refl; long = λ i. refl }
@@ -80,76 +80,10 @@ module _ (rows : List (List Bool)) (i : ℕ) (row : List Bool) (inside : i < len
     ];
   }
 
--- ---- one row is combined with another
-
-module _ (rows : List (List Bool)) (i k : ℕ) (after : List (List Bool)) (gained : Bool)
-    (inside : i < length rows) (h : IsRowCombined rows i k after gained) where
-  pub row_of-combined : row_of after i ≡ h.row
-  row_of-combined = ap (λ rs. row_of rs i) h.is ∙ row_of-there rows i h.row inside
-
-  pub GetsRow-combined : GetsRow rows i k after
-  GetsRow-combined = record {
-    shape = subst (HaveShapeOf rows) (sym h.is)
-        (HaveShapeOf-set rows i h.row inside h.combined.len);
-    there = λ j. ap (λ r. item r j) row_of-combined ∙ h.combined.each j;
-    others = λ l j other.
-        ap (λ rs. entry rs l j) h.is
-        ∙ ap (λ r. item r j) (row_of-other rows i h.row inside l other);
-  }
-
--- ---- rows as the code reads and writes them
-
-pub row_of-items : (items : List BitVector) (i : ℕ) (d : BitVector) → i < length items →
-    row_of (bits_of items) i ≡ (get_or items i d).bits
-row_of-items items i d inside = get_or-map (λ v. v.bits) items i d [] inside
-
-pub IsEntryWritten-items : (items : List BitVector) (i j : ℕ) (value : Bool)
-    (d after : BitVector) → i < length items →
-    IsWritten (get_or items i d).bits j value after.bits →
-    IsEntryWritten (bits_of items) i j value (bits_of (set items i after))
-IsEntryWritten-items items i j value d after inside written =
-    let row = row_of-items items i d inside in
-    let set_row = IsEntryWritten-set (bits_of items) i after.bits
-    (omega (arith, length-map items (λ v. v.bits))) j value
-    (subst (λ bits. IsWritten bits j value after.bits) (sym row) written) in
-    subst (IsEntryWritten (bits_of items) i j value)
-    (sym (map-set (λ v. v.bits) items i after)) set_row
-
--- and the row as it is then
-pub IsWritten-items : (items : List BitVector) (i j : ℕ) (value : Bool) (d after : BitVector) →
-    i < length items → IsWritten (get_or items i d).bits j value after.bits →
-    IsWritten (row_of (bits_of items) i) j value (row_of (bits_of (set items i after)) i)
-IsWritten-items items i j value d after inside written =
-    let there = ap (λ rs. row_of rs i) (map-set (λ v. v.bits) items i after)
-    ∙ row_of-there (bits_of items) i after.bits (omega (arith, length-map items (λ v. v.bits))) in
-    rw (row_of-items items i d inside, there) written
-
-pub IsRowCombined-items : (items after : List BitVector) (i k : ℕ) (row other : List Bool)
-    (new : BitVector) (gained : Bool) → row_of (bits_of items) i ≡ row →
-    row_of (bits_of items) k ≡ other → after ≡ set items i new →
-    AreCombined ◌||◌ row other new.bits → GainsBits gained row new.bits →
-    IsRowCombined (bits_of items) i k (bits_of after) gained
-IsRowCombined-items items after i k row other new gained first second is combined gains = record {
-  row = new.bits;
-  is = ap bits_of is ∙ map-set (λ v. v.bits) items i new;
-  combined = subst (λ bits. AreCombined ◌||◌ bits (row_of (bits_of items) k) new.bits) (sym first)
-      (subst (λ bits. AreCombined ◌||◌ row bits new.bits) (sym second) combined);
-  gains = subst (λ bits. GainsBits gained bits new.bits) (sym first) gains;
-}
-
--- a row combined with itself is the row
-or_itself : (b : Bool) → b ≡ (b || b)
-or_itself true = refl
-or_itself false = refl
-
-pub IsRowCombined-same : (rows : List (List Bool)) (i k : ℕ) → k ≡ i →
-    IsRowCombined rows i k rows false
-IsRowCombined-same rows i k same = record {
-  row = row_of rows i;
-  is = sym (set-get_or rows i []);
-  combined = record {
-    len = refl;
-    each = λ j. or_itself (entry rows i j) ∙ ap (λ n. entry rows i j || entry rows n j) (sym same);
-  };
-  gains = record { same = λ off. refl; more = λ on. absurd (false≢true on) };
-}
+-- by an entry of it that is written
+pub IsEntryWritten-at : (rows : List (List Bool)) (i j : ℕ) (value : Bool) (after : List (List Bool))
+    → i < length rows → j < length (row_of rows i)
+    → after ≡ set rows i (set (row_of rows i) j value) → IsEntryWritten rows i j value after
+IsEntryWritten-at rows i j value after inside below is = subst (IsEntryWritten rows i j value) (sym is)
+    (IsEntryWritten-set rows i (set (row_of rows i) j value) inside j value
+    (IsWritten-set (row_of rows i) j value below))

@@ -2,17 +2,16 @@
 use Rattle.std.proofs.Common.{◌≡◌, ◌≢◌, ◌⊎◌, ℕ, ◌+◌, ◌-◌, ◌/◌, ◌%◌, ◌<◌, ◌≤◌, Bool, false}
 use Rattle.std.proofs.Common.{List, [], ◌∷◌, length, get_or, set, refl, sym, ap, ◌∙◌, subst, arith, inl, inr}
 use Rattle.std.proofs.lemmas.Bool.{cases_eq, cases_lt}
-use Rattle.std.proofs.lemmas.List.{get_or-set_same, get_or-set_other, length-map, map-set}
+use Rattle.std.proofs.lemmas.List.{get_or-set_same, get_or-set_other}
 use Rattle.vob_block.specs.Packing.{item, unpacking}
 use Rattle.vob_block.specs.Places.{place}
 use Rattle.vob_block.proofs.PackingLemmas.{get_or-unpacking, bit_at-is_place}
 use Rattle.vob.specs.Copy.{IsCopied}
-use Rattle.vob.specs.Vob.{BitVector}
-use Rattle.vob.specs.Vobs.{bits_of}
-use Rattle.vob_matrix.specs.Matrix.{row_of, entry}
+use Rattle.vob_rows.specs.Rows.{row_of}
+use Rattle.vob_matrix.specs.Matrix.{entry}
 use Rattle.vob_matrix.specs.TileRows.{IsLoaded, IsStored, AreTaken}
 use Rattle.vob_matrix.specs.Tiles.{word, AreTurned}
-use Rattle.vob_matrix.proofs.ShapeLemmas.{HaveShapeOf-same, HaveShapeOf-trans, HaveShapeOf-set, row_of-there, row_of-other, row_of-items}
+use Rattle.vob_matrix.proofs.ShapeLemmas.{HaveShapeOf-same, HaveShapeOf-trans, HaveShapeOf-set, row_of-there, row_of-other}
 
 -- ---- words that are read
 
@@ -106,18 +105,16 @@ module _ (rows : List (List Bool)) (words : List ℕ) (first last start k i : �
   }
 
 pub IsStored-more : (rows : List (List Bool)) (words : List ℕ) (first last start k i : ℕ)
-    (items : List BitVector) (d new : BitVector) → i < length items → i ≡ start + k →
-    last ≤ first + 64 →
-    IsCopied first 0 (last - first) (get_or items i d).bits (unpacking 64 (word words k ∷ []) 64)
-    new.bits →
-    IsStored rows words first last start (start + k) (bits_of items) →
-    IsStored rows words first last start (start + (k + 1)) (bits_of (set items i new))
-IsStored-more rows words first last start k i items d new inside at few copied h =
-    subst (IsStored rows words first last start (start + (k + 1)))
-    (sym (map-set (λ v. v.bits) items i new))
-    (IsStored-set rows words first last start k i (bits_of items) (get_or items i d).bits new.bits
-    (omega (arith, inside, length-map items (λ v. v.bits))) at few (row_of-items items i d inside)
-    copied h)
+    (before : List (List Bool)) (new : List Bool) (after : List (List Bool)) → i < length before →
+    i ≡ start + k → last ≤ first + 64 → after ≡ set before i new →
+    IsCopied first 0 (last - first) (row_of before i) (unpacking 64 (word words k ∷ []) 64)
+    (row_of after i) → IsStored rows words first last start (start + k) before →
+    IsStored rows words first last start (start + (k + 1)) after
+IsStored-more rows words first last start k i before new after inside at few is copied h =
+    let there = ap (λ rs. row_of rs i) is ∙ row_of-there before i new inside in
+    subst (IsStored rows words first last start (start + (k + 1))) (sym is)
+    (IsStored-set rows words first last start k i before (row_of before i) new inside at few refl
+    (rw there at copied) h)
 
 -- ---- a tile
 

@@ -1,10 +1,10 @@
 -- Rows that get the union of others, one by one or by a table of all unions.
-use Rattle.std.proofs.Common.{◌≡◌, ◌↔◌, ◌⊎◌, ℕ, ◌+◌, ◌-◌, ◌*◌, ◌^◌, ◌<◌, ◌≤◌, Bool, true, false, ◌||◌, ◌&&◌, List}
-use Rattle.std.proofs.Common.{length, get_or, set, take, drop, eqb, refl, sym, ap, ◌∙◌, subst, arith, inl, inr}
+use Rattle.std.proofs.Common.{◌≡◌, ◌≢◌, ◌↔◌, ◌⊎◌, ℕ, ◌+◌, ◌-◌, ◌*◌, ◌^◌, ◌<◌, ◌≤◌, Bool, true, false, ◌||◌, ◌&&◌, List}
+use Rattle.std.proofs.Common.{length, set, take, drop, replicate, eqb, refl, sym, ap, ◌∙◌, subst, arith, inl, inr}
 use Rattle.std.proofs.lemmas.Nat.{pow_pos}
 use Rattle.vob_matrix.proofs.PathLemmas.{edge_row}
 use Rattle.std.proofs.lemmas.Bool.{cases_Bool, cases_eq, cases_lt, false≢true, or_cases, or_left, or_right}
-use Rattle.std.proofs.lemmas.List.{map-set, length-map, get_or_past, length-take}
+use Rattle.std.proofs.lemmas.List.{get_or_past, length-replicate, length-take}
 use Rattle.std.proofs.Math.Pow.{pow_mono}
 use Rattle.std.proofs.lemmas.Grind.{pow_more}
 use Rattle.std.proofs.lemmas.Nat.Bits.{bit_at_cat_low, bit_at_cat_high}
@@ -14,13 +14,12 @@ use Rattle.vob_block.proofs.BoolLemmas.{or-false, or-absorbs}
 use Rattle.vob_block.proofs.PlaceLemmas.{place_above, place-zero, same_from_places}
 use Rattle.vob_block.proofs.ValueLemmas.{value-lt, place-value}
 use Rattle.vob.specs.Bits.{AreCombined}
-use Rattle.vob.specs.Vob.{BitVector}
-use Rattle.vob.specs.Vobs.{bits_of}
-use Rattle.vob_matrix.specs.Matrix.{row_of, entry, HaveShapeOf, IsEdge}
-use Rattle.vob_matrix.specs.MatrixRows.{IsRowCombined}
+use Rattle.vob.proofs.BitsLemmas.{item_false}
+use Rattle.vob_rows.specs.Rows.{row_of}
+use Rattle.vob_matrix.specs.Matrix.{entry, GetsRow, HaveShapeOf, IsEdge}
 use Rattle.vob_matrix.specs.MatrixPaths.{IsLedThrough}
 use Rattle.vob_matrix.specs.Unions.{IsUnionSet, AreDoubled, IsNamed, AreUnions, HasLink, AreLinked}
-use Rattle.vob_matrix.proofs.ShapeLemmas.{HaveShapeOf-same, HaveShapeOf-trans, HaveShapeOf-set, GetsRow-combined, row_of-there, row_of-other, row_of-items}
+use Rattle.vob_matrix.proofs.ShapeLemmas.{HaveShapeOf-same, HaveShapeOf-trans, HaveShapeOf-set, row_of-there, row_of-other}
 
 -- ---- rows that are led through node k
 
@@ -62,11 +61,9 @@ module _ (rows : List (List Bool)) (k first n : ℕ) (before : List (List Bool))
   }
 
   -- one does, and row k is added
-  pub IsLedThrough-more : (after : List (List Bool)) (gained : Bool) → n < length before →
-      entry before n k ≡ true → IsRowCombined before n k after gained →
-      IsLedThrough rows k first (n + 1) after
-  IsLedThrough-more after gained inside edge added =
-      let gets = GetsRow-combined before n k after gained inside added in
+  pub IsLedThrough-more : (after : List (List Bool)) → entry before n k ≡ true →
+      GetsRow before n k after → IsLedThrough rows k first (n + 1) after
+  IsLedThrough-more after edge gets =
       record {
         shape = HaveShapeOf-trans rows before after h.shape gets.shape;
         each = λ i j low less. elim (cases_eq i n) [
@@ -90,26 +87,53 @@ module _ (rows : List (List Bool)) (k first n : ℕ) (before : List (List Bool))
 
 -- ---- one row is made the union of another and a list
 
-pub IsUnionSet-set : (rows : List (List Bool)) (i other : ℕ) (row new : List Bool) →
-    i < length rows → length new ≡ length (row_of rows i) →
-    ((j : ℕ) → item new j ≡ (entry rows other j || item row j)) →
-    IsUnionSet rows i other row (set rows i new)
-IsUnionSet-set rows i other row new inside long each = record {
-  shape = HaveShapeOf-set rows i new inside long;
-  there = λ j. ap (λ r. item r j) (row_of-there rows i new inside) ∙ each j;
-  others = λ l j apart. ap (λ r. item r j) (row_of-other rows i new inside l apart);
-}
+-- by a call that adds the list to a row
+module _ (rows : List (List Bool)) (i : ℕ) (row new : List Bool) (after : List (List Bool))
+    (inside : i < length rows) (is : after ≡ set rows i new)
+    (combined : AreCombined ◌||◌ (row_of rows i) row (row_of after i)) where
+  pub IsUnionSet-or : IsUnionSet rows i i row after
+  IsUnionSet-or =
+      let there = ap (λ rs. row_of rs i) is ∙ row_of-there rows i new inside in
+      record {
+        shape = subst (HaveShapeOf rows) (sym is)
+            (HaveShapeOf-set rows i new inside (ap length (sym there) ∙ combined.len));
+        there = combined.each;
+        others = λ l j apart. ap (λ rs. entry rs l j) is
+            ∙ ap (λ r. item r j) (row_of-other rows i new inside l apart);
+      }
 
-pub IsUnionSet-items : (items : List BitVector) (i : ℕ) (d new : BitVector) (row : List Bool) →
-    i < length items → AreCombined ◌||◌ (get_or items i d).bits row new.bits →
-    IsUnionSet (bits_of items) i i row (bits_of (set items i new))
-IsUnionSet-items items i d new row inside combined =
-    let own = row_of-items items i d inside in
-    subst (IsUnionSet (bits_of items) i i row) (sym (map-set (λ v. v.bits) items i new))
-    (IsUnionSet-set (bits_of items) i i row new.bits
-    (omega (arith, inside, length-map items (λ v. v.bits)))
-    (combined.len ∙ ap length (sym own))
-    (λ j. combined.each j ∙ ap (λ r. item r j || item row j) (sym own)))
+pub GetsRow-or : (rows : List (List Bool)) (i k : ℕ) (new : List Bool) (after : List (List Bool)) →
+    i < length rows → after ≡ set rows i new →
+    AreCombined ◌||◌ (row_of rows i) (row_of rows k) (row_of after i) → GetsRow rows i k after
+GetsRow-or rows i k new after inside is combined =
+    let made = IsUnionSet-or rows i (row_of rows k) new after inside is combined in
+    record { shape = made.shape; there = made.there; others = made.others }
+
+-- by three calls: one clears a row, and two add the other and the list
+pub IsUnionSet-made : (rows blank both after : List (List Bool)) (i other columns : ℕ)
+    (row new newer : List Bool) → i < length rows → other < i → columns ≡ length (row_of rows i) →
+    blank ≡ set rows i (replicate columns false) → both ≡ set blank i new →
+    AreCombined ◌||◌ (row_of blank i) (row_of blank other) (row_of both i) →
+    after ≡ set both i newer → AreCombined ◌||◌ (row_of both i) row (row_of after i) →
+    IsUnionSet rows i other row after
+IsUnionSet-made rows blank both after i other columns row new newer inside less long cleared is first
+    its second =
+    let none = replicate columns false in
+    let start = subst (HaveShapeOf rows) (sym cleared)
+    (HaveShapeOf-set rows i none inside (length-replicate columns false ∙ long)) in
+    let one = IsUnionSet-or blank i (row_of blank other) new both (omega (arith, inside, start.count)) is first in
+    let two = IsUnionSet-or both i row newer after
+    (omega (arith, inside, start.count, one.shape.count)) its second in
+    let kept = λ (l j : ℕ) (apart : l ≢ i). ap (λ rs. entry rs l j) cleared
+    ∙ ap (λ r. item r j) (row_of-other rows i none inside l apart) in
+    let gone = λ (j : ℕ). ap (λ rs. entry rs i j) cleared
+    ∙ ap (λ r. item r j) (row_of-there rows i none inside) ∙ item_false columns j in
+    record {
+      shape = HaveShapeOf-trans rows both after (HaveShapeOf-trans rows blank both start one.shape) two.shape;
+      there = λ j. two.there j ∙ ap (λ b. b || item row j) (one.there j
+          ∙ ap (λ b. b || entry blank other j) (gone j) ∙ kept other j (λ e. omega (arith, e, less)));
+      others = λ l j apart. two.others l j apart ∙ one.others l j apart ∙ kept l j apart;
+    }
 
 -- a row that gets an empty entry stays
 pub IsUnionSet-blank : (rows unions : List (List Bool)) (i m : ℕ) → m ≡ 0 →

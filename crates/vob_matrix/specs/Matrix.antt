@@ -1,28 +1,13 @@
 -- A matrix of bits, and where its entries lead: entry (i, j) is bit j of row i.
-use Rattle.std.specs.Prelude.{◌≡◌, ◌==◌, ◌&&◌, ◌≢◌, ◌↔◌, ◌⊎◌, ℕ, Bool, true, ◌||◌, List, [], ◌∷◌, length, slice_index_or}
+use Rattle.std.specs.Prelude.{◌≡◌, ◌≢◌, ◌↔◌, ◌⊎◌, ℕ, Bool, true, ◌||◌, List, [], ◌∷◌, length}
 use Rattle.vob_block.specs.Packing.{item}
-use Rattle.std.specs.Cmp.Lexicographic.{pointwise}
-use Rattle.vob.specs.Same.{same_bits}
 use Rattle.vob.specs.Sets.{HasShared}
 use Rattle.vob.specs.Vobs.{AreOfLength}
-
--- the rows, row 0 first, and how many columns there are, also where there is no row
-pub record Matrix : Type 0 where
-  pub rows : List (List Bool)
-  pub columns : ℕ
-
--- row i, without a bit past the last row
-abbrev pub row_of : List (List Bool) → ℕ → List Bool
-row_of rows i = slice_index_or rows i []
+use Rattle.vob_rows.specs.Rows.{row_of, Matrix}
 
 -- entry (i, j), false past the last row or column
 abbrev pub entry : List (List Bool) → ℕ → ℕ → Bool
 entry rows i j = item (row_of rows i) j
-
--- whether two matrices have as many columns and the same rows
-abbrev pub same_matrix : Matrix → Matrix → Bool
-same_matrix matrix other =
-    matrix.columns == other.columns && pointwise same_bits matrix.rows other.rows
 
 -- rows that are as many and as long as others
 pub record HaveShapeOf (rows after : List (List Bool)) : Type 0 where

@@ -1,16 +1,7 @@
 -- What the work on the rows of a matrix keeps. No public clause cites this page.
-use Rattle.std.specs.Prelude.{◌≡◌, ◌≢◌, ℕ, Bool, ◌||◌, List, slice_set}
+use Rattle.std.specs.Prelude.{◌≡◌, ◌≢◌, ℕ, Bool, ◌||◌, List}
 use Rattle.vob_block.specs.Packing.{item}
-use Rattle.vob.specs.Bits.{AreCombined, GainsBits}
-use Rattle.vob_matrix.specs.Matrix.{row_of, entry, HaveShapeOf}
-
--- row i combined with row k in its place, and a flag that is true where it gained a bit
-pub record IsRowCombined (rows : List (List Bool)) (i k : ℕ) (after : List (List Bool))
-    (gained : Bool) : Type 0 where
-  pub row : List Bool
-  pub is : after ≡ slice_set rows i row
-  pub combined : AreCombined ◌||◌ (row_of rows i) (row_of rows k) row
-  pub gains : GainsBits gained (row_of rows i) row
+use Rattle.vob_matrix.specs.Matrix.{entry, HaveShapeOf}
 
 -- the entries of a column at the true bits of a list were made true, and no other changed
 pub record IsColumnMarked (rows : List (List Bool)) (column : ℕ) (bits : List Bool)

@@ -1,7 +1,8 @@
 -- Products and powers of matrices of bits: where one edge leads after another.
 use Rattle.std.specs.Prelude.{◌≡◌, ◌↔◌, ◌≢◌, ℕ, zero, suc, ◌<◌, Bool, true, List, length}
 use Rattle.vob.specs.Vobs.{AreOfLength}
-use Rattle.vob_matrix.specs.Matrix.{Matrix, entry, HaveShapeOf, IsEdge, AreClosed}
+use Rattle.vob_rows.specs.Rows.{Matrix}
+use Rattle.vob_matrix.specs.Matrix.{entry, HaveShapeOf, IsEdge, AreClosed}
 
 -- n rows and columns, and an edge from each node to itself alone
 pub record IsIdentity (n : ℕ) (after : Matrix) : Type 0 where
@@ -43,10 +44,3 @@ pub record IsDiagonalMarked (rows : List (List Bool)) (after : List (List Bool))
   pub shape : HaveShapeOf rows after
   pub there : (i : ℕ) → i < length rows → entry after i i ≡ true
   pub others : (i j : ℕ) → i ≢ j → entry after i j ≡ entry rows i j
-
--- rows of `columns` bits with an edge wherever two edges led
-pub record AreProducts (rows others : List (List Bool)) (columns : ℕ) (after : List (List Bool))
-    : Type 0 where
-  pub count : length after ≡ length rows
-  pub long : AreOfLength columns after
-  pub each : (i j : ℕ) → IsEdge after i j ↔ HasTwoEdges rows others i j

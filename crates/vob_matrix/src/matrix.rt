@@ -1,4 +1,4 @@
-//! A matrix of bits, its transitive closure, products, powers and transpose: a user of `or`, of
+//! A matrix of bits, its transitive closure, products, powers and transpose: a user of rows, of
 //! `load` and of the walk over set bits.
 ghost use Rattle.std.specs.Prelude.{◌≡◌, ◌≢◌, ◌↔◌, ◌<◌, ◌≤◌, ℕ, [], false, length, map, replicate, slice_get, IsOk, IsTrue, IfOk};
 ghost use Rattle.vob.specs.Bits.{GainsBits, IsWritten};
@@ -8,53 +8,47 @@ ghost use Rattle.std.specs.Cmp.Lexicographic.{pointwise};
 ghost use Rattle.std.specs.Cmp.Rules.{comparing};
 ghost use Rattle.std.specs.Ordering.{eq_of_both, on};
 ghost use Rattle.vob.specs.Same.{same_bits};
+ghost use Rattle.vob.specs.Vobs.{AreOfLength};
 ghost use Rattle.vob_block.specs.Pointwise.{differ};
-ghost use Rattle.vob.specs.Vobs.{AreOfLength, bits_of};
-ghost use Rattle.vob_matrix.specs.Matrix.{AreJoined, row_of, entry, GetsRow, HaveShapeOf, AreClosed, IsColumnUnion, IsEntryWritten, IsTransposed, Matrix, same_matrix};
+ghost use Rattle.vob_rows.specs.Rows.{row_of, same_matrix, Matrix};
+ghost use Rattle.vob_matrix.specs.Matrix.{AreJoined, entry, GetsRow, AreClosed, IsColumnUnion, IsEntryWritten, IsTransposed};
 ghost use Rattle.vob_matrix.specs.Products.{IsIdentity, IsPower, IsProduct};
 ghost use Rattle.vob_matrix.specs.MatrixRows.{AreColumnsMarked, IsColumnMarked};
 
 use crate::closing::close_rows;
-use crate::products::{copy_rows, mark_diagonal, product_rows};
+use crate::products::{mark_diagonal, product_rows};
 use crate::tiles::{are_dense, turn_rows};
-use crate::unions::{blank_rows, join_rows, or_row};
+use crate::unions::join_rows;
 use std::alloc::{AllocError, Global};
 use std::marker::Model;
 use vob::Vob;
+use vob_rows::{BitRows, Row};
 
 /// A matrix of bits. Contracts see its rows as lists of bits, and how many columns it has.
 #[derive(Debug, Drop)]
 pub struct BitMatrix {
-    rows: Vec<Vob>,
-    columns: usize,
+    rows: BitRows,
 }
 
 impl Model for BitMatrix {
-    ghost use Rattle.std.specs.Prelude.{map};
-    ghost use Rattle.vob.specs.Vobs.{AreOfLength};
-    ghost use Rattle.vob_matrix.specs.Matrix.{Matrix};
+    ghost use Rattle.vob_rows.specs.Rows.{Matrix};
 
     ghost Value = { Matrix };
 
-    ghost view = { λ matrix. record {
-      rows = map (λ row. row.bits) matrix.rows.items;
-      columns = matrix.columns;
-    } };
-
-    ghost invariant = { λ matrix.
-        AreOfLength matrix.columns (map (λ row. row.bits) matrix.rows.items) };
+    ghost view = { λ matrix. matrix.rows };
 }
 
 impl BitMatrix {
-    /// A matrix whose entries are all false. No rows take no memory.
+    /// A matrix whose entries are all false. Fails if memory runs out, or no length counts its blocks;
+    /// no rows take no memory.
     pub fn new(alloc: Global, rows: usize, columns: usize) -> Result<BitMatrix, AllocError>
         ensures entries { IfOk result (λ matrix.
             matrix.rows ≡ replicate rows (replicate columns false)) }
         ensures columns { IfOk result (λ matrix. matrix.columns ≡ columns) }
         ensures nothing { rows ≡ 0 → IsOk result }
     {
-        let rows = blank_rows(alloc, rows, columns)?;
-        Ok(BitMatrix { rows, columns })
+        let rows = BitRows::new(alloc, rows, columns)?;
+        Ok(BitMatrix { rows })
     }
 
     /// Returns the matrix of `n` rows and columns whose entries (i, i) are true and the others false.
@@ -63,9 +57,9 @@ impl BitMatrix {
         ensures identity { IfOk result (λ made. IsIdentity n made) }
         ensures nothing { n ≡ 0 → IsOk result }
     {
-        let mut rows = blank_rows(alloc, n, n)?;
+        let mut rows = BitRows::new(alloc, n, n)?;
         mark_diagonal(&mut rows);
-        Ok(BitMatrix { rows, columns: n })
+        Ok(BitMatrix { rows })
     }
 
     /// Makes a matrix with the same entries. Fails if memory runs out; no rows take none.
@@ -73,18 +67,15 @@ impl BitMatrix {
         ensures matrix { IfOk result (λ made. made ≡ self.now) }
         ensures nothing { self.now.rows ≡ [] → IsOk result }
     {
-        let rows = copy_rows(*self.rows.allocator(), &self.rows)?;
-        Ok(BitMatrix {
-            rows,
-            columns: self.columns,
-        })
+        let rows = self.rows.clone()?;
+        Ok(BitMatrix { rows })
     }
 
     /// Returns the number of rows.
     pub fn rows(&self) -> usize
         ensures { result ≡ length self.now.rows }
     {
-        self.rows.len()
+        self.rows.rows()
     }
 
     /// Returns the number of columns.
@@ -92,14 +83,14 @@ impl BitMatrix {
         ensures columns { result ≡ self.now.columns }
         ensures long { AreOfLength result self.now.rows }
     {
-        self.columns
+        self.rows.columns()
     }
 
     /// Returns entry (`row`, `column`), or `None` past the last row or column.
     pub fn get(&self, row: usize, column: usize) -> Option<bool>
         ensures { result ≡ slice_get (row_of self.now.rows row) column }
     {
-        self.rows.get(row)?.get(column)
+        self.rows.get(row, column)
     }
 
     /// Writes entry (`row`, `column`), and returns whether it changed.
@@ -112,16 +103,18 @@ impl BitMatrix {
         ensures written { IsWritten (row_of self.old.rows row) column value
             (row_of self.new.rows row) }
     {
-        self.rows[row].set(column, value)
+        // A row is as long as there are columns: a proof knows it from this call.
+        let _columns = self.columns();
+        self.rows.set(row, column, value)
     }
 
     /// Returns a row, to be read by the calls of a Vob.
-    pub fn row(&self, row: usize) -> &Vob
+    pub fn row(&self, row: usize) -> Row<'_>
         requires { row < length self.now.rows }
-        ensures bits { result.now.bits ≡ row_of self.now.rows row }
-        ensures long { length result.now.bits ≡ self.now.columns }
+        ensures bits { result ≡ row_of self.now.rows row }
+        ensures long { length result ≡ self.now.columns }
     {
-        &self.rows[row]
+        self.rows.row(row)
     }
 
     /// Adds the true entries of row `from` to row `into`, and returns whether that added one.
@@ -133,7 +126,7 @@ impl BitMatrix {
         ensures changed { IsTrue result ↔ (self.new.rows ≢ self.old.rows) }
         ensures more { GainsBits result (row_of self.old.rows into) (row_of self.new.rows into) }
     {
-        or_row(&mut self.rows, into, from)
+        self.rows.or_row(into, from)
     }
 
     /// Adds the true entries of another matrix, which must have as many rows and columns, and returns
@@ -159,7 +152,7 @@ impl BitMatrix {
         ensures closure { AreClosed self.old.rows self.new.rows }
         ensures columns { self.new.columns ≡ self.old.columns }
     {
-        close_rows(alloc, &mut self.rows, self.columns);
+        close_rows(alloc, &mut self.rows);
     }
 
     /// Returns the Boolean product: entry (i, j) is true if some k has (i, k) in this matrix and (k, j)
@@ -173,11 +166,8 @@ impl BitMatrix {
         ensures product { IfOk result (λ made. IsProduct self.now other.now made) }
         ensures nothing { self.now.rows ≡ [] → IsOk result }
     {
-        let rows = product_rows(alloc, &self.rows, &other.rows, other.columns)?;
-        Ok(BitMatrix {
-            rows,
-            columns: other.columns,
-        })
+        let rows = product_rows(alloc, &self.rows, &other.rows)?;
+        Ok(BitMatrix { rows })
     }
 
     /// Makes entry (i, j) of a new matrix true if a path of exactly `n` edges leads from node i to node
@@ -189,8 +179,9 @@ impl BitMatrix {
         requires square { length self.now.rows ≡ self.now.columns }
         ensures power { IfOk result (λ made. IsPower self.now n made) }
     {
+        let columns = self.columns();
         if n == 0 {
-            return BitMatrix::identity(alloc, self.columns);
+            return BitMatrix::identity(alloc, columns);
         }
         if n == 1 {
             return self.clone();
@@ -211,7 +202,7 @@ impl BitMatrix {
         ensures union { IfOk result (λ made. IsColumnUnion self.now.rows columns.now.bits made.bits) }
         ensures nothing { self.now.rows ≡ [] → IsOk result }
     {
-        let mut made = Vob::from_elem(alloc, false, self.rows.len())?;
+        let mut made = Vob::from_elem(alloc, false, self.rows())?;
         mark_rows(&mut made, &self.rows, columns);
         Ok(made)
     }
@@ -223,9 +214,9 @@ impl BitMatrix {
         ensures transposed { IfOk result (λ made. IsTransposed self.now made) }
         ensures nothing { self.now.columns ≡ 0 → IsOk result }
     {
-        let mut made = BitMatrix::new(alloc, self.columns, self.rows.len())?;
-        fill_columns(&mut made.rows, &self.rows);
-        Ok(made)
+        let mut rows = BitRows::new(alloc, self.columns(), self.rows())?;
+        fill_columns(&mut rows, &self.rows);
+        Ok(BitMatrix { rows })
     }
 }
 
@@ -240,55 +231,61 @@ impl PartialEq for BitMatrix {
         ensures answer { result ≡ same_matrix self.now other.now }
         ensures same { IsTrue result ↔ (self.now ≡ other.now) }
     {
-        self.columns == other.columns && self.rows == other.rows
+        self.rows == other.rows
     }
 }
 
 /// Makes bit i of a Vob whether row i has a bit that a set has.
-fn mark_rows(made: &mut Vob, rows: &[Vob], columns: &Vob)
-    requires count { length made.old.bits ≡ length rows.now }
-    requires long { AreOfLength (length columns.now.bits) (bits_of rows.now) }
-    ensures { IsColumnUnion (bits_of rows.now) columns.now.bits made.new.bits }
+fn mark_rows(made: &mut Vob, rows: &BitRows, columns: &Vob)
+    requires count { length made.old.bits ≡ length rows.now.rows }
+    requires long { length columns.now.bits ≡ rows.now.columns }
+    ensures { IsColumnUnion rows.now.rows columns.now.bits made.new.bits }
 {
-    for row in 0..rows.len() {
-        let apart = rows[row].is_disjoint(columns);
+    let columns = Row::of(columns);
+    for row in 0..rows.rows() {
+        let apart = rows.row(row).is_disjoint(&columns);
         made.set(row, !apart);
     }
 }
 
 /// Makes the entries of a column true that stand at the set bits of a row.
-fn mark_column(rows: &mut [Vob], column: usize, bits: &Vob)
-    requires rows { length bits.now.bits ≡ length rows.old }
-    requires long { (i : ℕ) → i < length rows.old
-        → column < length (row_of (bits_of rows.old) i) }
-    ensures { IsColumnMarked (bits_of rows.old) column bits.now.bits
-        (bits_of rows.new) }
+fn mark_column(rows: &mut BitRows, column: usize, bits: &Row<'_>)
+    requires rows { length bits.now ≡ length rows.old.rows }
+    requires inside { column < rows.old.columns }
+    ensures marked { IsColumnMarked rows.old.rows column bits.now rows.new.rows }
+    ensures columns { rows.new.columns ≡ rows.old.columns }
 {
     for row in bits.iter_set_bits(..) {
-        rows[row].set(column, true);
+        // A row is as long as there are columns: a proof knows it from this call.
+        let _columns = rows.columns();
+        rows.set(row, column, true);
     }
 }
 
 /// Marks column i at the set bits of row i of `from`, for each of its rows.
-fn mark_columns(rows: &mut [Vob], from: &[Vob])
-    requires rows { AreOfLength (length rows.old) (bits_of from.now) }
-    requires long { AreOfLength (length from.now) (bits_of rows.old) }
-    ensures { AreColumnsMarked (bits_of rows.old) (bits_of from.now) (bits_of rows.new) }
+fn mark_columns(rows: &mut BitRows, from: &BitRows)
+    requires rows { from.now.columns ≡ length rows.old.rows }
+    requires columns { rows.old.columns ≡ length from.now.rows }
+    ensures marked { AreColumnsMarked rows.old.rows from.now.rows rows.new.rows }
+    ensures columns { rows.new.columns ≡ rows.old.columns }
 {
-    for column in 0..from.len() {
-        mark_column(rows, column, &from[column]);
+    for column in 0..from.rows() {
+        mark_column(rows, column, &from.row(column));
     }
 }
 
 /// Makes column i of blank rows the row i of others, for each of these: by tiles if they have many
 /// bits, and otherwise by a walk over their set bits.
-fn fill_columns(rows: &mut [Vob], from: &[Vob])
-    requires rows { AreOfLength (length rows.old) (bits_of from.now) }
-    requires long { AreOfLength (length from.now) (bits_of rows.old) }
-    requires blank { (i j : ℕ) → entry (bits_of rows.old) i j ≡ false }
-    ensures { AreColumnsMarked (bits_of rows.old) (bits_of from.now) (bits_of rows.new) }
+fn fill_columns(rows: &mut BitRows, from: &BitRows)
+    requires rows { from.now.columns ≡ length rows.old.rows }
+    requires columns { rows.old.columns ≡ length from.now.rows }
+    requires blank { (i j : ℕ) → entry rows.old.rows i j ≡ false }
+    ensures marked { AreColumnsMarked rows.old.rows from.now.rows rows.new.rows }
+    ensures columns { rows.new.columns ≡ rows.old.columns }
 {
-    if are_dense(from, rows.len()) {
+    // A row is as long as there are columns: a proof knows it from this call.
+    let _columns = from.columns();
+    if are_dense(from) {
         turn_rows(rows, from);
     } else {
         mark_columns(rows, from);

@@ -1,56 +1,51 @@
-//! The rows of an identity and of a product, and copies of rows.
+//! The rows of an identity and of a product.
 ghost use Rattle.std.specs.Prelude.{◌≡◌, ℕ, ◌+◌, ◌^◌, ◌<◌, ◌≤◌, [], length, IsOk, IfOk};
-ghost use Rattle.vob.specs.Vobs.{AreOfLength, bits_of};
-ghost use Rattle.vob_matrix.specs.Matrix.{row_of};
-ghost use Rattle.vob_matrix.specs.Products.{AreProducts, IsDiagonalMarked};
+ghost use Rattle.vob_matrix.specs.Products.{IsDiagonalMarked, IsProduct};
 ghost use Rattle.vob_matrix.specs.Unions.{AreLinked};
 
-use crate::unions::{blank_rows, fill_unions, link_by};
+use crate::unions::{fill_unions, link_by};
 use std::alloc::{AllocError, Global};
-use vob::Vob;
+use vob_rows::BitRows;
 
 /// The least number of rows for which a product takes eight at once. With fewer it takes four.
 const MANY_ROWS: usize = 256;
 
-/// Returns copies of rows. No rows take no memory.
-pub(crate) fn copy_rows(alloc: Global, rows: &[Vob]) -> Result<Vec<Vob>, AllocError>
-    ensures bits { IfOk result (λ made. bits_of made.items ≡ bits_of rows.now) }
-    ensures nothing { rows.now ≡ [] → IsOk result }
-{
-    let mut made = Vec::with_capacity(alloc, rows.len())?;
-    for row in 0..rows.len() {
-        made.push(rows[row].clone()?)?;
-    }
-    Ok(made)
-}
-
 /// Makes bit i of each row i true.
-pub(crate) fn mark_diagonal(rows: &mut [Vob])
-    requires { AreOfLength (length rows.old) (bits_of rows.old) }
-    ensures { IsDiagonalMarked (bits_of rows.old) (bits_of rows.new) }
+pub(crate) fn mark_diagonal(rows: &mut BitRows)
+    requires { rows.old.columns ≡ length rows.old.rows }
+    ensures marked { IsDiagonalMarked rows.old.rows rows.new.rows }
+    ensures columns { rows.new.columns ≡ rows.old.columns }
 {
-    for row in 0..rows.len() {
-        rows[row].set(row, true);
+    for row in 0..rows.rows() {
+        // A row is as long as there are columns: a proof knows it from this call.
+        let _columns = rows.columns();
+        rows.set(row, row, true);
     }
 }
 
 /// Adds to each row the rows of `others` that the bits of a row of `by` name, `few` of them after
 /// another, by a table of their unions.
-fn add_products(rows: &mut [Vob], by: &[Vob], others: &[Vob], unions: &mut [Vob], few: usize)
+fn add_products(
+    rows: &mut BitRows,
+    by: &BitRows,
+    others: &BitRows,
+    unions: &mut BitRows,
+    few: usize,
+)
     requires some { 0 < few }
     requires few { few ≤ 8 }
-    requires room { 2 ^ few ≤ length unions.old }
-    requires count { length by.now ≡ length rows.old }
-    requires inside { AreOfLength (length others.now) (bits_of by.now) }
-    requires long { AreOfLength (length (row_of (bits_of unions.old) 0)) (bits_of unions.old) }
-    requires rows { AreOfLength (length (row_of (bits_of unions.old) 0)) (bits_of rows.old) }
-    requires others { AreOfLength (length (row_of (bits_of unions.old) 0)) (bits_of others.now) }
-    ensures { AreLinked (bits_of rows.old) (bits_of by.now) (bits_of others.now) 0
-        (length others.now) (bits_of rows.new) }
+    requires room { 2 ^ few ≤ length unions.old.rows }
+    requires count { length by.now.rows ≡ length rows.old.rows }
+    requires inside { by.now.columns ≡ length others.now.rows }
+    requires unions { unions.old.columns ≡ rows.old.columns }
+    requires others { others.now.columns ≡ rows.old.columns }
+    ensures linked { AreLinked rows.old.rows by.now.rows others.now.rows 0
+        (length others.now.rows) rows.new.rows }
+    ensures columns { rows.new.columns ≡ rows.old.columns }
 {
     let mut first = 0;
-    'groups: while first < others.len() {
-        let last = first + (others.len() - first).min(few);
+    'groups: while first < others.rows() {
+        let last = first + (others.rows() - first).min(few);
         fill_unions(unions, others, first, last);
         link_by(rows, by, unions, first, last);
         first = last;
@@ -61,22 +56,19 @@ fn add_products(rows: &mut [Vob], by: &[Vob], others: &[Vob], unions: &mut [Vob]
 /// `entries` unions of `few` rows.
 fn product_by(
     alloc: Global,
-    by: &[Vob],
-    others: &[Vob],
-    columns: usize,
+    by: &BitRows,
+    others: &BitRows,
     few: usize,
     entries: usize,
-) -> Result<Vec<Vob>, AllocError>
+) -> Result<BitRows, AllocError>
     requires some { 0 < few }
     requires few { few ≤ 8 }
     requires room { 2 ^ few ≤ entries }
-    requires by { AreOfLength (length others.now) (bits_of by.now) }
-    requires others { AreOfLength columns (bits_of others.now) }
-    ensures { IfOk result (λ made.
-        AreProducts (bits_of by.now) (bits_of others.now) columns (bits_of made.items)) }
+    requires fits { by.now.columns ≡ length others.now.rows }
+    ensures { IfOk result (λ made. IsProduct by.now others.now made) }
 {
-    let mut made = blank_rows(alloc, by.len(), columns)?;
-    let mut unions = blank_rows(alloc, entries, columns)?;
+    let mut made = BitRows::new(alloc, by.rows(), others.columns())?;
+    let mut unions = BitRows::new(alloc, entries, others.columns())?;
     add_products(&mut made, by, others, &mut unions, few);
     Ok(made)
 }
@@ -85,22 +77,20 @@ fn product_by(
 /// memory.
 pub(crate) fn product_rows(
     alloc: Global,
-    by: &[Vob],
-    others: &[Vob],
-    columns: usize,
-) -> Result<Vec<Vob>, AllocError>
-    requires by { AreOfLength (length others.now) (bits_of by.now) }
-    requires others { AreOfLength columns (bits_of others.now) }
-    ensures products { IfOk result (λ made.
-        AreProducts (bits_of by.now) (bits_of others.now) columns (bits_of made.items)) }
-    ensures nothing { by.now ≡ [] → IsOk result }
+    by: &BitRows,
+    others: &BitRows,
+) -> Result<BitRows, AllocError>
+    requires fits { by.now.columns ≡ length others.now.rows }
+    ensures product { IfOk result (λ made. IsProduct by.now others.now made) }
+    ensures nothing { by.now.rows ≡ [] → IsOk result }
 {
-    if by.is_empty() {
-        return Ok(Vec::new(alloc));
+    if by.rows() == 0 {
+        let none = BitRows::new(alloc, 0, others.columns())?;
+        return Ok(none);
     }
-    if by.len() < MANY_ROWS {
-        product_by(alloc, by, others, columns, 4, 16)
+    if by.rows() < MANY_ROWS {
+        product_by(alloc, by, others, 4, 16)
     } else {
-        product_by(alloc, by, others, columns, 8, 256)
+        product_by(alloc, by, others, 8, 256)
     }
 }

@@ -1,12 +1,10 @@
 //! Transposes of matrices by tiles of 64 rows by 64 columns, a word a row.
 ghost use Rattle.std.specs.Prelude.{◌≡◌, ◌<◌, ◌≤◌, ◌+◌, ◌*◌, ◌-◌, ℕ, false, length};
-ghost use Rattle.vob.specs.Vobs.{AreOfLength, bits_of};
-ghost use Rattle.vob_matrix.specs.Matrix.{row_of, entry};
 ghost use Rattle.vob_matrix.specs.TileRows.{AreTaken, IsLoaded, IsStored};
 ghost use Rattle.vob_matrix.specs.Tiles.{AreExchanged, AreTurned, IsMask, IsStage, JoinsFirst, JoinsSecond};
 
-use vob::Vob;
 use vob_block::BitBlock;
+use vob_rows::BitRows;
 
 /// The bits that a tile has on average from which on it takes less than a walk over them.
 const MANY: usize = 256;
@@ -79,28 +77,28 @@ fn turn_words(words: &mut [usize])
 /// Reads the bits from `start` to below `end` of the rows from `first` to below `last`, a word a row.
 fn load_words(
     words: &mut [usize],
-    rows: &[Vob],
+    rows: &BitRows,
     first: usize,
     last: usize,
     start: usize,
     end: usize,
 )
     requires rows { first ≤ last }
-    requires inside { last ≤ length rows.now }
+    requires inside { last ≤ length rows.now.rows }
     requires few { last ≤ first + length words.old }
     requires columns { start ≤ end }
     requires width { end ≤ start + 64 }
-    requires long { (i : ℕ) → i < length rows.now → end ≤ length (row_of (bits_of rows.now) i) }
-    ensures { IsLoaded (bits_of rows.now) first last start end words.new }
+    requires long { end ≤ rows.now.columns }
+    ensures { IsLoaded rows.now.rows first last start end words.new }
 {
     for k in 0..last - first {
-        words[k] = rows[first + k].load(start..end);
+        words[k] = rows.row(first + k).load(start..end);
     }
 }
 
 /// Writes words over the bits from `first` to below `last` of the rows from `start` to below `end`.
 fn store_words(
-    rows: &mut [Vob],
+    rows: &mut BitRows,
     words: &[usize],
     start: usize,
     end: usize,
@@ -108,31 +106,39 @@ fn store_words(
     last: usize,
 )
     requires rows { start ≤ end }
-    requires inside { end ≤ length rows.old }
+    requires inside { end ≤ length rows.old.rows }
     requires few { end ≤ start + length words.now }
     requires columns { first ≤ last }
     requires width { last ≤ first + 64 }
-    requires long { (i : ℕ) → i < length rows.old → last ≤ length (row_of (bits_of rows.old) i) }
-    ensures { IsStored (bits_of rows.old) words.now first last start end (bits_of rows.new) }
+    requires long { last ≤ rows.old.columns }
+    ensures stored { IsStored rows.old.rows words.now first last start end rows.new.rows }
+    ensures columns { rows.new.columns ≡ rows.old.columns }
 {
     for k in 0..end - start {
-        rows[start + k].store(first..last, words[k]);
+        rows.store(start + k, first..last, words[k]);
     }
 }
 
 /// Makes the bits from `first` to below `last` of the rows from `start` to below `end` the columns of
 /// the rows of `from` with these numbers.
-fn turn_tile(rows: &mut [Vob], from: &[Vob], first: usize, last: usize, start: usize, end: usize)
+fn turn_tile(
+    rows: &mut BitRows,
+    from: &BitRows,
+    first: usize,
+    last: usize,
+    start: usize,
+    end: usize,
+)
     requires rows { first ≤ last }
     requires few { last ≤ first + 64 }
-    requires inside { last ≤ length from.now }
+    requires inside { last ≤ length from.now.rows }
     requires columns { start ≤ end }
     requires width { end ≤ start + 64 }
-    requires room { end ≤ length rows.old }
-    requires long { AreOfLength (length rows.old) (bits_of from.now) }
-    requires high { AreOfLength (length from.now) (bits_of rows.old) }
-    ensures { AreTaken (bits_of rows.old) (bits_of from.now) first last start end
-        (bits_of rows.new) }
+    requires room { end ≤ length rows.old.rows }
+    requires long { from.now.columns ≡ length rows.old.rows }
+    requires high { rows.old.columns ≡ length from.now.rows }
+    ensures taken { AreTaken rows.old.rows from.now.rows first last start end rows.new.rows }
+    ensures columns { rows.new.columns ≡ rows.old.columns }
 {
     let mut words = [0; 64];
     load_words(&mut words, from, first, last, start, end);
@@ -142,16 +148,17 @@ fn turn_tile(rows: &mut [Vob], from: &[Vob], first: usize, last: usize, start: u
 
 /// Makes the bits from `first` to below `last` of all rows the columns of the rows of `from` with these
 /// numbers, a tile at a time.
-fn turn_strip(rows: &mut [Vob], from: &[Vob], first: usize, last: usize)
+fn turn_strip(rows: &mut BitRows, from: &BitRows, first: usize, last: usize)
     requires rows { first ≤ last }
     requires few { last ≤ first + 64 }
-    requires inside { last ≤ length from.now }
-    requires long { AreOfLength (length rows.old) (bits_of from.now) }
-    requires high { AreOfLength (length from.now) (bits_of rows.old) }
-    ensures { AreTaken (bits_of rows.old) (bits_of from.now) first last 0 (length rows.old)
-        (bits_of rows.new) }
+    requires inside { last ≤ length from.now.rows }
+    requires long { from.now.columns ≡ length rows.old.rows }
+    requires high { rows.old.columns ≡ length from.now.rows }
+    ensures taken { AreTaken rows.old.rows from.now.rows first last 0 (length rows.old.rows)
+        rows.new.rows }
+    ensures columns { rows.new.columns ≡ rows.old.columns }
 {
-    let columns = rows.len();
+    let columns = rows.rows();
     let mut start = 0;
     'tiles: while start < columns {
         let end = start + (columns - start).min(64);
@@ -161,26 +168,30 @@ fn turn_strip(rows: &mut [Vob], from: &[Vob], first: usize, last: usize)
 }
 
 /// Makes column i of the rows the row i of others, for each of these.
-pub(crate) fn turn_rows(rows: &mut [Vob], from: &[Vob])
-    requires long { AreOfLength (length rows.old) (bits_of from.now) }
-    requires high { AreOfLength (length from.now) (bits_of rows.old) }
-    ensures { AreTaken (bits_of rows.old) (bits_of from.now) 0 (length from.now) 0
-        (length rows.old) (bits_of rows.new) }
+pub(crate) fn turn_rows(rows: &mut BitRows, from: &BitRows)
+    requires long { from.now.columns ≡ length rows.old.rows }
+    requires high { rows.old.columns ≡ length from.now.rows }
+    ensures taken { AreTaken rows.old.rows from.now.rows 0 (length from.now.rows) 0
+        (length rows.old.rows) rows.new.rows }
+    ensures columns { rows.new.columns ≡ rows.old.columns }
 {
     let mut first = 0;
-    'strips: while first < from.len() {
-        let last = first + (from.len() - first).min(64);
+    'strips: while first < from.rows() {
+        let last = first + (from.rows() - first).min(64);
         turn_strip(rows, from, first, last);
         first = last;
     }
 }
 
 /// Returns whether rows have so many set bits that tiles take less than a walk over these bits.
-pub(crate) fn are_dense(rows: &[Vob], columns: usize) -> bool {
-    let tiles = rows.len().div_ceil(64).saturating_mul(columns.div_ceil(64));
+pub(crate) fn are_dense(rows: &BitRows) -> bool {
+    let tiles = rows
+        .rows()
+        .div_ceil(64)
+        .saturating_mul(rows.columns().div_ceil(64));
     let mut ones: usize = 0;
-    for row in rows {
-        ones = ones.saturating_add(row.count_ones());
+    for row in 0..rows.rows() {
+        ones = ones.saturating_add(rows.row(row).count_ones());
     }
     tiles.saturating_mul(MANY) <= ones
 }

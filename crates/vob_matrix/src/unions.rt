@@ -1,92 +1,53 @@
-//! Unions of the rows of a matrix: one row added to another, and a table of all unions of some rows.
-ghost use Rattle.std.specs.Prelude.{◌≡◌, ◌≢◌, ◌↔◌, IsTrue, ℕ, ◌+◌, ◌-◌, ◌*◌, ◌^◌, ◌<◌, ◌≤◌, ◌||◌, List, Bool, [], false, length, replicate, IsOk, IfOk};
-ghost use Rattle.vob.specs.Bits.{AreCombined};
-ghost use Rattle.vob.specs.Vobs.{AreOfLength, bits_of};
-ghost use Rattle.vob_matrix.specs.Matrix.{row_of, entry, AreJoined, HaveShapeOf};
-ghost use Rattle.vob_matrix.specs.MatrixRows.{IsRowCombined};
+//! Unions of the rows of a matrix: those of two matrices, and a table of all unions of some rows.
+ghost use Rattle.std.specs.Prelude.{◌≡◌, ◌≢◌, ◌↔◌, ℕ, ◌+◌, ◌-◌, ◌*◌, ◌^◌, ◌<◌, ◌≤◌, List, Bool, false, length, IsTrue};
+ghost use Rattle.vob_rows.specs.Rows.{row_of};
+ghost use Rattle.vob_matrix.specs.Matrix.{entry, AreJoined, HaveShapeOf};
 ghost use Rattle.vob_matrix.specs.Unions.{AreDoubled, AreLinked, AreUnions, IsUnionSet};
 
-use std::alloc::{AllocError, Global};
-use vob::Vob;
-
-/// Makes rows whose bits are all false. No rows take no memory.
-pub(crate) fn blank_rows(alloc: Global, rows: usize, columns: usize) -> Result<Vec<Vob>, AllocError>
-    ensures bits { IfOk result (λ made.
-        bits_of made.items ≡ replicate rows (replicate columns false)) }
-    ensures nothing { rows ≡ 0 → IsOk result }
-{
-    let mut made = Vec::with_capacity(alloc, rows)?;
-    for _ in 0..rows {
-        made.push(Vob::from_elem(alloc, false, columns)?)?;
-    }
-    Ok(made)
-}
-
-/// Adds the true bits of row `from` to row `into`, and returns whether that added one.
-pub(crate) fn or_row(rows: &mut [Vob], into: usize, from: usize) -> bool
-    requires into { into < length rows.old }
-    requires from { from < length rows.old }
-    requires long { length (row_of (bits_of rows.old) into)
-        ≡ length (row_of (bits_of rows.old) from) }
-    ensures { IsRowCombined (bits_of rows.old) into from
-        (bits_of rows.new) result }
-{
-    if into < from {
-        let (low, high) = rows.split_at_mut(from);
-        low[into].or(&high[0])
-    } else if from < into {
-        let (low, high) = rows.split_at_mut(into);
-        high[0].or(&low[from])
-    } else {
-        false
-    }
-}
+use vob_rows::{BitRows, Row};
 
 /// Adds to each row the same row of others, and returns whether that added a bit.
-pub(crate) fn join_rows(rows: &mut [Vob], others: &[Vob]) -> bool
-    requires count { length rows.old ≡ length others.now }
-    requires long { (i : ℕ) → length (row_of (bits_of rows.old) i)
-        ≡ length (row_of (bits_of others.now) i) }
-    ensures joined { AreJoined (bits_of rows.old) (bits_of others.now) (bits_of rows.new) }
-    ensures changed { IsTrue result ↔ (bits_of rows.new ≢ bits_of rows.old) }
+pub(crate) fn join_rows(rows: &mut BitRows, others: &BitRows) -> bool
+    requires count { length rows.old.rows ≡ length others.now.rows }
+    requires columns { rows.old.columns ≡ others.now.columns }
+    ensures joined { AreJoined rows.old.rows others.now.rows rows.new.rows }
+    ensures columns { rows.new.columns ≡ rows.old.columns }
+    ensures changed { IsTrue result ↔ (rows.new.rows ≢ rows.old.rows) }
 {
     let mut changed = false;
-    for row in 0..others.len() {
-        if rows[row].or(&others[row]) {
+    for row in 0..others.rows() {
+        if rows.or_with(row, &others.row(row)) {
             changed = true;
         }
     }
     changed
 }
 
-/// Makes a Vob the union of two others.
-fn unite(into: &mut Vob, first: &Vob, second: &Vob)
-    requires first { length into.old.bits ≡ length first.now.bits }
-    requires second { length into.old.bits ≡ length second.now.bits }
-    ensures { AreCombined ◌||◌ first.now.bits second.now.bits into.new.bits }
-{
-    into.copy_range(0, first, 0..first.len());
-    into.or(second);
-}
-
 /// Makes entry `into` of a table the union of entry `from` and a row.
-fn set_union(unions: &mut [Vob], into: usize, from: usize, row: &Vob)
+fn set_union(unions: &mut BitRows, into: usize, from: usize, row: &Row<'_>)
     requires from { from < into }
-    requires into { into < length unions.old }
-    requires long { AreOfLength (length row.now.bits) (bits_of unions.old) }
-    ensures { IsUnionSet (bits_of unions.old) into from row.now.bits (bits_of unions.new) }
+    requires into { into < length unions.old.rows }
+    requires long { length row.now ≡ unions.old.columns }
+    ensures set { IsUnionSet unions.old.rows into from row.now unions.new.rows }
+    ensures columns { unions.new.columns ≡ unions.old.columns }
 {
-    let (low, high) = unions.split_at_mut(into);
-    unite(&mut high[0], &low[from], row);
+    // Each entry is as long as there are columns: a proof knows it from this call.
+    let _columns = unions.columns();
+    unions.fill_row(into, false);
+    unions.or_row(into, from);
+    unions.or_with(into, row);
 }
 
 /// Makes the `width` entries from entry `width` on the unions of a row and those before them.
-fn double_unions(unions: &mut [Vob], width: usize, row: &Vob)
+fn double_unions(unions: &mut BitRows, width: usize, row: &Row<'_>)
     requires some { 0 < width }
-    requires room { width * 2 ≤ length unions.old }
-    requires long { AreOfLength (length row.now.bits) (bits_of unions.old) }
-    ensures { AreDoubled (bits_of unions.old) width width row.now.bits (bits_of unions.new) }
+    requires room { width * 2 ≤ length unions.old.rows }
+    requires long { length row.now ≡ unions.old.columns }
+    ensures doubled { AreDoubled unions.old.rows width width row.now unions.new.rows }
+    ensures columns { unions.new.columns ≡ unions.old.columns }
 {
+    // The entries are as many as a count can be: a proof knows it from this call.
+    let _entries = unions.rows();
     for entry in 0..width {
         set_union(unions, width + entry, entry, row);
     }
@@ -94,70 +55,73 @@ fn double_unions(unions: &mut [Vob], width: usize, row: &Vob)
 
 /// Makes entry m of a table the union of the rows that m names, from row `first` to below `last`:
 /// row `first + t` if m has place t. Each entry takes one that is there, and one row.
-pub(crate) fn fill_unions(unions: &mut [Vob], rows: &[Vob], first: usize, last: usize)
+pub(crate) fn fill_unions(unions: &mut BitRows, rows: &BitRows, first: usize, last: usize)
     requires order { first ≤ last }
-    requires inside { last ≤ length rows.now }
-    requires room { 2 ^ (last - first) ≤ length unions.old }
-    requires long { AreOfLength (length (row_of (bits_of unions.old) 0)) (bits_of unions.old) }
-    requires rows { AreOfLength (length (row_of (bits_of unions.old) 0)) (bits_of rows.now) }
-    ensures shape { HaveShapeOf (bits_of unions.old) (bits_of unions.new) }
-    ensures each { AreUnions (bits_of rows.now) first (last - first) (bits_of unions.new) }
+    requires inside { last ≤ length rows.now.rows }
+    requires room { 2 ^ (last - first) ≤ length unions.old.rows }
+    requires columns { unions.old.columns ≡ rows.now.columns }
+    ensures count { length unions.new.rows ≡ length unions.old.rows }
+    ensures columns { unions.new.columns ≡ unions.old.columns }
+    ensures each { AreUnions rows.now.rows first (last - first) unions.new.rows }
 {
-    unions[0].set_all(false);
+    // The entries are as many as a count can be: a proof knows it from this call.
+    let _entries = unions.rows();
+    unions.fill_row(0, false);
     let mut width = 1;
     for row in first..last {
-        double_unions(unions, width, &rows[row]);
+        double_unions(unions, width, &rows.row(row));
         width *= 2;
     }
 }
 
 /// Adds an entry of a table to a row. Entry 0 is empty, and isn't looked at.
-fn add_union(rows: &mut [Vob], row: usize, unions: &[Vob], named: usize)
-    requires row { row < length rows.old }
-    requires named { named < length unions.now }
-    requires long { AreOfLength (length (row_of (bits_of unions.now) 0)) (bits_of unions.now) }
-    requires rows { AreOfLength (length (row_of (bits_of unions.now) 0)) (bits_of rows.old) }
-    ensures shape { HaveShapeOf (bits_of rows.old) (bits_of rows.new) }
-    ensures set { ((j : ℕ) → entry (bits_of unions.now) 0 j ≡ false)
-        → IsUnionSet (bits_of rows.old) row row (row_of (bits_of unions.now) named)
-        (bits_of rows.new) }
+fn add_union(rows: &mut BitRows, row: usize, unions: &BitRows, named: usize)
+    requires row { row < length rows.old.rows }
+    requires named { named < length unions.now.rows }
+    requires columns { rows.old.columns ≡ unions.now.columns }
+    ensures shape { HaveShapeOf rows.old.rows rows.new.rows }
+    ensures columns { rows.new.columns ≡ rows.old.columns }
+    ensures set { ((j : ℕ) → entry unions.now.rows 0 j ≡ false)
+        → IsUnionSet rows.old.rows row row (row_of unions.now.rows named) rows.new.rows }
 {
     if named != 0 {
-        rows[row].or(&unions[named]);
+        rows.or_with(row, &unions.row(named));
     }
 }
 
 /// Adds to each row the union that its own bits from `first` to below `last` name.
-pub(crate) fn link_rows(rows: &mut [Vob], unions: &[Vob], first: usize, last: usize)
+pub(crate) fn link_rows(rows: &mut BitRows, unions: &BitRows, first: usize, last: usize)
     requires order { first ≤ last }
     requires few { last ≤ first + 8 }
-    requires inside { last ≤ length (row_of (bits_of unions.now) 0) }
-    requires room { 2 ^ (last - first) ≤ length unions.now }
-    requires long { AreOfLength (length (row_of (bits_of unions.now) 0)) (bits_of unions.now) }
-    requires rows { AreOfLength (length (row_of (bits_of unions.now) 0)) (bits_of rows.old) }
-    ensures { (others : List (List Bool)) → AreUnions others first (last - first) (bits_of unions.now)
-        → AreLinked (bits_of rows.old) (bits_of rows.old) others first last (bits_of rows.new) }
+    requires inside { last ≤ rows.old.columns }
+    requires room { 2 ^ (last - first) ≤ length unions.now.rows }
+    requires columns { rows.old.columns ≡ unions.now.columns }
+    ensures linked { (others : List (List Bool))
+        → AreUnions others first (last - first) unions.now.rows
+        → AreLinked rows.old.rows rows.old.rows others first last rows.new.rows }
+    ensures columns { rows.new.columns ≡ rows.old.columns }
 {
-    for row in 0..rows.len() {
-        let named = rows[row].load(first..last);
+    for row in 0..rows.rows() {
+        let named = rows.row(row).load(first..last);
         add_union(rows, row, unions, named);
     }
 }
 
 /// Adds to each row the union that the bits of another from `first` to below `last` name.
-pub(crate) fn link_by(rows: &mut [Vob], by: &[Vob], unions: &[Vob], first: usize, last: usize)
+pub(crate) fn link_by(rows: &mut BitRows, by: &BitRows, unions: &BitRows, first: usize, last: usize)
     requires order { first ≤ last }
     requires few { last ≤ first + 8 }
-    requires count { length by.now ≡ length rows.old }
-    requires inside { (i : ℕ) → i < length by.now → last ≤ length (row_of (bits_of by.now) i) }
-    requires room { 2 ^ (last - first) ≤ length unions.now }
-    requires long { AreOfLength (length (row_of (bits_of unions.now) 0)) (bits_of unions.now) }
-    requires rows { AreOfLength (length (row_of (bits_of unions.now) 0)) (bits_of rows.old) }
-    ensures { (others : List (List Bool)) → AreUnions others first (last - first) (bits_of unions.now)
-        → AreLinked (bits_of rows.old) (bits_of by.now) others first last (bits_of rows.new) }
+    requires count { length by.now.rows ≡ length rows.old.rows }
+    requires inside { last ≤ by.now.columns }
+    requires room { 2 ^ (last - first) ≤ length unions.now.rows }
+    requires columns { rows.old.columns ≡ unions.now.columns }
+    ensures linked { (others : List (List Bool))
+        → AreUnions others first (last - first) unions.now.rows
+        → AreLinked rows.old.rows by.now.rows others first last rows.new.rows }
+    ensures columns { rows.new.columns ≡ rows.old.columns }
 {
-    for row in 0..by.len() {
-        let named = by[row].load(first..last);
+    for row in 0..by.rows() {
+        let named = by.row(row).load(first..last);
         add_union(rows, row, unions, named);
     }
 }

@@ -3,4 +3,5 @@ pub mod EdgesLemmas
 pub mod EndsLemmas
 pub mod PartLemmas
 pub mod ReversedLemmas
+pub mod SameLemmas
 pub mod VobsLemmas

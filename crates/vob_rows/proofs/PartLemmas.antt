@@ -12,9 +12,9 @@ use Rattle.vob_block.specs.Pointwise.{IsPointwise, pointwise}
 use Rattle.vob_block.proofs.PackingLemmas.{IsCanonical-packing, length-unpacking, packing-unpacking}
 use Rattle.vob_block.proofs.PointwiseLemmas.{length-pointwise}
 use Rattle.vob.proofs.CombineLemmas.{HasCombined, as_items, combined_here, pointwise_blocks}
-use Rattle.vob.specs.Bits.{GainsBits}
+use Rattle.vob.specs.Bits.{AreCombined, GainsBits}
 use Rattle.vob.specs.Vobs.{AreOfLength}
-use Rattle.vob.proofs.BitsLemmas.{GainsBits-by, or_more}
+use Rattle.vob.proofs.BitsLemmas.{AreCombined-pointwise, GainsBits-by, or_more}
 use Rattle.vob_rows.specs.Part.{blocks_of, unpacked_rows, AreCanonical, HasRow, IsRowCombined, IsRowPut, with_row}
 
 -- row i ends where the rows before m end, or before
@@ -330,6 +330,18 @@ pub packed : (w : ℕ) → 0 < w → (len : ℕ) (blocks : List ℕ) (bits : Lis
     → IsCanonical len blocks w → unpacking len blocks w ≡ bits → blocks ≡ packing bits w
 packed w wide len blocks bits canonical is =
     sym (packing-unpacking w wide len blocks canonical) ∙ ap (λ bs. packing bs w) is
+
+-- each bit of a row that got others
+pub or_each : (table : List (List Bool)) (i : ℕ) (others : List Bool) (after : List (List Bool))
+    → i < length table → length (get_or table i []) ≡ length others
+    → after ≡ set table i (pointwise ◌||◌ (get_or table i []) others)
+    → AreCombined ◌||◌ (get_or table i []) others (get_or after i [])
+or_each table i others after inside same is =
+    let row = get_or table i [] in
+    let both = pointwise ◌||◌ row others in
+    let here : get_or after i [] ≡ both =
+    ap (λ t. get_or t i []) is ∙ get_or-set_same table i both [] inside in
+    rw here (AreCombined-pointwise ◌||◌ row others same refl)
 
 -- a row that got others has more true bits where it changed
 pub or_gains : (table : List (List Bool)) (i : ℕ) (others : List Bool) (after : List (List Bool))

@@ -1,12 +1,15 @@
 //! Blocks of rows, one row after another, of which one row is written.
-ghost use Rattle.std.specs.Prelude.{◌≡◌, ◌≢◌, ◌↔◌, ◌+◌, ◌*◌, ◌<◌, ◌≤◌, ◌||◌, ℕ, List, false, not, length, map, replicate, slice_get, slice_set, Some, IsTrue};
+ghost use Rattle.std.specs.Prelude.{◌≡◌, ◌≢◌, ◌↔◌, ◌+◌, ◌-◌, ◌*◌, ◌<◌, ◌≤◌, ◌||◌, ◌∷◌, ℕ, List, [], false, not, length, map, replicate, slice_get, slice_set, Some, IsTrue};
+ghost use Rattle.vob.specs.Copy.{written_over, IsCopied};
 ghost use Rattle.vob_block.specs.Packing.{unpacking};
 ghost use Rattle.vob_block.specs.Pointwise.{IsPointwise};
 ghost use Rattle.vob_rows.specs.Part.{HasRow, IsRowCombined, IsRowPut, blocks_of};
 
+use std::ops::Range;
 use vob_block::{BitBlock, Blocks, Combine, Kernel};
 use vob_store::fill::fill;
 use vob_store::fused::or_combined;
+use vob_store::load_store::write_bits;
 use vob_store::mask::negate;
 use vob_store::single::write_bit;
 
@@ -39,6 +42,38 @@ pub(crate) fn write_at<T: BitBlock>(
 {
     let start = i * count;
     write_bit(&mut blocks[start..start + count], columns, j, value)
+}
+
+/// Writes the first places of a block over the bits of row `i` in a range.
+pub(crate) fn store_at<T: BitBlock>(
+    blocks: &mut [T],
+    count: usize,
+    columns: usize,
+    i: usize,
+    range: Range<usize>,
+    word: T,
+)
+    requires row { HasRow T.number T.BITS columns count blocks.old i }
+    requires order { range.start ≤ range.end }
+    requires inside { range.end ≤ columns }
+    requires few { range.end ≤ range.start + T.BITS }
+    ensures put { IsRowPut T.number T.BITS columns count i blocks.old (written_over range.start
+        (unpacking (range.end - range.start) (T.number word ∷ []) T.BITS)
+        (unpacking columns (map T.number (blocks_of count blocks.old i)) T.BITS)) blocks.new }
+    ensures copied { IsCopied range.start 0 (range.end - range.start)
+        (unpacking columns (map T.number (blocks_of count blocks.old i)) T.BITS)
+        (unpacking T.BITS (T.number word ∷ []) T.BITS) (written_over range.start
+        (unpacking (range.end - range.start) (T.number word ∷ []) T.BITS)
+        (unpacking columns (map T.number (blocks_of count blocks.old i)) T.BITS)) }
+{
+    let start = i * count;
+    word.in_range();
+    write_bits(
+        &mut blocks[start..start + count],
+        range.start,
+        word,
+        range.end - range.start,
+    );
 }
 
 /// Makes each bit of row `i` `value`.

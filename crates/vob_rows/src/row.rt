@@ -1,12 +1,12 @@
 //! One row, borrowed from others or from a Vob, that reads like a Vob.
-ghost use Rattle.std.specs.Prelude.{◌≡◌, ◌↔◌, ◌+◌, ◌-◌, ◌^◌, ◌<◌, ◌≤◌, [], true, drop, length, map, slice_get, take, IfOk, IfSome, IsOk, IsTrue};
+ghost use Rattle.std.specs.Prelude.{◌≡◌, ◌↔◌, ◌+◌, ◌-◌, ◌^◌, ◌<◌, ◌≤◌, ℕ, [], false, true, drop, length, map, slice_get, take, IfOk, IfSome, IsOk, IsTrue};
 ghost use Rattle.std.specs.Iterator.Runs.{YieldsInOrder, YieldsInReverse};
 ghost use Rattle.vob_block.specs.Packing.{item, packing, IsCanonical};
-ghost use Rattle.vob_block.specs.Places.{HasPlaces};
+ghost use Rattle.vob_block.specs.Places.{place, HasPlaces};
 ghost use Rattle.vob_walk.specs.Matches.{ForSomeRange};
 ghost use Rattle.vob_walk.specs.Walk.{IsFresh, GivesFirst, GivesLast};
 ghost use Rattle.vob.specs.Bits.{count_of};
-ghost use Rattle.vob.specs.Sets.{AreDisjoint, IsBit, IsNext};
+ghost use Rattle.vob.specs.Sets.{AreDisjoint, HasShared, IsBit, IsNext};
 
 use std::alloc::{AllocError, Global};
 use std::marker::Model;
@@ -66,6 +66,13 @@ impl<'a, T: Kernel> Row<'a, T> {
         }
     }
 
+    /// Returns the blocks, the one with bit 0 first.
+    pub fn get_storage(&self) -> &'a [T]
+        ensures { map T.number result.now ≡ packing self.now T.BITS }
+    {
+        self.blocks
+    }
+
     /// Returns the blocks, whose reads contracts count.
     fn blocks(&self) -> Blocks<'_, T>
         ensures blocks { map T.number result.items ≡ packing self.now T.BITS }
@@ -116,7 +123,8 @@ impl<'a, T: Kernel> Row<'a, T> {
     /// Returns whether no bit is set in both. The lengths must be equal.
     pub fn is_disjoint(&self, other: &Row<'_, T>) -> bool
         requires { length self.now ≡ length other.now }
-        ensures { IsTrue result ↔ AreDisjoint self.now other.now }
+        ensures answer { IsTrue result ↔ AreDisjoint self.now other.now }
+        ensures shared { result ≡ false → HasShared self.now other.now }
     {
         has_none::<And, T>(self.blocks, &mut other.blocks())
     }
@@ -129,6 +137,8 @@ impl<'a, T: Kernel> Row<'a, T> {
         requires few { range.end ≤ range.start + T.BITS }
         ensures places { HasPlaces T.BITS (T.number result)
             (item (take (range.end - range.start) (drop range.start self.now))) }
+        ensures each { (j : ℕ) → j < range.end - range.start
+            → place j (T.number result) ≡ item self.now (range.start + j) }
         ensures within { T.number result < 2 ^ T.BITS }
     {
         let mask = T::low_mask(range.end - range.start);

@@ -1,26 +1,35 @@
 //! Rows of bits, all of one length, packed one after another.
-ghost use Rattle.std.specs.Prelude.{◌≡◌, ◌≢◌, ◌↔◌, ◌<◌, ◌&&◌, ◌||◌, Bool, [], false, not, length, map, replicate, slice_get, slice_set, All, IsOk, IsTrue, IfOk};
-ghost use Rattle.vob_block.specs.Packing.{item};
+ghost use Rattle.std.specs.Prelude.{◌≡◌, ◌≢◌, ◌↔◌, ◌<◌, ◌≤◌, ◌+◌, ◌-◌, ◌∷◌, ◌&&◌, ◌||◌, Bool, [], false, not, length, map, replicate, slice_get, slice_set, All, IsOk, IsTrue, IfOk};
+ghost use Rattle.std.proofs.Common.{rules};
+ghost use Rattle.std.specs.Bool.{nat_eq};
+ghost use Rattle.std.specs.Cmp.Lexicographic.{pointwise as same_lists};
+ghost use Rattle.std.specs.Cmp.Rules.{comparing};
+ghost use Rattle.std.specs.Ordering.{eq_of_both, on};
+ghost use Rattle.vob.specs.Same.{same_bits};
+ghost use Rattle.vob_block.specs.Packing.{item, unpacking};
 ghost use Rattle.vob_block.specs.Pointwise.{differ, pointwise, without};
-ghost use Rattle.vob.specs.Bits.{GainsBits};
+ghost use Rattle.vob.specs.Bits.{AreCombined, GainsBits};
+ghost use Rattle.vob.specs.Copy.{written_over, IsCopied};
 ghost use Rattle.vob.specs.Indices.{IsSetAt};
 ghost use Rattle.vob.specs.Vobs.{AreOfLength, bits_of};
-ghost use Rattle.vob_rows.specs.Rows.{row_of};
+ghost use Rattle.vob_rows.specs.Rows.{row_of, same_matrix, Matrix};
 
 use crate::part::{
-    combine_at, fill_at, negate_at, or_rows, or_rows_combined, row_blocks, write_at,
+    combine_at, fill_at, negate_at, or_rows, or_rows_combined, row_blocks, store_at, write_at,
 };
 use crate::row::Row;
 use std::alloc::{AllocError, Global};
 use std::marker::Model;
+use std::ops::Range;
 use vob::Vob;
 use vob_block::{And, Combine, Kernel, Or, Without};
 use vob_store::room::block_count;
+use vob_store::same::same_blocks;
 
 /// Rows of bits, all of one length, packed one after another. Each row begins with a block of its own,
 /// and the unused bits of its last block are 0. Contracts see the rows as lists of bits, and how many
 /// columns there are.
-#[derive(Drop)]
+#[derive(Debug, Drop)]
 pub struct BitRows<T: Kernel = usize> {
     blocks: Vec<T>,
     rows: usize,
@@ -159,6 +168,31 @@ impl<T: Kernel> BitRows<T> {
         write_at(self.blocks.as_mut_slice(), count, self.columns, i, j, value)
     }
 
+    /// Writes the first places of a block over the bits of row `i` in a range, place 0 first. The others
+    /// are ignored. The range must lie within the columns, and hold at most `T::BITS` bits.
+    pub fn store(&mut self, i: usize, range: Range<usize>, word: T)
+        requires row { i < length self.old.rows }
+        requires order { range.start ≤ range.end }
+        requires inside { range.end ≤ self.old.columns }
+        requires few { range.end ≤ range.start + T.BITS }
+        ensures rows { self.new.rows ≡ slice_set self.old.rows i (written_over range.start
+            (unpacking (range.end - range.start) (T.number word ∷ []) T.BITS)
+            (row_of self.old.rows i)) }
+        ensures each { IsCopied range.start 0 (range.end - range.start) (row_of self.old.rows i)
+            (unpacking T.BITS (T.number word ∷ []) T.BITS) (row_of self.new.rows i) }
+        ensures columns { self.new.columns ≡ self.old.columns }
+    {
+        let count = block_count::<T>(self.columns);
+        store_at(
+            self.blocks.as_mut_slice(),
+            count,
+            self.columns,
+            i,
+            range,
+            word,
+        );
+    }
+
     /// Sets the bits of row `i` at some indices, among which one may stand more than once.
     pub fn set_indices(&mut self, i: usize, indices: &[usize])
         requires row { i < length self.old.rows }
@@ -220,6 +254,7 @@ impl<T: Kernel> BitRows<T> {
             (pointwise ◌||◌ (row_of self.old.rows i) other.now) }
         ensures columns { self.new.columns ≡ self.old.columns }
         ensures changed { IsTrue result ↔ (self.new.rows ≢ self.old.rows) }
+        ensures each { AreCombined ◌||◌ (row_of self.old.rows i) other.now (row_of self.new.rows i) }
         ensures more { GainsBits result (row_of self.old.rows i) (row_of self.new.rows i) }
     {
         // A row is as long as there are columns: a proof knows it from this call.
@@ -259,6 +294,8 @@ impl<T: Kernel> BitRows<T> {
             (pointwise ◌||◌ (row_of self.old.rows into) (row_of self.old.rows from)) }
         ensures columns { self.new.columns ≡ self.old.columns }
         ensures changed { IsTrue result ↔ (self.new.rows ≢ self.old.rows) }
+        ensures each { AreCombined ◌||◌ (row_of self.old.rows into) (row_of self.old.rows from)
+            (row_of self.new.rows into) }
         ensures more { GainsBits result (row_of self.old.rows into) (row_of self.new.rows into) }
     {
         // A row is as long as there are columns: a proof knows it from this call.
@@ -321,5 +358,26 @@ impl<T: Kernel> BitRows<T> {
         ensures more { GainsBits result (row_of self.old.rows into) (row_of self.new.rows into) }
     {
         self.or_row_with::<Without>(into, from, mask)
+    }
+}
+
+impl<T: Kernel> PartialEq for BitRows<T> {
+    ghost eq = { eq_of_both (on (λ (m : Matrix). m.columns) nat_eq)
+        (on (λ (m : Matrix). m.rows) (same_lists same_bits)) };
+
+    ghost laws = { Prim.search (comparing, rules) depth 9 };
+
+    /// Returns whether both have the same rows, and as many columns.
+    fn eq(&self, other: &BitRows<T>) -> bool
+        ensures answer { result ≡ same_matrix self.now other.now }
+        ensures same { IsTrue result ↔ (self.now ≡ other.now) }
+    {
+        if self.rows != other.rows {
+            return false;
+        }
+        if self.columns != other.columns {
+            return false;
+        }
+        same_blocks(self.blocks.as_slice(), other.blocks.as_slice())
     }
 }

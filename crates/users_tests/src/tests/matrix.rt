@@ -36,7 +36,15 @@ pub fn check_rows(rt: &impl Abort, matrix: &BitMatrix, columns: usize, wanted: &
     same(rt, "columns", 0, matrix.columns(), columns);
     for (row, digits) in wanted.iter().enumerate() {
         if row < matrix.rows() {
-            check_bits(rt, matrix.row(row), digits);
+            for (column, digit) in digits.as_bytes().iter().enumerate() {
+                same(
+                    rt,
+                    "entry",
+                    column,
+                    matrix.get(row, column),
+                    Some(*digit == b'1'),
+                );
+            }
         }
     }
 }
@@ -156,7 +164,8 @@ fn closures_by_a_table_are_those_of_lists(rt: HostRuntime) {
         let wanted = sets.to_vobs(rt.alloc()).expect(&rt, "memory");
         matrix.close(rt.alloc());
         for row in 0..matrix.rows() {
-            same(&rt, "row", row, Some(matrix.row(row)), wanted.get(row));
+            let found = matrix.row(row).to_vob(rt.alloc()).expect(&rt, "memory");
+            same(&rt, "row", row, Some(&found), wanted.get(row));
         }
     }
 }
@@ -186,7 +195,8 @@ fn check_same(rt: &impl Abort, found: &BitMatrix, wanted: &BitMatrix) {
     same(rt, "columns", 0, found.columns(), wanted.columns());
     for row in 0..found.rows() {
         if row < wanted.rows() {
-            same(rt, "row", row, found.row(row), wanted.row(row));
+            let (left, right) = (found.row(row), wanted.row(row));
+            same(rt, "row", row, left.get_storage(), right.get_storage());
         }
     }
 }

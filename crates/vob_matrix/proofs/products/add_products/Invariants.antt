@@ -1,17 +1,16 @@
 -- The rows have those of the groups so far.
-use Rattle.std.proofs.Common.{◌-◌, ◌≤◌, length}
-use Rattle.vob.specs.Vobs.{bits_of}
-use Rattle.vob_matrix.specs.Matrix.{HaveShapeOf}
+use Rattle.std.proofs.Common.{◌≡◌, ◌-◌, ◌≤◌, length}
 use Rattle.vob_matrix.specs.Unions.{AreLinked}
 use Rattle.vob_matrix.proofs.products.add_products.Given as goal
 
 abbrev pub invariant-groups : goal.invariant-groups
 invariant-groups l = record {
-  within : l.first ≤ length l.others;
-  shape : HaveShapeOf (bits_of l.fn.unions) (bits_of l.unions);
-  linked : AreLinked (bits_of l.fn.rows) (bits_of l.by) (bits_of l.others) 0 l.first
-      (bits_of l.rows);
+  within : l.first ≤ length l.others.rows;
+  table : length l.unions.rows ≡ length l.fn.unions.rows;
+  unions : l.unions.columns ≡ l.fn.unions.columns;
+  columns : l.rows.columns ≡ l.fn.rows.columns;
+  linked : AreLinked l.fn.rows.rows l.by.rows l.others.rows 0 l.first l.rows.rows;
 }
 
 abbrev pub decreases-groups : goal.decreases-groups
-decreases-groups l = length l.others - l.first
+decreases-groups l = length l.others.rows - l.first

@@ -1,31 +1,28 @@
 -- Bit i of row i is set, and no other.
-use Rattle.std.proofs.Common.{[], ◌≡◌, ◌∙◌, true, length, set, ap, sym, subst, arith, inl, inr}
+use Rattle.std.proofs.Common.{[], ◌≡◌, ◌<◌, ◌∙◌, length, true, ap, sym, subst, arith, inl, inr}
 use Rattle.std.proofs.lemmas.Bool.{cases_eq}
-use Rattle.std.proofs.lemmas.List.{length-map}
-use Rattle.vob.specs.Vobs.{bits_of}
 use Rattle.vob_matrix.specs.Matrix.{entry}
-use Rattle.vob_matrix.proofs.ShapeLemmas.{HaveShapeOf-trans, IsEntryWritten-items, row_of-items}
+use Rattle.vob_matrix.proofs.ShapeLemmas.{HaveShapeOf-trans, IsEntryWritten-at}
 use Rattle.vob_matrix.proofs.products.mark_diagonal.Goals as goal
 
-pub set-requires : goal.set-requires
-set-requires c =
-    let row = c.loop-row.row in
-    let long = ap length (sym (row_of-items c.loop-row.rows row c.index-rows-row.result
-    (omega arith))) ∙ c.loop-row.invariant.shape.long row
-    ∙ c.requires row [] (omega (arith, length-map c.args.rows.now (λ v. v.bits))) in
-    record { in_range = omega (arith, long) }
+pub set-requires-clause-column : goal.set-requires-clause-column
+set-requires-clause-column c =
+    omega (arith, c.loop-row.invariant.columns, c.requires)
 
 pub loop-row-preserved : goal.loop-row-preserved
 loop-row-preserved c =
-    let items = c.loop-row.rows in
     let row = c.loop-row.row in
     let h = c.loop-row.invariant in
-    let written = IsEntryWritten-items items row row true c.index-rows-row.result c.set.new.self
-    (omega arith) c.set.ensures.written in
+    let inside : row < length c.loop-row.rows.rows = omega (arith, h.shape.count) in
+    let long = c.columns-columns.ensures.long row [] inside in
+    let written = IsEntryWritten-at _ row row true _ inside
+    (omega (arith, long, c.columns-columns.ensures.columns, h.columns, c.requires))
+    c.set.ensures.rows in
     record {
       shape = HaveShapeOf-trans _ _ _ h.shape written.shape;
+      columns = c.set.ensures.columns ∙ h.columns;
       there = λ i less. elim (cases_eq i row) [
-        | inl here ↦ subst (λ n. entry (bits_of (set items row c.set.new.self)) n n ≡ true) (sym here) written.there
+        | inl here ↦ subst (λ n. entry c.set.new.self.rows n n ≡ true) (sym here) written.there
         | inr other ↦ written.others i i (inl other) ∙ h.there i (omega (arith, less, other))
       ];
       others = λ i j apart. elim (cases_eq i row) [

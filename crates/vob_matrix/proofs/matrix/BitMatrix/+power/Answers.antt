@@ -1,6 +1,5 @@
 -- A power of a sum is the product of two.
-use Rattle.std.proofs.Common.{◌≡◌, ◌+◌, ◌/◌, refl, subst, arith}
-use Rattle.vob.specs.Vobs.{AreOfLength}
+use Rattle.std.proofs.Common.{◌≡◌, ◌+◌, ◌/◌, refl, sym, arith}
 use Rattle.vob_matrix.proofs.ProductLemmas.{IsPower-one, IsPower-product}
 use Rattle.vob_matrix.proofs.matrix.BitMatrix.+power.Goals as goal
 
@@ -20,8 +19,8 @@ returns t c =
     let whole : c.args.n ≡ half + half + 1 = omega arith in
     let square = IsPower-product matrix _ _ _ half half (half + half) refl c.in_ok-half.ensures.power
     c.in_ok-half.ensures.power c.in_ok-square.ensures.product in
-    let long = subst (λ m. AreOfLength m.columns m.rows) c.self.view_is c.self.invariant in
+    let columns = c.columns-columns.ensures in
     record {
       power = IsPower-product matrix _ matrix _ (half + half) 1 _ whole square
-          (IsPower-one matrix c.requires.square long) c.in_ok-made.ensures.product;
+          (IsPower-one matrix c.requires.square (rw columns.columns at columns.long)) c.in_ok-made.ensures.product;
     }

@@ -2,7 +2,7 @@
 use Rattle.std.proofs.Common.{ap, sym, ◌∙◌, ◌++◌, ◌||◌, refl, length, take, drop, set, get_or, []}
 use Rattle.std.proofs.lemmas.List.{set-get_or, take_at}
 use Rattle.vob_block.specs.Pointwise.{pointwise}
-use Rattle.vob_rows.proofs.PartLemmas.{HoldCombined, or_gains, or_itself, packed, row_at, row_combined}
+use Rattle.vob_rows.proofs.PartLemmas.{HoldCombined, or_each, or_gains, or_itself, packed, row_at, row_combined}
 use Rattle.vob_rows.proofs.rows.BitRows.or_row.Given as given
 use Rattle.vob_rows.proofs.rows.BitRows.or_row.Goals as goal
 use Rattle.vob_rows.proofs.rows.BitRows.or_row.Goals.{After-or_rows}
@@ -61,3 +61,18 @@ returns-clause-more g c =
     or_gains c.args.self.now.rows c.args.into (get_or c.args.self.now.rows c.args.from []) _ _
     c.requires.into (long c.args.into [] c.requires.into ∙ sym (long c.args.from [] c.requires.from))
     after.hold.are (rw after.hold.are after.flag)
+
+pub returns-then-into-from-clause-each : goal.returns-then-into-from-clause-each
+returns-then-into-from-clause-each g c =
+    let long = c.columns-columns.ensures.long in
+    or_each c.args.self.now.rows c.args.into (get_or c.args.self.now.rows c.args.from []) _
+    c.requires.into (long c.args.into [] c.requires.into ∙ sym (long c.args.from [] c.requires.from))
+    (returns-then-into-from-clause-rows g c)
+
+pub returns-clause-each : goal.returns-clause-each
+returns-clause-each g c =
+    let after = combined g (goal.at.returns-clause-each g c).After-or_rows in
+    let long = c.columns-columns.ensures.long in
+    or_each c.args.self.now.rows c.args.into (get_or c.args.self.now.rows c.args.from []) _
+    c.requires.into (long c.args.into [] c.requires.into ∙ sym (long c.args.from [] c.requires.from))
+    after.hold.are
