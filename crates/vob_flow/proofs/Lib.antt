@@ -2,10 +2,12 @@ mod AnyLemmas
 mod AvailableLemmas
 mod BlankLemmas
 mod ChangesLemmas
+mod ClimbLemmas
 mod ClosureLemmas
 mod CountLemmas
 mod DominatorLemmas
 mod DrawLemmas
+mod FindingLemmas
 pub mod FirstLemmas
 mod FlowLemmas
 mod GatherLemmas
@@ -19,5 +21,8 @@ mod PassLemmas
 mod ReachLemmas
 mod ReachingLemmas
 mod ScheduleLemmas
+mod SearchLemmas
+mod SpanningLemmas
 mod TurnsLemmas
 mod UnderwayLemmas
+mod WayLemmas

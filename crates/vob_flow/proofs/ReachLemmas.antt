@@ -2,7 +2,7 @@
 use Rattle.std.proofs.Common.{◌≡◌, ℕ, ◌+◌, ◌<◌, ◌⊎◌, Bool, true, false, inl, inr}
 use Rattle.std.proofs.Common.{List, [], ◌∷◌, ◌++◌, length, get_or, take, replicate, refl, sym, ap, ◌∙◌, subst, arith}
 use Rattle.std.specs.List.{Contains}
-use Rattle.std.proofs.lemmas.Bool.{cases_eq, false≢true}
+use Rattle.std.proofs.lemmas.Bool.{cases_Bool, cases_eq, false≢true}
 use Rattle.std.proofs.lemmas.List.{length-replicate, length_push, take_more}
 use Rattle.std.proofs.lemmas.List.Elements.{Contains-append_left, Contains-push, Contains-push_cases}
 use Rattle.vob_block.specs.Packing.{item}
@@ -104,9 +104,15 @@ module _ (nodes : List ℕ) (reached : List Bool) (waiting : List ℕ) (mid : Li
         there = λ n now. elim (Contains-push_cases waits m n now) [
           | inl was ↦ elim (h.there n was) [
             | inl old ↦ inl old
-            | inr e ↦ inr (still_seen m w n e)
+            | inr e ↦ inr (still_seen m w n e.0, e.1)
           ]
-          | inr same ↦ inr (subst (λ j. item after j ≡ true) same w.there)
+          | inr same ↦ inr (subst (λ j. (item after j ≡ true) × (item reached j ≡ false)) same (
+            w.there,
+            elim (cases_Bool (item reached m)) [
+              | inl on ↦ absurd (false≢true (sym off ∙ h.kept m on))
+              | inr unset ↦ unset
+            ],
+          ))
         ];
         steps = omega (arith, h.steps, steps_seen m off w, length_push waits m);
       }
@@ -128,7 +134,7 @@ AreOnTheWay-start next from after waits h =
       ];
       waits = λ n now. elim (h.there n now) [
         | inl old ↦ absurd (omega (arith, old.1))
-        | inr e ↦ e
+        | inr e ↦ e.0
       ];
       done = λ n e. elim (h.new n e) [
         | inl old ↦ absurd (none n old)
@@ -149,7 +155,7 @@ AreOnTheWay-turn next from reached rest node after waits h e = record {
   ];
   waits = λ n now. elim (e.there n now) [
     | inl old ↦ e.kept n (h.waits n (Contains-append_left rest (node ∷ []) n old))
-    | inr on ↦ on
+    | inr on ↦ on.0
   ];
   done = λ n on. elim (e.new n on) [
     | inr now ↦ inl now

@@ -1,8 +1,12 @@
 pub mod Available
 pub mod Changes
+pub mod Climbing
+pub mod Closing
 pub mod Closure
+pub mod Components
 pub mod Dominators
 pub mod Draws
+pub mod Finding
 pub mod FlowFaults
 pub mod Gains
 pub mod Gathered
@@ -17,4 +21,5 @@ pub mod Reach
 pub mod Reaching
 pub mod Schedules
 pub mod SolveFaults
+pub mod Spanning
 pub mod Turns

@@ -3,7 +3,10 @@
 #![tactic(auto)]
 
 mod available;
+mod climbing;
+mod closing;
 mod complement;
+mod components;
 mod dominance;
 mod draw;
 mod faults;
@@ -17,12 +20,15 @@ pub mod raises;
 mod reaching;
 mod schedule;
 mod solver;
+mod spanning;
 
 pub use available::{available_expressions, very_busy_expressions};
+pub use closing::closure;
 pub use complement::greatest;
-pub use dominance::dominators;
+pub use components::{Components, strong_components};
+pub use dominance::{DominatorTree, dominator_tree, dominators};
 pub use draw::Masks;
 pub use faults::SolveError;
-pub use paths::{closure, reach};
+pub use paths::reach;
 pub use reaching::reaching_definitions;
 pub use solver::least;

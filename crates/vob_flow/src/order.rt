@@ -1,9 +1,9 @@
 //! The order in which sets have their turns: those that a set draws from before it, where no cycle
 //! leads back.
-ghost use Rattle.std.specs.Prelude.{◌≡◌, ◌+◌, ◌<◌, [], ◌∷◌, ◌++◌, true, false, length, All, IfOk, IfSome, OnOk};
+ghost use Rattle.std.specs.Prelude.{◌≡◌, ◌+◌, ◌<◌, ◌≤◌, ℕ, [], ◌∷◌, ◌++◌, true, false, length, slice_index_or, All, None, IfOk, IfSome, OnOk};
 ghost use Rattle.vob.specs.Bits.{IsWritten};
 ghost use Rattle.vob_block.specs.Packing.{item};
-ghost use Rattle.vob_flow.specs.Order.{IsVisited, SeesMore, root_of, sets_of, steps_left};
+ghost use Rattle.vob_flow.specs.Order.{IsNextUnseen, IsPostorder, IsSearched, IsVisited, SeesMore, root_of, sets_of, steps_left, visit_of};
 ghost use Rattle.vob_flow.specs.Turns.{IsOrder};
 
 use std::alloc::{AllocError, Global};
@@ -24,6 +24,9 @@ fn next_unseen(from: &[usize], looked: usize, seen: &Vob) -> Option<Visit>
     requires { All (λ set. set < length seen.now.bits) from.now }
     ensures inside { IfSome result (λ next. next.set < length seen.now.bits) }
     ensures unseen { IfSome result (λ next. item seen.now.bits next.set ≡ false) }
+    ensures next { IfSome result (IsNextUnseen from.now looked seen.now.bits) }
+    ensures none { result ≡ None → (j : ℕ) → looked ≤ j → j < length from.now
+        → item seen.now.bits (slice_index_or from.now j 0) ≡ true }
 {
     for k in looked..from.len() {
         let set = from[k];
@@ -38,7 +41,7 @@ fn next_unseen(from: &[usize], looked: usize, seen: &Vob) -> Option<Visit>
 fn enter(set: usize, seen: &mut Vob, stack: &mut Vec<Visit>) -> Result<(), AllocError>
     requires { set < length seen.old.bits }
     ensures seen { IsWritten seen.old.bits set true seen.new.bits }
-    ensures stack { OnOk result (sets_of stack.new.items ≡ sets_of stack.old.items ++ set ∷ []) }
+    ensures stack { OnOk result (stack.new.items ≡ stack.old.items ++ visit_of set 0 ∷ []) }
 {
     seen.set(set, true);
     stack.push(Visit { set, looked: 0 })?;
@@ -55,8 +58,12 @@ fn advance(
 ) -> Result<(), AllocError>
     requires visited { IsVisited (length graph.now) seen.old.bits
         (sets_of stack.old.items ++ top.set ∷ []) order.old.items }
+    requires searched { IsSearched graph.now seen.old.bits (stack.old.items ++ top ∷ [])
+        order.old.items }
     ensures visited { OnOk result (IsVisited (length graph.now) seen.new.bits
         (sets_of stack.new.items) order.new.items) }
+    ensures searched { OnOk result (IsSearched graph.now seen.new.bits stack.new.items
+        order.new.items) }
     ensures seen { OnOk result (SeesMore seen.old.bits seen.new.bits) }
     ensures fewer { OnOk result (steps_left seen.new.bits (sets_of stack.new.items)
         < steps_left seen.old.bits (sets_of stack.old.items) + 1) }
@@ -85,8 +92,10 @@ fn order_from(
 ) -> Result<(), AllocError>
     requires root { root < length graph.now }
     requires visited { IsVisited (length graph.now) seen.old.bits [] order.old.items }
+    requires searched { IsSearched graph.now seen.old.bits [] order.old.items }
     requires empty { stack.old.items ≡ [] }
     ensures visited { OnOk result (IsVisited (length graph.now) seen.new.bits [] order.new.items) }
+    ensures searched { OnOk result (IsSearched graph.now seen.new.bits [] order.new.items) }
     ensures empty { OnOk result (stack.new.items ≡ []) }
     ensures seen { OnOk result (SeesMore seen.old.bits seen.new.bits) }
     ensures root { OnOk result (item seen.new.bits root ≡ true) }
@@ -133,7 +142,8 @@ fn root_at(from_last: bool, count: usize, step: usize) -> usize
 /// Returns an order that names each set once: those that a set draws from before it, where no cycle
 /// leads back to it. Fails if memory runs out.
 pub(crate) fn postorder(alloc: Global, graph: &Graph) -> Result<Vec<usize>, AllocError>
-    ensures { IfOk result (λ order. IsOrder (length graph.now) order.items) }
+    ensures each_once { IfOk result (λ order. IsOrder (length graph.now) order.items) }
+    ensures post { IfOk result (λ order. IsPostorder graph.now order.items) }
 {
     let count = graph.nodes();
     let mut seen = Vob::from_elem(alloc, false, count)?;

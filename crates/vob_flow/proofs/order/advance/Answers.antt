@@ -1,8 +1,9 @@
 -- A set that is seen waits, and one that waited last comes into the order.
-use Rattle.std.proofs.Common.{◌∙◌, ◌++◌, ◌∷◌, ◌≡◌, [], length, subst, sym, ap, arith, List, ℕ}
+use Rattle.std.proofs.Common.{◌∙◌, ◌++◌, ◌∷◌, ◌≡◌, [], length, refl, subst, sym, ap, arith, List, ℕ}
 use Rattle.std.proofs.lemmas.List.{length_push}
 use Rattle.vob_flow.specs.Order.{IsVisited, sets_of}
-use Rattle.vob_flow.proofs.OrderLemmas.{IsVisited-enter, IsVisited-leave, sets_of_push, steps_seen, waiting_inside}
+use Rattle.vob_flow.proofs.OrderLemmas.{IsVisited-enter, IsVisited-leave, sets_of_push, steps_seen, still_seen, waiting_inside}
+use Rattle.vob_flow.proofs.SearchLemmas.{IsSearched-last, IsSearched-next}
 use Rattle.vob_flow.proofs.order.advance.Goals as goal
 
 pub next-from-requires : goal.next-from-requires
@@ -16,7 +17,7 @@ next_unseen-requires c =
 waiting : (c : goal.In_ok-enter) → sets_of c.enter.new.stack.items
     ≡ (sets_of c.args.stack.now.items ++ c.args.top.set ∷ []) ++ c.in-Some.next.set ∷ []
 waiting c =
-    c.in_ok-enter.ensures.stack ∙ ap (λ waits. waits ++ c.in-Some.next.set ∷ [])
+    ap sets_of c.in_ok-enter.ensures.stack ∙ sets_of_push _ _ ∙ ap (λ waits. waits ++ c.in-Some.next.set ∷ [])
     (ap sets_of c.in_ok-push.ensures.items ∙ sets_of_push c.args.stack.now.items _)
 
 pub returns-in_ok-enter-clause-visited : goal.returns-in_ok-enter-clause-visited
@@ -42,3 +43,17 @@ returns-in_ok-push-2-clause-visited c =
     subst (λ (order : List ℕ). IsVisited (length c.args.graph.now) c.args.seen.now.bits
     (sets_of c.args.stack.now.items) order) (sym c.in_ok-push-2.ensures.items)
     (IsVisited-leave c.args.top.set c.requires.visited (omega arith))
+
+pub returns-in_ok-enter-clause-searched : goal.returns-in_ok-enter-clause-searched
+returns-in_ok-enter-clause-searched c =
+    let next = c.in-Some.next in
+    rw (c.in_ok-enter.ensures.stack, c.in_ok-push.ensures.items) (IsSearched-next
+    c.args.graph.now c.args.seen.now.bits c.args.stack.now.items c.args.order.now.items c.args.top
+    c.requires.searched c.enter.new.seen.bits next (still_seen next.set c.enter.ensures.seen)
+    c.enter.ensures.seen.there (rw c.next-from.ensures.ends at c.in-Some.ensures.next))
+
+pub returns-in_ok-push-2-clause-searched : goal.returns-in_ok-push-2-clause-searched
+returns-in_ok-push-2-clause-searched c =
+    rw c.in_ok-push-2.ensures.items (IsSearched-last c.args.graph.now c.args.seen.now.bits
+    c.args.stack.now.items c.args.order.now.items c.args.top c.requires.searched
+    c.requires.visited.found (rw c.next-from.ensures.ends at c.in_default.ensures.none refl))
