@@ -16,6 +16,7 @@ mod GrowLemmas
 mod LawLemmas
 mod LiveLemmas
 mod LosingLemmas
+mod NumberingLemmas
 mod OrderLemmas
 mod PassLemmas
 mod ReachLemmas

@@ -15,6 +15,7 @@ pub mod Laws
 pub mod Live
 pub mod LiveDraws
 pub mod LiveEquations
+pub mod Numbering
 pub mod Order
 pub mod Passes
 pub mod Reach

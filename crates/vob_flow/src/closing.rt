@@ -83,8 +83,8 @@ fn spread(sets: &mut BitRows, roots: &[usize])
 /// Returns for each node the set of the nodes to which a path of one edge or more leads from it. Fails
 /// if memory runs out; no nodes take none.
 ///
-/// It goes over the strongly connected components of the graph: each edge adds one row to another once,
-/// and each node gets a copy of the row of its component.
+/// The nodes of a strongly connected component share a row until all rows are found. Each gets a copy
+/// of it then.
 pub fn closure(alloc: Global, next: &Graph) -> Result<BitRows, AllocError>
     ensures closure { IfOk result (λ sets. IsClosure next.now sets.rows) }
     ensures columns { IfOk result (λ sets. sets.columns ≡ length next.now) }

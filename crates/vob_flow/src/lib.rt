@@ -13,6 +13,7 @@ mod faults;
 mod gather;
 pub mod laws;
 pub mod live;
+mod numbering;
 mod order;
 mod passes;
 mod paths;

@@ -24,8 +24,8 @@ pub(crate) fn enter_all(
     Ok(())
 }
 
-/// Returns the set of the nodes that a path of any number of edges leads to from some nodes. Each edge
-/// is looked at once at most. Fails if memory runs out.
+/// Returns the set of the nodes that a path of any number of edges leads to from some nodes. Fails if
+/// memory runs out.
 pub fn reach(alloc: Global, next: &Graph, from: &[usize]) -> Result<Vob, AllocError>
     requires { All (λ node. node < length next.now) from.now }
     ensures { IfOk result (λ set. AreReached next.now from.now set.bits) }
