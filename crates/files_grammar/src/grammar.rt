@@ -11,7 +11,7 @@ use vob::Vob;
 use vob_lr::{
     Cell, Grammar, Item, Lookaheads, Move, Rule, Symbol, Table, first_sets, follow_sets, nullable,
 };
-use vob_rows::Row;
+use vob_rows::{BitRows, Row};
 
 /// Writes how many symbols, rules, states and conflicts there are.
 fn put_counts<W: Write>(
@@ -46,16 +46,17 @@ fn put_terminals<W: Write>(output: &mut W, names: &SymbolNames, set: &Row<'_>) -
     Ok(())
 }
 
-/// Writes a line: a word, and the names of some terminals.
+/// Writes a line: a word, and the names of the terminals of a nonterminal's set, if it has one.
 fn put_set<W: Write>(
     output: &mut W,
     word: &[u8],
     names: &SymbolNames,
-    set: Option<&Vob>,
+    sets: &BitRows,
+    number: usize,
 ) -> io::Result<()> {
     output.write_all(word)?;
-    if let Some(set) = set {
-        put_terminals(output, names, &Row::of(set))?;
+    if number < sets.rows() {
+        put_terminals(output, names, &sets.row(number))?;
     }
     output.write_all(b"\n")
 }
@@ -64,8 +65,8 @@ fn put_set<W: Write>(
 #[derive(Drop)]
 struct Sets {
     nullable: Vob,
-    first: Vec<Vob>,
-    follow: Vec<Vob>,
+    first: BitRows,
+    follow: BitRows,
 }
 
 impl Sets {
@@ -93,8 +94,8 @@ fn put_nonterminal<W: Write>(
     } else {
         output.write_all(b"\n  nullable no\n")?;
     }
-    put_set(output, b"  FIRST", names, sets.first.get(number))?;
-    put_set(output, b"  FOLLOW", names, sets.follow.get(number))
+    put_set(output, b"  FIRST", names, &sets.first, number)?;
+    put_set(output, b"  FOLLOW", names, &sets.follow, number)
 }
 
 /// Writes a rule.

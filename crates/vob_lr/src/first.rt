@@ -11,6 +11,7 @@ use crate::equations::Equations;
 use crate::grammar::{Grammar, GrammarError, Symbol, check_rules};
 use std::alloc::{AllocError, Global};
 use vob::Vob;
+use vob_rows::BitRows;
 
 /// Lets the set of a left side start with the terminals that stand on a right side behind nullable
 /// symbols alone, and draw from the nonterminals that do.
@@ -65,30 +66,48 @@ fn first_equations(
 
 /// Returns the first sets of a grammar with sound rules, given its nullable nonterminals. No
 /// nonterminals take no memory.
-pub(crate) fn solve_first(
+fn solve_first(
+    alloc: Global,
+    grammar: &Grammar,
+    nullable: &Vob,
+) -> Result<BitRows, AllocError>
+    requires rules { All (IsRuleOf grammar.now) grammar.now.rules.items }
+    requires nullable { AreNullable grammar.now nullable.now.bits }
+    ensures first { IfOk result (λ sets. AreFirst grammar.now sets.rows) }
+    ensures columns { IfOk result (λ sets. sets.columns ≡ grammar.now.terminals) }
+    ensures nothing { grammar.now.nonterminals ≡ 0 → IsOk result }
+{
+    if grammar.nonterminals == 0 {
+        let none = BitRows::new(alloc, 0, grammar.terminals)?;
+        return Ok(none);
+    }
+    let equations = first_equations(alloc, grammar, nullable)?;
+    let sets = equations.solve(alloc)?;
+    Ok(sets)
+}
+
+/// Returns them in a Vob each.
+pub(crate) fn first_vobs(
     alloc: Global,
     grammar: &Grammar,
     nullable: &Vob,
 ) -> Result<Vec<Vob>, AllocError>
     requires rules { All (IsRuleOf grammar.now) grammar.now.rules.items }
     requires nullable { AreNullable grammar.now nullable.now.bits }
-    ensures first { IfOk result (λ rows. AreFirst grammar.now (bits_of rows.items)) }
+    ensures first { IfOk result (λ vobs. AreFirst grammar.now (bits_of vobs.items)) }
     ensures nothing { grammar.now.nonterminals ≡ 0 → IsOk result }
 {
-    if grammar.nonterminals == 0 {
-        return Ok(Vec::new(alloc));
-    }
-    let equations = first_equations(alloc, grammar, nullable)?;
-    let rows = equations.solve(alloc)?;
-    let first = rows.to_vobs(alloc)?;
-    Ok(first)
+    let sets = solve_first(alloc, grammar, nullable)?;
+    let vobs = sets.to_vobs(alloc)?;
+    Ok(vobs)
 }
 
 /// Returns a set for each nonterminal, of the terminals that can begin what it becomes.
 ///
 /// Fails with the first rule that names a symbol that isn't there, or if memory runs out.
-pub fn first_sets(alloc: Global, grammar: &Grammar) -> Result<Vec<Vob>, GrammarError>
-    ensures first { IfOk result (λ rows. AreFirst grammar.now (bits_of rows.items)) }
+pub fn first_sets(alloc: Global, grammar: &Grammar) -> Result<BitRows, GrammarError>
+    ensures first { IfOk result (λ sets. AreFirst grammar.now sets.rows) }
+    ensures columns { IfOk result (λ sets. sets.columns ≡ grammar.now.terminals) }
 
     // The rules are checked first, and memory is asked for only if there are nonterminals.
     ensures bad_symbol { (rule : ℕ)
@@ -98,6 +117,6 @@ pub fn first_sets(alloc: Global, grammar: &Grammar) -> Result<Vec<Vob>, GrammarE
 {
     check_rules(grammar)?;
     let nullable = solve_nullable(alloc, grammar)?;
-    let rows = solve_first(alloc, grammar, &nullable)?;
-    Ok(rows)
+    let sets = solve_first(alloc, grammar, &nullable)?;
+    Ok(sets)
 }

@@ -12,10 +12,11 @@ ghost use Rattle.vob_lr.specs.declared.grammar.Symbol.TheVariants.{Nonterminal};
 
 use crate::empty::{is_null, solve_nullable};
 use crate::equations::Equations;
-use crate::first::solve_first;
+use crate::first::first_vobs;
 use crate::grammar::{Grammar, GrammarError, Rule, Symbol, check_rules};
 use std::alloc::{AllocError, Global};
 use vob::Vob;
+use vob_rows::BitRows;
 
 /// Makes of what can begin some symbols what can begin them behind a nonterminal with this row.
 fn put_row(vanishes: bool, row: &Vob, begins: &mut Vob)
@@ -159,28 +160,30 @@ fn solve_follow(
     grammar: &Grammar,
     nullable: &Vob,
     first: &[Vob],
-) -> Result<Vec<Vob>, AllocError>
+) -> Result<BitRows, AllocError>
     requires rules { All (IsRuleOf grammar.now) grammar.now.rules.items }
     requires nullable { AreNullable grammar.now nullable.now.bits }
     requires first { AreFirst grammar.now (bits_of first.now) }
-    ensures follow { IfOk result (λ rows. AreFollow grammar.now (bits_of rows.items)) }
+    ensures follow { IfOk result (λ sets. AreFollow grammar.now sets.rows) }
+    ensures columns { IfOk result (λ sets. sets.columns ≡ grammar.now.terminals) }
     ensures nothing { grammar.now.nonterminals ≡ 0 → IsOk result }
 {
     if grammar.nonterminals == 0 {
-        return Ok(Vec::new(alloc));
+        let none = BitRows::new(alloc, 0, grammar.terminals)?;
+        return Ok(none);
     }
     let equations = follow_equations(alloc, grammar, nullable, first)?;
-    let rows = equations.solve(alloc)?;
-    let follow = rows.to_vobs(alloc)?;
-    Ok(follow)
+    let sets = equations.solve(alloc)?;
+    Ok(sets)
 }
 
 /// Returns a set for each nonterminal, of the terminals that can follow it where a nonterminal is
 /// derived from, whichever that is.
 ///
 /// Fails with the first rule that names a symbol that isn't there, or if memory runs out.
-pub fn follow_sets(alloc: Global, grammar: &Grammar) -> Result<Vec<Vob>, GrammarError>
-    ensures follow { IfOk result (λ rows. AreFollow grammar.now (bits_of rows.items)) }
+pub fn follow_sets(alloc: Global, grammar: &Grammar) -> Result<BitRows, GrammarError>
+    ensures follow { IfOk result (λ sets. AreFollow grammar.now sets.rows) }
+    ensures columns { IfOk result (λ sets. sets.columns ≡ grammar.now.terminals) }
 
     // The rules are checked first, and memory is asked for only if there are nonterminals.
     ensures bad_symbol { (rule : ℕ)
@@ -190,7 +193,7 @@ pub fn follow_sets(alloc: Global, grammar: &Grammar) -> Result<Vec<Vob>, Grammar
 {
     check_rules(grammar)?;
     let nullable = solve_nullable(alloc, grammar)?;
-    let first = solve_first(alloc, grammar, &nullable)?;
-    let rows = solve_follow(alloc, grammar, &nullable, &first)?;
-    Ok(rows)
+    let first = first_vobs(alloc, grammar, &nullable)?;
+    let sets = solve_follow(alloc, grammar, &nullable, &first)?;
+    Ok(sets)
 }

@@ -3,8 +3,8 @@
 //! there.
 use super::support::{check_bits, check_error, same};
 use std::process::Abort;
-use vob::Vob;
 use vob_lr::{Grammar, GrammarError, Rule, Symbol, first_sets, follow_sets, nullable};
+use vob_rows::BitRows;
 
 /// A grammar of these numbers of symbols, without a rule.
 pub fn empty(rt: &impl AllocGlobal, nonterminals: usize, terminals: usize) -> Grammar {
@@ -70,7 +70,8 @@ pub fn grammar_of(rt: &(impl Abort + AllocGlobal), names: (&str, &str), rules: &
 }
 
 /// Compares sets with digits, one for each terminal.
-fn check_rows(rt: &impl Abort, sets: &[Vob], rows: &[&str]) {
+fn check_rows(rt: &(impl Abort + AllocGlobal), sets: &BitRows, rows: &[&str]) {
+    let sets = sets.to_vobs(rt.alloc()).expect(rt, "memory");
     same(rt, "the sets", 0, sets.len(), rows.len());
     for (set, digits) in sets.iter().zip(rows) {
         check_bits(rt, set, digits);
@@ -178,10 +179,10 @@ fn a_chain_longer_than_a_block_is_gone_up(rt: HostRuntime) {
     let null = nullable(rt.alloc(), &grammar).expect(&rt, "a set");
     same(&rt, "nullable", 70, null.count_ones(), 70);
     let sets = first_sets(rt.alloc(), &grammar).expect(&rt, "sets");
-    same(&rt, "the sets", 70, sets.len(), 70);
-    for (n, set) in sets.iter().enumerate() {
+    same(&rt, "the sets", 70, sets.rows(), 70);
+    for n in 0..70 {
         for t in 0..70 {
-            same(&rt, "terminal", t, set.get(t), Some(n <= t));
+            same(&rt, "terminal", t, sets.get(n, t), Some(n <= t));
         }
     }
 }

@@ -2,8 +2,8 @@
 use crate::tests::support::{FIRST, request, same, tell};
 use std::alloc::{AllocError, Global};
 use std::process::Abort;
-use vob::Vob;
 use vob_lr::{Grammar, GrammarError, Rule, Symbol, first_sets, follow_sets, nullable};
+use vob_rows::BitRows;
 
 /// One nonterminal that becomes nothing, or itself around terminal 1 of two.
 fn grammar(alloc: Global) -> Result<Grammar, AllocError> {
@@ -29,14 +29,12 @@ fn grammar(alloc: Global) -> Result<Grammar, AllocError> {
 }
 
 /// Whether sets were given, which then are one with terminal 1 alone.
-fn are_given(rt: &impl Abort, sets: Result<Vec<Vob>, GrammarError>) -> bool {
+fn are_given(rt: &impl Abort, sets: Result<BitRows, GrammarError>) -> bool {
     match sets {
         Ok(sets) => {
-            same(rt, "the sets", 0, sets.len(), 1);
-            for set in &sets {
-                same(rt, "a terminal", 0, set.get(0), Some(false));
-                same(rt, "a terminal", 0, set.get(1), Some(true));
-            }
+            same(rt, "the sets", 0, sets.rows(), 1);
+            same(rt, "a terminal", 0, sets.get(0, 0), Some(false));
+            same(rt, "a terminal", 0, sets.get(0, 1), Some(true));
             true
         }
         Err(refusal) => {

@@ -21,9 +21,9 @@ returns-clause-bad_symbol c =
     let sound = c.in_ok-check_rules.ensures.ok in
     λ rule. ((λ e. cc), (λ bad. absurd (no_bad_rule c.args.grammar.now sound rule bad)))
 
-pub returns-in_err-rows-clause-bad_symbol : goal.returns-in_err-rows-clause-bad_symbol
-returns-in_err-rows-clause-bad_symbol c =
-    let refused = c.from_residual-in_err-rows in
+pub returns-in_err-sets-clause-bad_symbol : goal.returns-in_err-sets-clause-bad_symbol
+returns-in_err-sets-clause-bad_symbol c =
+    let refused = c.from_residual-in_err-sets in
     let p = err_from_is_err_and refused.result refused.ensures.1 in
     let sound = c.in_ok-check_rules.ensures.ok in
     rw (p.1, p.2)
