@@ -1,7 +1,7 @@
 //! Flow graphs whose nodes stand in a text, one a line: `name: reads a b; writes c; next n m`.
 
 use crate::fault::FlowFault;
-use files_text::{Fault, Names, Word, words_of};
+use files_text::{Fault, Names, Word, Words};
 use std::alloc::Global;
 use vob_flow::live::Flow;
 
@@ -185,10 +185,10 @@ impl<'a> Reader<'a> {
 /// Fails at the first word that can't stand where it does, as a comma, or the name of a node that
 /// another has. Fails then at the first name after `next` that no node has.
 pub fn read_flow(alloc: Global, text: &[u8]) -> Result<FlowGraph<'_>, FlowFault> {
-    let words = words_of(alloc, text, b":;,")?;
+    let mut words = Words::new(text, b":;,");
     let mut reader = Reader::new(alloc);
-    for word in words.iter() {
-        reader.take(alloc, word)?;
+    'words: while let Some(word) = words.next() {
+        reader.take(alloc, &word)?;
     }
     reader.end_line()?;
     reader.link(alloc)

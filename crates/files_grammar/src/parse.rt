@@ -4,7 +4,7 @@ use crate::expected::{END, endless_at, expected_after};
 use crate::fault::GrammarFault;
 use crate::file::GrammarFile;
 use crate::grammar::put_rule;
-use files_text::{Fault, Word, words_of};
+use files_text::{Fault, Word, Words};
 use indexmap::IndexMap;
 use std::alloc::{AllocError, Global};
 use std::io;
@@ -154,7 +154,7 @@ pub fn print_parse<W: Write>(
     output: &mut W,
 ) -> Result<u8, GrammarFault> {
     let table = file.table(alloc)?;
-    let words = words_of(alloc, text, b"")?;
+    let words = Words::new(text, b"").collect(alloc)?;
     let rules = parsed(alloc, file, &table, &words)?;
     put_derivation(output, file, &rules)?;
     Ok(0)

@@ -1,7 +1,7 @@
 //! Graphs whose edges stand in a text, one a line.
 
 use crate::fault::GraphFault;
-use files_text::{Fault, Names, Word, words_of};
+use files_text::{Fault, Names, Word, Words};
 use std::alloc::Global;
 use vob_rows::Graph;
 
@@ -57,15 +57,15 @@ impl<'a> Reader<'a> {
 /// Reads a graph: two names a line, the nodes from which and to which an edge leads. Fails at the
 /// first word that can't stand where it does, as a comma, or at the end of a line with one name.
 pub fn read_graph(alloc: Global, text: &[u8]) -> Result<NamedGraph<'_>, GraphFault> {
-    let words = words_of(alloc, text, b",")?;
+    let mut words = Words::new(text, b",");
     let mut reader = Reader {
         names: Names::new(alloc),
         edges: Vec::new(alloc),
         from: None,
         line: 0,
     };
-    for word in words.iter() {
-        reader.take(word)?;
+    'words: while let Some(word) = words.next() {
+        reader.take(&word)?;
     }
     if let Some(from) = reader.from {
         return Err(no_second(&from).into());

@@ -12,4 +12,4 @@ pub use fault::Fault;
 pub use names::Names;
 pub use numbers::all_below;
 pub use put::{end_line, put_name, put_next};
-pub use words::{Word, words_of};
+pub use words::{Word, Words};

@@ -1,7 +1,9 @@
 //! The words of a text in lines, with their places.
+ghost use Rattle.std.specs.Prelude.{◌<◌, ◌≤◌, length, IfSome};
 
 use crate::fault::Fault;
 use std::alloc::{AllocError, Global};
+use std::marker::Model;
 
 /// A word, and the line and the column where it begins, counted from 1. A column is a byte of its
 /// line.
@@ -27,7 +29,7 @@ impl Word<'_> {
         }
     }
 
-    /// Fails if the word is a comma. `words_of` makes one a word if commas are marks.
+    /// Fails if the word is a comma. `Words` makes one a word if commas are marks.
     pub fn check_no_comma(&self) -> Result<(), Fault> {
         if self.text == b",".as_slice() {
             return Err(self.unexpected("white space, as no name has a comma"));
@@ -36,95 +38,117 @@ impl Word<'_> {
     }
 }
 
-/// The words so far, and what the byte at hand stands within.
-#[derive(Drop)]
-struct Scanner<'a> {
-    text: &'a [u8],
-    marks: &'a [u8],
-    words: Vec<Word<'a>>,
-    // Where the word at hand begins, if the byte at hand is in one.
-    start: Option<usize>,
-    in_comment: bool,
+/// Where a byte stands: its index, its line, and the index of the first byte of that.
+#[derive(Clone, Copy)]
+struct Place {
+    at: usize,
     line: usize,
     line_start: usize,
 }
 
-impl<'a> Scanner<'a> {
-    /// Adds the word from `start` to `end`.
-    fn add(&mut self, start: usize, end: usize) -> Result<(), AllocError> {
-        let word = Word {
-            text: self.text.get(start..end).unwrap_or_default(),
-            line: self.line,
-            column: start.saturating_sub(self.line_start).saturating_add(1),
-        };
-        self.words.push(word)?;
-        Ok(())
-    }
-
-    /// Ends the word at hand before byte `end`, if there is one.
-    fn end_word(&mut self, end: usize) -> Result<(), AllocError> {
-        if let Some(start) = self.start {
-            self.start = None;
-            self.add(start, end)?;
-        }
-        Ok(())
-    }
-
-    /// Takes a byte that isn't in a comment and ends no line.
-    fn take(&mut self, at: usize, byte: u8) -> Result<(), AllocError> {
-        if byte.is_ascii_whitespace() {
-            return self.end_word(at);
-        }
-        if self.marks.contains(&byte) {
-            self.end_word(at)?;
-            return self.add(at, at.saturating_add(1));
-        }
-        if self.start.is_none() {
-            if byte == b'#' {
-                self.in_comment = true;
-            } else {
-                self.start = Some(at);
-            }
-        }
-        Ok(())
-    }
-
-    /// Takes the byte at `at`.
-    fn step(&mut self, at: usize, byte: u8) -> Result<(), AllocError> {
+/// Returns where the next word begins from a place on, past white space and comments, or else the end
+/// of the text.
+fn word_start(text: &[u8], from: Place) -> Place
+    requires { from.at ≤ length text.now }
+    ensures after { from.at ≤ result.at }
+    ensures inside { result.at ≤ length text.now }
+{
+    let mut place = from;
+    let mut in_comment = false;
+    for at in from.at..text.len() {
+        let byte = text[at];
+        place.at = at;
         if byte == b'\n' {
-            self.end_word(at)?;
-            self.in_comment = false;
-            self.line = self.line.saturating_add(1);
-            self.line_start = at.saturating_add(1);
-            return Ok(());
+            in_comment = false;
+            place.line = place.line.saturating_add(1);
+            place.line_start = at + 1;
+        } else if byte == b'#' {
+            in_comment = true;
+        } else if !in_comment && !byte.is_ascii_whitespace() {
+            return place;
         }
-        if self.in_comment {
-            return Ok(());
-        }
-        self.take(at, byte)
     }
+    place.at = text.len();
+    place
 }
 
-/// Returns the words of a text. White space separates them; each of the bytes `marks` is a word of
-/// its own. A word that begins with `#` begins a comment, up to the end of its line. Fails if memory
-/// runs out.
-pub fn words_of<'a>(
-    alloc: Global,
+/// Returns where the word that begins at an index ends: before white space or a mark, but a mark is a
+/// word of its own.
+fn word_end(text: &[u8], marks: &[u8], start: usize) -> usize
+    requires { start < length text.now }
+    ensures after { start < result }
+    ensures inside { result ≤ length text.now }
+{
+    if marks.contains(&text[start]) {
+        return start + 1;
+    }
+    for at in start + 1..text.len() {
+        let byte = text[at];
+        if byte.is_ascii_whitespace() || marks.contains(&byte) {
+            return at;
+        }
+    }
+    text.len()
+}
+
+/// The words of a text that are left. Contracts see how many bytes are.
+#[derive(Drop)]
+pub struct Words<'a> {
     text: &'a [u8],
     marks: &'a [u8],
-) -> Result<Vec<Word<'a>>, AllocError> {
-    let mut scanner = Scanner {
-        text,
-        marks,
-        words: Vec::new(alloc),
-        start: None,
-        in_comment: false,
-        line: 1,
-        line_start: 0,
-    };
-    for at in 0..text.len() {
-        scanner.step(at, text[at])?;
+    place: Place,
+}
+
+impl<'a> Model for Words<'a> {
+    ghost use Rattle.std.specs.Prelude.{◌-◌, ◌≤◌, ℕ, length};
+
+    ghost Value = { ℕ };
+
+    ghost view = { λ words. length words.text.now - words.place.at };
+
+    ghost invariant = { λ words. words.place.at ≤ length words.text.now };
+}
+
+impl<'a> Words<'a> {
+    /// Returns the words of a text. White space separates them; each of the bytes `marks` is a word of
+    /// its own. A word that begins with `#` begins a comment, up to the end of its line.
+    pub fn new(text: &'a [u8], marks: &'a [u8]) -> Words<'a> {
+        Words {
+            text,
+            marks,
+            place: Place {
+                at: 0,
+                line: 1,
+                line_start: 0,
+            },
+        }
     }
-    scanner.end_word(text.len())?;
-    Ok(scanner.words)
+
+    /// Returns the next word, or `None` after the last.
+    pub fn next(&mut self) -> Option<Word<'a>>
+        ensures { IfSome result (λ word. self.new < self.old) }
+    {
+        let place = word_start(self.text, self.place);
+        self.place = place;
+        if place.at >= self.text.len() {
+            return None;
+        }
+        let end = word_end(self.text, self.marks, place.at);
+        self.place.at = end;
+        Some(Word {
+            text: &self.text[place.at..end],
+            line: place.line,
+            column: place.at.saturating_sub(place.line_start).saturating_add(1),
+        })
+    }
+
+    /// Returns the words that are left, in their order. Fails if memory runs out.
+    pub fn collect(self, alloc: Global) -> Result<Vec<Word<'a>>, AllocError> {
+        let mut words = self;
+        let mut all = Vec::new(alloc);
+        'words: while let Some(word) = words.next() {
+            all.push(word)?;
+        }
+        Ok(all)
+    }
 }
