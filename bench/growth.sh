@@ -22,6 +22,7 @@ TOML
 (cd bench/petgraph && cargo build --quiet --release --offline --config "$out/config.toml" --target-dir "$out/petgraph"
     rm Cargo.lock)
 petgraph=$out/petgraph/release/closure
+immediate=$out/petgraph/release/immediate
 
 # make KIND SIZE: writes an input of that size, by a seed.
 make() {
@@ -54,6 +55,12 @@ elif kind == "functions":
         back = [base + at - at % depth for depth in (5, 25, 50) if at % depth == depth - 1]
         after = [node + 1, *back] if at < 99 else []
         put(f"n{node}: reads {own()} {own()}; writes {own()}; next {' '.join(f'n{n}' for n in after)}\n")
+elif kind == "loops":
+    # One function with loops nested three deep, and branches that meet again.
+    for node in range(size):
+        back = [node - node % depth for depth in (5, 25, 50) if node % depth == depth - 1]
+        after = [node + 1] * (node + 1 < size) + [node + 3] * (node % 5 < 2 and node + 3 < size) + back
+        put(f"n{node}: next {' '.join(f'n{n}' for n in after)}\n")
 elif kind == "grammar":
     # Four rules for each nonterminal, as many terminals as 60.
     names = [f"n{number}" for number in range(size // 4)]
@@ -117,6 +124,7 @@ rows 'reduction, nodes, beside tred' chain 200 closure --reduce -- tred
 for analysis in live reaching available busy dominators; do
     rows "$analysis, nodes of functions" functions 1000 flow --analysis $analysis
 done
+rows 'immediate dominators, nodes, beside petgraph' loops 10000 flow --analysis immediate -- "$immediate"
 rows 'tables, rules, beside bison' grammar 20 grammar /dev/stdin -- bison -o "$out/grammar.c" /dev/stdin
 rows 'filter, rows, beside sqlite3' table 10000 filter - 'age<30 & height>170' -- \
     sqlite3 :memory: '.import --csv /dev/stdin t' "select * from t where age + 0 < 30 and height + 0 > 170"

@@ -57,8 +57,9 @@ separates names, which have no comma. Words that begin with # begin a comment.
   available    expressions computed on all paths to here, and not changed since
   busy         expressions computed on all paths from here, before they change
   dominators   nodes that all paths from the entry pass
+  immediate    the nearest of these, but the node itself
 An expression is what a node reads: (i n) above. A node that no path reaches
-has all expressions available, and all nodes dominate it.
+has all expressions available, and all nodes dominate it, none immediately.
 
 Exit status: 0; 2 after a fault.
 Example: ./conthiral flow examples/files/flow.txt --analysis live";

@@ -1,7 +1,8 @@
 -- What is printed of an analysis of a flow graph: the sets before and after each node.
-use Rattle.std.specs.Prelude.{◌≡◌, ℕ, Bool, List, [], ◌++◌, codes, length, slice_index_or}
+use Rattle.std.specs.Prelude.{◌≡◌, ◌↔◌, ℕ, ◌+◌, ◌<◌, Bool, true, Option, None, Some, List, [], ◌++◌, codes, length, slice_index_or}
 use Rattle.std.specs.List.{flat_map, range_with_len}
-use Rattle.vob_flow.specs.Dominators.{AreDominators}
+use Rattle.vob_block.specs.Packing.{item}
+use Rattle.vob_flow.specs.Dominators.{Dominates, IsImmediate}
 use Rattle.vob_flow.specs.Live.{AreLeastLive, IsSolution}
 use Rattle.files_flow.specs.declared.flow.FlowGraph.{FlowGraph}
 use Rattle.files_flow.specs.declared.problem.Problem.{Problem}
@@ -28,14 +29,28 @@ abbrev pub sides_text : List (List ℕ) → List (List ℕ) → List (List Bool)
 sides_text names labels before after =
     flat_map (sides_line names labels before after) (range_with_len 0 (length names))
 
--- the line of a node with its dominators
-abbrev pub dominators_line : List (List ℕ) → List (List Bool) → ℕ → List ℕ
-dominators_line names sets node =
-    name_at names node ++ codes ": dominators" ++ set_text names sets node ++ line_end
+-- lines one after another, each as P says of its number, counted from 0
+pub data AreLines (P : ℕ → List ℕ → Type 0) : ℕ → List ℕ → Type 0 where
+  none : AreLines P 0 []
+  more : {k : ℕ} {text line : List ℕ} → AreLines P k text → P k line → AreLines P (k + 1) (text ++ line)
 
--- a line for each name, in their order
-abbrev pub dominators_text : List (List ℕ) → List (List Bool) → List ℕ
-dominators_text names sets = flat_map (dominators_line names sets) (range_with_len 0 (length names))
+-- the line of a node with its dominators, of which the set is
+pub record ListsDominatorsOf (before names : List (List ℕ)) (node : ℕ) (line : List ℕ) : Type 0 where
+  pub set : List Bool
+  pub len : length set ≡ length before
+  pub each : (d : ℕ) → d < length before → (item set d ≡ true) ↔ Dominates before 0 d node
+  pub is : line ≡ name_at names node ++ codes ": dominators" ++ labels_text names set ++ line_end
+
+-- a space and the name of a node, or nothing
+abbrev pub above_text : List (List ℕ) → Option ℕ → List ℕ
+above_text names None = []
+above_text names (Some node) = codes " " ++ name_at names node
+
+-- the line of a node with its immediate dominator, if it has one
+pub record ListsImmediateOf (before names : List (List ℕ)) (node : ℕ) (line : List ℕ) : Type 0 where
+  pub above : Option ℕ
+  pub immediate : IsImmediate before 0 node above
+  pub is : line ≡ name_at names node ++ codes ": immediate" ++ above_text names above ++ line_end
 
 -- the variables that may still be read before and after each node: the least sets that meet the
 -- equations of live variables
@@ -62,7 +77,11 @@ pub record ListsReaching (graph : FlowGraph) (text : List ℕ) : Type 0 where
 -- the nodes that all paths from the first node to each pass
 pub record ListsDominators (graph : FlowGraph) (text : List ℕ) : Type 0 where
   pub before : List (List ℕ)
-  pub sets : List (List Bool)
   pub are_before : AreBefore graph.nodes.items before
-  pub dominate : AreDominators before 0 sets
-  pub lines : text ≡ dominators_text graph.names sets
+  pub lines : AreLines (ListsDominatorsOf before graph.names) (length graph.names) text
+
+-- the nearest of them for each
+pub record ListsImmediate (graph : FlowGraph) (text : List ℕ) : Type 0 where
+  pub before : List (List ℕ)
+  pub are_before : AreBefore graph.nodes.items before
+  pub lines : AreLines (ListsImmediateOf before graph.names) (length graph.names) text

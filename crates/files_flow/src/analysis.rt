@@ -3,20 +3,20 @@ ghost use Rattle.std.specs.Prelude.{◌≡◌, [], slice_index_or, IfOk, OnOk};
 ghost use Rattle.std.specs.Io.KnownBytes.{Appends};
 ghost use Rattle.files_text.specs.Printed.{Writes};
 ghost use Rattle.files_flow.specs.Problems.{AreSetsOf, IsSolved, lists_of};
-ghost use Rattle.files_flow.specs.FlowText.{ListsDominators, ListsLive, ListsReaching, ListsSolution, dominators_text, labels_text, set_text, sides_text};
+ghost use Rattle.files_flow.specs.FlowText.{ListsLive, ListsReaching, ListsSolution, labels_text, set_text, sides_text};
 
 use crate::definitions::reaching_problem;
+use crate::dominance::{print_dominators, print_immediate};
 use crate::fault::FlowFault;
 use crate::flow::{FlowGraph, read_flow};
-use crate::problem::{Kind, Problem, available_problem, busy_problem, labels_of, nodes_before};
+use crate::problem::{Kind, Problem, available_problem, busy_problem, labels_of};
 use files_text::{Names, all_below, end_line, put_name, put_next};
 use std::alloc::{AllocError, Global};
 use std::io;
 use std::io::Write;
 use vob_flow::live::live_rows;
 use vob_flow::{
-    Masks, SolveError, available_expressions, dominators, reaching_definitions,
-    very_busy_expressions,
+    Masks, SolveError, available_expressions, reaching_definitions, very_busy_expressions,
 };
 use vob_rows::{BitRows, Graph, Row};
 
@@ -33,10 +33,19 @@ pub enum Analysis {
     Busy,
     /// The nodes that all paths from the entry pass.
     Dominators,
+    /// The nearest of them.
+    Immediate,
 }
 
 /// The names of the analyses.
-pub static ANALYSES: [&str; 5] = ["live", "reaching", "available", "busy", "dominators"];
+pub static ANALYSES: [&str; 6] = [
+    "live",
+    "reaching",
+    "available",
+    "busy",
+    "dominators",
+    "immediate",
+];
 
 impl Analysis {
     /// Returns the analysis with a name, one of `ANALYSES`, or `None` if there is none.
@@ -47,6 +56,7 @@ impl Analysis {
             "available" => Some(Analysis::Available),
             "busy" => Some(Analysis::Busy),
             "dominators" => Some(Analysis::Dominators),
+            "immediate" => Some(Analysis::Immediate),
             _ => None,
         }
     }
@@ -60,7 +70,7 @@ struct Sides {
 }
 
 /// Returns the fault of lists that don't fit one another.
-fn no_fit() -> FlowFault {
+pub(crate) fn no_fit() -> FlowFault {
     FlowFault::Sets(SolveError::BadMasks)
 }
 
@@ -131,7 +141,11 @@ fn label_at(labels: &[Vec<u8>], place: usize) -> &[u8]
 }
 
 /// Writes the labels of the places in a set, a space before each.
-fn put_labels<W: Write>(output: &mut W, labels: &[Vec<u8>], set: &Row<'_>) -> io::Result<()>
+pub(crate) fn put_labels<W: Write>(
+    output: &mut W,
+    labels: &[Vec<u8>],
+    set: &Row<'_>,
+) -> io::Result<()>
     ensures { OnOk result (Appends (W.contents output.old) (W.contents output.new)
         (labels_text (lists_of labels.now) set.now)) }
 {
@@ -174,26 +188,6 @@ fn put_sides<W: Write>(
         put_set(output, labels, &sides.before, node)?;
         output.write_all(b"; after")?;
         put_set(output, labels, &sides.after, node)?;
-        end_line(output)?;
-    }
-    Ok(())
-}
-
-/// Writes the dominators of each node, a node a line. The labels are the names.
-fn put_dominators<W: Write>(
-    output: &mut W,
-    names: &Names<'_>,
-    labels: &[Vec<u8>],
-    sets: &BitRows,
-) -> io::Result<()>
-    requires { lists_of labels.now ≡ names.now }
-    ensures { OnOk result (Appends (W.contents output.old) (W.contents output.new)
-        (dominators_text names.now sets.now.rows)) }
-{
-    for node in 0..names.len() {
-        put_name(output, names.name(node))?;
-        output.write_all(b": dominators")?;
-        put_set(output, labels, sets, node)?;
         end_line(output)?;
     }
     Ok(())
@@ -247,22 +241,6 @@ fn print_reaching<W: Write>(
     Ok(())
 }
 
-/// Writes the nodes that all paths from the first node to each pass.
-fn print_dominators<W: Write>(
-    alloc: Global,
-    graph: &FlowGraph<'_>,
-    output: &mut W,
-) -> Result<(), FlowFault>
-    ensures { OnOk result (Writes (W.contents output.old) (W.contents output.new)
-        (ListsDominators graph.now)) }
-{
-    let before = nodes_before(alloc, &graph.nodes)?;
-    let sets = dominators(alloc, 0, &Graph::from_lists(alloc, &before)?)?;
-    let labels = labels_of(alloc, &graph.names)?;
-    put_dominators(output, &graph.names, &labels, &sets)?;
-    Ok(())
-}
-
 /// Reads a flow graph, and writes what an analysis finds at each node. Returns the status, 0.
 ///
 /// Fails at the first word of the text that can't stand where it does. Nothing is written then.
@@ -283,6 +261,7 @@ pub fn print_flow<W: Write>(
         }
         Analysis::Busy => print_solution(alloc, names, &busy_problem(alloc, &graph)?, output)?,
         Analysis::Dominators => print_dominators(alloc, &graph, output)?,
+        Analysis::Immediate => print_immediate(alloc, &graph, output)?,
     }
     Ok(0)
 }

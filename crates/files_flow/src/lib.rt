@@ -3,6 +3,7 @@
 
 mod analysis;
 mod definitions;
+mod dominance;
 mod fault;
 mod flow;
 mod problem;
