@@ -10,7 +10,7 @@ use crate::dominance::{print_dominators, print_immediate};
 use crate::fault::FlowFault;
 use crate::flow::{FlowGraph, read_flow};
 use crate::problem::{Kind, Problem, available_problem, busy_problem, labels_of};
-use files_text::{Names, all_below, end_line, put_name, put_next};
+use files_text::{Names, end_line, put_name, put_next};
 use std::alloc::{AllocError, Global};
 use std::io;
 use std::io::Write;
@@ -18,7 +18,7 @@ use vob_flow::live::live_rows;
 use vob_flow::{
     Masks, SolveError, available_expressions, reaching_definitions, very_busy_expressions,
 };
-use vob_rows::{BitRows, Graph, Row};
+use vob_rows::{BitRows, Graph, Row, all_below};
 
 /// An analysis of a flow graph.
 #[derive(Clone, Copy, PartialEq, Eq)]

@@ -4,12 +4,10 @@
 
 mod fault;
 mod names;
-mod numbers;
 mod put;
 mod words;
 
 pub use fault::Fault;
 pub use names::Names;
-pub use numbers::all_below;
 pub use put::{end_line, put_name, put_next};
 pub use words::{Word, Words};

@@ -1,7 +1,7 @@
 mod AnyLemmas
 mod AvailableLemmas
-mod BlankLemmas
-mod ChangesLemmas
+pub mod BlankLemmas
+pub mod ChangesLemmas
 mod ClimbLemmas
 mod ClosureLemmas
 mod CountLemmas
@@ -10,7 +10,7 @@ mod DrawLemmas
 mod FindingLemmas
 pub mod FirstLemmas
 mod FlowLemmas
-mod GatherLemmas
+pub mod GatherLemmas
 mod GreatestLemmas
 mod GrowLemmas
 mod LawLemmas

@@ -12,7 +12,7 @@ use crate::solver::solve;
 use std::alloc::{AllocError, Global};
 use std::{error, fmt};
 use vob::Vob;
-use vob_rows::{BitRows, Graph};
+use vob_rows::{BitRows, Graph, all_below};
 
 /// A node of a flow graph: the variables that it reads, those that it then writes, and the nodes
 /// that may come next.
@@ -93,13 +93,6 @@ impl From<AllocError> for LiveError {
     fn from(_: AllocError) -> LiveError {
         LiveError::Memory
     }
-}
-
-/// Whether all numbers are below `end`.
-fn all_below(numbers: &[usize], end: usize) -> bool
-    ensures { IsTrue result ↔ All (λ number. number < end) numbers.now }
-{
-    numbers.iter().all(|number| *number < end)
 }
 
 /// Whether a node reads and writes variables alone.

@@ -6,6 +6,6 @@ mod part;
 mod row;
 mod rows;
 
-pub use graph::{Graph, GraphError};
+pub use graph::{Graph, GraphError, all_below};
 pub use row::Row;
 pub use rows::BitRows;
