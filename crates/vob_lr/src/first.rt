@@ -66,11 +66,7 @@ fn first_equations(
 
 /// Returns the first sets of a grammar with sound rules, given its nullable nonterminals. No
 /// nonterminals take no memory.
-fn solve_first(
-    alloc: Global,
-    grammar: &Grammar,
-    nullable: &Vob,
-) -> Result<BitRows, AllocError>
+fn solve_first(alloc: Global, grammar: &Grammar, nullable: &Vob) -> Result<BitRows, AllocError>
     requires rules { All (IsRuleOf grammar.now) grammar.now.rules.items }
     requires nullable { AreNullable grammar.now nullable.now.bits }
     ensures first { IfOk result (λ sets. AreFirst grammar.now sets.rows) }
