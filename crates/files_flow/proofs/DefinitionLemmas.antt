@@ -2,14 +2,13 @@
 use Rattle.std.specs.Prelude.{◌↔◌, Contains, Some, slice_get}
 use Rattle.std.specs.List.{flat_map, range_with_len}
 use Rattle.std.proofs.Common.{◌≡◌, ℕ, ◌+◌, ◌<◌, inl, inr, List, [], ◌∷◌, ◌++◌, length, replicate, slice_index_or, sym, ap, subst, ◌∙◌, arith}
-use Rattle.std.proofs.lemmas.Bool.{cases_eq, cases_lt}
-use Rattle.std.proofs.lemmas.List.{append-nil, get_or-replicate, map-id, get_or_append_left, get_or_push, length_push, length-replicate}
-use Rattle.std.proofs.lemmas.List.Elements.{Contains-append_cases, Contains-append_left, Contains-append_right, Contains-push}
+use Rattle.std.proofs.lemmas.Bool.{cases_eq}
+use Rattle.std.proofs.lemmas.List.{append-nil, get_or-replicate, map-id, length-replicate}
 use Rattle.std.proofs.lemmas.List.Concat.{flat_map-append}
 use Rattle.std.proofs.lemmas.List.FromFn.{map-range_with_len_more}
 use Rattle.std.proofs.lemmas.Option.{slice_get_within}
 use Rattle.vob_flow.specs.declared.live.Flow.{Flow}
-use Rattle.files_flow.specs.Definitions.{AreGathered, AreGrouped, AreKilled, definitions_at, writes_of}
+use Rattle.files_flow.specs.Definitions.{AreGrouped, definitions_at, writes_of}
 use Rattle.files_flow.specs.Problems.{IsAddedTo}
 use Rattle.files_text.proofs.ListLemmas.{first, nothing}
 use Rattle.files_flow.proofs.ProblemLemmas.{only}
@@ -75,52 +74,3 @@ definitions_more nodes n made after is more =
     ∙ ap (λ xs. flat_map own (range_with_len 0 n) ++ xs) (sym (append-nil (own n)))
     ∙ sym (flat_map-append own (range_with_len 0 n) (n ∷ []))
     ∙ ap (flat_map own) (sym (range-more n))
-
-module _ (lists : List (List ℕ)) where
-  pub gathered_none : AreGathered lists [] []
-  gathered_none = record {
-    each = λ k. (
-      (λ there. absurd (nothing k there)),
-      (λ from. absurd (nothing from.0 from.1)),
-    );
-  }
-
-  -- what one list more has
-  pub gathered_more : (some numbers own : List ℕ) (list : ℕ) → AreGathered lists some numbers →
-      slice_index_or lists list [] ≡ own → AreGathered lists (some ++ list ∷ []) (numbers ++ own)
-  gathered_more some numbers own list are is = record {
-    each = λ k. (
-      (λ there. elim (Contains-append_cases numbers own k there) [
-        | inl before ↦
-            let from = (are.each k).0 before in
-            (from.0, Contains-append_left some (list ∷ []) from.0 from.1, from.2)
-        | inr last ↦ (list, Contains-push some list, rw is last)
-      ]),
-      (λ from. elim (Contains-append_cases some (list ∷ []) from.0 from.1) [
-        | inl before ↦ Contains-append_left numbers own k ((are.each k).1 (from.0, before, from.2))
-        | inr last ↦ Contains-append_right numbers own k (rw (← only list from.0 last, is) at from.2)
-      ]),
-    );
-  }
-
-module _ (nodes : List Flow) (lists : List (List ℕ)) where
-  -- the first nodes have their lists
-  pub record AreKilledBelow (k : ℕ) (kills : List (List ℕ)) : Type 0 where
-    pub count : length kills ≡ k
-    pub each : (n : ℕ) → n < k → AreGathered lists (writes_of nodes n) (slice_index_or kills n [])
-
-  pub killed_more : (k : ℕ) (kills : List (List ℕ)) (own : List ℕ) → AreKilledBelow k kills →
-      AreGathered lists (writes_of nodes k) own → AreKilledBelow (k + 1) (kills ++ own ∷ [])
-  killed_more k kills own are is = record {
-    count = length_push kills own ∙ ap (λ n. n + 1) are.count;
-    each = λ n less. elim (cases_lt n k) [
-      | inl before ↦
-          rw (get_or_append_left kills (own ∷ []) [] n (omega (arith, before, are.count))) (are.each n before)
-      | inr past ↦
-          let last : n ≡ k = omega (arith, past, less) in
-          rw (last, get_or_push kills own [] k (are.count)) is
-    ];
-  }
-
-  pub killed_all : (kills : List (List ℕ)) → AreKilledBelow (length nodes) kills → AreKilled nodes lists kills
-  killed_all kills are = record { count = are.count; each = are.each }

@@ -1,5 +1,5 @@
 -- Numbers that are added to lists, and sets of lists.
-use Rattle.std.specs.Prelude.{◌↔◌, Contains}
+use Rattle.std.specs.Prelude.{◌↔◌, ◌⊎◌, Contains}
 use Rattle.std.proofs.Common.{◌≡◌, ◌≢◌, ℕ, Bool, true, false, not, ◌+◌, ◌<◌, ◌≤◌, inl, inr, List, [], ◌∷◌, ◌++◌, length, get_or, set, map, replicate, slice_index_or, refl, sym, ap, subst, ◌∙◌, arith}
 use Rattle.std.proofs.lemmas.Bool.{cases_eq, cases_lt, false≢true, false_from_ne_true, not-true, not_from_false}
 use Rattle.std.proofs.lemmas.List.{get_or-replicate, get_or-set_other, get_or-set_same, get_or_past, length-set, length-replicate, length-map}
@@ -11,7 +11,7 @@ use Rattle.vob.proofs.BitsLemmas.{item_false, row_inside}
 use Rattle.vob_flow.specs.Draws.{IsIn}
 use Rattle.vob_flow.specs.declared.live.Flow.{Flow}
 use Rattle.files_flow.specs.declared.problem.Problem.{Problem}
-use Rattle.files_flow.specs.Problems.{AreBefore, AreSetsOf, IsAddedTo, IsSolved, Solve, lists_of, next_of}
+use Rattle.files_flow.specs.Problems.{AreBefore, AreKillSets, AreSetsOf, IsAddedTo, IsOfSome, IsSolved, Kills, Solve, lists_of, next_of}
 use Rattle.files_text.proofs.ListLemmas.{first, first_or_later, nothing}
 
 pub only : (x y : ℕ) → Contains (x ∷ []) y → x ≡ y
@@ -219,11 +219,30 @@ sets_all places lists sets wide k h all long = record {
   ];
 }
 
--- what isn't in the set of a list isn't in the list
-kept_without : (places : ℕ) (lists : List (List ℕ)) (sets : List (List Bool)) →
-    AreSetsOf places lists sets → (n v : ℕ) → (not (item (get_or sets n []) v) ≡ true)
-    ↔ (¬ Contains (slice_index_or lists n []) v)
-kept_without places lists sets are n v = (
+-- ---- what nodes kill
+
+module _ (lists : List (List ℕ)) where
+  pub of_none : (v : ℕ) → ¬ IsOfSome lists [] v
+  of_none v some = nothing some.0 some.1
+
+  pub of_more : (some : List ℕ) (x : ℕ) (v : ℕ) →
+      IsOfSome lists (some ++ x ∷ []) v ↔ (IsOfSome lists some v ⊎ Contains (slice_index_or lists x []) v)
+  of_more some x v = (
+    (λ h. elim (Contains-append_cases some (x ∷ []) h.0 h.1) [
+      | inl before ↦ inl (h.0, before, h.2)
+      | inr last ↦ inr (subst (λ y. Contains (slice_index_or lists y []) v) (sym (only x h.0 last)) h.2)
+    ]),
+    (λ either. elim either [
+      | inl before ↦ (before.0, Contains-append_left some (x ∷ []) before.0 before.1, before.2)
+      | inr last ↦ (x, Contains-push some x, last)
+    ]),
+  )
+
+-- what isn't in the set of what a node kills isn't killed
+kept_without : (by_variable writes : List (List ℕ)) (sets : List (List Bool)) →
+    AreKillSets by_variable writes sets → (n v : ℕ) → (not (item (get_or sets n []) v) ≡ true)
+    ↔ (¬ Kills by_variable writes n v)
+kept_without by_variable writes sets are n v = (
   (λ keeps within. false≢true (sym (not-true _ keeps) ∙ (are.each n v).1 within)),
   (λ none. not_from_false _ (false_from_ne_true _ (λ on. none ((are.each n v).0 on)))),
 )
@@ -232,7 +251,7 @@ kept_without places lists sets are n v = (
 
 pub IsSolved-by : (problem : Problem) (gens kills before after : List (List Bool)) →
     AreSetsOf (length problem.labels.items) (lists_of problem.generates.items) gens →
-    AreSetsOf (length problem.labels.items) (lists_of problem.kills.items) kills →
+    AreKillSets (lists_of problem.by_variable.items) (lists_of problem.writes.items) kills →
     Solve problem.kind (length problem.labels.items) (lists_of problem.from.items)
     (λ n v. not (item (get_or kills n []) v)) gens before after → IsSolved problem before after
 IsSolved-by problem gens kills before after gens_are kills_are solved = record {

@@ -27,16 +27,6 @@ pub record AreGrouped (count : ℕ) (keys : List ℕ) (lists : List (List ℕ)) 
   pub each : (n k : ℕ) → n < count →
       Contains (slice_index_or lists n []) k ↔ (slice_get keys k ≡ Some n)
 
--- all that the lists with some numbers have
-pub record AreGathered (lists : List (List ℕ)) (some numbers : List ℕ) : Type 0 where
-  pub each : (k : ℕ) → Contains numbers k
-      ↔ ((n : ℕ) × Contains some n × Contains (slice_index_or lists n []) k)
-
--- for each node all that the lists of the variables have which it writes
-pub record AreKilled (nodes : List Flow) (lists kills : List (List ℕ)) : Type 0 where
-  pub count : length kills ≡ length nodes
-  pub each : (n : ℕ) → n < length nodes → AreGathered lists (writes_of nodes n) (slice_index_or kills n [])
-
 -- how a definition is called
 abbrev pub definition_label : List (List ℕ) → List (List ℕ) → ℕ × ℕ → List ℕ
 definition_label names variables made = name_at variables made.1 ++ codes "@" ++ name_at names made.0
@@ -48,8 +38,7 @@ pub record IsReachingProblem (graph : FlowGraph) (problem : Problem) : Type 0 wh
       ≡ map (definition_label graph.names graph.variables) (definitions_of graph.nodes.items)
   pub generates : AreGrouped (length graph.nodes.items)
       (map (λ made. made.0) (definitions_of graph.nodes.items)) (lists_of problem.generates.items)
-  pub by_variable : List (List ℕ)
-  pub grouped : AreGrouped (length graph.variables)
-      (map (λ made. made.1) (definitions_of graph.nodes.items)) by_variable
-  pub kills : AreKilled graph.nodes.items by_variable (lists_of problem.kills.items)
+  pub by_variable : AreGrouped (length graph.variables)
+      (map (λ made. made.1) (definitions_of graph.nodes.items)) (lists_of problem.by_variable.items)
+  pub writes : lists_of problem.writes.items ≡ map (λ node. node.writes.items) graph.nodes.items
   pub from : AreBefore graph.nodes.items (lists_of problem.from.items)

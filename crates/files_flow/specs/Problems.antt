@@ -36,6 +36,18 @@ pub record AreSetsOf (places : ℕ) (lists : List (List ℕ)) (sets : List (List
   pub long : AreOfLength places sets
   pub each : (n v : ℕ) → IsIn sets n v ↔ Contains (slice_index_or lists n []) v
 
+-- v is in one of the lists with some numbers
+abbrev pub IsOfSome : List (List ℕ) → List ℕ → ℕ → Type 0
+IsOfSome lists some v = (x : ℕ) × Contains some x × Contains (slice_index_or lists x []) v
+
+-- node n kills place v: it is of a variable that the node writes
+abbrev pub Kills : List (List ℕ) → List (List ℕ) → ℕ → ℕ → Type 0
+Kills by_variable writes n v = IsOfSome by_variable (slice_index_or writes n []) v
+
+-- the sets of the places that each node kills
+pub record AreKillSets (by_variable writes : List (List ℕ)) (sets : List (List Bool)) : Type 0 where
+  pub each : (n v : ℕ) → IsIn sets n v ↔ Kills by_variable writes n v
+
 -- the sets before and after each node that a kind of problem asks for
 abbrev pub Solve : Kind → ℕ → List (List ℕ) → (ℕ → ℕ → Bool) → List (List Bool) → List (List Bool) →
     List (List Bool) → Type 0
@@ -49,6 +61,6 @@ pub record IsSolved (problem : Problem) (before after : List (List Bool)) : Type
   pub mask : ℕ → ℕ → Bool
   pub gens_are : AreSetsOf (length problem.labels.items) (lists_of problem.generates.items) gens
   pub keeps : (n v : ℕ) → (mask n v ≡ true)
-      ↔ (¬ Contains (slice_index_or (lists_of problem.kills.items) n []) v)
+      ↔ (¬ Kills (lists_of problem.by_variable.items) (lists_of problem.writes.items) n v)
   pub solved : Solve problem.kind (length problem.labels.items) (lists_of problem.from.items) mask gens
       before after

@@ -9,6 +9,7 @@ use crate::definitions::reaching_problem;
 use crate::dominance::{print_dominators, print_immediate};
 use crate::fault::FlowFault;
 use crate::flow::{FlowGraph, read_flow};
+use crate::kills::kill_sets;
 use crate::problem::{Kind, Problem, available_problem, busy_problem, labels_of};
 use files_text::{Names, end_line, put_name, put_next};
 use std::alloc::{AllocError, Global};
@@ -98,7 +99,7 @@ fn solve(alloc: Global, problem: &Problem) -> Result<Sides, FlowFault>
     ensures { IfOk result (λ sides. IsSolved problem.now sides.before.rows sides.after.rows) }
 {
     let places = problem.labels.len();
-    let kills = sets_of(alloc, places, &problem.kills)?;
+    let kills = kill_sets(alloc, places, &problem.by_variable, &problem.writes)?;
     let masks = Masks::Without(&kills);
     let from = Graph::from_lists(alloc, &problem.from)?;
     let mut sets = sets_of(alloc, places, &problem.generates)?;

@@ -4,7 +4,7 @@ ghost use Rattle.files_flow.specs.Problems.{lists_of};
 ghost use Rattle.files_flow.specs.Definitions.{AreGrouped, IsReachingProblem, definition_label, definitions_at, definitions_of};
 
 use crate::flow::FlowGraph;
-use crate::problem::{Kind, Problem, add_to, empty_lists, killed, nodes_before};
+use crate::problem::{Kind, Problem, add_to, empty_lists, nodes_before, writes_of};
 use files_text::Names;
 use std::alloc::{AllocError, Global};
 use vob_flow::live::Flow;
@@ -98,12 +98,12 @@ pub fn reaching_problem(alloc: Global, graph: &FlowGraph<'_>) -> Result<Problem,
     ensures { IfOk result (λ problem. IsReachingProblem graph.now problem) }
 {
     let definitions = definitions_of(alloc, &graph.nodes)?;
-    let lists = by_variable(alloc, graph.variables.len(), &definitions)?;
     Ok(Problem {
         kind: Kind::ForwardMay,
         labels: labels(alloc, &graph.names, &graph.variables, &definitions)?,
         generates: by_node(alloc, graph.nodes.len(), &definitions)?,
-        kills: killed(alloc, &graph.nodes, &lists)?,
+        by_variable: by_variable(alloc, graph.variables.len(), &definitions)?,
+        writes: writes_of(alloc, &graph.nodes)?,
         from: nodes_before(alloc, &graph.nodes)?,
     })
 }

@@ -1,7 +1,6 @@
 //! Dataflow problems of a flow graph.
-ghost use Rattle.std.specs.Prelude.{◌≡◌, ◌∷◌, [], replicate, slice_index_or, IfOk, OnOk};
+ghost use Rattle.std.specs.Prelude.{◌≡◌, ◌∷◌, [], map, replicate, slice_index_or, IfOk, OnOk};
 ghost use Rattle.files_flow.specs.Problems.{AreBefore, IsAddedTo, lists_of};
-ghost use Rattle.files_flow.specs.Definitions.{AreGathered, AreKilled};
 
 use crate::fault::FlowFault;
 use crate::flow::FlowGraph;
@@ -22,14 +21,19 @@ pub enum Kind {
     BackwardMust,
 }
 
-/// A dataflow problem: what the places are called, which of them each node generates and kills, and
-/// the nodes from which each draws.
+/// A dataflow problem.
 #[derive(Drop)]
 pub struct Problem {
     pub kind: Kind,
+    /// What the places are called.
     pub labels: Vec<Vec<u8>>,
+    /// The places that each node generates.
     pub generates: Vec<Vec<usize>>,
-    pub kills: Vec<Vec<usize>>,
+    /// The places of each variable.
+    pub by_variable: Vec<Vec<usize>>,
+    /// The variables that each node writes, of which it kills all places.
+    pub writes: Vec<Vec<usize>>,
+    /// The nodes from which each draws.
     pub from: Vec<Vec<usize>>,
 }
 
@@ -76,7 +80,7 @@ fn add_to_each(lists: &mut [Vec<usize>], some: &[usize], number: usize) -> Resul
 }
 
 /// Returns the list with a number, or an empty one if there is none.
-fn list_at(lists: &[Vec<usize>], list: usize) -> &[usize]
+pub fn list_at(lists: &[Vec<usize>], list: usize) -> &[usize]
     ensures { result.now ≡ slice_index_or (lists_of lists.now) list [] }
 {
     match lists.get(list) {
@@ -85,15 +89,15 @@ fn list_at(lists: &[Vec<usize>], list: usize) -> &[usize]
     }
 }
 
-/// Returns all that the lists with some numbers have.
-fn gathered(alloc: Global, lists: &[Vec<usize>], some: &[usize]) -> Result<Vec<usize>, AllocError>
-    ensures { IfOk result (λ numbers. AreGathered (lists_of lists.now) some.now numbers.items) }
+/// Returns the variables that each node writes.
+pub fn writes_of(alloc: Global, nodes: &[Flow]) -> Result<Vec<Vec<usize>>, AllocError>
+    ensures { IfOk result (λ writes. lists_of writes.items ≡ map (λ node. node.writes.items) nodes.now) }
 {
-    let mut numbers = Vec::new(alloc);
-    for list in some {
-        numbers.extend_from_slice(list_at(lists, *list))?;
+    let mut writes = Vec::with_capacity(alloc, nodes.len())?;
+    for node in 0..nodes.len() {
+        writes.push(nodes[node].writes.to_vec(alloc)?)?;
     }
-    Ok(numbers)
+    Ok(writes)
 }
 
 /// Returns for each node the nodes that come before it.
@@ -130,21 +134,6 @@ fn reached_before(alloc: Global, nodes: &[Flow]) -> Result<Vec<Vec<usize>>, Flow
         }
     }
     Ok(before)
-}
-
-/// Returns for each node the places that the variables have which it writes, by lists of them.
-pub fn killed(
-    alloc: Global,
-    nodes: &[Flow],
-    by_variable: &[Vec<usize>],
-) -> Result<Vec<Vec<usize>>, AllocError>
-    ensures { IfOk result (λ kills. AreKilled nodes.now (lists_of by_variable.now) (lists_of kills.items)) }
-{
-    let mut kills = Vec::new(alloc);
-    for node in 0..nodes.len() {
-        kills.push(gathered(alloc, by_variable, &nodes[node].writes)?)?;
-    }
-    Ok(kills)
 }
 
 /// Returns how an expression is called: `(a b)` for one that reads a and b.
@@ -210,35 +199,52 @@ fn expressions(
     for (node, label) in graph.nodes.iter().zip(own.iter()) {
         generates.push(add_expression(alloc, node, label, &mut names, &mut by_variable)?)?;
     }
-    let kills = killed(alloc, &graph.nodes, &by_variable)?;
+    let writes = writes_of(alloc, &graph.nodes)?;
     let labels = labels_of(alloc, &names)?;
     Ok(Problem {
         kind,
         labels,
         generates,
-        kills,
+        by_variable,
+        writes,
         from,
     })
 }
 
-/// Returns the numbers of a list that another doesn't have.
-fn without(alloc: Global, numbers: &[usize], others: &[usize]) -> Result<Vec<usize>, AllocError> {
-    let mut kept = Vec::new(alloc);
-    for number in numbers {
-        if !others.contains(number) {
-            kept.push(*number)?;
+impl Problem {
+    /// Returns whether a node kills a place.
+    fn is_killed(&self, node: usize, place: usize) -> bool {
+        for variable in list_at(&self.writes, node) {
+            if list_at(&self.by_variable, *variable).contains(&place) {
+                return true;
+            }
         }
+        false
     }
-    Ok(kept)
-}
 
-/// Returns what each node generates and doesn't kill.
-fn lasting(alloc: Global, problem: &Problem) -> Result<Vec<Vec<usize>>, AllocError> {
-    let mut lists = Vec::new(alloc);
-    for (own, kills) in problem.generates.iter().zip(problem.kills.iter()) {
-        lists.push(without(alloc, own, kills)?)?;
+    /// Returns what each node generates and doesn't kill.
+    fn lasting(&self, alloc: Global) -> Result<Vec<Vec<usize>>, AllocError> {
+        let mut lists = empty_lists(alloc, self.generates.len())?;
+        for (node, own) in self.generates.iter().enumerate() {
+            for place in own {
+                if !self.is_killed(node, *place) {
+                    add_to(&mut lists, node, *place)?;
+                }
+            }
+        }
+        Ok(lists)
     }
-    Ok(lists)
+
+    /// Adds a last node, at which nothing holds: it generates nothing, kills all, and draws from none.
+    fn add_border(&mut self, alloc: Global) -> Result<(), AllocError> {
+        let all: Vec<usize> = (0..self.labels.len()).collect(alloc)?;
+        let variable = self.by_variable.len();
+        self.by_variable.push(all)?;
+        self.writes.push(vec![in alloc; variable]?)?;
+        self.generates.push(Vec::new(alloc))?;
+        self.from.push(Vec::new(alloc))?;
+        Ok(())
+    }
 }
 
 /// Returns the nodes that come after each. After a node with none comes `border`.
@@ -258,22 +264,11 @@ fn nodes_after(
     Ok(after)
 }
 
-impl Problem {
-    /// Adds a last node, at which nothing holds: it generates nothing, kills all, and draws from none.
-    fn add_border(&mut self, alloc: Global) -> Result<(), AllocError> {
-        let all: Vec<usize> = (0..self.labels.len()).collect(alloc)?;
-        self.generates.push(Vec::new(alloc))?;
-        self.kills.push(all)?;
-        self.from.push(Vec::new(alloc))?;
-        Ok(())
-    }
-}
-
 /// Returns the problem of the expressions that were computed on all paths from the entry to a node.
 pub fn available_problem(alloc: Global, graph: &FlowGraph<'_>) -> Result<Problem, FlowFault> {
     let from = reached_before(alloc, &graph.nodes)?;
     let mut problem = expressions(alloc, graph, Kind::ForwardMust, from)?;
-    problem.generates = lasting(alloc, &problem)?;
+    problem.generates = problem.lasting(alloc)?;
     Ok(problem)
 }
 

@@ -7,13 +7,12 @@ pub returns : goal.returns
 returns c =
     let made : c.in_ok-definitions.definitions.items ≡ definitions_of c.args.graph.now.nodes.items =
     rw c.deref.ensures.value at c.in_ok-definitions.ensures in
-    let many : c.len-2.result ≡ length c.args.graph.now.nodes.items = search rules in
+    let many : c.len.result ≡ length c.args.graph.now.nodes.items = search rules in
     record {
       kind = refl;
-      labels = rw (c.deref-3.ensures.value, made) at c.in_ok-labels.ensures;
-      generates = rw (many, c.deref-4.ensures.value, made) at c.in_ok-by_node.ensures;
-      by_variable = _;
-      grouped = rw (c.len.ensures, c.deref-2.ensures.value, made) at c.in_ok-lists.ensures;
-      kills = rw (c.deref-5.ensures.value, c.deref-6.ensures.value) at c.in_ok-killed.ensures;
-      from = rw c.deref-7.ensures.value at c.in_ok-nodes_before.ensures;
+      labels = rw (c.deref-2.ensures.value, made) at c.in_ok-labels.ensures;
+      generates = rw (many, c.deref-3.ensures.value, made) at c.in_ok-by_node.ensures;
+      by_variable = rw (c.len-2.ensures, c.deref-4.ensures.value, made) at c.in_ok-by_variable.ensures;
+      writes = rw c.deref-5.ensures.value at c.in_ok-writes_of.ensures;
+      from = rw c.deref-6.ensures.value at c.in_ok-nodes_before.ensures;
     }
