@@ -1,2 +1,3 @@
 pub mod ClosureTextLemmas
+mod DirectLemmas
 pub mod PathLemmas

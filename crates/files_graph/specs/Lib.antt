@@ -1,1 +1,2 @@
 pub mod ClosureText
+pub mod Direct

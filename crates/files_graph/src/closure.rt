@@ -135,9 +135,9 @@ fn print_fewest<W: Write>(
     graph: &NamedGraph<'_>,
     output: &mut W,
 ) -> Result<(), GraphFault> {
-    let sets = closure(alloc, &graph.next)?;
-    let fewest = reduction(alloc, sets)?;
-    put_sets(output, &graph.names, &fewest)?;
+    for (from, to) in &reduction(alloc, &graph.next)? {
+        put_edge(output, &graph.names, *from, *to)?;
+    }
     Ok(())
 }
 

@@ -2,6 +2,7 @@
 #![tactic(auto)]
 
 mod closure;
+mod direct;
 mod fault;
 mod graph;
 mod reduction;

@@ -1,138 +1,161 @@
-//! The fewest edges that have a closure.
+//! The fewest edges that have the closure of a graph.
 //!
 //! Nodes that lead to one another are a component. Edges between components join their first nodes,
 //! and only those that no path through a third component stands for. The nodes of a component stand
 //! on one cycle, in their order.
-ghost use Rattle.std.specs.Prelude.{◌≡◌, ◌<◌, length, IfOk, IfSome};
+ghost use Rattle.std.specs.Prelude.{◌<◌, All, IfOk, OnOk};
+ghost use Rattle.files_graph.specs.Direct.{LeadsDown};
 
+use crate::direct::direct_edges;
 use std::alloc::{AllocError, Global};
-use vob::Vob;
-use vob_rows::{BitRows, Row};
+use vob_flow::{Components, strong_components};
+use vob_rows::{Graph, GraphError};
 
-/// Adds to a component the nodes of a node's set that lead back to the node.
-fn add_component(components: &mut BitRows, sets: &BitRows, node: usize)
-    requires count { length components.old.rows ≡ length sets.now.rows }
-    requires places { components.old.columns ≡ sets.now.columns }
-    requires node { node < length sets.now.rows }
-    requires square { sets.now.columns ≡ length sets.now.rows }
-    ensures count { length components.new.rows ≡ length components.old.rows }
-    ensures columns { components.new.columns ≡ components.old.columns }
-{
-    let row = sets.row(node);
-    for other in row.iter_set_bits(..) {
-        if sets.get(other, node) == Some(true) {
-            components.set(node, other, true);
+/// The components of a graph by number, those to which edges lead with lower ones.
+#[derive(Drop)]
+struct Parts {
+    // The component of each node.
+    of: Vec<usize>,
+    // The first and the last node of each component.
+    firsts: Vec<usize>,
+    lasts: Vec<usize>,
+}
+
+/// Returns the number at an index, or 0 past the last.
+fn number_at(numbers: &[usize], index: usize) -> usize {
+    match numbers.get(index) {
+        Some(number) => *number,
+        None => 0,
+    }
+}
+
+/// Numbers the components of a graph.
+fn parts_of(alloc: Global, components: &Components) -> Result<Parts, AllocError> {
+    let count = components.roots.len();
+    let mut parts = Parts {
+        of: Vec::with_capacity(alloc, count)?,
+        firsts: Vec::new(alloc),
+        lasts: Vec::new(alloc),
+    };
+    parts.of.resize(count, 0)?;
+    let mut last_root = None;
+    for node in &components.nodes {
+        let root = number_at(&components.roots, *node);
+        if last_root != Some(root) {
+            parts.firsts.push(*node)?;
+            parts.lasts.push(*node)?;
+            last_root = Some(root);
+        }
+        let number = parts.firsts.len().saturating_sub(1);
+        if let Some(part) = parts.of.get_mut(*node) {
+            *part = number;
+        }
+        if let Some(first) = parts.firsts.last_mut() {
+            *first = (*first).min(*node);
+        }
+        if let Some(last) = parts.lasts.last_mut() {
+            *last = (*last).max(*node);
         }
     }
+    Ok(parts)
 }
 
-/// Returns the component of each node that is on a cycle, and no nodes for another.
-fn components(alloc: Global, sets: &BitRows) -> Result<BitRows, AllocError>
-    requires { sets.now.columns ≡ length sets.now.rows }
-    ensures count { IfOk result (λ made. length made.rows ≡ length sets.now.rows) }
-    ensures columns { IfOk result (λ made. made.columns ≡ sets.now.columns) }
+/// Appends the edges between components to which those of a node lead.
+fn put_links(
+    parts: &Parts,
+    part: usize,
+    ends: &[usize],
+    links: &mut Vec<(usize, usize)>,
+) -> Result<(), AllocError>
+    requires { All (λ edge. edge.1 < edge.0) links.old.items }
+    ensures { OnOk result (All (λ edge. edge.1 < edge.0) links.new.items) }
 {
-    let mut components = BitRows::new(alloc, sets.rows(), sets.columns())?;
-    for node in 0..sets.rows() {
-        add_component(&mut components, sets, node);
+    for end in ends {
+        let other = number_at(&parts.of, *end);
+        if other < part {
+            links.push((part, other))?;
+        }
     }
-    Ok(components)
+    Ok(())
 }
 
-/// Returns whether a node is the first of its component.
-fn is_first(component: &Row<'_>, node: usize) -> bool {
-    match component.next_set(0) {
-        Some(first) => first >= node,
-        None => true,
-    }
-}
-
-/// Returns the nodes that are the first of their components.
-fn first_nodes(alloc: Global, components: &BitRows) -> Result<Vob, AllocError>
-    ensures { IfOk result (λ set. length set.bits ≡ length components.now.rows) }
+/// Returns the edges between components, in numbers.
+fn links_of(alloc: Global, graph: &Graph, parts: &Parts) -> Result<Graph, GraphError>
+    ensures { IfOk result LeadsDown }
 {
-    let mut firsts = Vob::from_elem(alloc, false, components.rows())?;
-    for node in 0..components.rows() {
-        firsts.set(node, is_first(&components.row(node), node));
+    let mut links = Vec::new(alloc);
+    for node in 0..graph.nodes() {
+        put_links(
+            parts,
+            number_at(&parts.of, node),
+            graph.next(node),
+            &mut links,
+        )?;
     }
-    Ok(firsts)
+    let made = Graph::from_edges(alloc, parts.firsts.len(), &links)?;
+    Ok(made)
 }
 
-/// Leaves of each node's set the first nodes of other components.
-fn keep_others(sets: &mut BitRows, components: &BitRows, firsts: &Vob)
-    requires count { length components.now.rows ≡ length sets.old.rows }
-    requires columns { components.now.columns ≡ sets.old.columns }
-    requires firsts { length firsts.now.bits ≡ sets.old.columns }
-    ensures count { length sets.new.rows ≡ length sets.old.rows }
-    ensures columns { sets.new.columns ≡ sets.old.columns }
-{
-    for node in 0..sets.rows() {
-        sets.and_not_with(node, &components.row(node));
-        sets.and_with(node, &Row::of(firsts));
+/// Appends an edge from each node of a component to the next one in their order.
+fn put_next_edges(
+    alloc: Global,
+    parts: &Parts,
+    edges: &mut Vec<(usize, usize)>,
+) -> Result<(), AllocError> {
+    // The last node so far of each component, if there is one.
+    let mut before: Vec<Option<usize>> = Vec::with_capacity(alloc, parts.firsts.len())?;
+    before.resize(parts.firsts.len(), None)?;
+    for (node, part) in parts.of.iter().enumerate() {
+        if let Some(last) = before.get_mut(*part) {
+            if let Some(other) = *last {
+                edges.push((other, node))?;
+            }
+            *last = Some(node);
+        }
     }
+    Ok(())
 }
 
-/// Leaves of a node's set the nodes to which no other node of it leads. A node that was taken out
-/// isn't looked at: what it leads to was taken out with it.
-fn keep_direct(edges: &mut BitRows, others: &BitRows, node: usize)
-    requires node { node < length edges.old.rows }
-    requires count { length others.now.rows ≡ length edges.old.rows }
-    requires columns { others.now.columns ≡ edges.old.columns }
-    requires square { others.now.columns ≡ length others.now.rows }
-    ensures count { length edges.new.rows ≡ length edges.old.rows }
-    ensures columns { edges.new.columns ≡ edges.old.columns }
-{
-    let mut from = 0;
-    while let Some(other) = edges.row(node).next_set(from) {
-        edges.and_not_with(node, &others.row(other));
-        from = other + 1;
+/// Appends an edge from the last node of each component to its first, if it has a cycle.
+fn put_last_edges(
+    graph: &Graph,
+    parts: &Parts,
+    edges: &mut Vec<(usize, usize)>,
+) -> Result<(), AllocError> {
+    for part in 0..parts.firsts.len() {
+        let first = number_at(&parts.firsts, part);
+        let last = number_at(&parts.lasts, part);
+        if first != last || (first < graph.nodes() && graph.next(first).contains(&first)) {
+            edges.push((last, first))?;
+        }
     }
+    Ok(())
 }
 
-/// Returns the node after another on the cycle of its component, if it is on one.
-fn next_on_cycle(component: &Row<'_>, node: usize) -> Option<usize>
-    requires { node < length component.now }
-    ensures { IfSome result (λ next. next < length component.now) }
-{
-    match component.next_set(node.saturating_add(1)) {
-        Some(next) => Some(next),
-        None => component.next_set(0),
-    }
-}
-
-/// Returns the nodes to which edges are to lead from each node.
+/// Returns the edges that are to be, in their order.
 fn edges_of(
     alloc: Global,
-    others: &BitRows,
-    components: &BitRows,
-    firsts: &Vob,
-) -> Result<BitRows, AllocError>
-    requires count { length components.now.rows ≡ length others.now.rows }
-    requires columns { components.now.columns ≡ others.now.columns }
-    requires square { others.now.columns ≡ length others.now.rows }
+    graph: &Graph,
+    parts: &Parts,
+    links: &Graph,
+) -> Result<Vec<(usize, usize)>, AllocError>
+    requires { LeadsDown links.now }
 {
-    let mut edges = others.clone()?;
-    for node in 0..others.rows() {
-        if firsts.get(node) == Some(true) {
-            keep_direct(&mut edges, others, node);
-        } else {
-            edges.fill_row(node, false);
-        }
-        if let Some(next) = next_on_cycle(&components.row(node), node) {
-            edges.set(node, next, true);
-        }
+    let mut edges = Vec::new(alloc);
+    for (from, to) in &direct_edges(alloc, links)? {
+        let first = number_at(&parts.firsts, *from);
+        edges.push((first, number_at(&parts.firsts, *to)))?;
     }
+    put_next_edges(alloc, parts, &mut edges)?;
+    put_last_edges(graph, parts, &mut edges)?;
+    edges.sort_unstable();
     Ok(edges)
 }
 
-/// Returns for each node the nodes to which edges are to lead, so that these edges have the closure
-/// that is given, and no fewer edges have it.
-pub fn reduction(alloc: Global, closure: BitRows) -> Result<BitRows, AllocError>
-    requires { closure.columns ≡ length closure.rows }
-{
-    let components = components(alloc, &closure)?;
-    let firsts = first_nodes(alloc, &components)?;
-    let mut others = closure;
-    keep_others(&mut others, &components, &firsts);
-    edges_of(alloc, &others, &components, &firsts)
+/// Returns edges, in their order, that have the closure of a graph, so that no fewer edges have it.
+pub fn reduction(alloc: Global, graph: &Graph) -> Result<Vec<(usize, usize)>, GraphError> {
+    let parts = parts_of(alloc, &strong_components(alloc, graph)?)?;
+    let links = links_of(alloc, graph, &parts)?;
+    let edges = edges_of(alloc, graph, &parts, &links)?;
+    Ok(edges)
 }
