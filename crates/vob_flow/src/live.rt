@@ -194,11 +194,11 @@ fn solve_live(alloc: Global, vars: usize, nodes: &[Flow]) -> Result<LiveRows, Al
     ensures nothing { nodes.now ≡ [] → IsOk result }
 {
     let mut before = read_sets(alloc, vars, nodes)?;
-    let mut after = BitRows::new(alloc, nodes.len(), vars)?;
     if nodes.is_empty() {
+        let none = BitRows::new(alloc, 0, vars)?;
         return Ok(LiveRows {
             before,
-            after,
+            after: none,
             rounds: 0,
         });
     }
@@ -207,6 +207,9 @@ fn solve_live(alloc: Global, vars: usize, nodes: &[Flow]) -> Result<LiveRows, Al
     // Each set is as long as there are columns: a proof knows it from this call.
     let _columns = before.columns();
     let rounds = solve(alloc, &mut before, &next, Masks::Without(&writes))?;
+    // What is live after takes the memory of what is written.
+    drop(writes);
+    let mut after = BitRows::new(alloc, nodes.len(), vars)?;
     gather_each(&mut after, &next, &before);
     Ok(LiveRows {
         before,
