@@ -1,5 +1,6 @@
 #!/usr/bin/env bash
-# Times ./conthiral beside other programs on inputs made by a seed: closures beside petgraph, and tables beside bison.
+# Times ./conthiral beside other programs on inputs made by a seed: closures and dominators beside petgraph, and tables
+# beside bison.
 # What both print of a graph is compared. A time is the median of three runs, in seconds of the processor.
 #
 # Wants ./build, cargo, bison, and Debian's package librust-petgraph-dev. Nothing is downloaded.
@@ -19,6 +20,7 @@ END
 (cd bench/petgraph && cargo build --quiet --release --offline --config "$out/config.toml" --target-dir "$out/petgraph"
     rm Cargo.lock)
 peer=$out/petgraph/release/closure
+immediate=$out/petgraph/release/immediate
 
 python3 - "$out" <<'END'
 import random
@@ -36,6 +38,15 @@ def put_edges(name, nodes, edges):
 
 put_edges("reach", 200_000, 1_000_000)
 put_edges("closure", 2_000, 4_000)
+
+# A function with loops nested three deep, and branches that meet again.
+nodes = 200_000
+lines = []
+for node in range(nodes):
+    back = [node - node % depth for depth in (5, 25, 50) if node % depth == depth - 1]
+    after = [node + 1] * (node + 1 < nodes) + [node + 3] * (node % 5 < 2 and node + 3 < nodes) + back
+    lines.append(f"n{node}: next {' '.join(f'n{n}' for n in after)}\n")
+(out / "loops").write_text("".join(lines))
 
 # A grammar of 500 rules, 4 for each of 125 nonterminals.
 names = [f"n{number}" for number in range(125)]
@@ -68,7 +79,7 @@ row() {
     mine=$(seconds "$input" "$program" "${ours[@]}")
     mv "$out/output" "$out/mine"
     theirs=$(seconds "$input" "$@")
-    [ "$1" != "$peer" ] || cmp "$out/mine" "$out/output"
+    [[ $1 != "$out"/* ]] || cmp "$out/mine" "$out/output"
     awk -v name="$name" -v mine="$mine" -v theirs="$theirs" \
         'BEGIN { printf "| %s | %.2f | %.2f | %.2f |\n", name, mine, theirs, mine / (theirs > 0 ? theirs : 0.005) }'
 }
@@ -76,4 +87,5 @@ echo '| | ours | theirs | ratio |'
 echo '|---|---|---|---|'
 row 'reach, 1,000,000 edges, beside petgraph' "$out/reach" closure --from n0 -- "$peer" n0
 row 'closure, 2,000 nodes, beside petgraph' "$out/closure" closure -- "$peer"
+row 'immediate dominators, 200,000 nodes, beside petgraph' "$out/loops" flow --analysis immediate -- "$immediate"
 row 'tables, 500 rules, beside bison' /dev/null grammar "$out/grammar.y" -- bison -o "$out/grammar.c" "$out/grammar.y"
