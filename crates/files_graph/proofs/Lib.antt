@@ -1,3 +1,6 @@
 pub mod ClosureTextLemmas
 mod DirectLemmas
+mod EdgeLemmas
+mod PartLemmas
 pub mod PathLemmas
+mod ReductionLemmas

@@ -1,2 +1,4 @@
 pub mod ClosureText
 pub mod Direct
+pub mod Parts
+pub mod Reduction

@@ -5,6 +5,7 @@ mod closure;
 mod direct;
 mod fault;
 mod graph;
+mod parts;
 mod reduction;
 
 pub use closure::{Part, print_closure};

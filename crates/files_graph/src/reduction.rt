@@ -3,76 +3,35 @@
 //! Nodes that lead to one another are a component. Edges between components join their first nodes,
 //! and only those that no path through a third component stands for. The nodes of a component stand
 //! on one cycle, in their order.
-ghost use Rattle.std.specs.Prelude.{◌<◌, All, IfOk, OnOk};
+ghost use Rattle.std.specs.Prelude.{◌≡◌, ◌≢◌, ◌↔◌, ◌⊎◌, ◌<◌, ℕ, [], ◌∷◌, ◌++◌, length, Contains, IfOk, IsTrue, OnOk};
+ghost use Rattle.vob_flow.specs.Closure.{IsEdge};
 ghost use Rattle.files_graph.specs.Direct.{LeadsDown};
+ghost use Rattle.files_graph.specs.Parts.{AreDirect, AreFirsts, AreLasts, AreLinks, AreNumbered, IsLastOf, IsLinkOf, IsNextOf, JoinsFirsts, at};
+ghost use Rattle.files_graph.specs.Reduction.{IsReduced};
 
 use crate::direct::direct_edges;
+use crate::parts::{firsts_of, numbers_of};
 use std::alloc::{AllocError, Global};
-use vob_flow::{Components, strong_components};
+use vob_flow::strong_components;
 use vob_rows::{Graph, GraphError};
 
-/// The components of a graph by number, those to which edges lead with lower ones.
-#[derive(Drop)]
-struct Parts {
-    // The component of each node.
-    of: Vec<usize>,
-    // The first and the last node of each component.
-    firsts: Vec<usize>,
-    lasts: Vec<usize>,
-}
-
-/// Returns the number at an index, or 0 past the last.
-fn number_at(numbers: &[usize], index: usize) -> usize {
-    match numbers.get(index) {
-        Some(number) => *number,
-        None => 0,
-    }
-}
-
-/// Numbers the components of a graph.
-fn parts_of(alloc: Global, components: &Components) -> Result<Parts, AllocError> {
-    let count = components.roots.len();
-    let mut parts = Parts {
-        of: Vec::with_capacity(alloc, count)?,
-        firsts: Vec::new(alloc),
-        lasts: Vec::new(alloc),
-    };
-    parts.of.resize(count, 0)?;
-    let mut last_root = None;
-    for node in &components.nodes {
-        let root = number_at(&components.roots, *node);
-        if last_root != Some(root) {
-            parts.firsts.push(*node)?;
-            parts.lasts.push(*node)?;
-            last_root = Some(root);
-        }
-        let number = parts.firsts.len().saturating_sub(1);
-        if let Some(part) = parts.of.get_mut(*node) {
-            *part = number;
-        }
-        if let Some(first) = parts.firsts.last_mut() {
-            *first = (*first).min(*node);
-        }
-        if let Some(last) = parts.lasts.last_mut() {
-            *last = (*last).max(*node);
-        }
-    }
-    Ok(parts)
-}
-
-/// Appends the edges between components to which those of a node lead.
+/// Appends the edges from the component of a node to others to which its edges lead.
 fn put_links(
-    parts: &Parts,
-    part: usize,
-    ends: &[usize],
+    graph: &Graph,
+    numbers: &[usize],
+    node: usize,
     links: &mut Vec<(usize, usize)>,
 ) -> Result<(), AllocError>
-    requires { All (λ edge. edge.1 < edge.0) links.old.items }
-    ensures { OnOk result (All (λ edge. edge.1 < edge.0) links.new.items) }
+    requires there { node < length graph.now }
+    requires long { length numbers.now ≡ length graph.now }
+    ensures { OnOk result ((p q : ℕ) → Contains links.new.items (p, q)
+        ↔ (Contains links.old.items (p, q) ⊎ IsLinkOf graph.now numbers.now node p q)) }
 {
+    let part = numbers[node];
+    let ends = graph.next(node);
     for end in ends {
-        let other = number_at(&parts.of, *end);
-        if other < part {
+        let other = numbers[*end];
+        if part != other {
             links.push((part, other))?;
         }
     }
@@ -80,82 +39,148 @@ fn put_links(
 }
 
 /// Returns the edges between components, in numbers.
-fn links_of(alloc: Global, graph: &Graph, parts: &Parts) -> Result<Graph, GraphError>
-    ensures { IfOk result LeadsDown }
+fn links_of(alloc: Global, graph: &Graph, numbers: &[usize]) -> Result<Graph, GraphError>
+    requires { AreNumbered graph.now numbers.now }
+    ensures links { IfOk result (AreLinks graph.now numbers.now) }
+    ensures down { IfOk result LeadsDown }
+    ensures count { IfOk result (λ links. length links ≡ length graph.now) }
 {
     let mut links = Vec::new(alloc);
     for node in 0..graph.nodes() {
-        put_links(
-            parts,
-            number_at(&parts.of, node),
-            graph.next(node),
-            &mut links,
-        )?;
+        put_links(graph, numbers, node, &mut links)?;
     }
-    let made = Graph::from_edges(alloc, parts.firsts.len(), &links)?;
+    let made = Graph::from_edges(alloc, graph.nodes(), &links)?;
     Ok(made)
 }
 
-/// Appends an edge from each node of a component to the next one in their order.
-fn put_next_edges(
+/// Appends an edge between the first nodes with two numbers.
+fn put_joined(
+    firsts: &[usize],
+    from: usize,
+    to: usize,
+    edges: &mut Vec<(usize, usize)>,
+) -> Result<(), AllocError>
+    requires from { from < length firsts.now }
+    requires to { to < length firsts.now }
+    ensures { OnOk result (edges.new.items
+        ≡ edges.old.items ++ (at firsts.now from, at firsts.now to) ∷ []) }
+{
+    edges.push((firsts[from], firsts[to]))?;
+    Ok(())
+}
+
+/// Does that for each of some edges between numbers.
+fn put_between(
+    links: &[(usize, usize)],
+    firsts: &[usize],
+    edges: &mut Vec<(usize, usize)>,
+) -> Result<(), AllocError>
+    requires { (p q : ℕ) → Contains links.now (p, q)
+        → (p < length firsts.now) × (q < length firsts.now) }
+    ensures { OnOk result ((a b : ℕ) → Contains edges.new.items (a, b)
+        ↔ (Contains edges.old.items (a, b) ⊎ JoinsFirsts links.now firsts.now a b)) }
+{
+    for at in 0..links.len() {
+        let (from, to) = links[at];
+        put_joined(firsts, from, to, edges)?;
+    }
+    Ok(())
+}
+
+/// Appends an edge from each node to the next one with its number. Returns the last node with each.
+fn put_next(
     alloc: Global,
-    parts: &Parts,
+    numbers: &[usize],
+    firsts: &[usize],
     edges: &mut Vec<(usize, usize)>,
-) -> Result<(), AllocError> {
-    // The last node so far of each component, if there is one.
-    let mut before: Vec<Option<usize>> = Vec::with_capacity(alloc, parts.firsts.len())?;
-    before.resize(parts.firsts.len(), None)?;
-    for (node, part) in parts.of.iter().enumerate() {
-        if let Some(last) = before.get_mut(*part) {
-            if let Some(other) = *last {
-                edges.push((other, node))?;
-            }
-            *last = Some(node);
+) -> Result<Vec<usize>, AllocError>
+    requires inside { (n : ℕ) → n < length numbers.now → at numbers.now n < length numbers.now }
+    requires firsts { AreFirsts numbers.now 0 firsts.now }
+    ensures lasts { IfOk result (λ lasts.
+        AreLasts numbers.now (length numbers.now) lasts.items) }
+    ensures edges { OnOk result ((a b : ℕ) → Contains edges.new.items (a, b)
+        ↔ (Contains edges.old.items (a, b) ⊎ IsNextOf numbers.now (length numbers.now) a b)) }
+{
+    let mut lasts = Vec::with_capacity(alloc, numbers.len())?;
+    lasts.resize(numbers.len(), 0)?;
+    for node in 0..numbers.len() {
+        let number = numbers[node];
+        if firsts[number] != node {
+            edges.push((lasts[number], node))?;
         }
+        lasts[number] = node;
     }
-    Ok(())
+    Ok(lasts)
 }
 
-/// Appends an edge from the last node of each component to its first, if it has a cycle.
-fn put_last_edges(
+/// Returns whether a node is on a cycle, where its component has this first node.
+fn is_on_cycle(graph: &Graph, node: usize, first: usize) -> bool
+    requires { node < length graph.now }
+    ensures { IsTrue result ↔ ((first ≢ node) ⊎ IsEdge graph.now node node) }
+{
+    if first != node {
+        return true;
+    }
+    graph.next(node).contains(&node)
+}
+
+/// Appends an edge from the last node with each number to the first, if they are on a cycle.
+fn put_back(
     graph: &Graph,
-    parts: &Parts,
+    numbers: &[usize],
+    firsts: &[usize],
+    lasts: &[usize],
     edges: &mut Vec<(usize, usize)>,
-) -> Result<(), AllocError> {
-    for part in 0..parts.firsts.len() {
-        let first = number_at(&parts.firsts, part);
-        let last = number_at(&parts.lasts, part);
-        if first != last || (first < graph.nodes() && graph.next(first).contains(&first)) {
-            edges.push((last, first))?;
+) -> Result<(), AllocError>
+    requires long { length numbers.now ≡ length graph.now }
+    requires inside { (n : ℕ) → n < length numbers.now → at numbers.now n < length numbers.now }
+    requires firsts { length firsts.now ≡ length numbers.now }
+    requires lasts { length lasts.now ≡ length numbers.now }
+    ensures { OnOk result ((a b : ℕ) → Contains edges.new.items (a, b)
+        ↔ (Contains edges.old.items (a, b)
+        ⊎ IsLastOf graph.now numbers.now firsts.now lasts.now (length numbers.now) a b)) }
+{
+    for node in 0..numbers.len() {
+        let number = numbers[node];
+        let first = firsts[number];
+        if lasts[number] == node && is_on_cycle(graph, node, first) {
+            edges.push((node, first))?;
         }
     }
     Ok(())
 }
 
-/// Returns the edges that are to be, in their order.
+/// Returns the edges that are to be, given the number of each node's component.
 fn edges_of(
     alloc: Global,
     graph: &Graph,
-    parts: &Parts,
-    links: &Graph,
+    numbers: &[usize],
+    links: &[(usize, usize)],
 ) -> Result<Vec<(usize, usize)>, AllocError>
-    requires { LeadsDown links.now }
+    requires numbers { AreNumbered graph.now numbers.now }
+    requires links { AreDirect graph.now numbers.now links.now }
+    ensures { IfOk result (λ edges.
+        (a b : ℕ) → Contains edges.items (a, b) ↔ IsReduced graph.now a b) }
 {
+    // The ends of edges are nodes: a proof knows it from this call.
+    let _nodes = graph.nodes();
+    let firsts = firsts_of(alloc, numbers)?;
     let mut edges = Vec::new(alloc);
-    for (from, to) in &direct_edges(alloc, links)? {
-        let first = number_at(&parts.firsts, *from);
-        edges.push((first, number_at(&parts.firsts, *to)))?;
-    }
-    put_next_edges(alloc, parts, &mut edges)?;
-    put_last_edges(graph, parts, &mut edges)?;
-    edges.sort_unstable();
+    put_between(links, &firsts, &mut edges)?;
+    let lasts = put_next(alloc, numbers, &firsts, &mut edges)?;
+    put_back(graph, numbers, &firsts, &lasts, &mut edges)?;
     Ok(edges)
 }
 
-/// Returns edges, in their order, that have the closure of a graph, so that no fewer edges have it.
-pub fn reduction(alloc: Global, graph: &Graph) -> Result<Vec<(usize, usize)>, GraphError> {
-    let parts = parts_of(alloc, &strong_components(alloc, graph)?)?;
-    let links = links_of(alloc, graph, &parts)?;
-    let edges = edges_of(alloc, graph, &parts, &links)?;
+/// Returns the edges of a reduction of a graph, in their order: the fewest that have its closure.
+pub fn reduction(alloc: Global, graph: &Graph) -> Result<Vec<(usize, usize)>, GraphError>
+    ensures { IfOk result (λ edges.
+        (a b : ℕ) → Contains edges.items (a, b) ↔ IsReduced graph.now a b) }
+{
+    let numbers = numbers_of(alloc, graph, &strong_components(alloc, graph)?)?;
+    let links = links_of(alloc, graph, &numbers)?;
+    let direct = direct_edges(alloc, &links)?;
+    let mut edges = edges_of(alloc, graph, &numbers, &direct)?;
+    edges.sort_unstable();
     Ok(edges)
 }
