@@ -4,3 +4,4 @@ mod EdgeLemmas
 mod PartLemmas
 pub mod PathLemmas
 mod ReductionLemmas
+mod SortLemmas

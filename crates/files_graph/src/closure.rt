@@ -7,6 +7,7 @@ ghost use Rattle.vob_block.specs.Packing.{item};
 ghost use Rattle.vob_flow.specs.Closure.{Leads};
 ghost use Rattle.files_text.specs.Printed.{Writes, members, name_line};
 ghost use Rattle.files_graph.specs.ClosureText.{ListsEdges, ListsNodes, edge_line, edges_from, edges_of};
+ghost use Rattle.files_graph.specs.Reduction.{IsReduced};
 
 use crate::fault::GraphFault;
 use crate::graph::{NamedGraph, read_graph};
@@ -129,15 +130,32 @@ fn print_nodes<W: Write>(
     Ok(())
 }
 
+/// Writes some edges, one a line.
+fn put_listed<W: Write>(
+    output: &mut W,
+    names: &Names<'_>,
+    edges: &[(usize, usize)],
+) -> io::Result<()>
+    ensures { OnOk result (Appends (W.contents output.old) (W.contents output.new)
+        (flat_map (edge_line names.now) edges.now)) }
+{
+    for (from, to) in edges {
+        put_edge(output, names, *from, *to)?;
+    }
+    Ok(())
+}
+
 /// Writes the fewest edges that have the same closure as a graph.
 fn print_fewest<W: Write>(
     alloc: Global,
     graph: &NamedGraph<'_>,
     output: &mut W,
-) -> Result<(), GraphFault> {
-    for (from, to) in &reduction(alloc, &graph.next)? {
-        put_edge(output, &graph.names, *from, *to)?;
-    }
+) -> Result<(), GraphFault>
+    ensures { OnOk result (Writes (W.contents output.old) (W.contents output.new)
+        (ListsEdges graph.now.names (IsReduced graph.now.next))) }
+{
+    let edges = reduction(alloc, &graph.next)?;
+    put_listed(output, &graph.names, &edges)?;
     Ok(())
 }
 

@@ -3,8 +3,9 @@
 //! Nodes that lead to one another are a component. Edges between components join their first nodes,
 //! and only those that no path through a third component stands for. The nodes of a component stand
 //! on one cycle, in their order.
-ghost use Rattle.std.specs.Prelude.{◌≡◌, ◌≢◌, ◌↔◌, ◌⊎◌, ◌<◌, ℕ, [], ◌∷◌, ◌++◌, length, Contains, IfOk, IsTrue, OnOk};
+ghost use Rattle.std.specs.Prelude.{◌≡◌, ◌≢◌, ◌↔◌, ◌⊎◌, ◌<◌, ℕ, [], ◌∷◌, ◌++◌, length, AllPairs, Contains, IfOk, IsTrue, OnOk};
 ghost use Rattle.vob_flow.specs.Closure.{IsEdge};
+ghost use Rattle.files_graph.specs.ClosureText.{IsBefore};
 ghost use Rattle.files_graph.specs.Direct.{LeadsDown};
 ghost use Rattle.files_graph.specs.Parts.{AreDirect, AreFirsts, AreLasts, AreLinks, AreNumbered, IsLastOf, IsLinkOf, IsNextOf, JoinsFirsts, at};
 ghost use Rattle.files_graph.specs.Reduction.{IsReduced};
@@ -174,7 +175,8 @@ fn edges_of(
 
 /// Returns the edges of a reduction of a graph, in their order: the fewest that have its closure.
 pub fn reduction(alloc: Global, graph: &Graph) -> Result<Vec<(usize, usize)>, GraphError>
-    ensures { IfOk result (λ edges.
+    ensures order { IfOk result (λ edges. AllPairs IsBefore edges.items) }
+    ensures each { IfOk result (λ edges.
         (a b : ℕ) → Contains edges.items (a, b) ↔ IsReduced graph.now a b) }
 {
     let numbers = numbers_of(alloc, graph, &strong_components(alloc, graph)?)?;
@@ -182,5 +184,7 @@ pub fn reduction(alloc: Global, graph: &Graph) -> Result<Vec<(usize, usize)>, Gr
     let direct = direct_edges(alloc, &links)?;
     let mut edges = edges_of(alloc, graph, &numbers, &direct)?;
     edges.sort_unstable();
+    // Each edge stands once already: a proof knows it from this call.
+    edges.dedup();
     Ok(edges)
 }
