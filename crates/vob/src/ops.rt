@@ -4,7 +4,9 @@ ghost use Rattle.std.proofs.Common.{rules, ap};
 ghost use Rattle.std.specs.Cmp.{booleans_Decides};
 ghost use Rattle.std.specs.Cmp.Lexicographic.{pointwise_decides};
 ghost use Rattle.std.specs.Cmp.Rules.{comparing};
+ghost use Rattle.vob_block.specs.Packing.{unpacking, IsCanonical};
 ghost use Rattle.vob_block.specs.Pointwise.{differ, pointwise, without};
+ghost use Rattle.vob_block.specs.Reading.{AreReadOnce};
 ghost use Rattle.vob.specs.Bits.{AreCombined, GainsBits, IsChanged, LosesBits};
 ghost use Rattle.vob.specs.Fed.{hash_words};
 ghost use Rattle.vob.specs.Same.{same_bits};
@@ -14,7 +16,7 @@ use crate::vob::Vob;
 use std::alloc::AllocError;
 use std::hash::{Hash, Hasher};
 use std::ops::{BitAnd, BitAndAssign, BitOr, BitOrAssign, BitXor, BitXorAssign, Not, Sub};
-use vob_block::{And, Combine, Kernel, Or, Xor};
+use vob_block::{And, Blocks, Combine, Kernel, Or, Xor};
 use vob_store::fill::fill;
 use vob_store::mask::negate;
 use vob_store::same::same_blocks;
@@ -90,6 +92,22 @@ impl<T: Kernel> Vob<T> {
         self.combine::<Or>(other)
     }
 
+    /// Adds the bits that `other` holds, which must be as many as these, and returns whether a bit
+    /// changed. Reads each block of `other` once. vob 4.0.1 has no such call.
+    #[inline]
+    pub fn or_blocks(&mut self, other: &mut Blocks<'_, T>) -> bool
+        requires { IsCanonical (length self.old.bits) (map T.number other.old.items) T.BITS }
+        ensures bits { self.new.bits ≡ pointwise ◌||◌ self.old.bits
+            (unpacking (length self.old.bits) (map T.number other.old.items) T.BITS) }
+        ensures each { AreCombined ◌||◌ self.old.bits
+            (unpacking (length self.old.bits) (map T.number other.old.items) T.BITS) self.new.bits }
+        ensures changed { IsTrue result ↔ (self.new.bits ≢ self.old.bits) }
+        ensures capacity { self.new.capacity ≡ self.old.capacity }
+        ensures read { AreReadOnce other.old other.new }
+    {
+        self.combine_blocks::<Or>(other)
+    }
+
     /// Keeps the bits that exactly one has, and returns whether a bit changed. The lengths must
     /// be equal; vob 4.0.1 panics if they aren't.
     #[inline]
@@ -104,6 +122,23 @@ impl<T: Kernel> Vob<T> {
         self.combine::<Xor>(other)
     }
 
+    /// Combines the bits that some blocks hold into these, and returns whether a bit changed. Reads
+    /// each block once.
+    #[inline(always)]
+    fn combine_blocks<C: Combine>(&mut self, other: &mut Blocks<'_, T>) -> bool
+        requires other { IsCanonical (length self.old.bits) (map T.number other.old.items) T.BITS }
+        requires none { C.of_bits false false ≡ false }
+        ensures bits { self.new.bits ≡ pointwise C.of_bits self.old.bits
+            (unpacking (length self.old.bits) (map T.number other.old.items) T.BITS) }
+        ensures each { AreCombined C.of_bits self.old.bits
+            (unpacking (length self.old.bits) (map T.number other.old.items) T.BITS) self.new.bits }
+        ensures changed { IsTrue result ↔ (self.new.bits ≢ self.old.bits) }
+        ensures capacity { self.new.capacity ≡ self.old.capacity }
+        ensures read { AreReadOnce other.old other.new }
+    {
+        T::combine_into::<C>(self.vec.as_mut_slice(), other)
+    }
+
     /// Combines the other's bits into these, and returns whether a bit changed. Reads each block
     /// of the other once.
     #[inline(always)]
@@ -115,7 +150,7 @@ impl<T: Kernel> Vob<T> {
         ensures changed { IsTrue result ↔ (self.new.bits ≢ self.old.bits) }
         ensures capacity { self.new.capacity ≡ self.old.capacity }
     {
-        T::combine_into::<C>(self.vec.as_mut_slice(), &mut other.blocks())
+        self.combine_blocks::<C>(&mut other.blocks())
     }
 }
 

@@ -1,11 +1,12 @@
 //! One row, borrowed from others or from a Vob, that reads like a Vob.
-ghost use Rattle.std.specs.Prelude.{◌≡◌, ◌↔◌, ◌+◌, ◌-◌, ◌^◌, ◌<◌, ◌≤◌, ℕ, [], false, true, drop, length, map, slice_get, take, IfOk, IfSome, IsOk, IsTrue};
+ghost use Rattle.std.specs.Prelude.{◌≡◌, ◌≢◌, ◌↔◌, ◌||◌, ◌+◌, ◌-◌, ◌^◌, ◌<◌, ◌≤◌, ℕ, [], false, true, drop, length, map, slice_get, take, IfOk, IfSome, IsOk, IsTrue};
 ghost use Rattle.std.specs.Iterator.Runs.{YieldsInOrder, YieldsInReverse};
 ghost use Rattle.vob_block.specs.Packing.{item, packing, IsCanonical};
 ghost use Rattle.vob_block.specs.Places.{place, HasPlaces};
+ghost use Rattle.vob_block.specs.Pointwise.{pointwise};
 ghost use Rattle.vob_walk.specs.Matches.{ForSomeRange};
 ghost use Rattle.vob_walk.specs.Walk.{IsFresh, GivesFirst, GivesLast};
-ghost use Rattle.vob.specs.Bits.{count_of};
+ghost use Rattle.vob.specs.Bits.{AreCombined, count_of};
 ghost use Rattle.vob.specs.Sets.{AreDisjoint, HasShared, IsBit, IsNext};
 
 use std::alloc::{AllocError, Global};
@@ -127,6 +128,16 @@ impl<'a, T: Kernel> Row<'a, T> {
         ensures shared { result ≡ false → HasShared self.now other.now }
     {
         has_none::<And, T>(self.blocks, &mut other.blocks())
+    }
+
+    /// Adds the set bits to a Vob as long as the row, and returns whether that added one.
+    pub fn or_into(&self, vob: &mut Vob<T>) -> bool
+        requires { length self.now ≡ length vob.old.bits }
+        ensures bits { vob.new.bits ≡ pointwise ◌||◌ vob.old.bits self.now }
+        ensures each { AreCombined ◌||◌ vob.old.bits self.now vob.new.bits }
+        ensures changed { IsTrue result ↔ (vob.new.bits ≢ vob.old.bits) }
+    {
+        vob.or_blocks(&mut self.blocks())
     }
 
     /// Returns the bits of the range as one block, the first bit in place 0, and the places above them

@@ -1,38 +1,19 @@
--- By the lemma on storage combined, at the clauses of the way to combine.
-use Rattle.std.proofs.Common.{ap, map, length, take, drop, ◌++◌, ◌∙◌}
-use Rattle.std.proofs.lemmas.List.{take_at}
-use Rattle.vob.proofs.CombineLemmas.{HasCombined, as_many, combined_here}
-use Rattle.vob.proofs.vob.Vob.combine.Given as given
+-- The blocks of the other hold its bits.
+use Rattle.std.proofs.Common.{◌≡◌, length, map}
+use Rattle.vob_block.specs.Packing.{unpacking}
+use Rattle.vob_block.proofs.PackingLemmas.{unpacking-packing}
 use Rattle.vob.proofs.vob.Vob.combine.Goals as goal
-use Rattle.vob.proofs.vob.Vob.combine.Goals.{After-combine_into}
-
-after : (g : given.Over) (c : After-combine_into g)
-    → HasCombined g.T.BitBlock.BITS c.self.inside.len g.C.Combine.of_bits c.args.self.now.bits
-    c.args.other.now.bits c.combine_into.result
-    (map g.T.BitBlock.number (take c.self.inside.vec.len
-    (c.combine_into.new.own ++ drop (length c.combine_into.new.own) c.self.inside.vec.items)))
-after g c = combined_here g.T.BitBlock.number g.T.BitBlock.BITS g.met.T.BitBlock.wide_law
-    c.self.inside.len c.self.inside.vec.items c.blocks-2.result.items c.args.self.now.bits
-    c.args.other.now.bits c.self.invariant (ap (λ v. v.bits) c.self.view_is) c.requires.same
-    c.blocks-2.ensures.blocks g.C.Combine.of_bits c.requires.none c.combine_into.result
-    c.as_mut_slice.ensures.value (take_at c.combine_into.new.own
-    (drop (length c.combine_into.new.own) c.self.inside.vec.items) c.self.inside.vec.len
-    (c.combine_into.auto.own ∙ c.as_mut_slice.ensures.len)) c.combine_into.ensures.combined
-
-pub combine_into-requires : goal.combine_into-requires
-combine_into-requires g c =
-    ap length c.as_mut_slice.ensures.value ∙ as_many g.T.BitBlock.number g.T.BitBlock.BITS
-    g.met.T.BitBlock.wide_law c.self.inside.len c.self.inside.vec.items c.blocks-2.result.items
-    c.args.self.now.bits c.args.other.now.bits c.self.invariant (ap (λ v. v.bits) c.self.view_is)
-    c.requires.same c.blocks-2.ensures.blocks
-
-pub invariant_of-self : goal.invariant_of-self
-invariant_of-self g c = (after g (goal.at.invariant_of-self g c).After-combine_into).canonical
 
 pub returns : goal.returns
-returns g c = let now = after g (goal.at.returns g c).After-combine_into in record {
-  bits = now.stored;
-  each = now.each;
-  changed = now.flag;
-  capacity = ap (λ v. v.capacity) c.self.view_is;
-}
+returns g c =
+    let w = g.T.BitBlock.BITS in
+    let held : unpacking (length c.args.self.now.bits) (map g.T.BitBlock.number c.blocks-2.result.items) w
+    ≡ c.args.other.now.bits =
+    rw (c.requires.same, c.blocks-2.ensures.blocks)
+    (unpacking-packing w g.met.T.BitBlock.wide_law c.args.other.now.bits) in
+    let made = c.combine_blocks.ensures in record {
+      bits = rw held at made.bits;
+      each = rw held at made.each;
+      changed = made.changed;
+      capacity = made.capacity;
+    }
