@@ -1,14 +1,13 @@
 -- Closures of items, and what the items of a set bring into them.
-use Rattle.std.proofs.Common.{◌≡◌, ◌↔◌, ℕ, ◌+◌, ◌<◌, ◌⊎◌, ◌||◌, inl, inr, Bool, true, false, None, Option, Some, List, [], ◌∷◌, length, get_or, replicate, slice_get, refl, sym, ap, ◌∙◌, subst, arith}
+use Rattle.std.proofs.Common.{◌≡◌, ◌↔◌, ℕ, ◌+◌, ◌<◌, ◌⊎◌, ◌||◌, inl, inr, Bool, true, false, None, Option, Some, List, [], ◌∷◌, length, replicate, slice_get, refl, sym, ap, ◌∙◌, subst, arith}
 use Rattle.std.specs.List.{All}
 use Rattle.std.proofs.lemmas.Bool.{cases_eq, cases_lt, false≢true}
-use Rattle.std.proofs.lemmas.List.{get_or-map, get_or-replicate, length-replicate}
+use Rattle.std.proofs.lemmas.List.{get_or-replicate, length-replicate}
 use Rattle.std.proofs.lemmas.Option.{none-some, same_Some, slice_get_within}
 use Rattle.std.specs.declared.ops.Bound.TheVariants.{Unbounded}
 use Rattle.vob_block.specs.Packing.{item}
 use Rattle.vob.specs.Bits.{AreCombined, IsWritten}
-use Rattle.vob.specs.Vob.{BitVector}
-use Rattle.vob.specs.Vobs.{AreOfLength, bits_of}
+use Rattle.vob.specs.Vobs.{AreOfLength}
 use Rattle.vob_block.proofs.PackingLemmas.{true_inside}
 use Rattle.vob.proofs.BitsLemmas.{or_true}
 use Rattle.vob_flow.proofs.FirstLemmas.{all_at}
@@ -98,15 +97,6 @@ module _ (before after : List Bool) where
 
   pub Gains-or : (row : List Bool) → AreCombined ◌||◌ before row after → Gains (Has row) before after
   Gains-or row h = record { len = h.len; each = λ i. or_true before row after i h }
-
-  -- the row of a nonterminal
-  pub Gains-row : (sets : List BitVector) (a : ℕ) (row : BitVector) → row ≡ get_or sets a row →
-      a < length sets → AreCombined ◌||◌ before row.bits after →
-      Gains (IsIn (bits_of sets) a) before after
-  Gains-row sets a row read less h =
-      let same = get_or-map (λ (v : BitVector). v.bits) sets a row [] less
-      ∙ ap (λ (v : BitVector). v.bits) (sym read) in
-      subst (λ (bits : List Bool). Gains (Has bits) before after) (sym same) (Gains-or row.bits h)
 
   pub Gains-set : (index : ℕ) → IsWritten before index true after →
       Gains (λ i. index ≡ i) before after

@@ -1,12 +1,10 @@
 -- Sets that gain symbols to start with and to draw from, one after another.
 use Rattle.std.proofs.Common.{◌≡◌, ◌↔◌, ℕ, ◌<◌, ◌⊎◌, ◌||◌, inl, inr, Bool, true, false, List, [], ◌∷◌, ◌++◌, length, get_or, set, replicate, refl, sym, ap, ◌∙◌, subst, arith}
 use Rattle.std.proofs.lemmas.Bool.{cases_eq, cases_lt, false≢true}
-use Rattle.std.proofs.lemmas.List.{get_or-map, get_or-replicate, get_or-set_same, get_or-set_other, get_or_past, length-map, length-replicate, length-set}
+use Rattle.std.proofs.lemmas.List.{get_or-replicate, get_or-set_same, get_or-set_other, get_or_past, length-replicate, length-set}
 use Rattle.std.proofs.lemmas.List.Elements.{Contains-append_left, Contains-push, Contains-push_cases}
 use Rattle.vob_block.specs.Packing.{item}
 use Rattle.vob_block.specs.Pointwise.{pointwise}
-use Rattle.vob.specs.Vob.{BitVector}
-use Rattle.vob.specs.Vobs.{AreOfLength, bits_of}
 use Rattle.vob.proofs.BitsLemmas.{AreCombined-pointwise, or_true}
 use Rattle.vob_flow.specs.Draws.{IsIn}
 use Rattle.vob_lr.specs.Equations.{AreEquations, At, GainEach, GainEachRest, HasAt, IsTerminalOf, System}
@@ -222,14 +220,6 @@ GainEach-none P system none = record {
     (λ a. elim a [ inl old ↦ old | inr new ↦ absurd (none n x new) ]),
   );
 }
-
--- ---- Vobs of one length
-
-pub vob_long : (places : ℕ) (sets : List BitVector) (k : ℕ) (d : BitVector) →
-    AreOfLength places (bits_of sets) → k < length sets → length (get_or sets k d).bits ≡ places
-vob_long places sets k d long inside =
-    ap length (sym (get_or-map (λ (v : BitVector). v.bits) sets k d [] inside))
-    ∙ long k [] (omega (arith, inside, length-map sets (λ v. v.bits)))
 
 -- ---- equations that had nothing
 

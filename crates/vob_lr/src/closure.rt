@@ -1,6 +1,6 @@
 //! Sets of items: their closures, and what is left of them when the dot passes a symbol.
 ghost use Rattle.std.specs.Prelude.{◌≡◌, ◌≢◌, ◌↔◌, ℕ, ◌<◌, length, All, Err, IfOk, IsTrue, OnOk, Some};
-ghost use Rattle.vob.specs.Vobs.{AreOfLength, bits_of};
+ghost use Rattle.vob.specs.Vobs.{AreOfLength};
 ghost use Rattle.vob_lr.specs.Equations.{AreEquations, At, GainEach};
 ghost use Rattle.vob_lr.specs.Expansions.{Advances, AreExpansions, Brings, Expands, Gains, HasOpening, HasRow, IsBrought, IsOpening};
 ghost use Rattle.vob_lr.specs.Faults.{IsBadRule, IsRuleOf};
@@ -16,6 +16,7 @@ use crate::items::Items;
 use std::alloc::{AllocError, Global};
 use std::marker::Model;
 use vob::Vob;
+use vob_rows::BitRows;
 
 /// Lets the set of a left side start with a rule's first item, and draw from that of the nonterminal
 /// behind its dot.
@@ -75,41 +76,36 @@ pub(crate) fn expansion_equations(
 }
 
 /// Returns for each nonterminal of a grammar with sound rules the items that it brings.
-fn expansions_of(
-    alloc: Global,
-    grammar: &Grammar,
-    items: &Items<'_>,
-) -> Result<Vec<Vob>, AllocError>
+fn expansions_of(alloc: Global, grammar: &Grammar, items: &Items<'_>) -> Result<BitRows, AllocError>
     requires items { items.now ≡ grammar.now }
     requires rules { All (IsRuleOf grammar.now) grammar.now.rules.items }
-    ensures { IfOk result (λ rows. AreExpansions grammar.now (bits_of rows.items)) }
+    ensures { IfOk result (λ expansions. AreExpansions grammar.now expansions.rows) }
 {
     let equations = expansion_equations(alloc, grammar, items)?;
-    let rows = equations.solve(alloc)?;
-    let expansions = rows.to_vobs(alloc)?;
+    let expansions = equations.solve(alloc)?;
     Ok(expansions)
 }
 
 /// Adds to a set of items what a symbol behind a dot brings into its closure.
-fn bring_by(symbol: Symbol, expansions: &[Vob], made: &mut Vob)
-    requires row { HasRow (length expansions.now) (Some symbol) }
-    requires long { AreOfLength (length made.old.bits) (bits_of expansions.now) }
-    ensures { Gains (IsBrought (bits_of expansions.now) (Some symbol))
+fn bring_by(symbol: Symbol, expansions: &BitRows, made: &mut Vob)
+    requires row { HasRow (length expansions.now.rows) (Some symbol) }
+    requires long { AreOfLength (length made.old.bits) expansions.now.rows }
+    ensures { Gains (IsBrought expansions.now.rows (Some symbol))
         made.old.bits made.new.bits }
 {
     match symbol {
         Symbol::Terminal(_) => {}
         Symbol::Nonterminal(nonterminal) => {
-            made.or(&expansions[nonterminal]);
+            expansions.row(nonterminal).or_into(made);
         }
     }
 }
 
 /// Does that if there is one.
-fn bring(next: Option<Symbol>, expansions: &[Vob], made: &mut Vob)
-    requires row { HasRow (length expansions.now) next }
-    requires long { AreOfLength (length made.old.bits) (bits_of expansions.now) }
-    ensures { Gains (IsBrought (bits_of expansions.now) next) made.old.bits made.new.bits }
+fn bring(next: Option<Symbol>, expansions: &BitRows, made: &mut Vob)
+    requires row { HasRow (length expansions.now.rows) next }
+    requires long { AreOfLength (length made.old.bits) expansions.now.rows }
+    ensures { Gains (IsBrought expansions.now.rows next) made.old.bits made.new.bits }
 {
     match next {
         None => {}
@@ -130,7 +126,7 @@ fn stands_behind(next: Option<Symbol>, symbol: Symbol) -> bool
 pub struct Closures<'a> {
     items: Items<'a>,
     // A set for each nonterminal, with a bit for each item.
-    expansions: Vec<Vob>,
+    expansions: BitRows,
 }
 
 impl<'a> Model for Closures<'a> {
@@ -138,12 +134,11 @@ impl<'a> Model for Closures<'a> {
 
     ghost Value = { Seen };
 
-    ghost use Rattle.vob.specs.Vobs.{bits_of};
     ghost use Rattle.vob_lr.specs.Expansions.{AreExpansions};
 
     ghost view = { λ a. a.items };
 
-    ghost invariant = { λ a. AreExpansions a.items (bits_of a.expansions.items) };
+    ghost invariant = { λ a. AreExpansions a.items a.expansions.rows };
 }
 
 impl<'a> Closures<'a> {

@@ -1,6 +1,5 @@
 //! Which terminals can begin what the nonterminals of a grammar become.
 ghost use Rattle.std.specs.Prelude.{◌≡◌, ◌≢◌, ◌↔◌, ◌<◌, ℕ, length, All, IfErr, IfOk, IsOk, OnOk, Err};
-ghost use Rattle.vob.specs.Vobs.{bits_of};
 ghost use Rattle.vob_lr.specs.Equations.{AreEquations, At, GainEach};
 ghost use Rattle.vob_lr.specs.Faults.{IsBadRule, IsRuleOf, MayRefuseRules};
 ghost use Rattle.vob_lr.specs.Grammar.{AreFirst, AreNullable};
@@ -66,7 +65,11 @@ fn first_equations(
 
 /// Returns the first sets of a grammar with sound rules, given its nullable nonterminals. No
 /// nonterminals take no memory.
-fn solve_first(alloc: Global, grammar: &Grammar, nullable: &Vob) -> Result<BitRows, AllocError>
+pub(crate) fn solve_first(
+    alloc: Global,
+    grammar: &Grammar,
+    nullable: &Vob,
+) -> Result<BitRows, AllocError>
     requires rules { All (IsRuleOf grammar.now) grammar.now.rules.items }
     requires nullable { AreNullable grammar.now nullable.now.bits }
     ensures first { IfOk result (λ sets. AreFirst grammar.now sets.rows) }
@@ -80,22 +83,6 @@ fn solve_first(alloc: Global, grammar: &Grammar, nullable: &Vob) -> Result<BitRo
     let equations = first_equations(alloc, grammar, nullable)?;
     let sets = equations.solve(alloc)?;
     Ok(sets)
-}
-
-/// Returns them in a Vob each.
-pub(crate) fn first_vobs(
-    alloc: Global,
-    grammar: &Grammar,
-    nullable: &Vob,
-) -> Result<Vec<Vob>, AllocError>
-    requires rules { All (IsRuleOf grammar.now) grammar.now.rules.items }
-    requires nullable { AreNullable grammar.now nullable.now.bits }
-    ensures first { IfOk result (λ vobs. AreFirst grammar.now (bits_of vobs.items)) }
-    ensures nothing { grammar.now.nonterminals ≡ 0 → IsOk result }
-{
-    let sets = solve_first(alloc, grammar, nullable)?;
-    let vobs = sets.to_vobs(alloc)?;
-    Ok(vobs)
 }
 
 /// Returns a set for each nonterminal, of the terminals that can begin what it becomes.

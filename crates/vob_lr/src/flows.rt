@@ -22,14 +22,14 @@ use crate::state::Move;
 use std::alloc::{AllocError, Global};
 use std::marker::Model;
 use vob::Vob;
-use vob_rows::Row;
+use vob_rows::{BitRows, Row};
 
 /// What lookaheads are found by. A contract sees the grammar, its states and their moves.
 #[derive(Drop)]
 pub(crate) struct Flows<'a> {
     pub items: &'a Items<'a>,
     pub nullable: &'a Vob,
-    pub first: &'a [Vob],
+    pub first: &'a BitRows,
     // The set of each nonterminal starts with the first items of its rules.
     pub opens: &'a Equations,
     pub nodes: &'a Nodes<'a>,
@@ -37,7 +37,6 @@ pub(crate) struct Flows<'a> {
 }
 
 impl<'a> Model for Flows<'a> {
-    ghost use Rattle.vob.specs.Vobs.{bits_of};
     ghost use Rattle.vob_lr.specs.Flows.{HasTables};
     ghost use Rattle.vob_lr.specs.Lookaheads.{Machine};
     ghost use Rattle.vob_lr.specs.Rounds.{rows_of};
@@ -48,7 +47,7 @@ impl<'a> Model for Flows<'a> {
 
     ghost invariant = { λ a. HasTables
         (record { grammar = a.items.now; sets = a.nodes.now; moves = rows_of a.moves.now })
-        a.nullable.now.bits (bits_of a.first.now) a.opens.now.starts };
+        a.nullable.now.bits a.first.now.rows a.opens.now.starts };
 }
 
 /// Whether a move is by a symbol.

@@ -1,7 +1,7 @@
 //! Which terminals can follow the nonterminals of a grammar.
 ghost use Rattle.std.specs.Prelude.{◌≡◌, ◌≢◌, ◌↔◌, ◌⊎◌, ℕ, true, length, IsTrue, All, IfErr, IfOk, IsOk, OnOk, Err};
 ghost use Rattle.vob_block.specs.Packing.{item};
-ghost use Rattle.vob.specs.Vobs.{AreOfLength, bits_of};
+ghost use Rattle.vob.specs.Vobs.{AreOfLength};
 ghost use Rattle.vob_lr.specs.Behind.{HasBehind, IsBehind, IsBelow, IsOfTrailer, IsStart};
 ghost use Rattle.vob_lr.specs.Equations.{AreEquations, GainEach};
 ghost use Rattle.vob_lr.specs.Faults.{IsBadRule, IsRuleOf, MayRefuseRules};
@@ -12,40 +12,40 @@ ghost use Rattle.vob_lr.specs.declared.grammar.Symbol.TheVariants.{Nonterminal};
 
 use crate::empty::{is_null, solve_nullable};
 use crate::equations::Equations;
-use crate::first::first_vobs;
+use crate::first::solve_first;
 use crate::grammar::{Grammar, GrammarError, Rule, Symbol, check_rules};
 use std::alloc::{AllocError, Global};
 use vob::Vob;
-use vob_rows::BitRows;
+use vob_rows::{BitRows, Row};
 
 /// Makes of what can begin some symbols what can begin them behind a nonterminal with this row.
-fn put_row(vanishes: bool, row: &Vob, begins: &mut Vob)
-    requires { length row.now.bits ≡ length begins.old.bits }
+fn put_row(vanishes: bool, row: &Row<'_>, begins: &mut Vob)
+    requires { length row.now ≡ length begins.old.bits }
     ensures len { length begins.new.bits ≡ length begins.old.bits }
     ensures each { (t : ℕ) → (item begins.new.bits t ≡ true)
-        ↔ ((item row.now.bits t ≡ true) ⊎ (IsTrue vanishes × (item begins.old.bits t ≡ true))) }
+        ↔ ((item row.now t ≡ true) ⊎ (IsTrue vanishes × (item begins.old.bits t ≡ true))) }
 {
     if !vanishes {
         begins.set_all(false);
     }
-    begins.or(row);
+    row.or_into(begins);
 }
 
 /// Makes of what can begin some symbols what can begin them behind another. Returns whether all can
 /// become empty, given whether they can.
 pub(crate) fn put_before(
     nullable: &Vob,
-    first: &[Vob],
+    first: &BitRows,
     symbol: &Symbol,
     begins: &mut Vob,
     empty: bool,
 ) -> bool
     requires place { HasPlace (length begins.old.bits) symbol.now }
-    requires below { IsBelow (length first.now) symbol.now }
-    requires long { AreOfLength (length begins.old.bits) (bits_of first.now) }
+    requires below { IsBelow (length first.now.rows) symbol.now }
+    requires long { AreOfLength (length begins.old.bits) first.now.rows }
     ensures len { length begins.new.bits ≡ length begins.old.bits }
     ensures each { (t : ℕ) → (item begins.new.bits t ≡ true)
-        ↔ (IsStart (bits_of first.now) symbol.now t
+        ↔ (IsStart first.now.rows symbol.now t
         ⊎ (IsNull nullable.now.bits symbol.now × (item begins.old.bits t ≡ true))) }
     ensures empty { IsTrue result ↔ (IsNull nullable.now.bits symbol.now × IsTrue empty) }
 {
@@ -55,7 +55,7 @@ pub(crate) fn put_before(
             begins.set_all(false);
             begins.set(*terminal, true);
         }
-        Symbol::Nonterminal(nonterminal) => put_row(vanishes, &first[*nonterminal], begins),
+        Symbol::Nonterminal(nonterminal) => put_row(vanishes, &first.row(*nonterminal), begins),
     }
     vanishes && empty
 }
@@ -85,14 +85,14 @@ fn add_behind(
 fn add_rule(
     grammar: &Grammar,
     nullable: &Vob,
-    first: &[Vob],
+    first: &BitRows,
     rule: &Rule,
     begins: &mut Vob,
     equations: &mut Equations,
 ) -> Result<(), AllocError>
     requires rule { IsRuleOf grammar.now rule.now }
     requires nullable { AreNullable grammar.now nullable.now.bits }
-    requires first { AreFirst grammar.now (bits_of first.now) }
+    requires first { AreFirst grammar.now first.now.rows }
     requires begins { length begins.old.bits ≡ grammar.now.terminals }
     requires sets { length equations.old.starts ≡ grammar.now.nonterminals }
     requires places { equations.old.places ≡ grammar.now.terminals }
@@ -115,13 +115,13 @@ fn add_rule(
 fn add_rules(
     grammar: &Grammar,
     nullable: &Vob,
-    first: &[Vob],
+    first: &BitRows,
     begins: &mut Vob,
     equations: &mut Equations,
 ) -> Result<(), AllocError>
     requires rules { All (IsRuleOf grammar.now) grammar.now.rules.items }
     requires nullable { AreNullable grammar.now nullable.now.bits }
-    requires first { AreFirst grammar.now (bits_of first.now) }
+    requires first { AreFirst grammar.now first.now.rows }
     requires begins { length begins.old.bits ≡ grammar.now.terminals }
     requires sets { length equations.old.starts ≡ grammar.now.nonterminals }
     requires places { equations.old.places ≡ grammar.now.terminals }
@@ -140,11 +140,11 @@ fn follow_equations(
     alloc: Global,
     grammar: &Grammar,
     nullable: &Vob,
-    first: &[Vob],
+    first: &BitRows,
 ) -> Result<Equations, AllocError>
     requires rules { All (IsRuleOf grammar.now) grammar.now.rules.items }
     requires nullable { AreNullable grammar.now nullable.now.bits }
-    requires first { AreFirst grammar.now (bits_of first.now) }
+    requires first { AreFirst grammar.now first.now.rows }
     ensures { IfOk result (AreEquations grammar.now.nonterminals grammar.now.terminals
         (HasBehind grammar.now.rules.items grammar.now.rules.items)) }
 {
@@ -159,11 +159,11 @@ fn solve_follow(
     alloc: Global,
     grammar: &Grammar,
     nullable: &Vob,
-    first: &[Vob],
+    first: &BitRows,
 ) -> Result<BitRows, AllocError>
     requires rules { All (IsRuleOf grammar.now) grammar.now.rules.items }
     requires nullable { AreNullable grammar.now nullable.now.bits }
-    requires first { AreFirst grammar.now (bits_of first.now) }
+    requires first { AreFirst grammar.now first.now.rows }
     ensures follow { IfOk result (λ sets. AreFollow grammar.now sets.rows) }
     ensures columns { IfOk result (λ sets. sets.columns ≡ grammar.now.terminals) }
     ensures nothing { grammar.now.nonterminals ≡ 0 → IsOk result }
@@ -193,7 +193,7 @@ pub fn follow_sets(alloc: Global, grammar: &Grammar) -> Result<BitRows, GrammarE
 {
     check_rules(grammar)?;
     let nullable = solve_nullable(alloc, grammar)?;
-    let first = first_vobs(alloc, grammar, &nullable)?;
+    let first = solve_first(alloc, grammar, &nullable)?;
     let sets = solve_follow(alloc, grammar, &nullable, &first)?;
     Ok(sets)
 }

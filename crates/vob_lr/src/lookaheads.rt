@@ -10,7 +10,7 @@ ghost use Rattle.vob_lr.specs.States.{AreStates};
 
 use crate::closure::expansion_equations;
 use crate::empty::solve_nullable;
-use crate::first::first_vobs;
+use crate::first::solve_first;
 use crate::flows::Flows;
 use crate::grammar::{Grammar, GrammarError, Symbol, check_rules};
 use crate::items::Items;
@@ -61,7 +61,7 @@ fn solve_lookaheads(
 {
     let grammar = items.grammar();
     let nullable = solve_nullable(alloc, grammar)?;
-    let first = first_vobs(alloc, grammar, &nullable)?;
+    let first = solve_first(alloc, grammar, &nullable)?;
     let opens = expansion_equations(alloc, grammar, items)?;
     let flows = Flows {
         items,

@@ -1,21 +1,20 @@
 -- The row of the nonterminal is added.
-use Rattle.std.proofs.Common.{◌<◌, ◌∙◌, ap, length, sym}
-use Rattle.vob.specs.Vob.{BitVector}
-use Rattle.vob_lr.proofs.ClosureLemmas.{Gains-row}
-use Rattle.vob_lr.proofs.EquationLemmas.{vob_long}
+use Rattle.std.proofs.Common.{◌<◌, ◌∙◌, [], List, Bool, ap, length, subst}
+use Rattle.vob_lr.specs.Expansions.{Gains}
+use Rattle.vob_lr.specs.ItemSets.{Has}
+use Rattle.vob_lr.proofs.ClosureLemmas.{Gains-or}
 use Rattle.vob_lr.proofs.closure.bring_by.Goals as goal
 
-pub or-requires : goal.or-requires
-or-requires c =
-    let low : c.in-Nonterminal.nonterminal < length c.args.expansions.now =
+pub row-requires : goal.row-requires
+row-requires c = rw c.in-Nonterminal.is at c.requires.row
+
+pub or_into-requires : goal.or_into-requires
+or_into-requires c =
+    let low : c.in-Nonterminal.nonterminal < length c.args.expansions.now.rows =
     rw c.in-Nonterminal.is at c.requires.row in
-    sym (ap (λ (v : BitVector). length v.bits) c.index-expansions-nonterminal.is
-    ∙ vob_long _ c.args.expansions.now c.in-Nonterminal.nonterminal _ c.requires.long low)
+    ap length c.row.ensures.bits ∙ c.requires.long c.in-Nonterminal.nonterminal [] low
 
 pub returns-in-Nonterminal : goal.returns-in-Nonterminal
 returns-in-Nonterminal c =
-    let low : c.in-Nonterminal.nonterminal < length c.args.expansions.now =
-    rw c.in-Nonterminal.is at c.requires.row in
-    rw c.in-Nonterminal.is
-    (Gains-row _ _ c.args.expansions.now c.in-Nonterminal.nonterminal _
-    c.index-expansions-nonterminal.is low c.or.ensures.each)
+    rw c.in-Nonterminal.is (subst (λ (bits : List Bool). Gains (Has bits) c.args.made.now.bits c.or_into.new.vob.bits)
+    c.row.ensures.bits (Gains-or _ _ c.row.result c.or_into.ensures.each))

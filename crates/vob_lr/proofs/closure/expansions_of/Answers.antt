@@ -4,6 +4,5 @@ use Rattle.vob_lr.proofs.closure.expansions_of.Goals as goal
 
 pub returns : goal.returns
 returns c =
-    let rows = c.in_ok-rows.ensures in
-    rw c.in_ok-expansions.ensures.vobs
-    (AreExpansions-solved _ _ c.requires.rules c.in_ok-equations.ensures rows.count rows.long rows.solved)
+    let rows = c.in_ok-expansions.ensures in
+    AreExpansions-solved _ _ c.requires.rules c.in_ok-equations.ensures rows.count rows.long rows.solved

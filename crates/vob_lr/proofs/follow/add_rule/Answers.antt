@@ -1,7 +1,6 @@
 -- One symbol more, from the last one to the first.
 use Rattle.std.proofs.Common.{◌∙◌, ◌-◌, [], drop, length, arith}
 use Rattle.std.proofs.lemmas.List.{drop_all}
-use Rattle.vob.specs.Vobs.{bits_of}
 use Rattle.vob_lr.specs.Behind.{IsBehind}
 use Rattle.vob_lr.proofs.EquationLemmas.{GainEach-both, GainEach-none}
 use Rattle.vob_lr.proofs.FollowLemmas.{IsTrailer-before, IsTrailer-nothing, behind_more, last_more}
@@ -30,7 +29,7 @@ loop-back-preserved c =
     rw last record {
       len = c.put_before-empty.ensures.len ∙ c.loop-back.invariant.len;
       trailer = IsTrailer-before c.args.grammar.now c.args.nullable.now.bits
-          (bits_of c.args.first.now) c.requires.nullable c.requires.first x
+          c.args.first.now.rows c.requires.nullable c.requires.first x
           (drop (length right - back) right) _ _ _ _ trailer c.put_before-empty.ensures.each
           c.put_before-empty.ensures.empty;
       behind = GainEach-both _ c.in_ok-add_behind.ensures

@@ -1,6 +1,5 @@
 -- The least sets that flow so are the lookaheads.
 use Rattle.std.proofs.Common.{subst}
-use Rattle.vob.specs.Vobs.{bits_of}
 use Rattle.vob_lr.specs.Equations.{AreEquations}
 use Rattle.vob_lr.specs.Expansions.{Expands}
 use Rattle.vob_lr.specs.Grammar.{AreFirst, AreNullable}
@@ -14,9 +13,9 @@ pub invariant_of-flows : goal.invariant_of-flows
 invariant_of-flows c =
     let same = c.grammar-grammar.ensures in
     let nullable = c.in_ok-nullable.nullable.bits in
-    let first = bits_of c.in_ok-first.first.items in
+    let first = c.in_ok-first.first.rows in
     let opens = c.in_ok-opens.opens in
-    rw (c.requires.nodes, c.deref.ensures.value, c.deref-2.ensures.value)
+    rw (c.requires.nodes, c.deref.ensures.value)
     (HasTables-of (machine_of c.args.items.now c.args.automaton.now) nullable first opens
     c.requires.rules c.requires.states
     (subst (λ (g : Grammar). AreNullable g nullable) same c.in_ok-nullable.ensures.nullable)
@@ -29,7 +28,7 @@ pub returns : goal.returns
 returns c =
     let same = c.grammar-grammar.ensures in
     let nullable = c.in_ok-nullable.nullable.bits in
-    let first = bits_of c.in_ok-first.first.items in
+    let first = c.in_ok-first.first.rows in
     let opens = c.in_ok-opens.opens in
     let h = HasTables-of (machine_of c.args.items.now c.args.automaton.now) nullable first opens
     c.requires.rules c.requires.states
@@ -39,6 +38,6 @@ returns c =
     (Expands g.rules.items) opens) same
     c.in_ok-opens.ensures) in
     let rows = c.in_ok-rows.ensures in
-    let e = rw (c.requires.nodes, c.deref-2.ensures.value) at c.in_ok-equations.ensures in
+    let e = rw (c.requires.nodes, c.deref.ensures.value) at c.in_ok-equations.ensures in
     HaveLookaheads-solved (machine_of c.args.items.now c.args.automaton.now) _ _ _ h _ e rows.count rows.long
     rows.solved

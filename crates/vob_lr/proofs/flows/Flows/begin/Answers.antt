@@ -1,7 +1,6 @@
 -- One symbol more, from the last one to the first.
 use Rattle.std.proofs.Common.{◌≡◌, ◌∙◌, ◌+◌, ◌-◌, ℕ, drop, length, arith, subst}
 use Rattle.std.proofs.lemmas.List.{drop_all}
-use Rattle.vob.specs.Vobs.{bits_of}
 use Rattle.vob_lr.specs.Behind.{IsTrailer}
 use Rattle.vob_lr.specs.Flows.{HasTables}
 use Rattle.vob_lr.specs.Lookaheads.{Machine}
@@ -23,7 +22,7 @@ loop-back-preserved c =
     let m = c.args.self.now in
     let own = c.self.inside in
     let h = subst (λ (z : Machine). HasTables z c.self.inside.nullable.now.bits
-    (bits_of c.self.inside.first.now) c.self.inside.opens.now.starts) c.self.view_is
+    c.self.inside.first.now.rows c.self.inside.opens.now.starts) c.self.view_is
     c.self.invariant in
     let right = c.args.rule.now.right.items in
     let back = c.loop-back.back in
@@ -31,7 +30,7 @@ loop-back-preserved c =
     let last = last_more right back _ x (omega arith) (omega arith) c.index-symbol.ensures in
     rw last record {
       len = c.put_before-empty.ensures.len ∙ c.loop-back.invariant.len;
-      trailer = IsTrailer-before m.grammar own.nullable.now.bits (bits_of own.first.now)
+      trailer = IsTrailer-before m.grammar own.nullable.now.bits own.first.now.rows
           h.empties h.firsts x (drop (length right - back) right) _ _ _ _
           c.loop-back.invariant.trailer c.put_before-empty.ensures.each
           c.put_before-empty.ensures.empty;

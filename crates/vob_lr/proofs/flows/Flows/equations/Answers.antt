@@ -1,6 +1,6 @@
 -- Sets that were empty have what flows to them.
 use Rattle.std.proofs.Common.{◌∙◌, ap, subst}
-use Rattle.vob.specs.Vobs.{bits_of, total_count}
+use Rattle.vob.specs.Vobs.{total_count}
 use Rattle.vob_lr.specs.Flows.{FlowsTo, HasTables}
 use Rattle.vob_lr.specs.Lookaheads.{Machine}
 use Rattle.vob_lr.specs.declared.grammar.Grammar.{Grammar}
@@ -12,7 +12,7 @@ pub returns : goal.returns
 returns c =
     let m = c.args.self.now in
     let h = subst (λ (z : Machine). HasTables z c.self.inside.nullable.now.bits
-    (bits_of c.self.inside.first.now) c.self.inside.opens.now.starts) c.self.view_is
+    c.self.inside.first.now.rows c.self.inside.opens.now.starts) c.self.view_is
     c.self.invariant in
     let total = ap (λ (z : Machine). total_count z.sets) c.self.view_is in
     let here = ap (λ (g : Grammar). g.terminals) c.grammar.ensures

@@ -2,7 +2,6 @@
 use Rattle.std.proofs.Common.{ap, inl, inr, subst, sym}
 use Rattle.std.proofs.lemmas.Option.{none-some}
 use Rattle.std.proofs.lemmas.Result.{on_ok_weaker}
-use Rattle.vob.specs.Vobs.{bits_of}
 use Rattle.vob_lr.specs.Flows.{FlowsFrom, HasTables}
 use Rattle.vob_lr.specs.Items.{HasNext, item_total}
 use Rattle.vob_lr.specs.Lookaheads.{Machine}
@@ -14,7 +13,7 @@ use Rattle.vob_lr.proofs.flows.Flows.flow.Goals as goal
 pub next-requires : goal.next-requires
 next-requires c =
     let h = subst (λ (z : Machine). HasTables z c.self.inside.nullable.now.bits
-    (bits_of c.self.inside.first.now) c.self.inside.opens.now.starts) c.self.view_is
+    c.self.inside.first.now.rows c.self.inside.opens.now.starts) c.self.view_is
     c.self.invariant in
     rw (ap (λ (m : Machine). item_total m.grammar.rules.items) c.self.view_is)
     (state_inside _ _ _ _ h c.args.state c.args.number c.requires.item)
@@ -22,7 +21,7 @@ next-requires c =
 pub returns-in-None-clause-flows : goal.returns-in-None-clause-flows
 returns-in-None-clause-flows c =
     let h = subst (λ (z : Machine). HasTables z c.self.inside.nullable.now.bits
-    (bits_of c.self.inside.first.now) c.self.inside.opens.now.starts) c.self.view_is
+    c.self.inside.first.now.rows c.self.inside.opens.now.starts) c.self.view_is
     c.self.invariant in
     GainEach-none _ _ (flows_nowhere _ _ _ _ h c.args.state c.args.number
     (λ x next. none-some x ((c.in-None.ensures x).1
@@ -43,7 +42,7 @@ returns-in-Terminal-clause-flows c =
     let ahead = subst (λ (z : Machine). HasNext z.grammar.rules.items j c.in-Some.symbol)
     c.self.view_is ((c.next.ensures c.in-Some.symbol).0 c.in-Some.is) in
     let h = subst (λ (z : Machine). HasTables z c.self.inside.nullable.now.bits
-    (bits_of c.self.inside.first.now) c.self.inside.opens.now.starts) c.self.view_is
+    c.self.inside.first.now.rows c.self.inside.opens.now.starts) c.self.view_is
     c.self.invariant in
     let next = subst (λ (x : Symbol). HasNext m.grammar.rules.items j x) c.in-Terminal.is ahead in
     GainEach-as (FlowsFrom m q j) c.in_ok-keep.ensures (flows_kept m _ _ _ h q j _ next)

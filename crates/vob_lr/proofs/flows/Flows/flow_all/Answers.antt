@@ -1,7 +1,6 @@
 -- One state more flows.
 use Rattle.std.proofs.Common.{◌≡◌, ◌∙◌, ℕ, Global, Vec, ap, arith, length, subst}
 use Rattle.std.proofs.lemmas.List.{length-map}
-use Rattle.vob.specs.Vobs.{bits_of}
 use Rattle.vob_lr.specs.Equations.{GainEach}
 use Rattle.vob_lr.specs.Flows.{FlowsOf, HasTables}
 use Rattle.vob_lr.specs.Walked.{IsOfFirst}
@@ -14,7 +13,7 @@ use Rattle.vob_lr.proofs.flows.Flows.flow_all.Goals as goal
 pub flow_state-requires-clause-state : goal.flow_state-requires-clause-state
 flow_state-requires-clause-state c =
     let h = subst (λ (z : Machine). HasTables z c.self.inside.nullable.now.bits
-    (bits_of c.self.inside.first.now) c.self.inside.opens.now.starts) c.self.view_is
+    c.self.inside.first.now.rows c.self.inside.opens.now.starts) c.self.view_is
     c.self.invariant in
     let count = length-map c.self.inside.moves.now (λ (list : Vec Move Global). list.items) in
     let all = ap (λ (z : Machine). length z.moves) c.self.view_is in
@@ -31,7 +30,7 @@ loop-state-preserved c = record {
 pub returns : goal.returns
 returns c =
     let h = subst (λ (z : Machine). HasTables z c.self.inside.nullable.now.bits
-    (bits_of c.self.inside.first.now) c.self.inside.opens.now.starts) c.self.view_is
+    c.self.inside.first.now.rows c.self.inside.opens.now.starts) c.self.view_is
     c.self.invariant in
     let count = length-map c.self.inside.moves.now (λ (list : Vec Move Global). list.items) in
     let all = ap (λ (z : Machine). length z.moves) c.self.view_is in

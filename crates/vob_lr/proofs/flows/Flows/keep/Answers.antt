@@ -3,7 +3,6 @@ use Rattle.std.proofs.Common.{◌≡◌, ◌+◌, ◌<◌, ◌∙◌, ℕ, Globa
 use Rattle.std.specs.List.{Contains}
 use Rattle.std.proofs.lemmas.List.{get_or-map, length-map}
 use Rattle.std.proofs.lemmas.Option.{slice_get_read}
-use Rattle.vob.specs.Vobs.{bits_of}
 use Rattle.vob.proofs.BitsLemmas.{row_inside}
 use Rattle.vob_lr.specs.Equations.{GainEach}
 use Rattle.vob_lr.specs.Flows.{HasTables, IsKept, IsKeptAt}
@@ -22,7 +21,7 @@ keep_by-requires-clause-by c =
     let moves = c.self.inside.moves.now in
     let row = c.index-moves-state.result.items in
     let h = subst (λ (z : Machine). HasTables z c.self.inside.nullable.now.bits
-    (bits_of c.self.inside.first.now) c.self.inside.opens.now.starts) c.self.view_is
+    c.self.inside.first.now.rows c.self.inside.opens.now.starts) c.self.view_is
     c.self.invariant in
     let count = length-map moves (λ (list : Vec Move Global). list.items) in
     let all = ap (λ (z : Machine). length z.moves) c.self.view_is in
@@ -43,7 +42,7 @@ loop-step-preserved c =
     let moves = c.self.inside.moves.now in
     let row = c.index-moves-state.result.items in
     let h = subst (λ (z : Machine). HasTables z c.self.inside.nullable.now.bits
-    (bits_of c.self.inside.first.now) c.self.inside.opens.now.starts) c.self.view_is
+    c.self.inside.first.now.rows c.self.inside.opens.now.starts) c.self.view_is
     c.self.invariant in
     let count = length-map moves (λ (list : Vec Move Global). list.items) in
     let all = ap (λ (z : Machine). length z.moves) c.self.view_is in
@@ -68,7 +67,7 @@ returns c =
     let moves = c.self.inside.moves.now in
     let row = c.index-moves-state.result.items in
     let h = subst (λ (z : Machine). HasTables z c.self.inside.nullable.now.bits
-    (bits_of c.self.inside.first.now) c.self.inside.opens.now.starts) c.self.view_is
+    c.self.inside.first.now.rows c.self.inside.opens.now.starts) c.self.view_is
     c.self.invariant in
     let count = length-map moves (λ (list : Vec Move Global). list.items) in
     let all = ap (λ (z : Machine). length z.moves) c.self.view_is in

@@ -2,7 +2,7 @@
 use Rattle.std.proofs.Common.{◌+◌, ◌∙◌, ap, arith, subst, sym}
 use Rattle.std.proofs.lemmas.Bool.{false≢true}
 use Rattle.std.proofs.lemmas.Result.{on_ok_weaker}
-use Rattle.vob.specs.Vobs.{bits_of, total_count}
+use Rattle.vob.specs.Vobs.{total_count}
 use Rattle.vob_lr.specs.Flows.{HasTables, IsKeptBy}
 use Rattle.vob_lr.specs.Items.{item_total}
 use Rattle.vob_lr.specs.Lookaheads.{Machine}
@@ -25,7 +25,7 @@ overflow_add-number c =
 pub number-to-requires : goal.number-to-requires
 number-to-requires c =
     let h = subst (λ (z : Machine). HasTables z c.self.inside.nullable.now.bits
-    (bits_of c.self.inside.first.now) c.self.inside.opens.now.starts) c.self.view_is
+    c.self.inside.first.now.rows c.self.inside.opens.now.starts) c.self.view_is
     c.self.invariant in
     let by = move_at _ c.args.by c.args.symbol (sym (c.is_by.ensures.0 c.if-not-is_by.false)) c.requires.by in
     rw (ap (λ (m : Machine). m.sets) c.self.view_is)

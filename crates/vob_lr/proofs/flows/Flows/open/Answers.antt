@@ -2,7 +2,6 @@
 use Rattle.std.proofs.Common.{◌≡◌, ◌↔◌, ◌+◌, ◌∙◌, ℕ, Bool, List, ap, arith, drop, get_or, length, subst, sym}
 use Rattle.std.proofs.lemmas.Option.{get_or_from_slice_get, slice_get_within}
 use Rattle.std.proofs.lemmas.Result.{on_ok_weaker}
-use Rattle.vob.specs.Vobs.{bits_of}
 use Rattle.vob_lr.specs.Behind.{IsOfTrailer, IsTrailer}
 use Rattle.vob_lr.specs.Equations.{GainEach}
 use Rattle.vob_lr.specs.Flows.{HasTables, IsOpened}
@@ -23,7 +22,7 @@ use Rattle.vob_lr.proofs.flows.Flows.open.Goals as goal
 pub item-item-requires : goal.item-item-requires
 item-item-requires c =
     let h = subst (λ (z : Machine). HasTables z c.self.inside.nullable.now.bits
-    (bits_of c.self.inside.first.now) c.self.inside.opens.now.starts) c.self.view_is
+    c.self.inside.first.now.rows c.self.inside.opens.now.starts) c.self.view_is
     c.self.invariant in
     rw (ap (λ (m : Machine). item_total m.grammar.rules.items) c.self.view_is)
     (state_inside _ _ _ _ h c.args.state c.args.number c.requires.item)
@@ -38,7 +37,7 @@ index-rule-requires c =
 pub begin-empty-requires-clause-rule : goal.begin-empty-requires-clause-rule
 begin-empty-requires-clause-rule c =
     let h = subst (λ (z : Machine). HasTables z c.self.inside.nullable.now.bits
-    (bits_of c.self.inside.first.now) c.self.inside.opens.now.starts) c.self.view_is
+    c.self.inside.first.now.rows c.self.inside.opens.now.starts) c.self.view_is
     c.self.invariant in
     let g = c.args.self.now.grammar in
     let is = c.item-item.ensures in
@@ -69,7 +68,7 @@ begin-empty-requires-clause-dot c =
 pub starts-opened-requires : goal.starts-opened-requires
 starts-opened-requires c =
     let h = subst (λ (z : Machine). HasTables z c.self.inside.nullable.now.bits
-    (bits_of c.self.inside.first.now) c.self.inside.opens.now.starts) c.self.view_is
+    c.self.inside.first.now.rows c.self.inside.opens.now.starts) c.self.view_is
     c.self.invariant in
     let there = symbol_there _ _ _ _ h c.args.number (Nonterminal c.args.nonterminal)
     c.requires.next in
@@ -78,7 +77,7 @@ starts-opened-requires c =
 pub open_items-requires-clause-opened : goal.open_items-requires-clause-opened
 open_items-requires-clause-opened c = λ i own.
     let h = subst (λ (z : Machine). HasTables z c.self.inside.nullable.now.bits
-    (bits_of c.self.inside.first.now) c.self.inside.opens.now.starts) c.self.view_is
+    c.self.inside.first.now.rows c.self.inside.opens.now.starts) c.self.view_is
     c.self.invariant in
     let a = c.args.nonterminal in
     let there = subst (λ (bits : List Bool). Has bits i) c.starts-opened.ensures own in
@@ -97,7 +96,7 @@ returns-clause-opened c =
     let starts = c.begin-empty.new.begins.bits in
     let empty = c.begin-empty.result in
     let h = subst (λ (z : Machine). HasTables z c.self.inside.nullable.now.bits
-    (bits_of c.self.inside.first.now) c.self.inside.opens.now.starts) c.self.view_is
+    c.self.inside.first.now.rows c.self.inside.opens.now.starts) c.self.view_is
     c.self.invariant in
     let brought = subst (λ (bits : List Bool). (i : ℕ) → Has bits i ↔ Opens rules a i)
     (sym c.starts-opened.ensures) (h.openings.each a) in
