@@ -1,7 +1,8 @@
-//! Rows of all small lengths against a formula for each bit, graphs, and calls that are refused memory.
+//! Rows of all small lengths against a formula for each bit, sparse rows, graphs, and calls that are refused memory.
 
 mod graphs;
 mod reads;
 mod refused;
 mod rows;
+mod sparse;
 mod support;

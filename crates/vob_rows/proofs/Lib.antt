@@ -4,4 +4,5 @@ pub mod EndsLemmas
 pub mod PartLemmas
 pub mod ReversedLemmas
 pub mod SameLemmas
+pub mod SparseLemmas
 pub mod VobsLemmas

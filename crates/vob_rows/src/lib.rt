@@ -5,7 +5,9 @@ mod graph;
 mod part;
 mod row;
 mod rows;
+mod sparse;
 
 pub use graph::{Graph, GraphError, all_below};
 pub use row::Row;
 pub use rows::BitRows;
+pub use sparse::SparseRows;

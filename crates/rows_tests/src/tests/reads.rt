@@ -37,6 +37,32 @@ fn a_row_reads_like_a_vob(rt: HostRuntime) {
 }
 
 #[test]
+fn a_row_is_added_to_a_vob(rt: HostRuntime) {
+    for columns in LENGTHS {
+        let rows = three(&rt, columns, false);
+        let others = three(&rt, columns, true);
+        if rows.rows() == 3 && others.rows() == 3 {
+            let mut vob = rows.row(1).to_vob(rt.alloc()).expect(&rt, "memory");
+            let other = others.row(1);
+            assert!(rt; other.len() == vob.len());
+            let grew = other.or_into(&mut vob);
+            let mut is_more = false;
+            for j in 0..columns {
+                is_more |= is_other(1, j) && !is_first(1, j);
+                same(
+                    &rt,
+                    "a bit",
+                    j,
+                    vob.get(j),
+                    Some(is_first(1, j) || is_other(1, j)),
+                );
+            }
+            same(&rt, "whether it grew", columns, grew, is_more);
+        }
+    }
+}
+
+#[test]
 fn the_next_set_bit_of_a_row_is_found(rt: HostRuntime) {
     for columns in LENGTHS {
         let rows = three(&rt, columns, false);
