@@ -9,7 +9,7 @@ use Rattle.vob_flow.specs.declared.draw.Masks.{Masks}
 use Rattle.vob_flow.specs.Available.{AreFlowingOnAll, AreWithinPlaces, HoldOnAll, IsEntry}
 use Rattle.vob_flow.specs.Changes.{EachBecomes}
 use Rattle.vob_flow.specs.Draws.{HaveShape, IsIn, mask_of}
-use Rattle.vob_flow.specs.Greatest.{AreGreatest, IsCommonSolution, IsInAll, Misses, mask_from}
+use Rattle.vob_flow.specs.Greatest.{AreGreatest, IsCommonSolution, IsInAll, Misses, away, mask_from}
 use Rattle.vob_flow.specs.Greatest.Misses.{dropped, missed}
 use Rattle.vob_flow.proofs.GreatestLemmas.{in_or, mask_keeps}
 use Rattle.vob_flow.proofs.UnderwayLemmas.{HaveShape-trans}
@@ -51,25 +51,21 @@ within_greatest places next mask starts sets others count h s n v small e = elim
 
 -- ---- the greatest sets that draw so are the far sides, and the near ones what they draw
 
-module _ (places : ℕ) (entry : Option ℕ) (next : List (List ℕ)) (masks : Masks)
+module _ (places : ℕ) (entry : Option ℕ) (next : List (List ℕ)) (mask : ℕ → ℕ → Bool)
     (gens near far : List (List Bool)) (fit : length next ≡ length gens)
-    (h : AreGreatest places next (mask_from entry masks) gens far) (near_shape : HaveShape gens near)
+    (h : AreGreatest places next (away entry mask) gens far) (near_shape : HaveShape gens near)
     (near_is : (n v : ℕ) → n < length next → v < places → (¬ IsEntry entry n)
     → IsIn near n v ↔ IsInAll far (get_or next n []) v)
     (at_entry : (n v : ℕ) → IsEntry entry n → ¬ IsIn near n v) where
-  kept : (n v : ℕ) → (mask_from entry masks n v ≡ true)
-      ↔ ((¬ IsEntry entry n) × (mask_of masks n v ≡ true))
-  kept n v = mask_keeps entry masks n v
-
   far_is : (n v : ℕ) → v < places →
-      IsIn far n v ↔ (IsIn gens n v ⊎ (IsIn near n v × (mask_of masks n v ≡ true)))
+      IsIn far n v ↔ (IsIn gens n v ⊎ (IsIn near n v × (mask n v ≡ true)))
   far_is n v small = (
     (λ e.
         let less : n < length next = omega (arith, row_inside far n v e, h.solution.shape.count, fit) in
         elim ((h.solution.meets n v less small).0 e) [
           | inl gen ↦ inl gen
           | inr both ↦
-              let keeps = (kept n v).0 both.0 in
+              let keeps = (mask_keeps entry mask n v).0 both.0 in
               inr ((near_is n v less small keeps.0).1 both.1, keeps.1)
         ]),
     (λ either. elim either [
@@ -78,21 +74,21 @@ module _ (places : ℕ) (entry : Option ℕ) (next : List (List ℕ)) (masks : M
           (h.solution.meets n v less small).1 (inl gen)
       | inr both ↦
           let less : n < length next = omega (arith, row_inside near n v both.0, near_shape.count, fit) in
-          let away : ¬ IsEntry entry n = λ here. at_entry n v here both.0 in
+          let other : ¬ IsEntry entry n = λ here. at_entry n v here both.0 in
           (h.solution.meets n v less small).1
-          (inr ((kept n v).1 (away, both.1), (near_is n v less small away).0 both.0))
+          (inr ((mask_keeps entry mask n v).1 (other, both.1), (near_is n v less small other).0 both.0))
     ]),
   )
 
   module _ (others other_far : List (List Bool))
-      (s : AreFlowingOnAll places entry next (mask_of masks) gens others other_far) where
+      (s : AreFlowingOnAll places entry next mask gens others other_far) where
     other_meets : (n v : ℕ) → n < length next → v < places → IsIn other_far n v →
-        (IsIn gens n v ⊎ ((mask_from entry masks n v ≡ true) × IsInAll other_far (get_or next n []) v))
+        (IsIn gens n v ⊎ ((away entry mask n v ≡ true) × IsInAll other_far (get_or next n []) v))
     other_meets n v less small e = elim ((s.far_is n v small).0 e) [
       | inl gen ↦ inl gen
       | inr both ↦
-          let away : ¬ IsEntry entry n = λ here. s.at_entry n v here both.0 in
-          inr ((kept n v).1 (away, both.1), (s.near_is n v less small away).0 both.0)
+          let other : ¬ IsEntry entry n = λ here. s.at_entry n v here both.0 in
+          inr ((mask_keeps entry mask n v).1 (other, both.1), (s.near_is n v less small other).0 both.0)
     ]
 
     far_within : AreWithinPlaces places other_far far
@@ -101,19 +97,19 @@ module _ (places : ℕ) (entry : Option ℕ) (next : List (List ℕ)) (masks : M
       | inr none ↦
           let less : n < length far =
           omega (arith, row_inside other_far n v e, s.far_count, h.solution.shape.count) in
-          absurd (missing places next (mask_from entry masks) gens other_far (s.far_count ∙ sym fit)
+          absurd (missing places next (away entry mask) gens other_far (s.far_count ∙ sym fit)
           other_meets small (h.greatest n v less small none) e)
     ]
 
     near_within : AreWithinPlaces places others near
     near_within n v small e =
         let less : n < length next = omega (arith, row_inside others n v e, s.near_count) in
-        let away : ¬ IsEntry entry n = λ here. s.at_entry n v here e in
-        let all = (s.near_is n v less small away).0 e in
-        (near_is n v less small away).1
+        let other : ¬ IsEntry entry n = λ here. s.at_entry n v here e in
+        let all = (s.near_is n v less small other).0 e in
+        (near_is n v less small other).1
         (λ k d low. far_within (get_or (get_or next n []) k d) v small (all k d low))
 
-  pub HoldOnAll-greatest : HoldOnAll places entry next (mask_of masks) gens near far
+  pub HoldOnAll-greatest : HoldOnAll places entry next mask gens near far
   HoldOnAll-greatest = record {
     near_shape = near_shape;
     far_shape = h.solution.shape;
@@ -139,7 +135,7 @@ pub HoldOnAll-common : (places : ℕ) (entry : Option ℕ) (next : List (List �
     → ((n v : ℕ) → IsIn near n v ↔ (IsIn common n v × (¬ IsEntry entry n)))
     → HoldOnAll places entry next (mask_of masks) gens near far
 HoldOnAll-common places entry next masks gens common near far fit long h in_all shape cleared =
-    HoldOnAll-greatest places entry next masks gens near far fit h (HaveShape-trans in_all.shape shape)
+    HoldOnAll-greatest places entry next (mask_of masks) gens near far fit h (HaveShape-trans in_all.shape shape)
     (λ n v less small away.
     let of = in_all.below n v less (omega (
       arith,

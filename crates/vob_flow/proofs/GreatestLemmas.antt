@@ -9,12 +9,11 @@ use Rattle.vob.specs.Vobs.{AreOfLength}
 use Rattle.vob.proofs.BitsLemmas.{row_inside}
 use Rattle.vob.proofs.VobsLemmas.{of_length_at}
 use Rattle.vob_rows.specs.Graph.{LeadToNodes}
-use Rattle.vob_flow.specs.declared.draw.Masks.{Masks}
 use Rattle.vob_flow.specs.Available.{IsEntry}
 use Rattle.vob_flow.specs.Changes.{EachBecomes, IsLacking, IsOut}
-use Rattle.vob_flow.specs.Draws.{AreLeast, Comes, HaveShape, IsIn, mask_of}
+use Rattle.vob_flow.specs.Draws.{AreLeast, Comes, HaveShape, IsIn}
 use Rattle.vob_flow.specs.Draws.Comes.{starts_in, drawn}
-use Rattle.vob_flow.specs.Greatest.{AreGreatest, IsInAll, Misses, mask_from}
+use Rattle.vob_flow.specs.Greatest.{AreGreatest, IsInAll, Misses, away}
 use Rattle.vob_flow.specs.Greatest.Misses.{dropped, missed}
 use Rattle.vob_flow.proofs.UnderwayLemmas.{HaveShape-trans}
 
@@ -26,25 +25,29 @@ in_or sets n v = elim (cases_Bool (item (get_or sets n []) v)) [
 
 -- ---- the mask of an entry
 
-pub mask_at_entry : (entry : Option ℕ) (masks : Masks) (n v : ℕ) → IsEntry entry n
-    → mask_from entry masks n v ≡ false
-mask_at_entry None masks n v here = absurd here
-mask_at_entry (Some entry) masks n v here = rw (eq-eqb n entry here) refl
+module _ (entry : Option ℕ) (mask : ℕ → ℕ → Bool) (n v : ℕ) where
+  pub mask_at_entry : IsEntry entry n → away entry mask n v ≡ false
+  mask_at_entry here = at entry here
+    where
+      at : (entry : Option ℕ) → IsEntry entry n → away entry mask n v ≡ false
+      at None here = absurd here
+      at (Some own) here = rw (eq-eqb n own here) refl
 
-pub mask_away : (entry : Option ℕ) (masks : Masks) (n v : ℕ) → ¬ IsEntry entry n
-    → mask_from entry masks n v ≡ mask_of masks n v
-mask_away None masks n v away = refl
-mask_away (Some entry) masks n v away = rw (ne_eqb n entry away) refl
+  pub mask_away : ¬ IsEntry entry n → away entry mask n v ≡ mask n v
+  mask_away other = at entry other
+    where
+      at : (entry : Option ℕ) → ¬ IsEntry entry n → away entry mask n v ≡ mask n v
+      at None other = refl
+      at (Some own) other = rw (ne_eqb n own other) refl
 
--- so it keeps what the mask keeps of any other node
-pub mask_keeps : (entry : Option ℕ) (masks : Masks) (n v : ℕ)
-    → (mask_from entry masks n v ≡ true) ↔ ((¬ IsEntry entry n) × (mask_of masks n v ≡ true))
-mask_keeps entry masks n v = (
-  (λ e.
-      let away : ¬ IsEntry entry n = λ here. false≢true (sym (mask_at_entry entry masks n v here) ∙ e) in
-      (away, sym (mask_away entry masks n v away) ∙ e)),
-  (λ both. mask_away entry masks n v both.0 ∙ both.1),
-)
+  -- so it keeps what the mask keeps of any other node
+  pub mask_keeps : (away entry mask n v ≡ true) ↔ ((¬ IsEntry entry n) × (mask n v ≡ true))
+  mask_keeps = (
+    (λ e.
+        let other : ¬ IsEntry entry n = λ here. false≢true (sym (mask_at_entry here) ∙ e) in
+        (other, sym (mask_away other) ∙ e)),
+    (λ both. mask_away both.0 ∙ both.1),
+  )
 
 pub not_drops : (b : Bool) → (not b ≡ false) ↔ (b ≡ true)
 not_drops true = ((λ e. refl), (λ e. refl))

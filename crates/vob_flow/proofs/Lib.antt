@@ -18,6 +18,7 @@ mod LiveLemmas
 mod LosingLemmas
 mod NumberingLemmas
 mod OrderLemmas
+pub mod PartsLemmas
 mod PassLemmas
 mod ReachLemmas
 mod ReachingLemmas

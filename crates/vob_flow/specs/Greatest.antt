@@ -6,10 +6,13 @@ use Rattle.vob_flow.specs.declared.draw.Masks.{Masks}
 use Rattle.vob_flow.specs.Draws.{IsIn, HaveShape, mask_of}
 use Rattle.vob_flow.specs.Turns.{ArePasses}
 
--- which places the mask of set n lets through; at an entry none
+-- which places a mask lets through of set n; at an entry none
+abbrev pub away : Option ℕ → (ℕ → ℕ → Bool) → ℕ → ℕ → Bool
+away None mask n v = mask n v
+away (Some entry) mask n v = not (n == entry) && mask n v
+
 abbrev pub mask_from : Option ℕ → Masks → ℕ → ℕ → Bool
-mask_from None masks n v = mask_of masks n v
-mask_from (Some entry) masks n v = not (n == entry) && mask_of masks n v
+mask_from entry masks = away entry (mask_of masks)
 
 -- v is in each of some sets; in each of none is everything
 abbrev pub IsInAll : List (List Bool) → List ℕ → ℕ → Type 0

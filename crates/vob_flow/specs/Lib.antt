@@ -12,11 +12,13 @@ pub mod Gains
 pub mod Gathered
 pub mod Greatest
 pub mod Laws
+pub mod Lists
 pub mod Live
 pub mod LiveDraws
 pub mod LiveEquations
 pub mod Numbering
 pub mod Order
+pub mod Parts
 pub mod Passes
 pub mod Reach
 pub mod Reaching

@@ -12,7 +12,7 @@ use std::alloc::{AllocError, Global};
 use vob_rows::{BitRows, Graph};
 
 /// Clears the set of the entry, if there is one.
-fn clear_entry(sets: &mut BitRows, entry: Option<usize>)
+pub(crate) fn clear_entry(sets: &mut BitRows, entry: Option<usize>)
     ensures shape { HaveShape sets.old.rows sets.new.rows }
     ensures cleared { (n v : ℕ)
         → IsIn sets.new.rows n v ↔ (IsIn sets.old.rows n v × (¬ IsEntry entry n)) }

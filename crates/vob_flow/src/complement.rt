@@ -1,16 +1,17 @@
 //! The greatest sets that meet an equation at each node of a graph: the complements of the least ones
 //! of what they lack.
-ghost use Rattle.std.specs.Prelude.{◌≡◌, ◌≢◌, ◌↔◌, ◌<◌, false, length, Err, IfErr, IfOk, IsOk, IsTrue, OnErr, OnOk};
+ghost use Rattle.std.specs.Prelude.{◌≡◌, ◌≢◌, ◌↔◌, ◌<◌, false, true, length, replicate, Err, IfErr, IfOk, IsOk, IsTrue, OnErr, OnOk};
 ghost use Rattle.vob_flow.specs.Available.{IsEntry};
 ghost use Rattle.vob_flow.specs.Changes.{Becomes, EachBecomes, IsLacking, IsOut};
 ghost use Rattle.vob_flow.specs.Draws.{FitMasks, IsIn, mask_of};
 ghost use Rattle.vob_flow.specs.Greatest.{AreGreatest, IsPassCount, mask_from};
+ghost use Rattle.vob_flow.specs.Schedules.{IsSchedule};
 ghost use Rattle.vob_flow.specs.SolveFaults.{MayRefuseSets};
 
 use crate::draw::Masks;
 use crate::faults::{SolveError, check_masks};
 use crate::passes::settle;
-use crate::schedule::schedule_of;
+use crate::schedule::{Schedule, schedule_of};
 use std::alloc::{AllocError, Global};
 use vob::Vob;
 use vob_rows::{BitRows, Graph};
@@ -85,7 +86,38 @@ fn negate_each(sets: &mut BitRows)
 }
 
 /// Makes some sets the greatest that meet their equations, beside a copy of what they start with. A
-/// set draws of what it lacks from the same sets, and not what it starts with. No sets take no memory.
+/// set draws of what it lacks from the same sets, and not what it starts with.
+pub(crate) fn lose(
+    sets: &mut BitRows,
+    graph: &Graph,
+    schedule: &Schedule,
+    masks: Masks<'_>,
+    entry: Option<usize>,
+    starts: &BitRows,
+    pending: &mut Vob,
+) -> u128
+    requires count { length graph.now ≡ length sets.old.rows }
+    requires schedule { IsSchedule graph.now schedule.now }
+    requires masks { FitMasks (length sets.old.rows) sets.old.columns masks }
+    requires starts { starts.now ≡ sets.old }
+    requires pending { pending.old.bits ≡ replicate (length schedule.now.order.items) true }
+    ensures greatest { AreGreatest sets.old.columns graph.now
+        (mask_from entry masks.entry) sets.old.rows sets.new.rows }
+    ensures passes { IsPassCount sets.old.columns graph.now
+        (mask_from entry masks.entry) sets.old.rows sets.new.rows result }
+    ensures columns { sets.new.columns ≡ sets.old.columns }
+{
+    // Each set is as long as there are columns, and each edge leads to a node: a proof knows it from
+    // these calls.
+    let _columns = sets.columns();
+    let _nodes = graph.nodes();
+    turn_starts(sets, masks, entry);
+    let passes = settle(sets, graph, schedule, Masks::Without(starts), pending);
+    negate_each(sets);
+    passes
+}
+
+/// Does that with an order of its own. No sets take no memory.
 pub(crate) fn solve_beside(
     alloc: Global,
     sets: &mut BitRows,
@@ -107,16 +139,12 @@ pub(crate) fn solve_beside(
 {
     // Each set is as long as there are columns: a proof knows it from this call.
     let _columns = sets.columns();
-    let count = graph.nodes();
-    if count == 0 {
+    if graph.nodes() == 0 {
         return Ok(0);
     }
     let schedule = schedule_of(alloc, graph)?;
     let mut pending = Vob::from_elem(alloc, true, schedule.order.len())?;
-    turn_starts(sets, masks, entry);
-    let passes = settle(sets, graph, &schedule, Masks::Without(starts), &mut pending);
-    negate_each(sets);
-    Ok(passes)
+    Ok(lose(sets, graph, &schedule, masks, entry, starts, &mut pending))
 }
 
 /// Makes some sets the greatest that meet their equations. No sets take no memory.
