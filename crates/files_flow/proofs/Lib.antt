@@ -1,2 +1,3 @@
 pub mod ProblemLemmas
 pub mod DefinitionLemmas
+pub mod LiveLemmas

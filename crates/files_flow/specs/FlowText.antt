@@ -1,5 +1,5 @@
 -- What is printed of an analysis of a flow graph: the sets before and after each node.
-use Rattle.std.specs.Prelude.{◌≡◌, ◌↔◌, ℕ, ◌+◌, ◌<◌, Bool, true, Option, None, Some, List, [], ◌++◌, codes, length, slice_index_or}
+use Rattle.std.specs.Prelude.{◌≡◌, ◌↔◌, ℕ, ◌+◌, ◌<◌, Bool, true, Option, None, Some, List, [], ◌++◌, codes, cond, length, map, slice_index_or}
 use Rattle.std.specs.List.{flat_map, range_with_len}
 use Rattle.vob_block.specs.Packing.{item}
 use Rattle.vob_flow.specs.Dominators.{Dominates, IsImmediate}
@@ -8,24 +8,24 @@ use Rattle.files_flow.specs.declared.flow.FlowGraph.{FlowGraph}
 use Rattle.files_flow.specs.declared.problem.Problem.{Problem}
 use Rattle.files_flow.specs.Definitions.{IsReachingProblem}
 use Rattle.files_text.specs.Printed.{line_end, members, name_at}
-use Rattle.files_flow.specs.Problems.{AreBefore, IsSolved, lists_of}
+use Rattle.files_flow.specs.Problems.{AreBefore, IsSolved, is_forward, lists_of}
 
--- the labels of the places in a set, a space before each
-abbrev pub labels_text : List (List ℕ) → List Bool → List ℕ
-labels_text labels set = flat_map (λ place. codes " " ++ name_at labels place) (members set)
+-- the labels of some places, a space before each
+abbrev pub labels_text : List (List ℕ) → List ℕ → List ℕ
+labels_text labels places = flat_map (λ place. codes " " ++ name_at labels place) places
 
--- the labels of the set of a node
-abbrev pub set_text : List (List ℕ) → List (List Bool) → ℕ → List ℕ
+-- the labels of the places of a node
+abbrev pub set_text : List (List ℕ) → List (List ℕ) → ℕ → List ℕ
 set_text labels sets node = labels_text labels (slice_index_or sets node [])
 
 -- the line of a node: what holds before and after it
-abbrev pub sides_line : List (List ℕ) → List (List ℕ) → List (List Bool) → List (List Bool) → ℕ → List ℕ
+abbrev pub sides_line : List (List ℕ) → List (List ℕ) → List (List ℕ) → List (List ℕ) → ℕ → List ℕ
 sides_line names labels before after node =
     name_at names node ++ codes ": before" ++ set_text labels before node
     ++ codes "; after" ++ set_text labels after node ++ line_end
 
 -- a line for each name, in their order
-abbrev pub sides_text : List (List ℕ) → List (List ℕ) → List (List Bool) → List (List Bool) → List ℕ
+abbrev pub sides_text : List (List ℕ) → List (List ℕ) → List (List ℕ) → List (List ℕ) → List ℕ
 sides_text names labels before after =
     flat_map (sides_line names labels before after) (range_with_len 0 (length names))
 
@@ -39,7 +39,7 @@ pub record ListsDominatorsOf (before names : List (List ℕ)) (node : ℕ) (line
   pub set : List Bool
   pub len : length set ≡ length before
   pub each : (d : ℕ) → d < length before → (item set d ≡ true) ↔ Dominates before 0 d node
-  pub is : line ≡ name_at names node ++ codes ": dominators" ++ labels_text names set ++ line_end
+  pub is : line ≡ name_at names node ++ codes ": dominators" ++ labels_text names (members set) ++ line_end
 
 -- a space and the name of a node, or nothing
 abbrev pub above_text : List (List ℕ) → Option ℕ → List ℕ
@@ -59,14 +59,16 @@ pub record ListsLive (graph : FlowGraph) (text : List ℕ) : Type 0 where
   pub after : List (List Bool)
   pub solution : IsSolution (length graph.variables) graph.nodes.items before after
   pub least : AreLeastLive (length graph.variables) graph.nodes.items before after
-  pub lines : text ≡ sides_text graph.names graph.variables before after
+  pub lines : text ≡ sides_text graph.names graph.variables (map members before) (map members after)
 
 -- the solution of a problem before and after each node with a name
 pub record ListsSolution (names : List (List ℕ)) (problem : Problem) (text : List ℕ) : Type 0 where
-  pub before : List (List Bool)
-  pub after : List (List Bool)
-  pub solved : IsSolved problem before after
-  pub lines : text ≡ sides_text names (lists_of problem.labels.items) before after
+  pub near : List (List ℕ)
+  pub far : List (List ℕ)
+  pub solved : IsSolved problem near far
+  pub lines : text ≡ cond (is_forward problem.kind)
+      (sides_text names (lists_of problem.labels.items) near far)
+      (sides_text names (lists_of problem.labels.items) far near)
 
 -- the definitions that may still hold before and after each node
 pub record ListsReaching (graph : FlowGraph) (text : List ℕ) : Type 0 where

@@ -1,18 +1,15 @@
 -- Dataflow problems by lists, and the sets that solve them.
-use Rattle.std.specs.Prelude.{◌≡◌, ◌↔◌, ◌⊎◌, ℕ, ◌<◌, Bool, true, List, [], length, map, slice_index_or, Contains, Vec}
-use Rattle.std.specs.declared.alloc.Global.{Global}
-use Rattle.vob.specs.Vobs.{AreOfLength}
-use Rattle.vob_flow.specs.Available.{AreAvailable, AreVeryBusy}
-use Rattle.vob_flow.specs.Draws.{IsIn}
-use Rattle.vob_flow.specs.Reaching.{AreReaching}
+use Rattle.std.specs.Prelude.{◌≡◌, ◌↔◌, ◌⊎◌, ℕ, ◌<◌, Bool, true, false, List, [], ◌∷◌, length, map, slice_index_or, Contains}
+use Rattle.std.specs.List.{range_with_len}
+use Rattle.vob_rows.specs.Sparse.{members}
+pub use Rattle.vob_flow.specs.Lists.{IsBelowEach, Solve, keeps, lists_of, sets_of}
+use Rattle.vob_flow.specs.declared.lists.Paths.{Paths}
+use Rattle.vob_flow.specs.declared.lists.Paths.TheVariants.{Some as SomePath, All as AllPaths, AllFrom}
 use Rattle.vob_flow.specs.declared.live.Flow.{Flow}
+use Rattle.files_flow.specs.declared.flow.FlowGraph.{FlowGraph}
 use Rattle.files_flow.specs.declared.problem.Problem.{Problem}
 use Rattle.files_flow.specs.declared.problem.Kind.{Kind}
-use Rattle.files_flow.specs.declared.problem.Kind.TheVariants.{ForwardMay, ForwardMust, BackwardMust}
-
--- the numbers, or bytes, in some lists
-abbrev pub lists_of : List (Vec ℕ Global) → List (List ℕ)
-lists_of lists = map (λ list. list.items) lists
+use Rattle.files_flow.specs.declared.problem.Kind.TheVariants.{ForwardMay, ForwardMust, BackwardMay, BackwardMust}
 
 -- a number was added to each of some lists
 pub record IsAddedTo (some : List ℕ) (number : ℕ) (lists after : List (List ℕ)) : Type 0 where
@@ -30,37 +27,41 @@ pub record AreBefore (nodes : List Flow) (before : List (List ℕ)) : Type 0 whe
   pub each : (n m : ℕ) → n < length nodes →
       Contains (slice_index_or before n []) m ↔ Contains (next_of nodes m) n
 
--- the sets of some lists of places
-pub record AreSetsOf (places : ℕ) (lists : List (List ℕ)) (sets : List (List Bool)) : Type 0 where
-  pub count : length sets ≡ length lists
-  pub long : AreOfLength places sets
-  pub each : (n v : ℕ) → IsIn sets n v ↔ Contains (slice_index_or lists n []) v
+-- which paths to a node, from where it draws, a kind of problem asks about
+abbrev pub paths_of : Kind → Paths
+paths_of ForwardMay = SomePath
+paths_of ForwardMust = AllFrom 0
+paths_of BackwardMay = SomePath
+paths_of BackwardMust = AllPaths
 
--- v is in one of the lists with some numbers
-abbrev pub IsOfSome : List (List ℕ) → List ℕ → ℕ → Type 0
-IsOfSome lists some v = (x : ℕ) × Contains some x × Contains (slice_index_or lists x []) v
+-- whether a node draws from those that come before it
+abbrev pub is_forward : Kind → Bool
+is_forward ForwardMay = true
+is_forward ForwardMust = true
+is_forward BackwardMay = false
+is_forward BackwardMust = false
 
--- node n kills place v: it is of a variable that the node writes
-abbrev pub Kills : List (List ℕ) → List (List ℕ) → ℕ → ℕ → Type 0
-Kills by_variable writes n v = IsOfSome by_variable (slice_index_or writes n []) v
+-- what nodes generate are places
+abbrev pub Fits : Problem → Type 0
+Fits problem = IsBelowEach (length problem.labels.items) (lists_of problem.generates.items)
 
--- the sets of the places that each node kills
-pub record AreKillSets (by_variable writes : List (List ℕ)) (sets : List (List Bool)) : Type 0 where
-  pub each : (n v : ℕ) → IsIn sets n v ↔ Kills by_variable writes n v
+-- the places on the near side of each node, from where it draws, and on the far one: those of the sets
+-- that solve a problem, where each node keeps what it doesn't kill
+pub record IsSolved (problem : Problem) (near far : List (List ℕ)) : Type 0 where
+  pub near_sets : List (List Bool)
+  pub far_sets : List (List Bool)
+  pub solved : Solve (paths_of problem.kind) (length problem.labels.items) (lists_of problem.from.items)
+      (keeps (lists_of problem.by_variable.items) (lists_of problem.writes.items))
+      (sets_of (length problem.labels.items) (lists_of problem.generates.items)) near_sets far_sets
+  pub near_is : near ≡ map members near_sets
+  pub far_is : far ≡ map members far_sets
 
--- the sets before and after each node that a kind of problem asks for
-abbrev pub Solve : Kind → ℕ → List (List ℕ) → (ℕ → ℕ → Bool) → List (List Bool) → List (List Bool) →
-    List (List Bool) → Type 0
-Solve ForwardMay places from mask gens before after = AreReaching from mask gens before after
-Solve ForwardMust places from mask gens before after = AreAvailable places 0 from mask gens before after
-Solve BackwardMust places from mask gens before after = AreVeryBusy places from mask gens before after
-
--- the sets that solve a problem, where each node keeps what it doesn't kill
-pub record IsSolved (problem : Problem) (before after : List (List Bool)) : Type 0 where
-  pub gens : List (List Bool)
-  pub mask : ℕ → ℕ → Bool
-  pub gens_are : AreSetsOf (length problem.labels.items) (lists_of problem.generates.items) gens
-  pub keeps : (n v : ℕ) → (mask n v ≡ true)
-      ↔ (¬ Kills (lists_of problem.by_variable.items) (lists_of problem.writes.items) n v)
-  pub solved : Solve problem.kind (length problem.labels.items) (lists_of problem.from.items) mask gens
-      before after
+-- a node generates what it reads, and kills what it writes
+pub record IsLiveProblem (graph : FlowGraph) (problem : Problem) : Type 0 where
+  pub kind : problem.kind ≡ BackwardMay
+  pub labels : lists_of problem.labels.items ≡ graph.variables
+  pub generates : lists_of problem.generates.items ≡ map (λ node. node.reads.items) graph.nodes.items
+  pub by_variable : lists_of problem.by_variable.items
+      ≡ map (λ x. x ∷ []) (range_with_len 0 (length graph.variables))
+  pub writes : lists_of problem.writes.items ≡ map (λ node. node.writes.items) graph.nodes.items
+  pub from : lists_of problem.from.items ≡ map (λ node. node.next.items) graph.nodes.items

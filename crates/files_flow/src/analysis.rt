@@ -2,24 +2,20 @@
 ghost use Rattle.std.specs.Prelude.{◌≡◌, [], slice_index_or, IfOk, OnOk};
 ghost use Rattle.std.specs.Io.KnownBytes.{Appends};
 ghost use Rattle.files_text.specs.Printed.{Writes};
-ghost use Rattle.files_flow.specs.Problems.{AreSetsOf, IsSolved, lists_of};
+ghost use Rattle.files_flow.specs.Problems.{Fits, IsSolved, lists_of};
 ghost use Rattle.files_flow.specs.FlowText.{ListsLive, ListsReaching, ListsSolution, labels_text, set_text, sides_text};
 
 use crate::definitions::reaching_problem;
 use crate::dominance::{print_dominators, print_immediate};
 use crate::fault::FlowFault;
 use crate::flow::{FlowGraph, read_flow};
-use crate::kills::kill_sets;
-use crate::problem::{Kind, Problem, available_problem, busy_problem, labels_of};
+use crate::problem::{Problem, available_problem, busy_problem, live_problem};
 use files_text::{Names, end_line, put_name, put_next};
-use std::alloc::{AllocError, Global};
+use std::alloc::Global;
 use std::io;
 use std::io::Write;
-use vob_flow::live::live_rows;
-use vob_flow::{
-    Masks, SolveError, available_expressions, reaching_definitions, very_busy_expressions,
-};
-use vob_rows::{BitRows, Graph, Row, all_below};
+use vob_flow::{Lists, SparseSides, solve_lists};
+use vob_rows::{Graph, SparseRows};
 
 /// An analysis of a flow graph.
 #[derive(Clone, Copy, PartialEq, Eq)]
@@ -63,72 +59,21 @@ impl Analysis {
     }
 }
 
-/// The sets before and after each node, of the numbers of the places.
-#[derive(Drop)]
-struct Sides {
-    before: BitRows,
-    after: BitRows,
-}
-
-/// Returns the fault of lists that don't fit one another.
-pub(crate) fn no_fit() -> FlowFault {
-    FlowFault::Sets(SolveError::BadMasks)
-}
-
-/// Returns the sets of the numbers in some lists.
-fn sets_of(alloc: Global, places: usize, lists: &[Vec<usize>]) -> Result<BitRows, FlowFault>
-    ensures sets { IfOk result (λ sets. AreSetsOf places (lists_of lists.now) sets.rows) }
-    ensures columns { IfOk result (λ sets. sets.columns ≡ places) }
-{
-    let mut sets = BitRows::new(alloc, lists.len(), places)?;
-    for set in 0..lists.len() {
-        let list = &lists[set];
-        if !all_below(list, places) {
-            return Err(no_fit());
-        }
-        sets.set_indices(set, list);
-    }
-    // Each set is as long as there are columns: a proof knows it from this call.
-    let _columns = sets.columns();
-    Ok(sets)
-}
-
 /// Solves a problem: returns the least sets that meet its equations, or the greatest ones if it asks
 /// about all paths.
-fn solve(alloc: Global, problem: &Problem) -> Result<Sides, FlowFault>
-    ensures { IfOk result (λ sides. IsSolved problem.now sides.before.rows sides.after.rows) }
+fn solve(alloc: Global, problem: &Problem) -> Result<SparseSides, FlowFault>
+    ensures solved { IfOk result (λ sides. IsSolved problem.now sides.near.rows sides.far.rows) }
+    ensures fit { OnOk result (Fits problem.now) }
 {
-    let places = problem.labels.len();
-    let kills = kill_sets(alloc, places, &problem.by_variable, &problem.writes)?;
-    let masks = Masks::Without(&kills);
     let from = Graph::from_lists(alloc, &problem.from)?;
-    let mut sets = sets_of(alloc, places, &problem.generates)?;
-    if from.nodes() != sets.rows() {
-        return Err(no_fit());
-    }
-    match problem.kind {
-        Kind::ForwardMay => {
-            let before = reaching_definitions(alloc, &mut sets, &from, masks)?;
-            Ok(Sides {
-                before,
-                after: sets,
-            })
-        }
-        Kind::ForwardMust => {
-            let before = available_expressions(alloc, 0, &mut sets, &from, masks)?;
-            Ok(Sides {
-                before,
-                after: sets,
-            })
-        }
-        Kind::BackwardMust => {
-            let after = very_busy_expressions(alloc, &mut sets, &from, masks)?;
-            Ok(Sides {
-                before: sets,
-                after,
-            })
-        }
-    }
+    let lists = Lists {
+        places: problem.labels.len(),
+        generates: &problem.generates,
+        by_variable: &problem.by_variable,
+        writes: &problem.writes,
+    };
+    let sides = solve_lists(alloc, &lists, &from, problem.kind.paths())?;
+    Ok(sides)
 }
 
 /// Returns the label of a place, or nothing if there is none.
@@ -141,56 +86,89 @@ fn label_at(labels: &[Vec<u8>], place: usize) -> &[u8]
     }
 }
 
-/// Writes the labels of the places in a set, a space before each.
-pub(crate) fn put_labels<W: Write>(
-    output: &mut W,
-    labels: &[Vec<u8>],
-    set: &Row<'_>,
-) -> io::Result<()>
+/// Writes the labels of some places, a space before each.
+fn put_labels<W: Write>(output: &mut W, labels: &[Vec<u8>], places: &[usize]) -> io::Result<()>
     ensures { OnOk result (Appends (W.contents output.old) (W.contents output.new)
-        (labels_text (lists_of labels.now) set.now)) }
+        (labels_text (lists_of labels.now) places.now)) }
 {
-    for place in set.iter_set_bits(..) {
-        put_next(output, label_at(labels, place))?;
+    for place in places {
+        put_next(output, label_at(labels, *place))?;
     }
     Ok(())
 }
 
-/// Writes the labels of the set of a node, if it has one.
-fn put_set<W: Write>(
+/// Writes the labels of the places of a node, if it has any.
+fn put_places<W: Write>(
+    alloc: Global,
     output: &mut W,
     labels: &[Vec<u8>],
-    sets: &BitRows,
+    sets: &SparseRows,
     node: usize,
-) -> io::Result<()>
+) -> Result<(), FlowFault>
     ensures { OnOk result (Appends (W.contents output.old) (W.contents output.new)
         (set_text (lists_of labels.now) sets.now.rows node)) }
 {
     if node < sets.rows() {
-        put_labels(output, labels, &sets.row(node))?;
+        let places = sets.members(alloc, node)?;
+        put_labels(output, labels, &places)?;
     }
     Ok(())
 }
 
 /// Writes what holds before and after each node, a node a line.
 fn put_sides<W: Write>(
+    alloc: Global,
     output: &mut W,
     names: &Names<'_>,
     labels: &[Vec<u8>],
-    sides: &Sides,
-) -> io::Result<()>
+    before: &SparseRows,
+    after: &SparseRows,
+) -> Result<(), FlowFault>
     ensures { OnOk result (Appends (W.contents output.old) (W.contents output.new)
-        (sides_text names.now (lists_of labels.now)
-        sides.now.before.rows sides.now.after.rows)) }
+        (sides_text names.now (lists_of labels.now) before.now.rows after.now.rows)) }
 {
     for node in 0..names.len() {
         put_name(output, names.name(node))?;
         output.write_all(b": before")?;
-        put_set(output, labels, &sides.before, node)?;
+        put_places(alloc, output, labels, before, node)?;
         output.write_all(b"; after")?;
-        put_set(output, labels, &sides.after, node)?;
+        put_places(alloc, output, labels, after, node)?;
         end_line(output)?;
     }
+    Ok(())
+}
+
+/// Writes the solution of a problem before and after each node with a name.
+fn print_solution<W: Write>(
+    alloc: Global,
+    names: &Names<'_>,
+    problem: &Problem,
+    output: &mut W,
+) -> Result<(), FlowFault>
+    ensures written { OnOk result (Writes (W.contents output.old) (W.contents output.new)
+        (ListsSolution names.now problem.now)) }
+    ensures fit { OnOk result (Fits problem.now) }
+{
+    let sides = solve(alloc, problem)?;
+    if problem.kind.is_forward() {
+        put_sides(
+            alloc,
+            output,
+            names,
+            &problem.labels,
+            &sides.near,
+            &sides.far,
+        )?;
+        return Ok(());
+    }
+    put_sides(
+        alloc,
+        output,
+        names,
+        &problem.labels,
+        &sides.far,
+        &sides.near,
+    )?;
     Ok(())
 }
 
@@ -203,28 +181,8 @@ fn print_live<W: Write>(
     ensures { OnOk result (Writes (W.contents output.old) (W.contents output.new)
         (ListsLive graph.now)) }
 {
-    let live = live_rows(alloc, graph.variables.len(), &graph.nodes)?;
-    let labels = labels_of(alloc, &graph.variables)?;
-    let sides = Sides {
-        before: live.before,
-        after: live.after,
-    };
-    put_sides(output, &graph.names, &labels, &sides)?;
-    Ok(())
-}
-
-/// Writes the solution of a problem before and after each node with a name.
-fn print_solution<W: Write>(
-    alloc: Global,
-    names: &Names<'_>,
-    problem: &Problem,
-    output: &mut W,
-) -> Result<(), FlowFault>
-    ensures { OnOk result (Writes (W.contents output.old) (W.contents output.new)
-        (ListsSolution names.now problem.now)) }
-{
-    let sides = solve(alloc, problem)?;
-    put_sides(output, names, &problem.labels, &sides)?;
+    let problem = live_problem(alloc, graph)?;
+    print_solution(alloc, &graph.names, &problem, output)?;
     Ok(())
 }
 

@@ -4,7 +4,7 @@ ghost use Rattle.files_flow.specs.Problems.{lists_of};
 ghost use Rattle.files_flow.specs.Definitions.{AreGrouped, IsReachingProblem, definition_label, definitions_at, definitions_of};
 
 use crate::flow::FlowGraph;
-use crate::problem::{Kind, Problem, add_to, empty_lists, nodes_before, writes_of};
+use crate::problem::{Kind, Problem, add_to, empty_lists, node_lists, nodes_before};
 use files_text::Names;
 use std::alloc::{AllocError, Global};
 use vob_flow::live::Flow;
@@ -103,7 +103,7 @@ pub fn reaching_problem(alloc: Global, graph: &FlowGraph<'_>) -> Result<Problem,
         labels: labels(alloc, &graph.names, &graph.variables, &definitions)?,
         generates: by_node(alloc, graph.nodes.len(), &definitions)?,
         by_variable: by_variable(alloc, graph.variables.len(), &definitions)?,
-        writes: writes_of(alloc, &graph.nodes)?,
+        writes: node_lists(alloc, &graph.nodes)?.writes,
         from: nodes_before(alloc, &graph.nodes)?,
     })
 }

@@ -6,7 +6,6 @@ mod definitions;
 mod dominance;
 mod fault;
 mod flow;
-mod kills;
 mod problem;
 
 pub use analysis::{ANALYSES, Analysis, print_flow};

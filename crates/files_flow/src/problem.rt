@@ -1,13 +1,14 @@
 //! Dataflow problems of a flow graph.
 ghost use Rattle.std.specs.Prelude.{◌≡◌, ◌∷◌, [], map, replicate, slice_index_or, IfOk, OnOk};
-ghost use Rattle.files_flow.specs.Problems.{AreBefore, IsAddedTo, lists_of};
+ghost use Rattle.std.specs.List.{range_with_len};
+ghost use Rattle.files_flow.specs.Problems.{AreBefore, IsAddedTo, IsLiveProblem, lists_of};
 
 use crate::fault::FlowFault;
 use crate::flow::FlowGraph;
 use files_text::Names;
 use std::alloc::{AllocError, Global};
 use vob_flow::live::Flow;
-use vob_flow::reach;
+use vob_flow::{Paths, reach};
 use vob_rows::Graph;
 
 /// Which paths a problem asks about.
@@ -17,8 +18,36 @@ pub enum Kind {
     ForwardMay,
     /// All paths to a node from the first one.
     ForwardMust,
+    /// Some path from a node.
+    BackwardMay,
     /// All paths from a node.
     BackwardMust,
+}
+
+impl Kind {
+    ghost use Rattle.std.specs.Prelude.{◌≡◌};
+    ghost use Rattle.files_flow.specs.Problems.{is_forward, paths_of};
+
+    /// Which paths to a node from which it draws.
+    pub fn paths(self) -> Paths
+        ensures { result ≡ paths_of self }
+    {
+        match self {
+            Kind::ForwardMay | Kind::BackwardMay => Paths::Some,
+            Kind::ForwardMust => Paths::AllFrom(0),
+            Kind::BackwardMust => Paths::All,
+        }
+    }
+
+    /// Whether a node draws from those that come before it.
+    pub fn is_forward(self) -> bool
+        ensures { result ≡ is_forward self }
+    {
+        match self {
+            Kind::ForwardMay | Kind::ForwardMust => true,
+            Kind::BackwardMay | Kind::BackwardMust => false,
+        }
+    }
 }
 
 /// A dataflow problem.
@@ -89,15 +118,44 @@ pub fn list_at(lists: &[Vec<usize>], list: usize) -> &[usize]
     }
 }
 
-/// Returns the variables that each node writes.
-pub fn writes_of(alloc: Global, nodes: &[Flow]) -> Result<Vec<Vec<usize>>, AllocError>
-    ensures { IfOk result (λ writes. lists_of writes.items ≡ map (λ node. node.writes.items) nodes.now) }
+/// The variables that each node reads, those that it writes, and the nodes that come next.
+#[derive(Drop)]
+pub struct NodeLists {
+    pub reads: Vec<Vec<usize>>,
+    pub writes: Vec<Vec<usize>>,
+    pub next: Vec<Vec<usize>>,
+}
+
+/// Returns copies of the lists of each node.
+pub fn node_lists(alloc: Global, nodes: &[Flow]) -> Result<NodeLists, AllocError>
+    ensures reads { IfOk result (λ made. lists_of made.reads.items ≡ map (λ node. node.reads.items) nodes.now) }
+    ensures writes { IfOk result (λ made. lists_of made.writes.items ≡ map (λ node. node.writes.items) nodes.now) }
+    ensures next { IfOk result (λ made. lists_of made.next.items ≡ map (λ node. node.next.items) nodes.now) }
 {
+    let mut reads = Vec::with_capacity(alloc, nodes.len())?;
     let mut writes = Vec::with_capacity(alloc, nodes.len())?;
+    let mut next = Vec::with_capacity(alloc, nodes.len())?;
     for node in 0..nodes.len() {
+        reads.push(nodes[node].reads.to_vec(alloc)?)?;
         writes.push(nodes[node].writes.to_vec(alloc)?)?;
+        next.push(nodes[node].next.to_vec(alloc)?)?;
     }
-    Ok(writes)
+    Ok(NodeLists {
+        reads,
+        writes,
+        next,
+    })
+}
+
+/// Returns for each number below a count the list of it alone.
+fn single_lists(alloc: Global, count: usize) -> Result<Vec<Vec<usize>>, AllocError>
+    ensures { IfOk result (λ lists. lists_of lists.items ≡ map (λ number. number ∷ []) (range_with_len 0 count)) }
+{
+    let mut lists = Vec::with_capacity(alloc, count)?;
+    for number in 0..count {
+        lists.push(vec![in alloc; number]?)?;
+    }
+    Ok(lists)
 }
 
 /// Returns for each node the nodes that come before it.
@@ -111,18 +169,9 @@ pub fn nodes_before(alloc: Global, nodes: &[Flow]) -> Result<Vec<Vec<usize>>, Al
     Ok(before)
 }
 
-/// Returns for each node the nodes that come next.
-fn nodes_next(alloc: Global, nodes: &[Flow]) -> Result<Vec<Vec<usize>>, AllocError> {
-    let mut next = Vec::new(alloc);
-    for node in nodes {
-        next.push(node.next.clone()?)?;
-    }
-    Ok(next)
-}
-
 /// Returns for each node those that come before it and that a path from the entry reaches.
 fn reached_before(alloc: Global, nodes: &[Flow]) -> Result<Vec<Vec<usize>>, FlowFault> {
-    let next = Graph::from_lists(alloc, &nodes_next(alloc, nodes)?)?;
+    let next = Graph::from_lists(alloc, &node_lists(alloc, nodes)?.next)?;
     let mut before = empty_lists(alloc, nodes.len())?;
     if next.nodes() == 0 {
         return Ok(before);
@@ -199,7 +248,7 @@ fn expressions(
     for (node, label) in graph.nodes.iter().zip(own.iter()) {
         generates.push(add_expression(alloc, node, label, &mut names, &mut by_variable)?)?;
     }
-    let writes = writes_of(alloc, &graph.nodes)?;
+    let writes = node_lists(alloc, &graph.nodes)?.writes;
     let labels = labels_of(alloc, &names)?;
     Ok(Problem {
         kind,
@@ -262,6 +311,23 @@ fn nodes_after(
         }
     }
     Ok(after)
+}
+
+/// Returns the problem of the variables that may still be read. A node reads some before it writes.
+pub fn live_problem(alloc: Global, graph: &FlowGraph<'_>) -> Result<Problem, AllocError>
+    ensures { IfOk result (λ problem. IsLiveProblem graph.now problem) }
+{
+    let labels = labels_of(alloc, &graph.variables)?;
+    let by_variable = single_lists(alloc, graph.variables.len())?;
+    let lists = node_lists(alloc, &graph.nodes)?;
+    Ok(Problem {
+        kind: Kind::BackwardMay,
+        labels,
+        generates: lists.reads,
+        by_variable,
+        writes: lists.writes,
+        from: lists.next,
+    })
 }
 
 /// Returns the problem of the expressions that were computed on all paths from the entry to a node.

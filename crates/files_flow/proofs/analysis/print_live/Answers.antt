@@ -1,11 +1,11 @@
--- The lines are those of the least sets.
-use Rattle.std.proofs.Common.{refl}
+-- The solution meets the equations of live variables.
+use Rattle.files_flow.proofs.LiveLemmas.{lists_live}
 use Rattle.files_flow.proofs.analysis.print_live.Goals as goal
 
 pub returns : goal.returns
 returns g c =
-    let live = rw (c.len.ensures, c.deref.ensures.value) at c.in_ok-live.ensures.live in (
-      _,
-      rw (c.deref-2.ensures.value, c.in_ok-labels.ensures) at c.in_ok-put_sides.ensures,
-      record { before = _; after = _; solution = live.solution; least = live.least; lines = refl },
+    let made = c.in_ok-print_solution.ensures in (
+      made.written.0,
+      made.written.1,
+      lists_live c.args.graph.now c.in_ok-problem.problem _ c.in_ok-problem.ensures made.fit made.written.2,
     )

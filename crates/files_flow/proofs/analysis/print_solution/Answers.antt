@@ -1,10 +1,35 @@
 -- The lines are those of the sets that were found.
-use Rattle.std.proofs.Common.{refl}
+use Rattle.std.proofs.Common.{cond, ap, sym, ◌∙◌}
+use Rattle.files_flow.specs.FlowText.{sides_text}
+use Rattle.files_flow.specs.Problems.{lists_of}
 use Rattle.files_flow.proofs.analysis.print_solution.Goals as goal
 
-pub returns : goal.returns
-returns g c = (
+pub returns-then-is_forward-clause-written : goal.returns-then-is_forward-clause-written
+returns-then-is_forward-clause-written g c = (
   _,
   rw c.deref.ensures.value at c.in_ok-put_sides.ensures,
-  record { before = _; after = _; solved = c.in_ok-sides.ensures; lines = refl },
+  record {
+    near = _;
+    far = _;
+    solved = c.in_ok-sides.ensures.solved;
+    lines = sym (ap (λ b. cond b (sides_text c.args.names.now (lists_of c.args.problem.now.labels.items)
+        c.in_ok-sides.sides.near.rows c.in_ok-sides.sides.far.rows) (sides_text c.args.names.now
+        (lists_of c.args.problem.now.labels.items) c.in_ok-sides.sides.far.rows c.in_ok-sides.sides.near.rows))
+        (sym c.is_forward.ensures ∙ c.if-is_forward.true));
+  },
+)
+
+pub returns-clause-written : goal.returns-clause-written
+returns-clause-written g c = (
+  _,
+  rw c.deref-2.ensures.value at c.in_ok-put_sides-2.ensures,
+  record {
+    near = _;
+    far = _;
+    solved = c.in_ok-sides.ensures.solved;
+    lines = sym (ap (λ b. cond b (sides_text c.args.names.now (lists_of c.args.problem.now.labels.items)
+        c.in_ok-sides.sides.near.rows c.in_ok-sides.sides.far.rows) (sides_text c.args.names.now
+        (lists_of c.args.problem.now.labels.items) c.in_ok-sides.sides.far.rows c.in_ok-sides.sides.near.rows))
+        (sym c.is_forward.ensures ∙ c.if-is_forward.false));
+  },
 )

@@ -16,9 +16,9 @@ loop-node-preserved g c =
     (Appends-both _ _ _ _ _ (Appends-both _ _ _ _ _ (Appends-both _ _ _ _ _ (Appends-both _ _ _ _ _
     (Appends-both _ _ _ _ _ (rw (← c.name.ensures) c.in_ok-put_name.ensures)
     c.in_ok-write_all.ensures.bytes)
-    c.in_ok-put_set.ensures)
+    c.in_ok-put_places.ensures)
     c.in_ok-write_all-2.ensures.bytes)
-    c.in_ok-put_set-2.ensures)
+    c.in_ok-put_places-2.ensures)
     c.in_ok-end_line.ensures)
 
 pub returns : goal.returns

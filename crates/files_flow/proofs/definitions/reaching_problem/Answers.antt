@@ -13,6 +13,6 @@ returns c =
       labels = rw (c.deref-2.ensures.value, made) at c.in_ok-labels.ensures;
       generates = rw (many, c.deref-3.ensures.value, made) at c.in_ok-by_node.ensures;
       by_variable = rw (c.len-2.ensures, c.deref-4.ensures.value, made) at c.in_ok-by_variable.ensures;
-      writes = rw c.deref-5.ensures.value at c.in_ok-writes_of.ensures;
+      writes = rw c.deref-5.ensures.value at c.in_ok-node_lists.ensures.writes;
       from = rw c.deref-6.ensures.value at c.in_ok-nodes_before.ensures;
     }
