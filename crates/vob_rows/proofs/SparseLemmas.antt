@@ -1,8 +1,8 @@
 -- The indices of set bits, part by part.
-use Rattle.std.specs.Prelude.{All}
-use Rattle.std.specs.List.{flat_map, range_with_len}
+use Rattle.std.specs.Prelude.{All, AllPairs, Contains, ◌⊎◌}
+use Rattle.std.specs.List.{range_with_len}
 use Rattle.std.specs.declared.ops.Bound.TheVariants.{Unbounded}
-use Rattle.std.proofs.Common.{◌≡◌, ◌≢◌, ℕ, zero, suc, ◌+◌, ◌-◌, ◌*◌, ◌<◌, ◌≤◌, Bool, true, false, cond, inl, inr, List, [], ◌∷◌, ◌++◌, length, map, take, drop, filter, get_or, set, refl, sym, ap, subst, ◌∙◌, arith, take-add, mul-le-mul_left}
+use Rattle.std.proofs.Common.{◌≡◌, ◌≢◌, ℕ, zero, suc, ◌+◌, ◌-◌, ◌*◌, ◌<◌, ◌≤◌, Bool, true, false, cond, inl, inr, List, [], ◌∷◌, ◌++◌, length, map, take, drop, filter, get_or, set, refl, sym, ap, subst, ◌∙◌, arith, take-add}
 use Rattle.std.proofs.lemmas.Bool.{cases_eq, cases_lt}
 use Rattle.std.proofs.lemmas.List.{append-nil, append_assoc, get_or_past, get_or-drop, get_or-take, get_or-append-add, get_or_append_left, get_or_default, get_or-map, get_or-set_other, get_or-set_same, length-append, length-map, length-set, length-take, length-take-le, map-append, take_all}
 use Rattle.std.proofs.lemmas.List.Concat.{flat_map-append}
@@ -265,52 +265,90 @@ members_inside bits k d less =
     ((matches_exactly bits true Unbounded Unbounded (get_or (members bits) k d)).0
     (Contains-get_or (members bits) k d less)).0
 
--- the first k rows are wider
-pub record AreWider (from : ℕ) (others : List (List Bool)) (k : ℕ) (before after : List (List ℕ))
-    : Type 0 where
-  pub count : length after ≡ length before
-  pub low : (i : ℕ) → i < k → i < length before →
-      get_or after i [] ≡ get_or before i [] ++ map (λ j. from + j) (members (get_or others i []))
-  pub high : (i : ℕ) → k ≤ i → get_or after i [] ≡ get_or before i []
+-- a number is in a list, or it isn't
+pub cases_contains : (xs : List ℕ) (n : ℕ) → Contains xs n ⊎ (¬ Contains xs n)
+cases_contains [] n = inr (λ within. omega (arith, within.1))
+cases_contains (x ∷ xs) n = elim (cases_eq n x) [
+  | inl here ↦ inl (0, omega arith, sym here)
+  | inr apart ↦ elim (cases_contains xs n) [
+    | inl later ↦ inl (suc later.0, omega (arith, later.1), later.2)
+    | inr none ↦ inr (λ within. other x xs n apart none within.0 within.1 within.2)
+  ]
+]
+  where
+    other : (x : ℕ) (xs : List ℕ) (n : ℕ) → n ≢ x → (¬ Contains xs n) → (k : ℕ) → k < length (x ∷ xs) →
+        get_or (x ∷ xs) k n ≡ n → ⊥
+    other x xs n apart none zero less e = apart (sym e)
+    other x xs n apart none (suc k) less e = none (k, omega (arith, less), e)
 
-module _ (from : ℕ) (others : List (List Bool)) where
-  pub wider_none : (before : List (List ℕ)) → AreWider from others 0 before before
+-- the rows with the first k numbers are wider
+pub record AreWider (from : ℕ) (numbers : List ℕ) (others : List (List Bool)) (k : ℕ)
+    (before after : List (List ℕ)) : Type 0 where
+  pub count : length after ≡ length before
+  pub low : (i n : ℕ) → i < k → get_or numbers i 0 ≡ n →
+      get_or after n [] ≡ get_or before n [] ++ map (λ j. from + j) (members (get_or others i []))
+  pub high : (n : ℕ) → ((i : ℕ) → i < k → get_or numbers i 0 ≢ n) → get_or after n [] ≡ get_or before n []
+
+module _ (from : ℕ) (numbers : List ℕ) (others : List (List Bool)) where
+  pub wider_none : (before : List (List ℕ)) → AreWider from numbers others 0 before before
   wider_none before = record {
     count = refl;
-    low = λ i less inside. absurd (omega (arith, less));
-    high = λ i past. refl;
+    low = λ i n less is. absurd (omega (arith, less));
+    high = λ n away. refl;
   }
 
-  pub wider_more : (k : ℕ) (before mid : List (List ℕ)) (row : List ℕ) → k < length before →
-      AreWider from others k before mid →
-      row ≡ get_or mid k [] ++ map (λ j. from + j) (members (get_or others k [])) →
-      AreWider from others (k + 1) before (set mid k row)
-  wider_more k before mid row less h is = record {
-    count = length-set mid k row ∙ h.count;
-    low = λ i low inside. elim (cases_eq i k) [
-      | inl same ↦ rw same (get_or-set_same mid k row [] (omega (arith, less, h.count))
-          ∙ is ∙ ap (λ (l : List ℕ). l ++ map (λ j. from + j) (members (get_or others k []))) (h.high k (omega arith)))
-      | inr other ↦ get_or-set_other mid k i row [] other ∙ h.low i (omega (arith, low, other)) inside
-    ];
-    high = λ i past.
-        let other : i ≢ k = λ e. omega (arith, past, e) in
-        get_or-set_other mid k i row [] other ∙ h.high i (omega (arith, past));
-  }
+  module _ (k : ℕ) (before mid : List (List ℕ)) (row : List ℕ) (less : k < length numbers)
+      (rise : AllPairs (λ n m. n < m) numbers) (inside : All (λ n. n < length before) numbers)
+      (h : AreWider from numbers others k before mid) where
+    abbrev at : ℕ
+    at = get_or numbers k 0
+
+    below : (i : ℕ) → i < k → get_or numbers i 0 ≢ at
+    below i low e = omega (arith, rise i k 0 low less, e)
+
+    pub wider_more : row ≡ get_or mid (get_or numbers k 0) [] ++ map (λ j. from + j) (members (get_or others k [])) →
+        AreWider from numbers others (k + 1) before (set mid (get_or numbers k 0) row)
+    wider_more is = record {
+      count = length-set mid at row ∙ h.count;
+      low = λ i n low there. elim (cases_eq i k) [
+        | inl same ↦
+            let here : n ≡ at = sym there ∙ ap (λ j. get_or numbers j 0) same in
+            rw (here, same) (get_or-set_same mid at row [] (omega (arith, inside k 0 less, h.count))
+            ∙ is ∙ ap (λ (l : List ℕ). l ++ map (λ j. from + j) (members (get_or others k []))) (h.high at below))
+        | inr other ↦
+            let before_k : i < k = omega (arith, low, other) in
+            get_or-set_other mid at n row [] (λ e. below i before_k (there ∙ e)) ∙ h.low i n before_k there
+      ];
+      high = λ n away.
+          get_or-set_other mid at n row [] (λ e. away k (omega arith) (sym e))
+          ∙ h.high n (λ i low. away i (omega (arith, low)));
+    }
+
+  pub wider_all : (n : ℕ) (before after : List (List ℕ)) → AreWider from numbers others (length numbers) before after →
+      (¬ Contains numbers n) → get_or after n [] ≡ get_or before n []
+  wider_all n before after h none = h.high n (λ i low e. none (i, low, get_or_default numbers i n 0 low ∙ e))
 
   -- so are all, and their columns are below both counts
   pub wider_inside : (columns wide : ℕ) (before after : List (List ℕ)) → columns ≡ from →
-      AreOfLength wide others → length others ≡ length before →
-      AreWider from others (length before) before after →
+      AreOfLength wide others → length numbers ≤ length others →
+      AreWider from numbers others (length numbers) before after →
       All (λ row. All (λ j. j < columns) row) before → All (λ row. All (λ j. j < from + wide) row) after
-  wider_inside columns wide before after same long count h all i d less =
-      let inside : i < length before = omega (arith, less, h.count) in
-      let wider = get_or_default after i d [] less ∙ h.low i inside inside in
-      let old = all i [] inside in
-      let own = get_or others i [] in
-      let wide_is = long i [] (omega (arith, inside, count)) in
-      subst (All (λ j. j < from + wide)) (sym wider) (both (get_or before i []) (members own)
-      (λ k d less. omega (arith, old k d less, same))
-      (λ k d less. omega (arith, members_inside own k d less, wide_is)))
+  wider_inside columns wide before after same long enough h all n d less =
+      let old = all n [] (omega (arith, less, h.count)) in
+      elim (cases_contains numbers n) [
+        | inl within ↦
+            let i = within.0 in
+            let is : get_or numbers i 0 ≡ n = get_or_default numbers i 0 n within.1 ∙ within.2 in
+            let wider = get_or_default after n d [] less ∙ h.low i n within.1 is in
+            let own = get_or others i [] in
+            let wide_is = long i [] (omega (arith, within.1, enough)) in
+            subst (All (λ j. j < from + wide)) (sym wider) (both (get_or before n []) (members own)
+            (λ k d less. omega (arith, old k d less, same))
+            (λ k d less. omega (arith, members_inside own k d less, wide_is)))
+        | inr none ↦
+            subst (All (λ j. j < from + wide)) (sym (get_or_default after n d [] less ∙ wider_all n before after h none))
+            (λ k d less. omega (arith, old k d less, same))
+      ]
     where
       both : (xs ys : List ℕ) → All (λ j. j < from + wide) xs → All (λ j. j < wide) ys →
           All (λ j. j < from + wide) (xs ++ map (λ j. from + j) ys)

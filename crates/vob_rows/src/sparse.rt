@@ -1,6 +1,5 @@
 //! Rows of bits of which only blocks with a set bit are kept.
-ghost use Rattle.std.specs.Prelude.{◌≡◌, ◌+◌, ◌<◌, ◌≤◌, ◌++◌, [], length, map, replicate, slice_index_or, All, IfOk, OnOk};
-ghost use Rattle.vob_rows.specs.Rows.{row_of};
+ghost use Rattle.std.specs.Prelude.{◌≡◌, ◌+◌, ◌<◌, ◌≤◌, ◌++◌, [], length, map, replicate, slice_index_or, All, AllPairs, IfOk, OnOk};
 ghost use Rattle.vob_rows.specs.Sparse.{block_members, kept_members, members, AreWidened};
 
 use crate::row::Row;
@@ -117,18 +116,21 @@ impl SparseRows {
         Ok(columns)
     }
 
-    /// Returns these rows with the columns of others, as many, behind their own. Fails if memory runs
-    /// out, or no length counts the columns.
-    pub fn widened(self, others: &BitRows) -> Result<SparseRows, AllocError>
-        requires { length others.now.rows ≡ length self.rows }
-        ensures { IfOk result (AreWidened self others.now) }
+    /// Returns these rows with the columns of others behind their own: the row with the i-th of the
+    /// numbers, which rise, has the bits of row `i` there, and a row without a number has no set bit.
+    /// Fails if memory runs out, or no length counts the columns.
+    pub fn widened(self, numbers: &[usize], others: &BitRows) -> Result<SparseRows, AllocError>
+        requires rise { AllPairs (λ n m. n < m) numbers.now }
+        requires inside { All (λ n. n < length self.rows) numbers.now }
+        requires enough { length numbers.now ≤ length others.now.rows }
+        ensures { IfOk result (AreWidened self numbers.now others.now) }
     {
         let SparseRows { mut kept, columns } = self;
         let Some(total) = columns.checked_add(others.columns()) else {
             return Err(AllocError);
         };
-        for i in 0..others.rows() {
-            keep_blocks(&mut kept[i], columns, &others.row(i))?;
+        for i in 0..numbers.len() {
+            keep_blocks(&mut kept[numbers[i]], columns, &others.row(i))?;
         }
         Ok(SparseRows {
             kept,

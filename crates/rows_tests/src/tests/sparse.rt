@@ -13,18 +13,22 @@ fn is_there(i: usize, j: usize) -> bool {
     }
 }
 
+/// The rows in which a bit may be set.
+const NUMBERS: [usize; 2] = [0, 2];
+
 /// Adds columns with the bits of the formula.
 fn widen(rt: &(impl Abort + AllocGlobal), rows: SparseRows, more: usize) -> SparseRows {
-    let mut part = BitRows::new(rt.alloc(), rows.rows(), more).expect(rt, "memory");
-    for i in 0..rows.rows() {
+    let mut part = BitRows::new(rt.alloc(), 3, more).expect(rt, "memory");
+    for (i, number) in NUMBERS.iter().enumerate() {
         for j in 0..more {
             if i < part.rows() && j < part.columns() {
-                part.set(i, j, is_there(i, rows.columns().wrapping_add(j)));
+                part.set(i, j, is_there(*number, rows.columns().wrapping_add(j)));
             }
         }
     }
-    assert!(rt; part.rows() == rows.rows());
-    rows.widened(&part).expect(rt, "memory")
+    assert!(rt; rows.rows() == 3);
+    assert!(rt; part.rows() == 3);
+    rows.widened(&NUMBERS, &part).expect(rt, "memory")
 }
 
 /// Compares the set bits of each row with the formula.
