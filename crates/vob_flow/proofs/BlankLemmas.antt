@@ -38,6 +38,24 @@ pub blank_each : (count places : ℕ) (P : ℕ → ℕ → Type 0) {after : List
 blank_each count places P {after} h few = EachGets-all P h (length-replicate count (replicate places false))
     (blank_none count places) few (λ n v e. omega (arith, row_inside after n v e, blank_count count places h))
 
+-- what the first k of them got
+pub blank_some : (count places k : ℕ) (P : ℕ → ℕ → Type 0) {after : List (List Bool)}
+    → EachGets (blank count places) P after k → ((n v : ℕ) → P n v → n < k) → (n v : ℕ)
+    → IsIn after n v ↔ P n v
+blank_some count places k P {after} h few n v = elim (cases_lt n k) [
+  | inl low ↦ (
+    (λ e. elim ((h.below n v low).0 e) [
+      | inl old ↦ absurd (blank_none count places n v old)
+      | inr new ↦ new
+    ]),
+    (λ p. (h.below n v low).1 (inr p)),
+  )
+  | inr past ↦ (
+    (λ e. absurd (blank_none count places n v (ap (λ bits. item bits v) (sym (h.above n past)) ∙ e))),
+    (λ p. absurd (omega (arith, past, few n v p))),
+  )
+]
+
 -- two times as many sets of one length
 pub shape_from_long : (places : ℕ) (sets others : List (List Bool)) → AreOfLength places sets
     → AreOfLength places others → length others ≡ length sets → HaveShape sets others

@@ -1,5 +1,6 @@
 mod AnyLemmas
 mod AvailableLemmas
+mod BesideLemmas
 pub mod BlankLemmas
 pub mod ChangesLemmas
 mod ClimbLemmas
@@ -25,6 +26,8 @@ mod ReachingLemmas
 mod ScheduleLemmas
 mod SearchLemmas
 mod SpanningLemmas
+mod SpreadLemmas
+pub mod TouchedLemmas
 mod TurnsLemmas
 mod UnderwayLemmas
 mod WayLemmas

@@ -1,22 +1,20 @@
 -- Problems that are solved for some places at a time.
-use Rattle.std.specs.List.{All, Any, Contains, list_any, range_with_len}
-use Rattle.std.proofs.Common.{◌≡◌, ◌↔◌, ◌⊎◌, ◌==◌, ◌&&◌, ◌||◌, ℕ, zero, suc, ◌+◌, ◌-◌, ◌<◌, ◌≤◌, Bool, true, false, not, inl, inr, Option, None, Some}
-use Rattle.std.proofs.Common.{List, [], ◌∷◌, ◌++◌, length, map, replicate, take, get_or, refl, sym, ap, ◌∙◌, subst, arith, eq-eqb}
+use Rattle.std.specs.List.{Any, Contains, list_any, range_with_len}
+use Rattle.std.proofs.Common.{◌≡◌, ◌↔◌, ◌⊎◌, ◌==◌, ◌||◌, ℕ, zero, suc, ◌+◌, ◌-◌, ◌<◌, Bool, true, false, not, inl, inr, Option, None, Some}
+use Rattle.std.proofs.Common.{List, [], ◌∷◌, length, map, take, get_or, refl, sym, ap, ◌∙◌, subst, arith, eq-eqb}
 use Rattle.std.proofs.lemmas.Bool.{cases_Bool, cases_eq, cases_lt, false≢true, false_from_ne_true, ne_eqb}
-use Rattle.std.proofs.lemmas.List.{ext_get_or, get_or-append-add, get_or_append_left, get_or-map, get_or_default, get_or_past, length-append, length-map, length-replicate}
+use Rattle.std.proofs.lemmas.List.{get_or-map, get_or_default, get_or_past, length-map}
 use Rattle.std.proofs.lemmas.List.Elements.{Contains-get_or}
 use Rattle.std.proofs.lemmas.List.FromFn.{get_or-map-range_with_len, length-map-range_with_len}
 use Rattle.vob_block.specs.Packing.{item}
 use Rattle.vob_block.proofs.PackingLemmas.{true_inside}
 use Rattle.vob.specs.Vobs.{AreOfLength}
 use Rattle.vob.proofs.BitsLemmas.{row_inside}
-use Rattle.vob.proofs.VobsLemmas.{of_length_at, of_length_replicate}
+use Rattle.vob.proofs.VobsLemmas.{of_length_at}
 use Rattle.vob_rows.specs.Graph.{LeadToNodes}
-use Rattle.vob_rows.specs.Rows.{Matrix}
-use Rattle.vob_rows.specs.Sparse.{AreWidened, SparseMatrix, members}
-use Rattle.vob_rows.proofs.SparseLemmas.{members-append, members_none}
+use Rattle.vob_rows.specs.Sparse.{SparseMatrix}
 use Rattle.vob_flow.specs.Available.{HoldOnAll, IsEntry}
-use Rattle.vob_flow.specs.Changes.{EachBecomes, EachGets, Gets}
+use Rattle.vob_flow.specs.Changes.{EachBecomes, Gets}
 use Rattle.vob_flow.specs.declared.lists.Paths.{Paths}
 use Rattle.vob_flow.specs.declared.lists.Paths.TheVariants.{Some as SomePath, All as AllPaths, AllFrom}
 use Rattle.vob_flow.specs.Draws.{AreLeast, Comes, HaveShape, IsDrawn, IsIn}
@@ -26,11 +24,11 @@ use Rattle.vob_flow.specs.Reaching.{AreReaching}
 use Rattle.vob_flow.specs.Greatest.{AreGreatest, IsInAll, Misses, away}
 use Rattle.vob_flow.specs.Greatest.Misses.{dropped, missed}
 use Rattle.vob_flow.specs.Lists.{Solve, has, keeps, sets_of}
-use Rattle.vob_flow.specs.Parts.{AreSolvedBelow, DrawsNear, Far, HoldThere, HoldsNear, Kills, MissesFar, Near, value_of}
+use Rattle.vob_flow.specs.Parts.{AreSolvedBelow, DrawsNear, HoldThere, HoldsNear, Kills, MissesFar}
 use Rattle.vob_flow.proofs.AnyLemmas.{Any-contained, Any-map, contains_next, edge_inside}
 use Rattle.vob_flow.proofs.AvailableLemmas.{HoldOnAll-greatest, missing}
 use Rattle.vob_flow.proofs.BlankLemmas.{shape_from_long}
-use Rattle.vob_flow.proofs.ChangesLemmas.{Gets-as, Gets-more, Gets-none}
+use Rattle.vob_flow.proofs.ChangesLemmas.{Gets-more, Gets-none}
 use Rattle.vob_flow.proofs.GreatestLemmas.{in_or}
 use Rattle.vob_flow.proofs.PassLemmas.{shape_long}
 use Rattle.vob_flow.proofs.ReachingLemmas.{AreReaching-least}
@@ -111,17 +109,14 @@ module _ (places : ℕ) (lists : List (List ℕ)) where
 
 -- ---- what a node kills, and its mask
 
-pub mask_is : (by_variable writes : List (List ℕ)) (kills : List (List Bool)) (n j v : ℕ) →
-    IsIn kills n j ↔ Kills by_variable writes n v →
-    not (item (get_or kills n []) j) ≡ keeps by_variable writes n v
-mask_is by_variable writes kills n j v is = ap not (same_bits _ _ (
+pub mask_is : (by_variable : List (List ℕ)) (own : List ℕ) (kills : List (List Bool)) (i j v : ℕ) →
+    IsIn kills i j ↔ Kills by_variable own v →
+    not (item (get_or kills i []) j) ≡ not (list_any (λ x. has (get_or by_variable x []) v) own)
+mask_is by_variable own kills i j v is = ap not (same_bits _ _ (
   (λ e. (any_is p own).1 (Any-map _ _ own (λ x within. (has_is (get_or by_variable x []) v).1 within) (is.0 e))),
   (λ e. is.1 (Any-map _ _ own (λ x on. (has_is (get_or by_variable x []) v).0 on) ((any_is p own).0 e))),
 ))
   where
-    own : List ℕ
-    own = get_or writes n []
-
     p : ℕ → Bool
     p x = has (get_or by_variable x []) v
 
@@ -152,90 +147,6 @@ module _ (list : List ℕ) (start columns : ℕ) where
 -- list n has the number with place j, counted from a start
 abbrev pub OfPart : List (List ℕ) → ℕ → ℕ → ℕ → ℕ → Type 0
 OfPart lists start count n j = (j < count) × Contains (get_or lists n []) (start + j)
-
--- ---- what comes to sets, and what is missing, counted from a start
-
-module _ (next : List (List ℕ)) (part whole : ℕ → ℕ → Bool) (own all : List (List Bool)) (start count : ℕ)
-    (gens_same : (n j : ℕ) → j < count → IsIn own n j ↔ IsIn all n (start + j))
-    (mask_same : (n j : ℕ) → j < count → part n j ≡ whole n (start + j)) where
-  comes_up : {n j : ℕ} → j < count → Comes next part own n j → Comes next whole all n (start + j)
-  comes_up {n} {j} low (starts_in e) = starts_in ((gens_same n j low).0 e)
-  comes_up {n} {j} low (drawn keeps within c) =
-      drawn (sym (mask_same n j low) ∙ keeps) within (comes_up low c)
-
-  comes_down : {n v : ℕ} (j : ℕ) → j < count → v ≡ start + j → Comes next whole all n v → Comes next part own n j
-  comes_down {n} {v} j low same (starts_in e) = starts_in ((gens_same n j low).1 (subst (IsIn all n) same e))
-  comes_down {n} {v} j low same (drawn keeps within c) =
-      drawn (mask_same n j low ∙ subst (λ u. whole n u ≡ true) same keeps) within (comes_down j low same c)
-
-  pub comes_same : (n j : ℕ) → j < count → Comes next part own n j ↔ Comes next whole all n (start + j)
-  comes_same n j low = ((λ c. comes_up low c), (λ c. comes_down j low refl c))
-
-  misses_up : {n j : ℕ} → j < count → Misses next part own n j → Misses next whole all n (start + j)
-  misses_up {n} {j} low (dropped new drops) =
-      dropped (λ e. new ((gens_same n j low).1 e)) (sym (mask_same n j low) ∙ drops)
-  misses_up {n} {j} low (missed new within c) =
-      missed (λ e. new ((gens_same n j low).1 e)) within (misses_up low c)
-
-  misses_down : {n v : ℕ} (j : ℕ) → j < count → v ≡ start + j → Misses next whole all n v →
-      Misses next part own n j
-  misses_down {n} {v} j low same (dropped new drops) =
-      dropped (λ e. new (subst (IsIn all n) (sym same) ((gens_same n j low).0 e)))
-      (mask_same n j low ∙ subst (λ u. whole n u ≡ false) same drops)
-  misses_down {n} {v} j low same (missed new within c) =
-      missed (λ e. new (subst (IsIn all n) (sym same) ((gens_same n j low).0 e))) within (misses_down j low same c)
-
-  pub misses_same : (n j : ℕ) → j < count → Misses next part own n j ↔ Misses next whole all n (start + j)
-  misses_same n j low = ((λ c. misses_up low c), (λ c. misses_down j low refl c))
-
--- what a problem asks, counted from a start
-module _ (next : List (List ℕ)) (part whole : ℕ → ℕ → Bool) (own all : List (List Bool)) (start count : ℕ)
-    (gens_same : (n j : ℕ) → j < count → IsIn own n j ↔ IsIn all n (start + j))
-    (mask_same : (n j : ℕ) → j < count → part n j ≡ whole n (start + j)) where
-  away_same : (entry : Option ℕ) (n j : ℕ) → j < count → away entry part n j ≡ away entry whole n (start + j)
-  away_same None n j low = mask_same n j low
-  away_same (Some entry) n j low = ap (λ b. not (n == entry) && b) (mask_same n j low)
-
-  misses_far : (entry : Option ℕ) (n j : ℕ) → j < count →
-      MissesFar next part own entry n j ↔ MissesFar next whole all entry n (start + j)
-  misses_far entry n j low =
-      misses_same next (away entry part) (away entry whole) own all start count gens_same (away_same entry) n j low
-
-  holds_near : (entry : Option ℕ) (n j : ℕ) → j < count →
-      HoldsNear next part own entry n j ↔ HoldsNear next whole all entry n (start + j)
-  holds_near entry n j low = (
-    (λ both. (both.0, λ k d less c. both.1 k d less ((misses_far entry (get_or (get_or next n []) k d) j low).1 c))),
-    (λ both. (both.0, λ k d less c. both.1 k d less ((misses_far entry (get_or (get_or next n []) k d) j low).0 c))),
-  )
-
-  pub far_same : (paths : Paths) (n j : ℕ) → j < count →
-      Far next part own paths n j ↔ Far next whole all paths n (start + j)
-  far_same SomePath n j low = comes_same next part whole own all start count gens_same mask_same n j low
-  far_same AllPaths n j low = misses_far None n j low
-  far_same (AllFrom entry) n j low = misses_far (Some entry) n j low
-
-  pub near_same : (paths : Paths) (n j : ℕ) → j < count →
-      Near next part own paths n j ↔ Near next whole all paths n (start + j)
-  near_same SomePath n j low =
-      let same : (m : ℕ) → Comes next part own m j ↔ Comes next whole all m (start + j) =
-      λ m. comes_same next part whole own all start count gens_same mask_same m j low in (
-        (λ some. Any-map _ _ (get_or next n []) (λ m c. (same m).0 c) some),
-        (λ some. Any-map _ _ (get_or next n []) (λ m c. (same m).1 c) some),
-      )
-  near_same AllPaths n j low = holds_near None n j low
-  near_same (AllFrom entry) n j low = holds_near (Some entry) n j low
-
-pub HoldThere-as : {value : Bool} {nodes count : ℕ} {P : ℕ → ℕ → Type 0} (Q : ℕ → ℕ → Type 0) {rows : List (List Bool)} →
-    HoldThere value nodes count P rows → ((n v : ℕ) → v < count → P n v ↔ Q n v) →
-    HoldThere value nodes count Q rows
-HoldThere-as Q h same = record {
-  count_is = h.count_is;
-  long = h.long;
-  each = λ n v node less.
-      let is = h.each n v node less in
-      let means = same n v less in
-      ((λ e. means.0 (is.0 e)), (λ q. is.1 (means.1 q)));
-}
 
 -- ---- the least sets, and the greatest, hold what they should
 
@@ -306,127 +217,6 @@ module _ {next : List (List ℕ)} (mask : ℕ → ℕ → Bool) {gens far : List
             )),
           );
     }
-
--- ---- parts side by side
-
-abbrev pub beside : List (List Bool) → List (List Bool) → List (List Bool)
-beside low high = map (λ n. get_or low n [] ++ get_or high n []) (range_with_len 0 (length low))
-
-beside_row : (low high : List (List Bool)) (n : ℕ) → n < length low →
-    get_or (beside low high) n [] ≡ get_or low n [] ++ get_or high n []
-beside_row low high n less =
-    get_or-map-range_with_len (λ n. get_or low n [] ++ get_or high n []) 0 (length low) n n [] less (omega arith)
-
-module _ (value : Bool) (nodes from count : ℕ) (P : ℕ → ℕ → Type 0) (low high : List (List Bool))
-    (first : HoldThere value nodes from P low) (last : HoldThere value nodes count (λ n j. P n (from + j)) high) where
-  row_long : (n : ℕ) → n < nodes → length (get_or low n []) ≡ from
-  row_long n node = of_length_at from low n [] first.long (omega (arith, node, first.count_is))
-
-  pub HoldThere-beside : HoldThere value nodes (from + count) P (beside low high)
-  HoldThere-beside = record {
-    count_is = length-map-range_with_len (λ n. get_or low n [] ++ get_or high n []) 0 (length low) ∙ first.count_is;
-    long = λ n d less.
-        let node : n < nodes = omega (
-          arith,
-          less,
-          first.count_is,
-          length-map-range_with_len (λ n. get_or low n [] ++ get_or high n []) 0 (length low),
-        ) in
-        omega (
-          arith,
-          ap length (get_or_default (beside low high) n d [] less),
-          ap length (beside_row low high n (omega (arith, node, first.count_is))),
-          length-append (get_or low n []) (get_or high n []),
-          row_long n node,
-          of_length_at count high n [] last.long (omega (arith, node, last.count_is)),
-        );
-    each = λ n v node less.
-        let row = ap (λ bits. item bits v) (beside_row low high n (omega (arith, node, first.count_is))) in
-        elim (cases_lt v from) [
-          | inl early ↦
-              let same = row ∙ get_or_append_left (get_or low n []) (get_or high n []) false v
-              (omega (arith, early, row_long n node)) in
-              let is = first.each n v node early in
-              ((λ e. is.0 (sym same ∙ e)), (λ p. same ∙ is.1 p))
-          | inr late ↦
-              let at : from + (v - from) ≡ v = omega (arith, late) in
-              let same = row ∙ ap (λ k. item (get_or low n [] ++ get_or high n []) k)
-              (sym at ∙ ap (λ k. k + (v - from)) (sym (row_long n node)))
-              ∙ get_or-append-add (get_or low n []) (get_or high n []) (v - from) false in
-              let is = last.each n (v - from) node (omega (arith, late, less)) in
-              ((λ e. subst (P n) at (is.0 (sym same ∙ e))), (λ p. same ∙ is.1 (subst (P n) (sym at) p)))
-        ];
-  }
-
--- what sparse rows hold as others are put behind their own
-pub members_beside : (low high : List (List Bool)) (columns wide : ℕ) (before after : SparseMatrix) →
-    AreOfLength columns low → before.columns ≡ columns → length high ≡ length low →
-    before.rows ≡ map members low →
-    AreWidened before (record { rows = high; columns = wide }) after →
-    after.rows ≡ map members (beside low high)
-members_beside low high columns wide before after long is count same w =
-    ext_get_or [] after.rows (map members (beside low high))
-    (w.count ∙ ap length same ∙ length-map low members ∙ sym (length-map (beside low high) members ∙ sides_count))
-    (λ n less.
-    let node : n < length low = omega (arith, less, w.count, ap length same, length-map low members) in
-    let own : get_or before.rows n [] ≡ members (get_or low n []) =
-    ap (λ rows. get_or rows n []) same ∙ get_or-map members low n [] [] node in
-    w.each n (omega (arith, less, w.count))
-    ∙ ap (λ (l : List ℕ). l ++ map (λ i. before.columns + i) (members (get_or high n []))) own
-    ∙ ap (λ k. members (get_or low n []) ++ map (λ i. k + i) (members (get_or high n [])))
-    (is ∙ sym (of_length_at columns low n [] long node))
-    ∙ sym (members-append (get_or low n []) (get_or high n []))
-    ∙ ap members (sym (beside_row low high n node))
-    ∙ sym (get_or-map members (beside low high) n [] [] (omega (arith, node, sides_count))))
-  where
-    sides_count : length (beside low high) ≡ length low
-    sides_count = length-map-range_with_len (λ n. get_or low n [] ++ get_or high n []) 0 (length low)
-
-module _ (next : List (List ℕ)) (mask : ℕ → ℕ → Bool) (gens : List (List Bool)) (paths : Paths) where
-  empty : (value : Bool) (P : ℕ → ℕ → Type 0) (nodes : ℕ) → HoldThere value nodes 0 P (replicate nodes [])
-  empty value P nodes = record {
-    count_is = length-replicate nodes [];
-    long = of_length_replicate 0 nodes [] refl;
-    each = λ n v node less. absurd (omega (arith, less));
-  }
-
-  empty_members : (nodes : ℕ) → replicate {A = List ℕ} nodes [] ≡ map members (replicate nodes [])
-  empty_members zero = refl
-  empty_members (suc nodes) = ap (λ l. [] ∷ l) (empty_members nodes)
-      ∙ ap (λ xs. xs ∷ map members (replicate nodes [])) (sym members_none)
-
-  pub below_none : (near far : SparseMatrix) → near.rows ≡ replicate (length next) [] → near.columns ≡ 0 →
-      far.rows ≡ replicate (length next) [] → far.columns ≡ 0 → AreSolvedBelow next mask gens paths 0 near far
-  below_none near far near_rows near_columns far_rows far_columns = record {
-    near_sets = replicate (length next) [];
-    far_sets = replicate (length next) [];
-    near_hold = empty true (Near next mask gens paths) (length next);
-    far_hold = empty (value_of paths) (Far next mask gens paths) (length next);
-    near_is = near_rows ∙ empty_members (length next);
-    far_is = far_rows ∙ empty_members (length next);
-    near_columns = near_columns;
-    far_columns = far_columns;
-  }
-
-  pub below_more : (columns count : ℕ) (near far : SparseMatrix) (near_part far_part : Matrix)
-      (near_after far_after : SparseMatrix) → AreSolvedBelow next mask gens paths columns near far →
-      HoldThere true (length next) count (λ n j. Near next mask gens paths n (columns + j)) near_part.rows →
-      HoldThere (value_of paths) (length next) count (λ n j. Far next mask gens paths n (columns + j)) far_part.rows →
-      near_part.columns ≡ count → far_part.columns ≡ count →
-      AreWidened near near_part near_after → AreWidened far far_part far_after →
-      AreSolvedBelow next mask gens paths (columns + count) near_after far_after
-  below_more columns count near far near_part far_part near_after far_after h near_h far_h near_wide far_wide w w' = record {
-    near_sets = beside h.near_sets near_part.rows;
-    far_sets = beside h.far_sets far_part.rows;
-    near_hold = HoldThere-beside true (length next) columns count (Near next mask gens paths) h.near_sets near_part.rows h.near_hold near_h;
-    far_hold = HoldThere-beside (value_of paths) (length next) columns count (Far next mask gens paths) h.far_sets far_part.rows h.far_hold far_h;
-    near_is = members_beside h.near_sets near_part.rows columns near_part.columns near near_after h.near_hold.long
-        h.near_columns (near_h.count_is ∙ sym h.near_hold.count_is) h.near_is w;
-    far_is = members_beside h.far_sets far_part.rows columns far_part.columns far far_after h.far_hold.long
-        h.far_columns (far_h.count_is ∙ sym h.far_hold.count_is) h.far_is w';
-    near_columns = w.columns ∙ ap (λ k. k + near_part.columns) h.near_columns ∙ ap (λ k. columns + k) near_wide;
-    far_columns = w'.columns ∙ ap (λ k. k + far_part.columns) h.far_columns ∙ ap (λ k. columns + k) far_wide;
-  }
 
 -- ---- all places are solved
 

@@ -25,4 +25,5 @@ pub mod Reaching
 pub mod Schedules
 pub mod SolveFaults
 pub mod Spanning
+pub mod Touched
 pub mod Turns

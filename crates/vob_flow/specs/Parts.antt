@@ -15,10 +15,13 @@ pub record ArePartSets (lists : List (List ℕ)) (start count : ℕ) (sets : Lis
   pub long : AreOfLength count sets
   pub each : (n j : ℕ) → IsIn sets n j ↔ ((j < count) × Contains (slice_index_or lists n []) (start + j))
 
--- node n kills place v: it is of a variable that the node writes
-abbrev pub Kills : List (List ℕ) → List (List ℕ) → ℕ → ℕ → Type 0
-Kills by_variable writes n v =
-    Any (λ x. Contains (slice_index_or by_variable x []) v) (slice_index_or writes n [])
+-- the list of the i-th of some nodes
+abbrev pub chosen : List (List ℕ) → List ℕ → ℕ → List ℕ
+chosen lists nodes i = slice_index_or (map (λ n. slice_index_or lists n []) nodes) i []
+
+-- a node that writes some variables kills place v: it is of one of them
+abbrev pub Kills : List (List ℕ) → List ℕ → ℕ → Type 0
+Kills by_variable writes v = Any (λ x. Contains (slice_index_or by_variable x []) v) writes
 
 -- the bits of some rows that have a value are those of which P holds
 pub record HoldThere (value : Bool) (nodes count : ℕ) (P : ℕ → ℕ → Type 0) (rows : List (List Bool))

@@ -3,6 +3,7 @@
 #![tactic(auto)]
 
 mod available;
+mod chosen;
 mod climbing;
 mod closing;
 mod complement;
@@ -23,6 +24,7 @@ mod reaching;
 mod schedule;
 mod solver;
 mod spanning;
+mod touched;
 
 pub use available::{available_expressions, very_busy_expressions};
 pub use closing::closure;
