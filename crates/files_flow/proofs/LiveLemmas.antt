@@ -176,13 +176,13 @@ pub lists_live : (graph : FlowGraph) (problem : Problem) (text : List ℕ) → I
 lists_live graph problem text is fit l =
     let places : length problem.labels.items ≡ length graph.variables =
     sym (length-map problem.labels.items (λ (v : Vec ℕ Global). v.items)) ∙ ap length is.labels in
-    let h = rw (is.kind, is.from, is.by_variable, is.writes, is.generates, places) at l.solved.solved in
+    let h = rw (is.paths, is.from, is.by_variable, is.writes, is.generates, places) at l.solved.solved in
     let small = rw (places, is.generates) at fit in record {
       before = l.solved.far_sets;
       after = l.solved.near_sets;
       solution = live_solution (length graph.variables) graph.nodes.items _ _ (λ n less. small n [] less) h;
       least = live_least (length graph.variables) graph.nodes.items _ _ (λ n less. small n [] less) h;
-      lines = (rw (is.kind, is.labels) at l.lines)
+      lines = (rw (is.backward, is.labels) at l.lines)
           ∙ ap (λ far. sides_text graph.names graph.variables far l.near) l.solved.far_is
           ∙ ap (λ near. sides_text graph.names graph.variables (map members l.solved.far_sets) near) l.solved.near_is;
     }

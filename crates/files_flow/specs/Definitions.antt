@@ -1,9 +1,9 @@
 -- The definitions of a flow graph: what its nodes write.
-use Rattle.std.specs.Prelude.{◌≡◌, ◌↔◌, ℕ, ◌<◌, List, [], ◌++◌, codes, length, map, slice_get, slice_index_or, Some, Contains}
+use Rattle.std.specs.Prelude.{◌≡◌, ◌↔◌, ℕ, ◌<◌, true, List, [], ◌++◌, codes, length, map, slice_get, slice_index_or, Some, Contains}
 use Rattle.std.specs.List.{flat_map, range_with_len}
+use Rattle.vob_flow.specs.declared.lists.Paths.TheVariants.{Some as SomePath}
 use Rattle.vob_flow.specs.declared.live.Flow.{Flow}
 use Rattle.files_flow.specs.declared.flow.FlowGraph.{FlowGraph}
-use Rattle.files_flow.specs.declared.problem.Kind.TheVariants.{ForwardMay}
 use Rattle.files_flow.specs.declared.problem.Problem.{Problem}
 use Rattle.files_text.specs.Printed.{name_at}
 use Rattle.files_flow.specs.Problems.{AreBefore, lists_of}
@@ -33,7 +33,8 @@ definition_label names variables made = name_at variables made.1 ++ codes "@" ++
 
 -- a node makes its definitions, and ends those of the variables that it writes
 pub record IsReachingProblem (graph : FlowGraph) (problem : Problem) : Type 0 where
-  pub kind : problem.kind ≡ ForwardMay
+  pub paths : problem.paths ≡ SomePath
+  pub forward : problem.is_forward ≡ true
   pub labels : lists_of problem.labels.items
       ≡ map (definition_label graph.names graph.variables) (definitions_of graph.nodes.items)
   pub generates : AreGrouped (length graph.nodes.items)

@@ -8,7 +8,7 @@ use Rattle.files_flow.specs.declared.flow.FlowGraph.{FlowGraph}
 use Rattle.files_flow.specs.declared.problem.Problem.{Problem}
 use Rattle.files_flow.specs.Definitions.{IsReachingProblem}
 use Rattle.files_text.specs.Printed.{line_end, members, name_at}
-use Rattle.files_flow.specs.Problems.{AreBefore, IsSolved, is_forward, lists_of}
+use Rattle.files_flow.specs.Problems.{AreBefore, IsSolved, lists_of}
 
 -- the labels of some places, a space before each
 abbrev pub labels_text : List (List ℕ) → List ℕ → List ℕ
@@ -66,7 +66,7 @@ pub record ListsSolution (names : List (List ℕ)) (problem : Problem) (text : L
   pub near : List (List ℕ)
   pub far : List (List ℕ)
   pub solved : IsSolved problem near far
-  pub lines : text ≡ cond (is_forward problem.kind)
+  pub lines : text ≡ cond problem.is_forward
       (sides_text names (lists_of problem.labels.items) near far)
       (sides_text names (lists_of problem.labels.items) far near)
 

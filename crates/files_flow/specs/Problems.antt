@@ -1,15 +1,12 @@
 -- Dataflow problems by lists, and the sets that solve them.
-use Rattle.std.specs.Prelude.{◌≡◌, ◌↔◌, ◌⊎◌, ℕ, ◌<◌, Bool, true, false, List, [], ◌∷◌, length, map, slice_index_or, Contains}
+use Rattle.std.specs.Prelude.{◌≡◌, ◌↔◌, ◌⊎◌, ℕ, ◌<◌, Bool, false, List, [], ◌∷◌, length, map, slice_index_or, Contains}
 use Rattle.std.specs.List.{range_with_len}
 use Rattle.vob_rows.specs.Sparse.{members}
 pub use Rattle.vob_flow.specs.Lists.{IsBelowEach, Solve, keeps, lists_of, sets_of}
-use Rattle.vob_flow.specs.declared.lists.Paths.{Paths}
-use Rattle.vob_flow.specs.declared.lists.Paths.TheVariants.{Some as SomePath, All as AllPaths, AllFrom}
+use Rattle.vob_flow.specs.declared.lists.Paths.TheVariants.{Some as SomePath}
 use Rattle.vob_flow.specs.declared.live.Flow.{Flow}
 use Rattle.files_flow.specs.declared.flow.FlowGraph.{FlowGraph}
 use Rattle.files_flow.specs.declared.problem.Problem.{Problem}
-use Rattle.files_flow.specs.declared.problem.Kind.{Kind}
-use Rattle.files_flow.specs.declared.problem.Kind.TheVariants.{ForwardMay, ForwardMust, BackwardMay, BackwardMust}
 
 -- a number was added to each of some lists
 pub record IsAddedTo (some : List ℕ) (number : ℕ) (lists after : List (List ℕ)) : Type 0 where
@@ -27,20 +24,6 @@ pub record AreBefore (nodes : List Flow) (before : List (List ℕ)) : Type 0 whe
   pub each : (n m : ℕ) → n < length nodes →
       Contains (slice_index_or before n []) m ↔ Contains (next_of nodes m) n
 
--- which paths to a node, from where it draws, a kind of problem asks about
-abbrev pub paths_of : Kind → Paths
-paths_of ForwardMay = SomePath
-paths_of ForwardMust = AllFrom 0
-paths_of BackwardMay = SomePath
-paths_of BackwardMust = AllPaths
-
--- whether a node draws from those that come before it
-abbrev pub is_forward : Kind → Bool
-is_forward ForwardMay = true
-is_forward ForwardMust = true
-is_forward BackwardMay = false
-is_forward BackwardMust = false
-
 -- what nodes generate are places
 abbrev pub Fits : Problem → Type 0
 Fits problem = IsBelowEach (length problem.labels.items) (lists_of problem.generates.items)
@@ -50,7 +33,7 @@ Fits problem = IsBelowEach (length problem.labels.items) (lists_of problem.gener
 pub record IsSolved (problem : Problem) (near far : List (List ℕ)) : Type 0 where
   pub near_sets : List (List Bool)
   pub far_sets : List (List Bool)
-  pub solved : Solve (paths_of problem.kind) (length problem.labels.items) (lists_of problem.from.items)
+  pub solved : Solve problem.paths (length problem.labels.items) (lists_of problem.from.items)
       (keeps (lists_of problem.by_variable.items) (lists_of problem.writes.items))
       (sets_of (length problem.labels.items) (lists_of problem.generates.items)) near_sets far_sets
   pub near_is : near ≡ map members near_sets
@@ -58,7 +41,8 @@ pub record IsSolved (problem : Problem) (near far : List (List ℕ)) : Type 0 wh
 
 -- a node generates what it reads, and kills what it writes
 pub record IsLiveProblem (graph : FlowGraph) (problem : Problem) : Type 0 where
-  pub kind : problem.kind ≡ BackwardMay
+  pub paths : problem.paths ≡ SomePath
+  pub backward : problem.is_forward ≡ false
   pub labels : lists_of problem.labels.items ≡ graph.variables
   pub generates : lists_of problem.generates.items ≡ map (λ node. node.reads.items) graph.nodes.items
   pub by_variable : lists_of problem.by_variable.items

@@ -72,7 +72,7 @@ fn solve(alloc: Global, problem: &Problem) -> Result<SparseSides, FlowFault>
         by_variable: &problem.by_variable,
         writes: &problem.writes,
     };
-    let sides = solve_lists(alloc, &lists, &from, problem.kind.paths())?;
+    let sides = solve_lists(alloc, &lists, &from, problem.paths)?;
     Ok(sides)
 }
 
@@ -150,7 +150,7 @@ fn print_solution<W: Write>(
     ensures fit { OnOk result (Fits problem.now) }
 {
     let sides = solve(alloc, problem)?;
-    if problem.kind.is_forward() {
+    if problem.is_forward {
         put_sides(
             alloc,
             output,

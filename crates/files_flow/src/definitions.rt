@@ -4,9 +4,10 @@ ghost use Rattle.files_flow.specs.Problems.{lists_of};
 ghost use Rattle.files_flow.specs.Definitions.{AreGrouped, IsReachingProblem, definition_label, definitions_at, definitions_of};
 
 use crate::flow::FlowGraph;
-use crate::problem::{Kind, Problem, add_to, empty_lists, node_lists, nodes_before};
+use crate::problem::{Problem, add_to, empty_lists, node_lists, nodes_before};
 use files_text::Names;
 use std::alloc::{AllocError, Global};
+use vob_flow::Paths;
 use vob_flow::live::Flow;
 
 /// Adds a definition for each variable that a node writes.
@@ -99,7 +100,8 @@ pub fn reaching_problem(alloc: Global, graph: &FlowGraph<'_>) -> Result<Problem,
 {
     let definitions = definitions_of(alloc, &graph.nodes)?;
     Ok(Problem {
-        kind: Kind::ForwardMay,
+        paths: Paths::Some,
+        is_forward: true,
         labels: labels(alloc, &graph.names, &graph.variables, &definitions)?,
         generates: by_node(alloc, graph.nodes.len(), &definitions)?,
         by_variable: by_variable(alloc, graph.variables.len(), &definitions)?,

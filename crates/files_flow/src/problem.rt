@@ -11,49 +11,13 @@ use vob_flow::live::Flow;
 use vob_flow::{Paths, reach};
 use vob_rows::Graph;
 
-/// Which paths a problem asks about.
-#[derive(Clone, Copy)]
-pub enum Kind {
-    /// Some path to a node.
-    ForwardMay,
-    /// All paths to a node from the first one.
-    ForwardMust,
-    /// Some path from a node.
-    BackwardMay,
-    /// All paths from a node.
-    BackwardMust,
-}
-
-impl Kind {
-    ghost use Rattle.std.specs.Prelude.{◌≡◌};
-    ghost use Rattle.files_flow.specs.Problems.{is_forward, paths_of};
-
-    /// Which paths to a node from which it draws.
-    pub fn paths(self) -> Paths
-        ensures { result ≡ paths_of self }
-    {
-        match self {
-            Kind::ForwardMay | Kind::BackwardMay => Paths::Some,
-            Kind::ForwardMust => Paths::AllFrom(0),
-            Kind::BackwardMust => Paths::All,
-        }
-    }
-
-    /// Whether a node draws from those that come before it.
-    pub fn is_forward(self) -> bool
-        ensures { result ≡ is_forward self }
-    {
-        match self {
-            Kind::ForwardMay | Kind::ForwardMust => true,
-            Kind::BackwardMay | Kind::BackwardMust => false,
-        }
-    }
-}
-
 /// A dataflow problem.
 #[derive(Drop)]
 pub struct Problem {
-    pub kind: Kind,
+    /// Which paths it asks about, along the nodes from which each draws.
+    pub paths: Paths,
+    /// Whether a node draws from those that come before it.
+    pub is_forward: bool,
     /// What the places are called.
     pub labels: Vec<Vec<u8>>,
     /// The places that each node generates.
@@ -238,7 +202,8 @@ fn add_expression<'a>(
 fn expressions(
     alloc: Global,
     graph: &FlowGraph<'_>,
-    kind: Kind,
+    paths: Paths,
+    is_forward: bool,
     from: Vec<Vec<usize>>,
 ) -> Result<Problem, AllocError> {
     let own = expression_labels(alloc, graph)?;
@@ -251,7 +216,8 @@ fn expressions(
     let writes = node_lists(alloc, &graph.nodes)?.writes;
     let labels = labels_of(alloc, &names)?;
     Ok(Problem {
-        kind,
+        paths,
+        is_forward,
         labels,
         generates,
         by_variable,
@@ -284,12 +250,9 @@ impl Problem {
         Ok(lists)
     }
 
-    /// Adds a last node, at which nothing holds: it generates nothing, kills all, and draws from none.
+    /// Adds a last node, which generates nothing and draws from none.
     fn add_border(&mut self, alloc: Global) -> Result<(), AllocError> {
-        let all: Vec<usize> = (0..self.labels.len()).collect(alloc)?;
-        let variable = self.by_variable.len();
-        self.by_variable.push(all)?;
-        self.writes.push(vec![in alloc; variable]?)?;
+        self.writes.push(Vec::new(alloc))?;
         self.generates.push(Vec::new(alloc))?;
         self.from.push(Vec::new(alloc))?;
         Ok(())
@@ -321,7 +284,8 @@ pub fn live_problem(alloc: Global, graph: &FlowGraph<'_>) -> Result<Problem, All
     let by_variable = single_lists(alloc, graph.variables.len())?;
     let lists = node_lists(alloc, &graph.nodes)?;
     Ok(Problem {
-        kind: Kind::BackwardMay,
+        paths: Paths::Some,
+        is_forward: false,
         labels,
         generates: lists.reads,
         by_variable,
@@ -333,16 +297,17 @@ pub fn live_problem(alloc: Global, graph: &FlowGraph<'_>) -> Result<Problem, All
 /// Returns the problem of the expressions that were computed on all paths from the entry to a node.
 pub fn available_problem(alloc: Global, graph: &FlowGraph<'_>) -> Result<Problem, FlowFault> {
     let from = reached_before(alloc, &graph.nodes)?;
-    let mut problem = expressions(alloc, graph, Kind::ForwardMust, from)?;
+    let mut problem = expressions(alloc, graph, Paths::AllFrom(0), true, from)?;
     problem.generates = problem.lasting(alloc)?;
     Ok(problem)
 }
 
-/// Returns the problem of the expressions that will be computed on all paths from a node. After a
-/// node with no next one there are none.
+/// Returns the problem of the expressions that will be computed on all paths from a node. After a node
+/// with no next one comes a border, where there are none.
 pub fn busy_problem(alloc: Global, graph: &FlowGraph<'_>) -> Result<Problem, AllocError> {
-    let from = nodes_after(alloc, &graph.nodes, graph.nodes.len())?;
-    let mut problem = expressions(alloc, graph, Kind::BackwardMust, from)?;
+    let border = graph.nodes.len();
+    let from = nodes_after(alloc, &graph.nodes, border)?;
+    let mut problem = expressions(alloc, graph, Paths::AllFrom(border), false, from)?;
     problem.add_border(alloc)?;
     Ok(problem)
 }

@@ -1,11 +1,11 @@
 -- The lines are those of the sets that were found.
-use Rattle.std.proofs.Common.{cond, ap, sym, ◌∙◌}
+use Rattle.std.proofs.Common.{cond, ap, sym}
 use Rattle.files_flow.specs.FlowText.{sides_text}
 use Rattle.files_flow.specs.Problems.{lists_of}
 use Rattle.files_flow.proofs.analysis.print_solution.Goals as goal
 
-pub returns-then-is_forward-clause-written : goal.returns-then-is_forward-clause-written
-returns-then-is_forward-clause-written g c = (
+pub returns-then-problem-clause-written : goal.returns-then-problem-clause-written
+returns-then-problem-clause-written g c = (
   _,
   rw c.deref.ensures.value at c.in_ok-put_sides.ensures,
   record {
@@ -15,7 +15,7 @@ returns-then-is_forward-clause-written g c = (
     lines = sym (ap (λ b. cond b (sides_text c.args.names.now (lists_of c.args.problem.now.labels.items)
         c.in_ok-sides.sides.near.rows c.in_ok-sides.sides.far.rows) (sides_text c.args.names.now
         (lists_of c.args.problem.now.labels.items) c.in_ok-sides.sides.far.rows c.in_ok-sides.sides.near.rows))
-        (sym c.is_forward.ensures ∙ c.if-is_forward.true));
+        c.if-problem.true);
   },
 )
 
@@ -30,6 +30,6 @@ returns-clause-written g c = (
     lines = sym (ap (λ b. cond b (sides_text c.args.names.now (lists_of c.args.problem.now.labels.items)
         c.in_ok-sides.sides.near.rows c.in_ok-sides.sides.far.rows) (sides_text c.args.names.now
         (lists_of c.args.problem.now.labels.items) c.in_ok-sides.sides.far.rows c.in_ok-sides.sides.near.rows))
-        (sym c.is_forward.ensures ∙ c.if-is_forward.false));
+        c.if-problem.false);
   },
 )

@@ -1,7 +1,6 @@
 -- What is found solves the problem of the lists.
 use Rattle.std.proofs.Common.{◌≡◌, ◌∙◌, length}
 use Rattle.files_flow.proofs.analysis.solve.Goals as goal
-use Rattle.files_flow.proofs.analysis.solve.Goals.{In_ok-from}
 
 pub returns-clause-solved : goal.returns-clause-solved
 returns-clause-solved c =
@@ -9,7 +8,6 @@ returns-clause-solved c =
     c.len.ensures ∙ c.args.problem.now.labels.ok.0 in
     let made = rw (
       places,
-      c.paths.ensures,
       c.in_ok-from.ensures.lists,
       c.deref.ensures.value,
       c.deref-2.ensures.value,

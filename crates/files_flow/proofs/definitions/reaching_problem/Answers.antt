@@ -9,7 +9,8 @@ returns c =
     rw c.deref.ensures.value at c.in_ok-definitions.ensures in
     let many : c.len.result ≡ length c.args.graph.now.nodes.items = search rules in
     record {
-      kind = refl;
+      paths = refl;
+      forward = refl;
       labels = rw (c.deref-2.ensures.value, made) at c.in_ok-labels.ensures;
       generates = rw (many, c.deref-3.ensures.value, made) at c.in_ok-by_node.ensures;
       by_variable = rw (c.len-2.ensures, c.deref-4.ensures.value, made) at c.in_ok-by_variable.ensures;
