@@ -116,8 +116,8 @@ impl SparseRows {
         Ok(columns)
     }
 
-    /// Returns these rows with the columns of others behind their own: the row with the i-th of the
-    /// numbers, which rise, has the bits of row `i` there, and a row without a number has no set bit.
+    /// Returns these rows with the columns of others after their own. The row with the i-th number has
+    /// the bits of row `i` there, and a row without a number has no set bit there. Numbers must rise.
     /// Fails if memory runs out, or no length counts the columns.
     pub fn widened(self, numbers: &[usize], others: &BitRows) -> Result<SparseRows, AllocError>
         requires rise { AllPairs (λ n m. n < m) numbers.now }

@@ -15,7 +15,7 @@ fn value_of(letter: u8) -> Option<bool> {
     }
 }
 
-/// Makes the column of these letters, row 0 first.
+/// Makes the column of these letters, the first row's first.
 fn column_of(rt: &(impl Abort + AllocGlobal), letters: &str) -> Column {
     let mut column = Column::missing(rt.alloc(), letters.len()).expect(rt, "memory");
     for (row, letter) in letters.as_bytes().iter().enumerate() {
