@@ -1,10 +1,11 @@
 -- Problems that are solved for some places at a time.
 use Rattle.std.specs.List.{Any, Contains, list_any, range_with_len}
-use Rattle.std.proofs.Common.{◌≡◌, ◌↔◌, ◌⊎◌, ◌==◌, ◌||◌, ℕ, zero, suc, ◌+◌, ◌-◌, ◌<◌, Bool, true, false, not, inl, inr, Option, None, Some}
-use Rattle.std.proofs.Common.{List, [], ◌∷◌, length, map, take, get_or, refl, sym, ap, ◌∙◌, subst, arith, eq-eqb}
+use Rattle.std.proofs.Common.{◌≡◌, ◌↔◌, ◌⊎◌, ◌==◌, ℕ, ◌+◌, ◌-◌, ◌<◌, Bool, true, false, not, inl, inr, Option, None, Some}
+use Rattle.std.proofs.Common.{List, [], length, map, take, get_or, refl, sym, ap, ◌∙◌, subst, arith, eq-eqb}
 use Rattle.std.proofs.lemmas.Bool.{cases_Bool, cases_eq, cases_lt, false≢true, false_from_ne_true, ne_eqb}
 use Rattle.std.proofs.lemmas.List.{get_or-map, get_or_default, get_or_past, length-map}
 use Rattle.std.proofs.lemmas.List.Elements.{Contains-get_or}
+use Rattle.std.proofs.lemmas.List.Folds.{Any-from_list_any, list_any-from_Any}
 use Rattle.std.proofs.lemmas.List.FromFn.{get_or-map-range_with_len, length-map-range_with_len}
 use Rattle.vob_block.specs.Packing.{item}
 use Rattle.vob_block.proofs.PackingLemmas.{true_inside}
@@ -36,26 +37,8 @@ use Rattle.vob_flow.proofs.UnderwayLemmas.{HaveShape-trans}
 
 -- ---- sets of lists
 
-any_in : (p : ℕ → Bool) (xs : List ℕ) → list_any p xs ≡ true → Any (λ x. p x ≡ true) xs
-any_in p [] e = absurd (false≢true e)
-any_in p (x ∷ xs) e = elim (cases_Bool (p x)) [
-  | inl here ↦ (0, x, omega arith, refl, here)
-  | inr other ↦
-      let rest = any_in p xs (subst (λ b. (b || list_any p xs) ≡ true) other e) in
-      (suc rest.0, rest.1, omega (arith, rest.2), rest.3, rest.4)
-]
-
-in_any : (p : ℕ → Bool) (xs : List ℕ) (k x : ℕ) → k < length xs → get_or xs k x ≡ x → p x ≡ true →
-    list_any p xs ≡ true
-in_any p [] k x less is e = absurd (omega (arith, less))
-in_any p (y ∷ xs) zero x less is e = ap (λ b. b || list_any p xs) (ap p is ∙ e)
-in_any p (y ∷ xs) (suc k) x less is e = elim (cases_Bool (p y)) [
-  | inl here ↦ ap (λ b. b || list_any p xs) here
-  | inr other ↦ ap (λ b. b || list_any p xs) other ∙ in_any p xs k x (omega (arith, less)) is e
-]
-
 pub any_is : (p : ℕ → Bool) (xs : List ℕ) → (list_any p xs ≡ true) ↔ Any (λ x. p x ≡ true) xs
-any_is p xs = ((λ e. any_in p xs e), (λ some. in_any p xs some.0 some.1 some.2 some.3 some.4))
+any_is p xs = ((λ e. Any-from_list_any p xs e), (λ some. list_any-from_Any p xs some))
 
 pub has_is : (list : List ℕ) (v : ℕ) → (has list v ≡ true) ↔ Contains list v
 has_is list v = (
@@ -143,10 +126,6 @@ module _ (list : List ℕ) (start columns : ℕ) where
           | inr new ↦ (new.0, next.1 (inr (sym new.1)))
         ]),
       ))
-
--- list n has the number with place j, counted from a start
-abbrev pub OfPart : List (List ℕ) → ℕ → ℕ → ℕ → ℕ → Type 0
-OfPart lists start count n j = (j < count) × Contains (get_or lists n []) (start + j)
 
 -- ---- the least sets, and the greatest, hold what they should
 

@@ -100,22 +100,22 @@ module _ (next : List (List ℕ)) (mask : ℕ → ℕ → Bool) (places : ℕ) (
         (λ there. none (onward n m node there within)) j low)
 
 -- what a problem asks of them
-module _ (paths : Paths) (next : List (List ℕ)) (mask : ℕ → ℕ → Bool) (places : ℕ) (generates users : List (List ℕ))
+module _ (paths : Paths) (next : List (List ℕ)) (mask : ℕ → ℕ → Bool) (places : ℕ) (generates : List (List ℕ))
     (start count : ℕ) (nodes : List ℕ) (fit : length generates ≡ length next) (lead : LeadToNodes next (length next))
-    (back : IsReversed next users) (t : AreTouched paths next generates users start count nodes)
+    (t : AreTouched paths next generates start count nodes)
     (n j : ℕ) (node : n < length next) (none : ¬ Contains nodes n) (low : j < count) where
   pub far_apart : (false ≡ value_of paths) ↔ Far next mask (sets_of places generates) paths n (start + j)
   far_apart = at paths t
     where
-      at : (paths : Paths) → AreTouched paths next generates users start count nodes →
+      at : (paths : Paths) → AreTouched paths next generates start count nodes →
           (false ≡ value_of paths) ↔ Far next mask (sets_of places generates) paths n (start + j)
       at SomePath t = (
         (λ e. absurd (false≢true e)),
-        (λ c. absurd (none (comes_touched next mask places generates users start count nodes fit lead back t.starts t.along j low refl c))),
+        (λ c. absurd (none (comes_touched next mask places generates t.users start count nodes fit lead t.back t.starts t.along j low refl c))),
       )
       at AllPaths t = ((λ e. absurd (t.fed n node none)), (λ c. refl))
       at (AllFrom entry) t = (
-        (λ e. misses_apart next mask places generates users start count nodes fit lead back t.starts t.along
+        (λ e. misses_apart next mask places generates t.users start count nodes fit lead t.back t.starts t.along
             (Some entry) entry refl (t.fed n node none) node none j low),
         (λ c. refl),
       )
@@ -123,16 +123,16 @@ module _ (paths : Paths) (next : List (List ℕ)) (mask : ℕ → ℕ → Bool) 
   pub near_none : (false ≡ true) ↔ Near next mask (sets_of places generates) paths n (start + j)
   near_none = at paths t
     where
-      at : (paths : Paths) → AreTouched paths next generates users start count nodes →
+      at : (paths : Paths) → AreTouched paths next generates start count nodes →
           (false ≡ true) ↔ Near next mask (sets_of places generates) paths n (start + j)
       at SomePath t = (
         (λ e. absurd (false≢true e)),
-        (λ c. absurd (none (near_touched next mask places generates users start count nodes fit lead back t.starts t.along n j low c))),
+        (λ c. absurd (none (near_touched next mask places generates t.users start count nodes fit lead t.back t.starts t.along n j low c))),
       )
       at AllPaths t = ((λ e. absurd (false≢true e)), (λ c. absurd (t.fed n node none)))
       at (AllFrom entry) t = (
         (λ e. absurd (false≢true e)),
-        (λ c. absurd (near_apart next mask places generates users start count nodes fit lead back t.starts t.along
+        (λ c. absurd (near_apart next mask places generates t.users start count nodes fit lead t.back t.starts t.along
             (Some entry) entry refl (t.fed n node none) node none j low c)),
       )
 
@@ -323,45 +323,45 @@ module _ (next : List (List ℕ)) (mask : ℕ → ℕ → Bool) (gens : List (Li
 
 -- ---- what a problem asks of the nodes
 
-module _ (next : List (List ℕ)) (mask : ℕ → ℕ → Bool) (places : ℕ) (generates users : List (List ℕ))
+module _ (next : List (List ℕ)) (mask : ℕ → ℕ → Bool) (places : ℕ) (generates : List (List ℕ))
     (start count : ℕ) (nodes : List ℕ) (fit : length generates ≡ length next) (lead : LeadToNodes next (length next))
-    (back : IsReversed next users) (own : List (List ℕ)) (part : ℕ → ℕ → Bool) (own_gens : List (List Bool))
+    (own : List (List ℕ)) (part : ℕ → ℕ → Bool) (own_gens : List (List Bool))
     (gens_same : (i j : ℕ) → j < count → IsIn own_gens i j
     ↔ ((i < length nodes) × IsIn (sets_of places generates) (get_or nodes i 0) (start + j)))
     (mask_same : (i j : ℕ) → i < length nodes → j < count → part i j ≡ mask (get_or nodes i 0) (start + j)) where
   abbrev gens_all : List (List Bool)
   gens_all = sets_of places generates
 
-  far_chosen : (paths : Paths) → AreTouched paths next generates users start count nodes →
+  far_chosen : (paths : Paths) → AreTouched paths next generates start count nodes →
       IsChosen (entry_of paths) next nodes own → (i j : ℕ) → i < length nodes → j < count →
       Far own part own_gens (inner_paths paths (length nodes)) i j
       ↔ Far next mask (sets_of places generates) paths (get_or nodes i 0) (start + j)
   far_chosen SomePath t g = comes_chosen next mask gens_all start count nodes t.rise None own g part own_gens gens_same mask_same
-      (λ n v j low same c. comes_touched next mask places generates users start count nodes fit lead back t.starts t.along j low same c)
+      (λ n v j low same c. comes_touched next mask places generates t.users start count nodes fit lead t.back t.starts t.along j low same c)
   far_chosen AllPaths t g = misses_chosen next mask gens_all start count nodes t.rise None own g part own_gens gens_same mask_same
-      lead t.inside (λ n j node none low. (far_apart AllPaths next mask places generates users start count nodes fit lead back t n j node none low).0 refl)
+      lead t.inside (λ n j node none low. (far_apart AllPaths next mask places generates start count nodes fit lead t n j node none low).0 refl)
   far_chosen (AllFrom entry) t g = misses_chosen next mask gens_all start count nodes t.rise (Some entry) own g part own_gens gens_same mask_same
       lead t.inside (λ n j node none low.
-      (far_apart (AllFrom entry) next mask places generates users start count nodes fit lead back t n j node none low).0 refl)
+      (far_apart (AllFrom entry) next mask places generates start count nodes fit lead t n j node none low).0 refl)
 
-  near_chosen : (paths : Paths) → AreTouched paths next generates users start count nodes →
+  near_chosen : (paths : Paths) → AreTouched paths next generates start count nodes →
       IsChosen (entry_of paths) next nodes own → (i j : ℕ) → i < length nodes → j < count →
       Near own part own_gens (inner_paths paths (length nodes)) i j
       ↔ Near next mask (sets_of places generates) paths (get_or nodes i 0) (start + j)
   near_chosen SomePath t g = drawn_chosen next mask gens_all start count nodes t.rise None own g part own_gens gens_same mask_same
-      (λ n v j low same c. comes_touched next mask places generates users start count nodes fit lead back t.starts t.along j low same c)
+      (λ n v j low same c. comes_touched next mask places generates t.users start count nodes fit lead t.back t.starts t.along j low same c)
   near_chosen AllPaths t g = holds_chosen next mask gens_all start count nodes t.rise None own g part own_gens gens_same mask_same
-      lead t.inside (λ n j node none low. (far_apart AllPaths next mask places generates users start count nodes fit lead back t n j node none low).0 refl)
+      lead t.inside (λ n j node none low. (far_apart AllPaths next mask places generates start count nodes fit lead t n j node none low).0 refl)
   near_chosen (AllFrom entry) t g = holds_chosen next mask gens_all start count nodes t.rise (Some entry) own g part own_gens gens_same mask_same
       lead t.inside (λ n j node none low.
-      (far_apart (AllFrom entry) next mask places generates users start count nodes fit lead back t n j node none low).0 refl)
+      (far_apart (AllFrom entry) next mask places generates start count nodes fit lead t n j node none low).0 refl)
 
   value_same : (paths : Paths) → value_of (inner_paths paths (length nodes)) ≡ value_of paths
   value_same SomePath = refl
   value_same AllPaths = refl
   value_same (AllFrom entry) = refl
 
-  module _ (paths : Paths) (t : AreTouched paths next generates users start count nodes)
+  module _ (paths : Paths) (t : AreTouched paths next generates start count nodes)
       (g : IsChosen (entry_of paths) next nodes own) (rows : List (List Bool)) where
     pub far_at : HoldThere (value_of (inner_paths paths (length nodes))) (length own) count
         (Far own part own_gens (inner_paths paths (length nodes))) rows →
@@ -388,11 +388,13 @@ module _ (next : List (List ℕ)) (mask : ℕ → ℕ → Bool) (places : ℕ) (
 
 -- ---- the nodes to which places spread
 
-pub AreTouched-spread : (paths : Paths) (next generates users spread : List (List ℕ)) (places start count : ℕ)
-    (list : List ℕ) → start + count ≤ places → IsSpread paths next generates users places spread →
+pub AreTouched-spread : (paths : Paths) (next generates spread : List (List ℕ)) (places start count : ℕ)
+    (list : List ℕ) → start + count ≤ places → IsSpread paths next generates places spread →
     AreSpreadFrom spread (length next) places start count list →
-    AreTouched paths next generates users start count list
-AreTouched-spread paths next generates users spread places start count list inside s f = record {
+    AreTouched paths next generates start count list
+AreTouched-spread paths next generates spread places start count list inside s f = record {
+  users = s.users;
+  back = s.back;
   rise = f.rise;
   inside = f.inside;
   starts = λ n j node low within. f.starts n j node low (s.edges.starts n (start + j) node within);

@@ -1,19 +1,13 @@
 -- Problems that are solved for some places at a time. No public clause cites this page.
-use Rattle.std.specs.Prelude.{true, false, ◌≡◌, ◌↔◌, ℕ, ◌+◌, ◌<◌, Bool, List, [], length, map, slice_index_or, All, Any, Contains, Option, None, Some}
+use Rattle.std.specs.Prelude.{true, false, ◌≡◌, ◌↔◌, ℕ, ◌<◌, Bool, List, [], length, map, slice_index_or, All, Any, Contains, Option, None, Some}
 use Rattle.vob_block.specs.Packing.{item}
 use Rattle.vob.specs.Vobs.{AreOfLength}
 use Rattle.vob_rows.specs.Sparse.{SparseMatrix, members}
 use Rattle.vob_flow.specs.Available.{IsEntry}
-use Rattle.vob_flow.specs.Draws.{Comes, IsIn}
+use Rattle.vob_flow.specs.Draws.{Comes}
 use Rattle.vob_flow.specs.Greatest.{Misses, away}
 use Rattle.vob_flow.specs.declared.lists.Paths.{Paths}
 use Rattle.vob_flow.specs.declared.lists.Paths.TheVariants.{Some as SomePath, All as AllPaths, AllFrom}
-
--- the sets of the numbers in some lists from start on, counted from there, below a count
-pub record ArePartSets (lists : List (List ℕ)) (start count : ℕ) (sets : List (List Bool)) : Type 0 where
-  pub count_is : length sets ≡ length lists
-  pub long : AreOfLength count sets
-  pub each : (n j : ℕ) → IsIn sets n j ↔ ((j < count) × Contains (slice_index_or lists n []) (start + j))
 
 -- the list of the i-th of some nodes
 abbrev pub chosen : List (List ℕ) → List ℕ → ℕ → List ℕ

@@ -4,6 +4,7 @@ use Rattle.std.specs.Prelude.{◌≡◌, ◌==◌, ◌↔◌, ◌⊎◌, ℕ, �
 use Rattle.std.specs.List.{position_or_len}
 use Rattle.vob_block.specs.Packing.{item}
 use Rattle.vob.specs.Vobs.{AreOfLength}
+use Rattle.vob_rows.specs.Graph.{IsReversed}
 use Rattle.vob_flow.specs.Available.{IsEntry}
 use Rattle.vob_flow.specs.Closure.{IsEdge}
 use Rattle.vob_flow.specs.Reach.{Reaches}
@@ -38,10 +39,18 @@ pub record AreSpread (paths : Paths) (next generates users : List (List ℕ)) (p
   pub others : (n : ℕ) → n < k → Leads (length next + places) n ⊎ IsFed paths users n
 
 -- the graph of such edges
-pub record IsSpread (paths : Paths) (next generates users : List (List ℕ)) (places : ℕ)
+pub record IsSpread (paths : Paths) (next generates : List (List ℕ)) (places : ℕ)
     (spread : List (List ℕ)) : Type 0 where
+  pub users : List (List ℕ)
+  pub back : IsReversed next users
   pub count : length spread ≡ length next + places + 1
   pub edges : AreSpread paths next generates users places (length next) (IsEdge spread)
+
+-- a graph of variables and, behind them, places: an edge leads from each place to the variables that have it
+pub record AreOwners (by_variable : List (List ℕ)) (places : ℕ) (owners : List (List ℕ)) : Type 0 where
+  pub count : length owners ≡ length by_variable + places + 1
+  pub lead : (x v : ℕ) → x < length by_variable → Contains (slice_index_or by_variable x []) v →
+      IsEdge owners (length by_variable + v) x
 
 -- the first of some nodes, in rising order, to which a way leads from some places or from the last node
 pub record AreSpreadFrom (spread : List (List ℕ)) (nodes places start count : ℕ) (list : List ℕ) : Type 0 where
@@ -52,8 +61,10 @@ pub record AreSpreadFrom (spread : List (List ℕ)) (nodes places start count : 
   pub along : (n m : ℕ) → n < nodes → Contains list m → IsEdge spread m n → Contains list n
 
 -- nodes, in rising order, among which are all to which a place of a part may come
-pub record AreTouched (paths : Paths) (next generates users : List (List ℕ)) (start count : ℕ)
+pub record AreTouched (paths : Paths) (next generates : List (List ℕ)) (start count : ℕ)
     (nodes : List ℕ) : Type 0 where
+  pub users : List (List ℕ)
+  pub back : IsReversed next users
   pub rise : AllPairs (λ n m. n < m) nodes
   pub inside : All (λ n. n < length next) nodes
   pub starts : (n j : ℕ) → n < length next → j < count →

@@ -19,8 +19,24 @@ pub(crate) fn note_places(nodes: &[usize], places: &mut [usize])
     }
 }
 
+/// Returns the place of each of some nodes, which rise and are below `count`, in their list.
+pub(crate) fn noted_places(
+    alloc: Global,
+    nodes: &[usize],
+    count: usize,
+) -> Result<Vec<usize>, AllocError>
+    requires rise { AllPairs (λ n m. n < m) nodes.now }
+    requires inside { All (λ n. n < count) nodes.now }
+    ensures { IfOk result (λ places. AreNoted nodes.now (length nodes.now) places.items) }
+{
+    let mut places = Vec::with_capacity(alloc, count)?;
+    places.resize(count, 0)?;
+    note_places(nodes, &mut places);
+    Ok(places)
+}
+
 /// Returns the place of a node in a list, or the length of the list if it isn't there.
-fn place_of(nodes: &[usize], places: &[usize], node: usize) -> usize
+pub(crate) fn place_of(nodes: &[usize], places: &[usize], node: usize) -> usize
     requires rise { AllPairs (λ n m. n < m) nodes.now }
     requires noted { AreNoted nodes.now (length nodes.now) places.now }
     ensures { result ≡ place_in nodes.now node }

@@ -8,7 +8,7 @@ ghost use Rattle.vob_flow.specs.Greatest.{IsInAll};
 use vob_rows::{BitRows, Graph};
 
 /// Adds to a set what is in some of the sets with these numbers.
-pub(crate) fn gather(sums: &mut BitRows, sum: usize, from: &[usize], sets: &BitRows)
+fn gather(sums: &mut BitRows, sum: usize, from: &[usize], sets: &BitRows)
     requires sum { sum < length sums.old.rows }
     requires from { All (λ m. m < length sets.now.rows) from.now }
     requires columns { sums.old.columns ≡ sets.now.columns }

@@ -6,7 +6,7 @@ ghost use Rattle.vob_block.specs.Packing.{item};
 ghost use Rattle.vob_walk.specs.Matches.{matches};
 ghost use Rattle.vob_rows.specs.Graph.{IsReversed};
 ghost use Rattle.vob_flow.specs.Lists.{IsBelowEach, lists_of};
-ghost use Rattle.vob_flow.specs.Touched.{AreSpread, AreSpreadFrom, IsFed, IsSpread};
+ghost use Rattle.vob_flow.specs.Touched.{AreOwners, AreSpread, AreSpreadFrom, IsFed, IsSpread};
 
 use crate::lists::Paths;
 use crate::paths::reach;
@@ -100,11 +100,10 @@ pub(crate) fn spread_of(
     generates: &[Vec<usize>],
     places: usize,
     paths: Paths,
-) -> Result<(Graph, Graph), AllocError>
+) -> Result<Graph, AllocError>
     requires fit { length generates.now ≡ length graph.now }
     requires inside { IsBelowEach places (lists_of generates.now) }
-    ensures users { IfOk result (λ made. IsReversed graph.now made.0) }
-    ensures spread { IfOk result (λ made. IsSpread paths graph.now (lists_of generates.now) made.0 places made.1) }
+    ensures { IfOk result (IsSpread paths graph.now (lists_of generates.now) places) }
 {
     let Some(last) = graph.nodes().checked_add(places) else {
         return Err(AllocError);
@@ -115,13 +114,34 @@ pub(crate) fn spread_of(
     let users = graph.reversed(alloc)?;
     let edges = spread_edges(alloc, graph, &users, generates, places, paths)?;
     match Graph::from_edges(alloc, count, &edges) {
-        Ok(spread) => Ok((users, spread)),
+        Ok(spread) => Ok(spread),
         Err(_) => Err(AllocError),
     }
 }
 
+/// Returns a graph of variables and, behind them, places, in which each place leads to the variables that
+/// have it.
+pub(crate) fn owners_of(
+    alloc: Global,
+    by_variable: &[Vec<usize>],
+    places: usize,
+) -> Result<Graph, AllocError>
+    requires { IsBelowEach places (lists_of by_variable.now) }
+    ensures { IfOk result (AreOwners (lists_of by_variable.now) places) }
+{
+    let Ok(apart) = Graph::from_edges(alloc, by_variable.len(), &[]) else {
+        return Err(AllocError);
+    };
+    let owners = spread_of(alloc, &apart, by_variable, places, Paths::Some)?;
+    Ok(owners)
+}
+
 /// Returns some numbers from `first` on.
-fn numbers_from(alloc: Global, first: usize, count: usize) -> Result<Vec<usize>, AllocError>
+pub(crate) fn numbers_from(
+    alloc: Global,
+    first: usize,
+    count: usize,
+) -> Result<Vec<usize>, AllocError>
     requires { first + count ≤ usize.MAX }
     ensures { IfOk result (λ list. list.items ≡ range_with_len first count) }
 {

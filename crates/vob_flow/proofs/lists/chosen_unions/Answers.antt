@@ -1,9 +1,10 @@
 -- One sum more has what is in its sets.
-use Rattle.std.proofs.Common.{◌≡◌, ◌<◌, ◌∙◌, ℕ, Vec, Global, [], length, get_or, map, ap, sym, arith}
+use Rattle.std.proofs.Common.{◌≡◌, ◌<◌, ◌∙◌, ℕ, Vec, Global, Any, [], length, get_or, map, ap, sym, arith}
 use Rattle.std.proofs.lemmas.List.{get_or-map, length-map}
-use Rattle.vob_flow.specs.Draws.{IsInSome}
+use Rattle.vob_flow.specs.Draws.{IsIn}
 use Rattle.vob_flow.specs.Lists.{lists_of}
 use Rattle.vob_flow.specs.Parts.{chosen}
+use Rattle.vob_flow.specs.Touched.{place_in}
 use Rattle.vob_flow.proofs.AnyLemmas.{edge_inside}
 use Rattle.vob_flow.proofs.BlankLemmas.{blank_some}
 use Rattle.vob_flow.proofs.ChangesLemmas.{EachGets-next}
@@ -19,21 +20,11 @@ list_is c =
     ∙ sym (get_or-map items c.args.lists.now n c.index-lists-nodes.result [] node)
     ∙ sym (get_or-map (λ n. get_or (lists_of c.args.lists.now) n []) c.args.nodes.now c.loop-sum.sum 0 [] c.loop-sum-test.true)
 
-pub gather-requires-clause-from : goal.gather-requires-clause-from
-gather-requires-clause-from c =
-    let n = get_or c.args.nodes.now c.loop-sum.sum 0 in
-    let node : n < length c.args.lists.now = c.requires.inside c.loop-sum.sum 0 c.loop-sum-test.true in
-    rw (
-      list_is (goal.at.gather-requires-clause-from c).After-deref,
-      get_or-map (λ n. get_or (lists_of c.args.lists.now) n []) c.args.nodes.now c.loop-sum.sum 0 [] c.loop-sum-test.true,
-    )
-    (c.requires.sets n [] (omega (arith, node, length-map c.args.lists.now (λ (v : Vec ℕ Global). v.items))))
-
 pub loop-sum-preserved : goal.loop-sum-preserved
 loop-sum-preserved c = (
-  EachGets-next (λ i j. IsInSome c.args.sets.now.rows (chosen (lists_of c.args.lists.now) c.args.nodes.now i) j)
-      c.loop-sum.invariant.0 (rw (list_is (goal.at.loop-sum-preserved c).After-deref) at c.gather.ensures.got),
-  c.gather.ensures.columns ∙ c.loop-sum.invariant.1,
+  EachGets-next (λ i j. Any (λ x. IsIn c.args.sets.now.rows (place_in c.args.own.now x) j) (chosen (lists_of c.args.lists.now) c.args.nodes.now i))
+      c.loop-sum.invariant.0 (rw (list_is (goal.at.loop-sum-preserved c).After-deref) at c.gather_own.ensures.got),
+  c.gather_own.ensures.columns ∙ c.loop-sum.invariant.1,
 )
 
 pub returns-clause-each : goal.returns-clause-each

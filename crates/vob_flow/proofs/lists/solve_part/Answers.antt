@@ -53,11 +53,11 @@ returns c =
     let fit = length-map lists.generates.now (λ (v : Vec ℕ Global). v.items) ∙ c.requires.fit.generates in
     let lead = rw c.nodes-nodes.ensures.count at c.nodes-nodes.ensures.inside in
     let chosen = rw c.entry_of.ensures at c.in_ok-own.ensures in record {
-      far = far_at c.args.graph.now _ lists.places (lists_of lists.generates.now) c.args.users.now c.args.start c.args.count
-          c.args.nodes.now fit lead c.requires.users _ _ _ (gens_same at) (mask_same at) c.args.paths c.requires.touched
+      far = far_at c.args.graph.now _ lists.places (lists_of lists.generates.now) c.args.start c.args.count
+          c.args.nodes.now fit lead _ _ _ (gens_same at) (mask_same at) c.args.paths c.requires.touched
           chosen _ (rw (columns, c.inner_paths.ensures) at made.far);
-      near = near_at c.args.graph.now _ lists.places (lists_of lists.generates.now) c.args.users.now c.args.start c.args.count
-          c.args.nodes.now fit lead c.requires.users _ _ _ (gens_same at) (mask_same at) c.args.paths c.requires.touched
+      near = near_at c.args.graph.now _ lists.places (lists_of lists.generates.now) c.args.start c.args.count
+          c.args.nodes.now fit lead _ _ _ (gens_same at) (mask_same at) c.args.paths c.requires.touched
           chosen _ (rw (columns, c.inner_paths.ensures) at made.near);
       far_columns = made.columns ∙ columns;
       near_columns = made.near_columns ∙ columns;

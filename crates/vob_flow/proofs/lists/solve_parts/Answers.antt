@@ -11,9 +11,9 @@ use Rattle.vob_flow.proofs.lists.solve_parts.Goals as goal
 use Rattle.vob_flow.proofs.lists.solve_parts.Goals.{In_ok-touched}
 
 touched : (c : In_ok-touched) → AreTouched c.args.paths c.args.graph.now (lists_of c.args.lists.now.generates.now)
-    c.in_ok-users.users c.parts.start c.min-count.result c.in_ok-touched.touched.items
-touched c = AreTouched-spread _ _ _ _ _ _ _ _ _ (omega (arith, c.parts.invariant.inside, c.min-count.ensures))
-    c.in_ok-users.ensures.spread (rw c.nodes-nodes.ensures.count at c.in_ok-touched.ensures)
+    c.parts.start c.min-count.result c.in_ok-touched.touched.items
+touched c = AreTouched-spread _ _ _ _ _ _ _ _ (omega (arith, c.parts.invariant.inside, c.min-count.ensures))
+    c.in_ok-spread.ensures (rw c.nodes-nodes.ensures.count at c.in_ok-touched.ensures)
 
 pub solve_part-requires-clause-touched : goal.solve_part-requires-clause-touched
 solve_part-requires-clause-touched c = rw c.deref.ensures.value (touched (goal.at.solve_part-requires-clause-touched c).In_ok-touched)
@@ -50,7 +50,6 @@ parts-preserved c =
     let lists = c.args.lists.now in
     let fit = length-map lists.generates.now (λ (v : Vec ℕ Global). v.items) ∙ c.requires.fit.generates in
     let lead = rw c.nodes-nodes.ensures.count at c.nodes-nodes.ensures.inside in
-    let back = c.in_ok-users.ensures.users in
     let new = c.solve_part.new.places in
     let old = c.parts.places.items in
     let long : length new ≡ length old = part.places ∙ ap length c.deref_mut.ensures.value in record {
@@ -61,9 +60,9 @@ parts-preserved c =
       solved = below_more _ _ _ _ c.parts.start c.min-count.result c.in_ok-touched.touched.items _ _ _ _ _ _ t.rise before.solved
           (rw c.deref.ensures.value at part.near) (rw c.deref.ensures.value at part.far)
           (λ n j node none low. near_none c.args.paths c.args.graph.now _ lists.places (lists_of lists.generates.now)
-          c.in_ok-users.users c.parts.start c.min-count.result _ fit lead back t n j node none low)
+          c.parts.start c.min-count.result _ fit lead t n j node none low)
           (λ n j node none low. far_apart c.args.paths c.args.graph.now _ lists.places (lists_of lists.generates.now)
-          c.in_ok-users.users c.parts.start c.min-count.result _ fit lead back t n j node none low)
+          c.parts.start c.min-count.result _ fit lead t n j node none low)
           part.near_columns part.far_columns (rw c.deref-in-parts.ensures.value at c.in_ok-near-2.ensures)
           (rw c.deref-in-parts-2.ensures.value at c.in_ok-far-2.ensures);
     }

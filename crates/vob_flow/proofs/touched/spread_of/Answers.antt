@@ -6,9 +6,11 @@ use Rattle.vob_flow.specs.Closure.{IsEdge}
 use Rattle.vob_flow.proofs.SpreadLemmas.{AreSpread-as}
 use Rattle.vob_flow.proofs.touched.spread_of.Goals as goal
 
-pub returns-in-Ok-clause-spread : goal.returns-in-Ok-clause-spread
-returns-in-Ok-clause-spread c =
+pub returns-in-Ok : goal.returns-in-Ok
+returns-in-Ok c =
     let made = c.in-Ok.ensures in record {
+      users = _;
+      back = c.in_ok-users.ensures;
       count = made.nodes ∙ c.in-Some-checked_add.ensures.1 ∙ ap (λ n. n + 1) (c.in-Some.ensures.1 ∙ ap (λ n. n + c.args.places) c.nodes.ensures.count);
       edges = AreSpread-as _ _ _ _ _ _ (IsEdge c.in-Ok.spread) (λ n m within.
           let joins = All-contains (JoinsNodes c.in-Some-checked_add.count) c.in_ok-edges.edges.items (n, m) (rw c.deref.ensures.value at made.joins) within in
