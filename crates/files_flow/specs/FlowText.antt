@@ -1,7 +1,6 @@
 -- What is printed of an analysis of a flow graph: the sets before and after each node.
-use Rattle.std.specs.Prelude.{◌≡◌, ◌↔◌, ℕ, ◌+◌, ◌<◌, Bool, true, Option, None, Some, List, [], ◌++◌, codes, cond, length, map, slice_index_or}
+use Rattle.std.specs.Prelude.{◌≡◌, ◌↔◌, ℕ, ◌+◌, ◌<◌, Bool, Option, None, Some, List, [], ◌++◌, codes, cond, length, map, slice_index_or, All, AllPairs, Contains}
 use Rattle.std.specs.List.{flat_map, range_with_len}
-use Rattle.vob_block.specs.Packing.{item}
 use Rattle.vob_flow.specs.Dominators.{Dominates, IsImmediate}
 use Rattle.vob_flow.specs.Live.{AreLeastLive, IsSolution}
 use Rattle.files_flow.specs.declared.flow.FlowGraph.{FlowGraph}
@@ -34,12 +33,13 @@ pub data AreLines (P : ℕ → List ℕ → Type 0) : ℕ → List ℕ → Type 
   none : AreLines P 0 []
   more : {k : ℕ} {text line : List ℕ} → AreLines P k text → P k line → AreLines P (k + 1) (text ++ line)
 
--- the line of a node with its dominators, of which the set is
+-- the line of a node with its dominators, in rising order
 pub record ListsDominatorsOf (before names : List (List ℕ)) (node : ℕ) (line : List ℕ) : Type 0 where
-  pub set : List Bool
-  pub len : length set ≡ length before
-  pub each : (d : ℕ) → d < length before → (item set d ≡ true) ↔ Dominates before 0 d node
-  pub is : line ≡ name_at names node ++ codes ": dominators" ++ labels_text names (members set) ++ line_end
+  pub list : List ℕ
+  pub rise : AllPairs (λ c d. c < d) list
+  pub inside : All (λ d. d < length before) list
+  pub each : (d : ℕ) → d < length before → Contains list d ↔ Dominates before 0 d node
+  pub is : line ≡ name_at names node ++ codes ": dominators" ++ labels_text names list ++ line_end
 
 -- a space and the name of a node, or nothing
 abbrev pub above_text : List (List ℕ) → Option ℕ → List ℕ
