@@ -1,19 +1,24 @@
 -- The states that were found, and the moves of each.
-use Rattle.std.proofs.Common.{◌≡◌, ◌≢◌, ℕ, suc, ◌+◌, ◌<◌, ◌≤◌, inl, inr, Bool, true, false, List, [], ◌∷◌, ◌++◌, length, get_or, map, replicate, refl, sym, ap, ◌∙◌, subst, arith}
-use Rattle.std.specs.List.{All, AllPairs, Any, Contains}
+use Rattle.std.proofs.Common.{◌≡◌, ◌≢◌, ℕ, suc, ◌+◌, ◌<◌, ◌≤◌, inl, inr, if◌then◌else◌, Some, slice_get, Bool, true, false, List, [], ◌∷◌, ◌++◌, length, get_or, map, replicate, refl, sym, ap, ◌∙◌, subst, arith}
+use Rattle.std.specs.List.{All, AllPairs, Any, Contains, list_any, position_or_len}
+use Rattle.indexmap.specs.IndexSet.{insert_key}
 use Rattle.std.specs.declared.ops.Bound.TheVariants.{Unbounded}
-use Rattle.std.proofs.lemmas.Bool.{cases_eq, cases_lt, false≢true}
+use Rattle.std.proofs.lemmas.Bool.{cases_Bool, cases_eq, cases_lt, false≢true}
 use Rattle.std.proofs.lemmas.List.{append-nil, append_assoc, ext_get_or, get_or-map, get_or_append_left, get_or_push, length-append, length-map, length_push, map-append}
 use Rattle.std.proofs.lemmas.Grind.{flat_map-append}
 use Rattle.std.proofs.lemmas.List.Concat.{flat_map-cons}
 use Rattle.std.proofs.lemmas.List.Elements.{All-head, All-nil, All-push, All-tail}
+use Rattle.std.proofs.lemmas.List.Folds.{Any-from_list_any, list_any_at}
 use Rattle.std.proofs.lemmas.List.Quantifiers.{all_pairs_push}
+use Rattle.std.proofs.lemmas.List.Sums.{fails_before_first, passes_at_first, position_or_len_is}
 use Rattle.std.proofs.lemmas.Option.{get_or_from_slice_get, slice_get-get_or}
 use Rattle.vob_block.specs.Packing.{item}
 use Rattle.vob.specs.Bits.{IsWritten}
+use Rattle.vob.specs.Same.{same_bits}
 use Rattle.vob.specs.Vob.{BitVector}
 use Rattle.vob.specs.Vobs.{bits_of}
 use Rattle.vob_block.proofs.PackingLemmas.{true_inside}
+use Rattle.vob.proofs.SameLemmas.{same_bits_decides}
 use Rattle.vob_lr.specs.ItemSets.{InClosure, IsItemClosure, IsGoto, IsItemSet}
 use Rattle.vob_lr.specs.Items.{item_total}
 use Rattle.vob_lr.specs.Ahead.{AreAhead, symbol_with}
@@ -168,7 +173,7 @@ targets_more moves row =
     ∙ append-nil (map (λ (m : Move). m.state) row))
 
 -- the same of Vobs
-pub HasEntered-found : (sets : List BitVector) (bits : List Bool) (p : ℕ) → p < length sets →
+HasEntered-found : (sets : List BitVector) (bits : List Bool) (p : ℕ) → p < length sets →
     get_or (bits_of sets) p [] ≡ bits → HasEntered (bits_of sets) bits (bits_of sets) p
 HasEntered-found sets bits p less there = record {
   inside = omega (arith, less, length-map sets (λ v. v.bits));
@@ -176,7 +181,7 @@ HasEntered-found sets bits p less there = record {
   added = inl refl;
 }
 
-pub HasEntered-pushed : (sets : List BitVector) (set : BitVector) →
+HasEntered-pushed : (sets : List BitVector) (set : BitVector) →
     All (λ own. own ≢ set.bits) (bits_of sets) → (p : ℕ) → p ≡ length sets →
     HasEntered (bits_of sets) set.bits (bits_of (sets ++ set ∷ [])) p
 HasEntered-pushed sets set none p last =
@@ -187,6 +192,49 @@ HasEntered-pushed sets set none p last =
       there = get_or_push (bits_of sets) set.bits [] p here;
       added = inr (refl, none);
     }
+
+-- a set that is inserted among others
+abbrev same_vob : BitVector → BitVector → Bool
+same_vob v w = same_bits v.bits w.bits
+
+pub HasEntered-inserted : (sets : List BitVector) (set : BitVector) (made : List BitVector) (p : ℕ) →
+    made ≡ insert_key (λ v w. same_bits v.bits w.bits) sets set →
+    p ≡ position_or_len (λ w. same_bits set.bits w.bits) sets →
+    HasEntered (bits_of sets) set.bits (bits_of made) p
+HasEntered-inserted sets set made p is at = elim (cases_Bool (list_any (same_vob set) sets)) [
+  | inl here ↦
+      let (k, own, low, found, equal) = Any-from_list_any (same_vob set) sets here in
+      let less : p < length sets = elim (cases_lt p (length sets)) [
+        | inl low ↦ low
+        | inr past ↦ absurd (false≢true (sym (fails_before_first (same_vob set) sets k own (omega (arith, low, past, at)))
+            ∙ ap (same_vob set) found ∙ equal))
+      ] in
+      let there = passes_at_first (same_vob set) sets set (omega (arith, less, at)) in
+      rw (is ∙ ap (λ b. if b then sets else sets ++ set ∷ []) here)
+      (HasEntered-found sets set.bits p less (get_or-map (λ (v : BitVector). v.bits) sets p set [] less
+      ∙ ap (λ n. (get_or sets n set).bits) at ∙ sym ((same_bits_decides _ _).0 there)))
+  | inr none ↦
+      let apart : (k : ℕ) (d : BitVector) → k < length sets → same_vob set (get_or sets k d) ≡ false =
+      λ k d low. elim (cases_Bool (same_vob set (get_or sets k d))) [
+        | inl on ↦ absurd (false≢true (sym none ∙ list_any_at (same_vob set) sets k d low on))
+        | inr off ↦ off
+      ] in
+      rw (is ∙ ap (λ b. if b then sets else sets ++ set ∷ []) none)
+      (HasEntered-pushed sets set
+      (λ k d low same.
+      let less : k < length sets = omega (arith, low, length-map sets (λ v. v.bits)) in
+      false≢true (sym (apart k set less)
+      ∙ (same_bits_decides _ _).1 (sym (sym (get_or-map (λ (v : BitVector). v.bits) sets k set d less) ∙ same))))
+      p (at ∙ position_or_len_is (same_vob set) sets (length sets) set (omega arith) (λ k low. apart k set low)
+      (λ low. absurd (omega (arith, low)))))
+]
+
+-- the first one
+pub entered_first : {set : List Bool} {made : List (List Bool)} {p : ℕ} → HasEntered [] set made p → made ≡ set ∷ []
+entered_first {made} h = elim h.added [
+  | inl none ↦ absurd (omega (arith, h.inside, ap length none))
+  | inr both ↦ both.0
+]
 
 pub still_there : (before sets : List BitVector) → Extends (bits_of before) (bits_of sets) →
     (p : ℕ) → p < length before → p < length sets
@@ -203,14 +251,14 @@ still_there before sets (more, is) p less =
 -- a set that is read is a state, as it was before there were more
 pub state_read : (rules : List Rule) (before sets : List BitVector) →
     AreSome rules (bits_of sets) → Extends (bits_of before) (bits_of sets) → (p : ℕ) →
-    p < length before → (set : BitVector) → set ≡ get_or sets p set →
+    p < length before → (set : BitVector) → slice_get sets p ≡ Some set →
     (set.bits ≡ get_or (bits_of before) p []) × IsState rules (get_or (bits_of before) p [])
     × (length set.bits ≡ item_total rules)
 state_read rules before sets some more p less set read =
     let at = extended_at rules (bits_of before) (bits_of sets) more p
     (omega (arith, less, length-map before (λ v. v.bits))) in
     let low : p < length sets = omega (arith, at.0, length-map sets (λ v. v.bits)) in
-    let own = ap (λ (v : BitVector). v.bits) read
+    let own = ap (λ (v : BitVector). v.bits) (sym (get_or_from_slice_get sets p set set read))
     ∙ sym (get_or-map (λ (v : BitVector). v.bits) sets p set [] low) in
     let state = some.each p [] at.0 in (
       own ∙ at.1,

@@ -8,6 +8,7 @@ ghost use Rattle.vob_lr.specs.States.{AreStates, Precedes};
 
 use crate::closure::Closures;
 use crate::grammar::{Grammar, GrammarError, Symbol};
+use indexmap::IndexSet;
 use std::alloc::{AllocError, Global};
 use vob::Vob;
 
@@ -37,33 +38,15 @@ fn symbol_at(terminals: usize, number: usize) -> Symbol
     }
 }
 
-/// Returns the first of some sets that is the same as another.
-fn find(sets: &[Vob], set: &Vob) -> Option<usize>
-    ensures found { IfSome result (λ state. (state < length sets.now)
-        × (slice_index_or (bits_of sets.now) state [] ≡ set.now.bits)) }
-    ensures none { IfNone result (All (λ own. own ≢ set.now.bits) (bits_of sets.now)) }
-{
-    for state in 0..sets.len() {
-        if sets[state] == *set {
-            return Some(state);
-        }
-    }
-    None
-}
-
 /// Returns the number of a set of items among others, to which it is added if it isn't there.
-fn enter(sets: &mut Vec<Vob>, set: Vob) -> Result<usize, AllocError>
-    ensures { IfOk result (λ state. HasEntered (bits_of sets.old.items) set.bits
-        (bits_of sets.new.items) state) }
+fn enter(sets: &mut IndexSet<Vob>, set: Vob) -> Result<usize, AllocError>
+    ensures { IfOk result (λ state. HasEntered (bits_of sets.old.keys) set.bits
+        (bits_of sets.new.keys) state) }
 {
-    match find(sets, &set) {
-        Some(state) => Ok(state),
-        None => {
-            let state = sets.len();
-            sets.push(set)?;
-            Ok(state)
-        }
-    }
+    let Ok((state, _)) = sets.insert_full(set) else {
+        return Err(AllocError);
+    };
+    Ok(state)
 }
 
 /// Returns the moves of a state by the symbols with some numbers. Adds the states that follow to
@@ -71,16 +54,16 @@ fn enter(sets: &mut Vec<Vob>, set: Vob) -> Result<usize, AllocError>
 fn moves_by(
     alloc: Global,
     closures: &Closures<'_>,
-    sets: &mut Vec<Vob>,
+    sets: &mut IndexSet<Vob>,
     from: usize,
     ahead: &Vob,
 ) -> Result<Vec<Move>, AllocError>
-    requires from { from < length sets.old.items }
-    requires some { AreSome closures.now.rules.items (bits_of sets.old.items) }
-    requires ahead { AreAhead closures.now (slice_index_or (bits_of sets.old.items) from [])
+    requires from { from < length sets.old.keys }
+    requires some { AreSome closures.now.rules.items (bits_of sets.old.keys) }
+    requires ahead { AreAhead closures.now (slice_index_or (bits_of sets.old.keys) from [])
         ahead.now.bits }
-    ensures { IfOk result (λ moves. AreMovesFrom closures.now (bits_of sets.old.items) from
-        (bits_of sets.new.items) moves.items) }
+    ensures { IfOk result (λ moves. AreMovesFrom closures.now (bits_of sets.old.keys) from
+        (bits_of sets.new.keys) moves.items) }
 {
     let terminals = closures.items().grammar().terminals;
     let mut moves = Vec::new(alloc);
@@ -97,13 +80,13 @@ fn moves_by(
 fn moves_from(
     alloc: Global,
     closures: &Closures<'_>,
-    sets: &mut Vec<Vob>,
+    sets: &mut IndexSet<Vob>,
     from: usize,
 ) -> Result<Vec<Move>, AllocError>
-    requires from { from < length sets.old.items }
-    requires some { AreSome closures.now.rules.items (bits_of sets.old.items) }
-    ensures { IfOk result (λ moves. AreMovesFrom closures.now (bits_of sets.old.items) from
-        (bits_of sets.new.items) moves.items) }
+    requires from { from < length sets.old.keys }
+    requires some { AreSome closures.now.rules.items (bits_of sets.old.keys) }
+    ensures { IfOk result (λ moves. AreMovesFrom closures.now (bits_of sets.old.keys) from
+        (bits_of sets.new.keys) moves.items) }
 {
     let ahead = closures.ahead(alloc, &sets[from])?;
     moves_by(alloc, closures, sets, from, &ahead)
@@ -124,19 +107,27 @@ pub(crate) fn find_move(moves: &[Move], symbol: Symbol) -> Option<usize>
     None
 }
 
+/// Returns sets as a list.
+fn listed(alloc: Global, sets: IndexSet<Vob>) -> Result<Vec<Vob>, AllocError>
+    ensures { IfOk result (λ list. list.items ≡ sets.keys) }
+{
+    sets.into_iter().collect(alloc)
+}
+
 /// Returns the states of a grammar that has a rule.
 fn states_of(alloc: Global, closures: &Closures<'_>) -> Result<Automaton, AllocError>
     requires { 0 < length closures.now.rules.items }
     ensures { IfOk result (λ made. AreStates closures.now.rules.items
         (bits_of made.sets.items) (rows_of made.moves.items)) }
 {
-    let mut sets = Vec::new(alloc);
-    sets.push(closures.start(alloc)?)?;
+    let mut sets = IndexSet::new(alloc);
+    enter(&mut sets, closures.start(alloc)?)?;
     let mut moves = Vec::new(alloc);
     'rounds: while moves.len() < sets.len() {
         let row = moves_from(alloc, closures, &mut sets, moves.len())?;
         moves.push(row)?;
     }
+    let sets = listed(alloc, sets)?;
     Ok(Automaton { sets, moves })
 }
 

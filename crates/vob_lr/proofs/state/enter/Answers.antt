@@ -1,8 +1,7 @@
--- The set was found.
-use Rattle.vob_lr.proofs.StateLemmas.{HasEntered-found}
+-- The set was found, or added.
+use Rattle.vob_lr.proofs.StateLemmas.{HasEntered-inserted}
 use Rattle.vob_lr.proofs.state.enter.Goals as goal
 
-pub returns-in-Some : goal.returns-in-Some
-returns-in-Some c =
-    let found = rw c.deref.ensures.value at c.in-Some.ensures.found in
-    HasEntered-found c.args.sets.now.items c.args.set.bits c.in-Some.state found.0 found.1
+pub returns : goal.returns
+returns c = HasEntered-inserted c.args.sets.now.keys c.args.set c.insert_full.new.self.keys c.in-Ok.state
+    c.in-Ok.ensures.keys c.in-Ok.ensures.index

@@ -23,13 +23,13 @@ pub index-requires : goal.index-requires
 index-requires c =
     omega (
       arith,
-      still_there c.args.sets.now.items c.loop-number.sets.items
+      still_there c.args.sets.now.keys c.loop-number.sets.keys
           c.loop-number.invariant.more c.args.from c.requires.from,
     )
 
 pub goto-requires : goal.goto-requires
 goto-requires c =
-    (state_read c.args.closures.now.rules.items c.args.sets.now.items c.loop-number.sets.items
+    (state_read c.args.closures.now.rules.items c.args.sets.now.keys c.loop-number.sets.keys
     c.loop-number.invariant.some c.loop-number.invariant.more c.args.from c.requires.from
     c.index.result.now c.index.ensures).2
 
@@ -37,7 +37,7 @@ pub loop-number-preserved : goal.loop-number-preserved
 loop-number-preserved c =
     let grammar = c.args.closures.now in
     let h = c.loop-number.invariant in
-    let read = state_read grammar.rules.items c.args.sets.now.items c.loop-number.sets.items h.some
+    let read = state_read grammar.rules.items c.args.sets.now.keys c.loop-number.sets.keys h.some
     h.more c.args.from c.requires.from c.index.result.now c.index.ensures in
     let symbol = c.symbol_at-symbol.ensures ∙ ap (λ (g : Grammar).
     symbol_with g.terminals c.in-Some.number) (c.grammar.ensures ∙ c.items.ensures) in

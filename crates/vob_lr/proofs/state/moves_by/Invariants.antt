@@ -9,11 +9,11 @@ abbrev pub invariant-loop-number : goal.invariant-loop-number
 invariant-loop-number l = record {
   can_next : (goal.iterator-loop-number).can_next l.number-iterator;
   is_finite : (goal.iterator-loop-number).is_finite l.number-iterator;
-  some : AreSome l.closures.rules.items (bits_of l.sets.items);
-  more : Extends (bits_of l.fn.sets.items) (bits_of l.sets.items);
-  given : AreGiven (length (bits_of l.fn.sets.items)) (map (λ move. move.state) l.moves.items)
-      (length (bits_of l.sets.items));
-  moves : AreMovesBut l.closures (bits_of l.sets.items)
-      (slice_index_or (bits_of l.fn.sets.items) l.from []) l.ahead.bits l.number-iterator.rest
+  some : AreSome l.closures.rules.items (bits_of l.sets.keys);
+  more : Extends (bits_of l.fn.sets.keys) (bits_of l.sets.keys);
+  given : AreGiven (length (bits_of l.fn.sets.keys)) (map (λ move. move.state) l.moves.items)
+      (length (bits_of l.sets.keys));
+  moves : AreMovesBut l.closures (bits_of l.sets.keys)
+      (slice_index_or (bits_of l.fn.sets.keys) l.from []) l.ahead.bits l.number-iterator.rest
       l.moves.items;
 }

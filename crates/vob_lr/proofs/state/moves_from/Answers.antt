@@ -7,14 +7,14 @@ use Rattle.vob_lr.proofs.state.moves_from.Goals as goal
 
 pub ahead-requires : goal.ahead-requires
 ahead-requires c =
-    let sets = c.args.sets.now.items in
+    let sets = c.args.sets.now.keys in
     (state_read c.args.closures.now.rules.items sets sets c.requires.some
     (Extends-itself c.args.closures.now.rules.items (bits_of sets)) c.args.from c.requires.from
     c.index.result.now c.index.ensures).2
 
 pub moves_by-requires-clause-ahead : goal.moves_by-requires-clause-ahead
 moves_by-requires-clause-ahead c =
-    let sets = c.args.sets.now.items in
+    let sets = c.args.sets.now.keys in
     let read = state_read c.args.closures.now.rules.items sets sets c.requires.some
     (Extends-itself c.args.closures.now.rules.items (bits_of sets)) c.args.from c.requires.from
     c.index.result.now c.index.ensures in

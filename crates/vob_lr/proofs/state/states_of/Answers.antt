@@ -4,18 +4,18 @@ use Rattle.std.proofs.lemmas.List.{length-map, map-append}
 use Rattle.vob.specs.Vobs.{bits_of}
 use Rattle.vob_lr.specs.Rounds.{AreMovesFrom, rows_of}
 use Rattle.vob_lr.specs.declared.state.Move.{Move}
-use Rattle.vob_lr.proofs.StateLemmas.{AreRounds-start, AreRounds-step, AreStates-whole}
+use Rattle.vob_lr.proofs.StateLemmas.{AreRounds-start, AreRounds-step, AreStates-whole, entered_first}
 use Rattle.vob_lr.proofs.state.states_of.Goals as goal
 
 pub rounds-init : goal.rounds-init
 rounds-init c =
-    rw (c.in_ok-push.ensures.items, c.new-sets.ensures.items, c.new-moves.ensures.items)
+    rw (entered_first (rw c.new-sets.ensures.empty at c.in_ok-enter.ensures), c.new-moves.ensures.items)
     (AreRounds-start c.args.closures.now.rules.items c.in_ok-start.field-0.bits
     c.in_ok-start.ensures)
 
 pub rounds-preserved : goal.rounds-preserved
 rounds-preserved c =
-    let sets = c.rounds.sets.items in
+    let sets = c.rounds.sets.keys in
     let moves = c.rounds.moves.items in
     let total = length-map sets (λ v. v.bits) in
     let count = length-map moves (λ (list : Vec Move Global). list.items) in
@@ -23,19 +23,19 @@ rounds-preserved c =
     omega (arith, c.len-in-rounds-2.ensures, count) in
     let low : length (rows_of moves) < length (bits_of sets) = omega (arith, count, total) in
     rw (
-      c.in_ok-push-2.ensures.items,
+      c.in_ok-push.ensures.items,
       map-append (λ (list : Vec Move Global). list.items) moves (c.in_ok-row.row ∷ []),
     )
     (AreRounds-step c.args.closures.now (bits_of sets) (rows_of moves) c.rounds.invariant low
-    (bits_of c.moves_from.new.sets.items) c.in_ok-row.row.items
+    (bits_of c.moves_from.new.sets.keys) c.in_ok-row.row.items
     (subst (λ (n : ℕ). AreMovesFrom c.args.closures.now (bits_of sets) n
-    (bits_of c.moves_from.new.sets.items) c.in_ok-row.row.items) here c.in_ok-row.ensures))
+    (bits_of c.moves_from.new.sets.keys) c.in_ok-row.row.items) here c.in_ok-row.ensures))
 
 pub returns : goal.returns
 returns c =
-    let sets = c.rounds.sets.items in
+    let sets = c.rounds.sets.keys in
     let moves = c.rounds.moves.items in
     let total = length-map sets (λ v. v.bits) in
     let count = length-map moves (λ (list : Vec Move Global). list.items) in
-    AreStates-whole c.args.closures.now.rules.items (bits_of sets) (rows_of moves)
-    c.rounds.invariant (omega (arith, count, total))
+    rw c.in_ok-sets.ensures (AreStates-whole c.args.closures.now.rules.items (bits_of sets) (rows_of moves)
+    c.rounds.invariant (omega (arith, count, total)))

@@ -6,7 +6,7 @@ use Rattle.vob_lr.proofs.state.states_of.Given as goal
 
 abbrev pub invariant-rounds : goal.invariant-rounds
 invariant-rounds l =
-    AreRounds l.closures.rules.items (bits_of l.sets.items) (rows_of l.moves.items)
+    AreRounds l.closures.rules.items (bits_of l.sets.keys) (rows_of l.moves.items)
 
 abbrev pub decreases-rounds : goal.decreases-rounds
 decreases-rounds l = 2 ^ 64 - length l.moves.items
