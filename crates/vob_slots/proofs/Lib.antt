@@ -1,2 +1,3 @@
 mod CalendarLemmas
+mod RoomLemmas
 mod SlotsLemmas

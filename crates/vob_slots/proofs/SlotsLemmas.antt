@@ -31,7 +31,7 @@ row_is value bits after start count is =
     let n : start + count - start ≡ count = omega arith in
     is ∙ ap (λ k. replaced start (start + count) (replicate k value) bits) n
 
-below_start : (start end i : ℕ) → i < start → within (Included start) (Excluded end) i ≡ false
+pub below_start : (start end i : ℕ) → i < start → within (Included start) (Excluded end) i ≡ false
 below_start start end i less = and_left (nat_le start i) (nat_lt i end) (lt-leb start i less)
 
 count_parts : (value : Bool) (start n end : ℕ) (bits : List Bool)

@@ -5,7 +5,7 @@ ghost use Rattle.std.specs.Iterator.Runs.{YieldsInOrder, YieldsInReverse};
 ghost use Rattle.std.specs.declared.ops.Bound.TheVariants.{Unbounded};
 ghost use Rattle.vob.specs.Bits.{count_of};
 ghost use Rattle.vob.specs.Ranges.{replaced};
-ghost use Rattle.vob.specs.Room.{HasNoRoom, IsFirstRoom};
+ghost use Rattle.vob.specs.Room.{HasNoRoom, IsFirstRoom, IsRoom};
 ghost use Rattle.vob.specs.Sets.{IsBit, IsNext};
 ghost use Rattle.vob_block.specs.Packing.{item};
 ghost use Rattle.vob_walk.specs.Matches.{matches};
@@ -22,6 +22,27 @@ pub struct Slots {
     free: usize,
     // No slot below this number is free.
     first: usize,
+    // No `row` slots in a row are free from a slot below `room` on.
+    row: usize,
+    room: usize,
+}
+
+/// Returns the first slot from `from` on from which so many in a row are free. They must not be from a
+/// lower one on.
+fn room_from(taken: &Vob, from: usize, count: usize) -> Option<usize>
+    requires some { 0 < count }
+    requires below { (j : ℕ) → IsRoom count taken.now.bits j → from ≤ j }
+    ensures { MatchOption result (HasNoRoom count taken.now.bits) (IsFirstRoom count taken.now.bits) }
+{
+    let mut at = from;
+    'runs: while let Some(start) = taken.next_unset(at) {
+        let end = taken.next_set(start).unwrap_or(taken.len());
+        if end - start >= count {
+            return Some(start);
+        }
+        at = end;
+    }
+    None
 }
 
 impl Model for Slots {
@@ -32,7 +53,8 @@ impl Model for Slots {
 
     ghost view = { λ slots. slots.taken.bits };
 
-    ghost invariant = { λ slots. AreKept slots.taken.bits slots.free slots.first };
+    ghost invariant = { λ slots. AreKept slots.taken.bits slots.free slots.first
+        slots.row slots.room };
 }
 
 impl Slots {
@@ -45,6 +67,8 @@ impl Slots {
             taken,
             free: count,
             first: 0,
+            row: 1,
+            room: 0,
         })
     }
 
@@ -108,24 +132,43 @@ impl Slots {
         }
         self.free += 1;
         self.first = self.first.min(slot);
+        self.room = self.room.min(slot.saturating_sub(self.row));
         true
     }
 
     /// Takes the first `count` slots in a row that are all free, and returns the lowest of them, or
-    /// `None` if there is no such row. If `count` is 0, it takes none and returns 0.
+    /// `None` if there is no such row. If `count` is 0, it takes none and returns 0. The search begins
+    /// at the first free slot, or where one for no more slots ended, if none was given back since.
     pub fn alloc_run(&mut self, count: usize) -> Option<usize>
         ensures first { MatchOption result (HasNoRoom count self.old) (IsFirstRoom count self.old) }
         ensures taken { MatchOption result (self.new ≡ self.old)
             (λ start. self.new ≡ replaced start (start + count) (replicate count true) self.old) }
     {
-        // The length is in the range of its type: a proof knows it from this read.
-        let _len = self.taken.len();
-        let Some(start) = self.taken.first_unset_run(count) else {
+        if count == 0 {
+            return Some(0);
+        }
+        let len = self.taken.len();
+        let start = room_from(&self.taken, self.least_room(count), count);
+        self.row = count;
+        let Some(start) = start else {
+            self.room = len;
             return None;
         };
         self.taken.set_range(start..start + count, true);
         self.free -= count;
+        self.room = start + count;
         Some(start)
+    }
+
+    /// Returns a slot below which no `count` slots in a row begin that are free.
+    fn least_room(&self, count: usize) -> usize
+        requires { 0 < count }
+        ensures { (j : ℕ) → IsRoom count self.now j → result ≤ j }
+    {
+        if count < self.row {
+            return self.first;
+        }
+        self.first.max(self.room)
     }
 
     /// Takes `count` slots from `start` on back, whether or not they are taken. So many must be
@@ -141,6 +184,7 @@ impl Slots {
         self.taken.set_range(start..end, false);
         self.free += given;
         self.first = self.first.min(start);
+        self.room = self.room.min(start.saturating_sub(self.row));
     }
 
     /// Returns a walk over the numbers of the taken slots, in rising order.
@@ -175,6 +219,7 @@ impl Slots {
         }
         self.taken.resize(len + more, false)?;
         self.free += more;
+        self.room = self.room.min(len.saturating_sub(self.row));
         Ok(())
     }
 }

@@ -1,5 +1,6 @@
 -- The row was free, so as many fewer are, and each slot below the least one stays taken.
 use Rattle.std.proofs.Common.{◌+◌, length, replicate, true, ap, ◌∙◌, arith}
+use Rattle.vob_slots.proofs.RoomLemmas.{rooms_behind}
 use Rattle.vob_slots.proofs.SlotsLemmas.{is_range, row_is, count-taken_run, below_taken_run}
 use Rattle.vob.specs.Ranges.{replaced}
 use Rattle.vob_slots.proofs.slots.Slots.alloc_run.Goals as goal
@@ -7,7 +8,7 @@ use Rattle.vob_slots.proofs.slots.Slots.alloc_run.Goals as goal
 pub overflow_sub-self : goal.overflow_sub-self
 overflow_sub-self c =
     let start = c.in-Some.start in
-    let room = c.in-Some.ensures.room.there in
+    let room = c.in-Some.ensures.there in
     let fewer = count-taken_run c.self.inside.taken.bits c.set_range.new.self.bits start
     c.args.count room
     (c.set_range.ensures.bits tt start (start + c.args.count)
@@ -15,10 +16,20 @@ overflow_sub-self c =
     (omega arith) room.inside)) in
     omega (arith, fewer, c.self.invariant.count)
 
+pub room_from-start-requires-clause-below : goal.room_from-start-requires-clause-below
+room_from-start-requires-clause-below c = rw c.self.view_is c.least_room.ensures
+
 pub invariant_of-self : goal.invariant_of-self
-invariant_of-self c =
+invariant_of-self c = record {
+  count = c.self.invariant.count;
+  below = c.self.invariant.below;
+  rooms = λ j there. absurd (c.in_default.ensures.none j there);
+}
+
+pub invariant_of-self-2 : goal.invariant_of-self-2
+invariant_of-self-2 c =
     let start = c.in-Some.start in
-    let room = c.in-Some.ensures.room.there in
+    let room = c.in-Some.ensures.there in
     let fewer = count-taken_run c.self.inside.taken.bits c.set_range.new.self.bits start
     c.args.count room
     (c.set_range.ensures.bits tt start (start + c.args.count)
@@ -29,12 +40,14 @@ invariant_of-self c =
       below = below_taken_run c.self.inside.taken.bits c.set_range.new.self.bits c.self.inside.first
           start
           (start + c.args.count) c.self.invariant.below (c.set_range.ensures.each tt);
+      rooms = rooms_behind c.args.count start c.self.inside.taken.bits c.set_range.new.self.bits (omega (arith, c.if-count-eq0.false))
+          c.in-Some.ensures (c.set_range.ensures.each tt);
     }
 
 pub returns-clause-taken : goal.returns-clause-taken
 returns-clause-taken c =
     let start = c.in-Some.start in
-    let room = c.in-Some.ensures.room.there in
+    let room = c.in-Some.ensures.there in
     row_is true c.self.inside.taken.bits c.set_range.new.self.bits start c.args.count
     (c.set_range.ensures.bits tt start (start + c.args.count)
     (is_range start (start + c.args.count) (length c.self.inside.taken.bits)

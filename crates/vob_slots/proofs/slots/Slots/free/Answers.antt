@@ -4,6 +4,7 @@ use Rattle.std.proofs.Common.{sym, ◌∙◌, arith}
 use Rattle.std.proofs.lemmas.List.Sums.{count_by-le-length}
 use Rattle.vob_walk.specs.Matches.{has_value}
 use Rattle.vob_block.proofs.BoolLemmas.{differ-false}
+use Rattle.vob_slots.proofs.RoomLemmas.{rooms_lower}
 use Rattle.vob_slots.proofs.slots.Slots.free.Goals as goal
 
 pub overflow_add-self : goal.overflow_add-self
@@ -12,3 +13,18 @@ overflow_add-self c =
     let more = rw taken at c.set.ensures.written.count false in
     let few = count_by-le-length (has_value false) c.set.new.self.bits in
     omega (arith, more, few, c.set.ensures.written.len, c.self.invariant.count, c.len.ensures)
+
+pub invariant_of-self-2 : goal.invariant_of-self-2
+invariant_of-self-2 c =
+    let taken = sym (differ-false _) ∙ sym c.set.ensures.differs ∙ c.if-not-set.false in
+    let bits = c.self.inside.taken.bits in
+    let written = c.set.ensures.written in record {
+      count = omega (arith, rw taken at written.count false, c.self.invariant.count);
+      below = λ i less. written.others i (λ e. omega (arith, e, less, c.min-self-inside.ensures))
+          ∙ c.self.invariant.below i (omega (arith, less, c.min-self-inside.ensures));
+      rooms = rooms_lower c.self.inside.row c.self.inside.room bits c.set.new.self.bits c.self.invariant.rooms
+          c.args.slot c.min-self-inside-2.result (omega (arith, c.if-slot-len.false, c.len.ensures.len))
+          (λ i less. written.others i (λ e. omega (arith, e, less)))
+          (omega (arith, c.min-self-inside-2.ensures))
+          (omega (arith, c.min-self-inside-2.ensures, c.saturating_sub.ensures));
+    }

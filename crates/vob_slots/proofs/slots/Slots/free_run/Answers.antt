@@ -3,7 +3,8 @@ use Rattle.std.proofs.Common.{◌+◌, length, replicate, false, ap, ◌∙◌, 
 use Rattle.std.proofs.lemmas.List.Sums.{count_by-le-length}
 use Rattle.vob_walk.specs.Matches.{has_value}
 use Rattle.vob.specs.Ranges.{replaced}
-use Rattle.vob_slots.proofs.SlotsLemmas.{is_range, row_is, count-given_run, below_given_run}
+use Rattle.vob_slots.proofs.SlotsLemmas.{is_range, row_is, below_start, count-given_run, below_given_run}
+use Rattle.vob_slots.proofs.RoomLemmas.{rooms_lower}
 use Rattle.vob_slots.proofs.slots.Slots.free_run.Goals as goal
 
 pub overflow_add-self : goal.overflow_add-self
@@ -26,6 +27,12 @@ invariant_of-self c =
           c.args.start end c.min-self-inside.result c.self.invariant.below
           (c.set_range.ensures.each tt)
           (omega arith) (omega arith);
+      rooms = rooms_lower c.self.inside.row c.self.inside.room c.self.inside.taken.bits c.set_range.new.self.bits
+          c.self.invariant.rooms c.args.start c.min-self-inside-2.result
+          (omega (arith, c.requires, ap length c.self.view_is))
+          (λ i less. (c.set_range.ensures.each tt).outside i (below_start c.args.start end i less))
+          (omega (arith, c.min-self-inside-2.ensures))
+          (omega (arith, c.min-self-inside-2.ensures, c.saturating_sub.ensures));
     }
 
 pub returns : goal.returns
