@@ -125,6 +125,6 @@ for analysis in live reaching available busy dominators; do
     rows "$analysis, nodes of functions" functions 1000 flow --analysis $analysis
 done
 rows 'immediate dominators, nodes, beside petgraph' loops 10000 flow --analysis immediate -- "$immediate"
-rows 'tables, rules, beside bison' grammar 20 grammar /dev/stdin -- bison -o "$out/grammar.c" /dev/stdin
+rows 'tables, rules, beside bison' grammar 80 grammar /dev/stdin -- bison -o "$out/grammar.c" /dev/stdin
 rows 'filter, rows, beside sqlite3' table 10000 filter - 'age<30 & height>170' -- \
     sqlite3 :memory: '.import --csv /dev/stdin t' "select * from t where age + 0 < 30 and height + 0 > 170"
