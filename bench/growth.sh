@@ -122,7 +122,7 @@ rows 'closure, nodes, beside petgraph' edges 50 closure -- "$petgraph"
 rows 'what a node leads to, nodes, beside petgraph' edges 20000 closure --from n0 -- "$petgraph" n0
 rows 'reduction, nodes, beside tred' chain 200 closure --reduce -- tred
 for analysis in live reaching available busy dominators; do
-    rows "$analysis, nodes of functions" functions 1000 flow --analysis $analysis
+    rows "$analysis, nodes of functions" functions 10000 flow --analysis $analysis
 done
 rows 'immediate dominators, nodes, beside petgraph' loops 10000 flow --analysis immediate -- "$immediate"
 rows 'tables, rules, beside bison' grammar 80 grammar /dev/stdin -- bison -o "$out/grammar.c" /dev/stdin
