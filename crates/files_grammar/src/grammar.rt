@@ -183,10 +183,10 @@ fn put_items<W: Write>(
     names: &SymbolNames,
     states: &Lookaheads<'_>,
     state: usize,
-    set: &Vob,
+    set: &[usize],
 ) -> io::Result<()> {
-    for number in set.iter_set_bits(..) {
-        put_if_shown(output, names, states, state, number)?;
+    for number in set {
+        put_if_shown(output, names, states, state, *number)?;
     }
     Ok(())
 }

@@ -1,19 +1,18 @@
 -- The symbols behind the dots of a set of items, by number.
-use Rattle.std.proofs.Common.{◌≡◌, ◌↔◌, ℕ, ◌+◌, ◌-◌, ◌<◌, ◌≤◌, inl, inr, Bool, false, nat_lt, ltb-true, cond, Some, List, [], refl, sym, ap, ◌∙◌, subst, arith}
+use Rattle.std.proofs.Common.{◌≡◌, ◌↔◌, ℕ, ◌+◌, ◌-◌, ◌<◌, ◌≤◌, inl, inr, Bool, false, nat_lt, ltb-true, cond, Some, List, length, replicate, refl, sym, ap, ◌∙◌, subst, arith}
 use Rattle.std.specs.List.{All}
 use Rattle.std.proofs.lemmas.Bool.{cases_lt, false_from_ne_true, lt-ltb}
 use Rattle.std.proofs.lemmas.Option.{same_Some}
 use Rattle.vob_flow.proofs.FirstLemmas.{all_at}
-use Rattle.vob_lr.specs.Expansions.{IsGathered}
+use Rattle.vob_lr.specs.Expansions.{Gains, IsByFirst}
 use Rattle.vob_lr.specs.Faults.{IsRuleOf, IsSymbol}
-use Rattle.vob_lr.specs.ItemSets.{Has}
 use Rattle.vob_lr.specs.Items.{HasNext}
 use Rattle.vob_lr.specs.Ahead.{AreAhead, HasAhead, number_of, symbol_with}
 use Rattle.vob_lr.specs.States.{Precedes}
 use Rattle.vob_lr.specs.declared.grammar.Grammar.{Grammar}
 use Rattle.vob_lr.specs.declared.grammar.Symbol.{Symbol}
 use Rattle.vob_lr.specs.declared.grammar.Symbol.TheVariants.{Terminal, Nonterminal}
-use Rattle.vob_lr.proofs.ClosureLemmas.{gathered_each}
+use Rattle.vob_lr.proofs.ClosureLemmas.{by_first_all, none_true}
 
 -- ---- symbols by number
 
@@ -104,21 +103,19 @@ module _ (grammar : Grammar) (sound : All (IsRuleOf grammar) grammar.rules.items
         number ∙ ap (number_of grammar.terminals) same ∙ number_back grammar.terminals k),
   )
 
-  pub AreAhead-gathered : (set before : List Bool) (left : List ℕ) → left ≡ [] →
-      (ahead : List Bool) → ((k : ℕ) → ¬ Has before k) →
-      IsGathered (HasAhead grammar) set before left ahead → AreAhead grammar set ahead
-  AreAhead-gathered set before left none ahead empty h = record {
+  pub AreAhead-gained : (set : List ℕ) (k : ℕ) → k ≡ length set → (places : ℕ) (ahead : List Bool) →
+      Gains (IsByFirst (HasAhead grammar) set k) (replicate places false) ahead →
+      AreAhead grammar set ahead
+  AreAhead-gained set k all places ahead g = record {
     each = λ x found.
         let (i, own, next) = found in
         let back = symbol_back grammar.terminals grammar.nonterminals x (next_sound i x next) in
         let there = subst (λ (y : Symbol). HasNext grammar.rules.items i y) (sym back) next in
-        let k = number_of grammar.terminals x in
-        let each = gathered_each (HasAhead grammar) set before left none ahead h k in
-        (k, each.1 (inr (i, own, there)), back);
-    only = λ k there.
-        let each = gathered_each (HasAhead grammar) set before left none ahead h k in
-        elim (each.0 there) [
-          | inl old ↦ absurd (empty k old)
-          | inr found ↦ found
-        ];
+        let n = number_of grammar.terminals x in
+        let by = by_first_all (HasAhead grammar) set k all n in
+        (n, (g.each n).1 (inr (by.1 (i, own, there))), back);
+    only = λ n there. elim ((g.each n).0 there) [
+      | inl old ↦ absurd (none_true places n old)
+      | inr found ↦ (by_first_all (HasAhead grammar) set k all n).0 found
+    ];
   }

@@ -1,9 +1,10 @@
 -- Closures of items, and what the items of a set bring into them.
-use Rattle.std.proofs.Common.{◌≡◌, ◌↔◌, ℕ, ◌+◌, ◌<◌, ◌⊎◌, ◌||◌, inl, inr, Bool, true, false, None, Option, Some, List, [], ◌∷◌, length, replicate, slice_get, refl, sym, ap, ◌∙◌, subst, arith}
-use Rattle.std.specs.List.{All}
+use Rattle.std.proofs.Common.{◌≡◌, ◌↔◌, ℕ, zero, suc, ◌+◌, ◌<◌, ◌⊎◌, ◌||◌, inl, inr, Bool, true, false, None, Option, Some, List, [], ◌∷◌, ◌++◌, get_or, length, replicate, slice_get, refl, sym, ap, ◌∙◌, subst, arith}
+use Rattle.std.specs.List.{All, Contains}
 use Rattle.std.proofs.lemmas.Bool.{cases_eq, cases_lt, false≢true}
 use Rattle.std.proofs.lemmas.List.{get_or-replicate, length-replicate}
-use Rattle.std.proofs.lemmas.Option.{none-some, same_Some, slice_get_within}
+use Rattle.std.proofs.lemmas.List.Elements.{Contains-append_left, Contains-get_or, Contains-push, Contains-push_cases}
+use Rattle.std.proofs.lemmas.Option.{get_or_from_slice_get, none-some, same_Some, slice_get-get_or, slice_get_within}
 use Rattle.std.specs.declared.ops.Bound.TheVariants.{Unbounded}
 use Rattle.vob_block.specs.Packing.{item}
 use Rattle.vob.specs.Bits.{AreCombined, IsWritten}
@@ -14,21 +15,23 @@ use Rattle.vob_flow.proofs.FirstLemmas.{all_at}
 use Rattle.vob_flow.specs.Draws.{IsIn}
 use Rattle.vob_lr.specs.Equations.{AreEquations, AreSolved, HasAt, Reaches, System}
 use Rattle.vob_lr.specs.Equations.Reaches.{at_start, along}
-use Rattle.vob_lr.specs.Expansions.{Advances, AreExpansions, Brings, Expands, Gains, HasOpening, HasRow, IsBrought, IsGathered, IsOpening}
+use Rattle.vob_lr.specs.Expansions.{Adds, Advances, AreExpansions, Brings, Expands, Gains, Gives, Has, HasOpening, HasRow, IsBrought, IsByFirst, IsByMember, IsOpening}
 use Rattle.vob_lr.specs.Faults.{IsRuleOf, IsSymbol}
-use Rattle.vob_lr.specs.ItemSets.{Has, InClosure, IsAdvanced, IsItemClosure, IsGoto, IsItemSet}
+use Rattle.vob_lr.specs.ItemSets.{InClosure, IsAdvanced, IsItemClosure, IsGoto}
 use Rattle.vob_lr.specs.ItemSets.InClosure.{inside, expands}
 use Rattle.vob_lr.specs.Items.{HasNext, IsItem, first_item, item_total}
-use Rattle.vob_lr.proofs.ItemLemmas.{next_is}
+use Rattle.vob_lr.specs.States.{IsStart}
+use Rattle.vob_lr.specs.Those.{AreThose}
+use Rattle.vob_lr.proofs.ItemLemmas.{next_inside, next_is}
 use Rattle.vob_lr.proofs.SolvedLemmas.{AreSolved-as}
+use Rattle.vob_lr.proofs.TableLemmas.{AreInOrder-as}
 use Rattle.vob_lr.specs.declared.grammar.Grammar.{Grammar}
 use Rattle.vob_lr.specs.declared.grammar.Rule.{Rule}
 use Rattle.vob_lr.specs.declared.grammar.Symbol.{Symbol}
 use Rattle.vob_lr.specs.declared.grammar.Symbol.TheVariants.{Terminal, Nonterminal}
 use Rattle.vob_lr.specs.declared.items.Item.{Item}
-use Rattle.vob_walk.specs.Left.{AreMatches, is_left}
 use Rattle.vob_walk.specs.Matches.{matches}
-use Rattle.vob_walk.proofs.IndexLemmas.{first_inside, first_value, left_all, left_none, left_other, matches_after, matches_all}
+use Rattle.vob_walk.proofs.IndexLemmas.{matches_exactly, matches_rise}
 
 -- what comes to a set is in it
 pub reaches_in : (Owns : ℕ → Symbol → Type 0) (rows : List (List Bool)) → AreSolved Owns rows →
@@ -126,102 +129,191 @@ Gains-none P set none = record {
   );
 }
 
--- ---- what a walk over a set gathers
+-- no bit is true
+pub none_true : (n i : ℕ) → ¬ Has (replicate n false) i
+none_true n i there =
+    let within = true_inside (replicate n false) i there in
+    let low : i < n = omega (arith, within, length-replicate n false) in
+    false≢true (sym (get_or-replicate n i false false low) ∙ there)
 
-module _ (Each : ℕ → ℕ → Type 0) (set before : List Bool) where
-  pub IsGathered-start : (left : List ℕ) → left ≡ matches set true Unbounded Unbounded →
-      IsGathered Each set before left before
-  IsGathered-start left all = record {
-    matches = subst (λ (xs : List ℕ). AreMatches set true Unbounded Unbounded xs) (sym all)
-        (matches_all set true Unbounded Unbounded);
-    len = refl;
-    kept = λ i there. there;
-    done = λ j i there gone has.
-        let here = left_all set true Unbounded Unbounded j (true_inside set j there) refl there in
-        absurd (false≢true (sym gone ∙ ap (λ (xs : List ℕ). is_left xs j) all ∙ here));
-    only = λ i there. inl there;
-  }
+-- ---- one gain after another
 
-  module _ (given : List ℕ) (j : ℕ) (left : List ℕ) (is : given ≡ j ∷ left) (mid : List Bool)
-      (h : IsGathered Each set before given mid) where
-    now : IsGathered Each set before (j ∷ left) mid
-    now = subst (λ (xs : List ℕ). IsGathered Each set before xs mid) is h
+module _ (A B C P Q R : ℕ → Type 0) (is : (i : ℕ) → (P i ⊎ Q i) ↔ R i) (g : (i : ℕ) → B i ↔ (A i ⊎ P i))
+    (h : (i : ℕ) → C i ↔ (B i ⊎ Q i)) (i : ℕ) where
+  gained : C i → A i ⊎ R i
+  gained there = elim ((h i).0 there) [
+    | inl old ↦ elim ((g i).0 old) [
+      | inl first ↦ inl first
+      | inr new ↦ inr ((is i).0 (inl new))
+    ]
+    | inr new ↦ inr ((is i).0 (inr new))
+  ]
 
-    pub gathered_inside : j < length set
-    gathered_inside = first_inside set true Unbounded Unbounded j left now.matches
+  gains : A i ⊎ R i → C i
+  gains a = elim a [
+    | inl first ↦ (h i).1 (inl ((g i).1 (inl first)))
+    | inr own ↦ elim ((is i).1 own) [
+      | inl new ↦ (h i).1 (inl ((g i).1 (inr new)))
+      | inr new ↦ (h i).1 (inr new)
+    ]
+  ]
 
-    -- one item more
-    pub IsGathered-step : (after : List Bool) → Gains (Each j) mid after →
-        IsGathered Each set before left after
-    IsGathered-step after g = record {
-      matches = matches_after set true Unbounded Unbounded j left now.matches;
-      len = g.len ∙ h.len;
-      kept = λ i there. (g.each i).1 (inl (h.kept i there));
-      done = λ k i there gone has. elim (cases_eq k j) [
-        | inl same ↦ (g.each i).1 (inr (subst (λ (n : ℕ). Each n i) same has))
-        | inr other ↦
-            (g.each i).1 (inl (now.done k i there (left_other j left k other ∙ gone) has))
-      ];
-      only = λ i there. elim ((g.each i).0 there) [
-        | inl old ↦ h.only i old
-        | inr new ↦
-            inr (j, first_value set true Unbounded Unbounded j left now.matches, new)
-      ];
-    }
+pub Gains-both : (before mid after : List Bool) (P Q R : ℕ → Type 0) → ((i : ℕ) → (P i ⊎ Q i) ↔ R i) →
+    Gains P before mid → Gains Q mid after → Gains R before after
+Gains-both before mid after P Q R is g h = record {
+  len = h.len ∙ g.len;
+  each = λ i. (
+    gained (Has before) (Has mid) (Has after) P Q R is g.each h.each i,
+    gains (Has before) (Has mid) (Has after) P Q R is g.each h.each i,
+  );
+}
 
-  -- where none are left
-  pub gathered_each : (left : List ℕ) → left ≡ [] → (after : List Bool) →
-      IsGathered Each set before left after → (i : ℕ) →
-      Has after i ↔ (Has before i ⊎ ((j : ℕ) × Has set j × Each j i))
-  gathered_each left none after h i = (
-    h.only i,
+-- the same of lists
+pub Adds-both : (before mid after : List ℕ) (P Q R : ℕ → Type 0) → ((i : ℕ) → (P i ⊎ Q i) ↔ R i) →
+    Adds P before mid → Adds Q mid after → Adds R before after
+Adds-both before mid after P Q R is g h = λ i. (
+  gained (Contains before) (Contains mid) (Contains after) P Q R is g h i,
+  gains (Contains before) (Contains mid) (Contains after) P Q R is g h i,
+)
+
+pub Adds-as : (before after : List ℕ) (P Q : ℕ → Type 0) → ((i : ℕ) → P i ↔ Q i) → Adds P before after →
+    Adds Q before after
+Adds-as before after P Q same g = λ i. (
+  (λ there. elim ((g i).0 there) [ inl old ↦ inl old | inr new ↦ inr ((same i).0 new) ]),
+  (λ a. elim a [ inl old ↦ (g i).1 (inl old) | inr new ↦ (g i).1 (inr ((same i).1 new)) ]),
+)
+
+pub Adds-none : (P : ℕ → Type 0) (list : List ℕ) → ((i : ℕ) → ¬ P i) → Adds P list list
+Adds-none P list none = λ i. (
+  (λ there. inl there),
+  (λ a. elim a [ inl old ↦ old | inr new ↦ absurd (none i new) ]),
+)
+
+pub Adds-push : (list : List ℕ) (n : ℕ) → Adds (λ i. n ≡ i) list (list ++ n ∷ [])
+Adds-push list n = λ i. (
+  (λ there. Contains-push_cases list n i there),
+  (λ a. elim a [
+    | inl old ↦ Contains-append_left list (n ∷ []) i old
+    | inr same ↦ subst (λ (m : ℕ). Contains (list ++ n ∷ []) m) same (Contains-push list n)
+  ]),
+)
+
+-- ---- what the first numbers of a list give
+
+module _ (Each : ℕ → ℕ → Type 0) (list : List ℕ) where
+  pub by_first_none : (i : ℕ) → ¬ IsByFirst Each list 0 i
+  by_first_none i h = omega (arith, h.1)
+
+  pub by_first_more : (k i : ℕ) →
+      (IsByFirst Each list k i ⊎ Each (get_or list k 0) i) ↔ IsByFirst Each list (k + 1) i
+  by_first_more k i = (
     (λ a. elim a [
-      | inl old ↦ h.kept i old
-      | inr new ↦
-          let gone = ap (λ (xs : List ℕ). is_left xs new.0) none ∙ left_none new.0 in
-          h.done new.0 i new.1 gone new.2
+      | inl low ↦ (low.0, omega (arith, low.1), low.2)
+      | inr here ↦ (k, omega arith, here)
+    ]),
+    (λ h. elim (cases_lt h.0 k) [
+      | inl low ↦ inl (h.0, low, h.2)
+      | inr past ↦
+          let at : h.0 ≡ k = omega (arith, past, h.1) in
+          inr (subst (λ (q : ℕ). Each (get_or list q 0) i) at h.2)
     ]),
   )
 
-pub IsItemClosure-gathered : (rules : List Rule) (set : List Bool) (left : List ℕ) → left ≡ [] →
-    (closure : List Bool) → length set ≡ item_total rules →
-    IsGathered (Brings rules) set set left closure → IsItemClosure rules set closure
-IsItemClosure-gathered rules set left none closure long h = record {
-  len = h.len ∙ long;
-  each = λ i.
-      let each = gathered_each (Brings rules) set set left none closure h i in
-      let is = closure_is {rules = rules} {Start = Has set} i in
-      ((λ there. is.1 (each.0 there)), (λ there. each.1 (is.0 there)));
-}
+  pub by_first_all : (k : ℕ) → k ≡ length list → (i : ℕ) →
+      IsByFirst Each list k i ↔ IsByMember Each list i
+  by_first_all k all i = (
+    (λ h. (get_or list h.0 0, Contains-get_or list h.0 0 (omega (arith, h.1, all)), h.2)),
+    (λ h.
+        let (j, (q, less, is), each) = h in
+        let same = get_or_from_slice_get list q j 0 (slice_get-get_or list q j less ∙ ap Some is) in
+        (q, omega (arith, less, all), subst (λ (n : ℕ). Each n i) (sym same) each)),
+  )
+
+-- ---- sets as lists, and closures
+
+pub AreThose-matches : (set : List Bool) (list : List ℕ) → list ≡ matches set true Unbounded Unbounded →
+    AreThose (Has set) list
+AreThose-matches set list is =
+    rw is record {
+      each = λ i.
+          let e = matches_exactly set true Unbounded Unbounded i in
+          ((λ there. (e.0 there).2), (λ own. e.1 (true_inside set i own, refl, own)));
+      rise = matches_rise set true Unbounded Unbounded;
+    }
+
+pub IsItemClosure-gained : (rules : List Rule) (set : List ℕ) (k : ℕ) → k ≡ length set → (n : ℕ)
+    (made : List Bool) → Gains (IsByFirst (Gives rules) set k) (replicate n false) made →
+    (closure : List ℕ) → AreThose (Has made) closure → IsItemClosure rules set closure
+IsItemClosure-gained rules set k all n made g closure h =
+    AreInOrder-as (λ i j. i < j) (Has made) (InClosure rules (Contains set))
+    (λ i.
+    let each = g.each i in
+    let is = closure_is {rules = rules} {Start = Contains set} i in
+    let by = by_first_all (Gives rules) set k all i in (
+      (λ there. elim (each.0 there) [
+        | inl old ↦ absurd (none_true n i old)
+        | inr new ↦
+            let (j, own, gives) = by.0 new in
+            elim gives [
+              | inl same ↦ is.1 (inl (subst (λ (m : ℕ). Contains set m) same own))
+              | inr brings ↦ is.1 (inr (j, own, brings))
+            ]
+      ]),
+      (λ closed. elim (is.0 closed) [
+        | inl own ↦ each.1 (inr (by.1 (i, own, inl refl)))
+        | inr found ↦ each.1 (inr (by.1 (found.0, found.1, inr found.2)))
+      ]),
+    ))
+    closure h
 
 -- ---- where the dot passes a symbol
 
-pub IsAdvanced-gathered : (rules : List Rule) (set : List Bool) (x : Symbol) (left : List ℕ) →
-    left ≡ [] → (before made : List Bool) → ((i : ℕ) → ¬ Has before i) →
-    length before ≡ item_total rules → IsGathered (Advances rules x) set before left made →
-    IsItemSet rules (IsAdvanced rules set x) made
-IsAdvanced-gathered rules set x left none before made empty long h = record {
-  len = h.len ∙ long;
-  each = λ i.
-      let each = gathered_each (Advances rules x) set before left none made h i in (
-        (λ there. elim (each.0 there) [
-          | inl old ↦ absurd (empty i old)
-          | inr new ↦ let (j, own, (ahead, is)) = new in (j, own, ahead, is)
+module _ (rules : List Rule) (set : List ℕ) (x : Symbol) (made : List ℕ) where
+  pub IsAdvanced-added : (k : ℕ) → k ≡ length set →
+      Adds (IsByFirst (Advances rules x) set k) [] made →
+      (i : ℕ) → Contains made i ↔ IsAdvanced rules set x i
+  IsAdvanced-added k all g i =
+      let by = by_first_all (Advances rules x) set k all i in (
+        (λ there. elim ((g i).0 there) [
+          | inl none ↦ absurd (omega (arith, none.1))
+          | inr new ↦ let (j, own, (next, at)) = by.0 new in (j, own, next, at)
         ]),
-        (λ found. each.1 (inr (found.0, found.1, (found.2, found.3)))),
-      );
-}
+        (λ (j, own, next, at). (g i).1 (inr (by.1 (j, own, (next, at))))),
+      )
 
-pub IsGoto-closed : (rules : List Rule) (set : List Bool) (x : Symbol) (made next : List Bool) →
-    IsItemSet rules (IsAdvanced rules set x) made → IsItemClosure rules made next →
-    IsGoto rules set x next
-IsGoto-closed rules set x made next kernel h = record {
-  len = h.len;
-  each = λ i. (
-    (λ there. closure_as (λ j. (kernel.each j).0) ((h.each i).0 there)),
-    (λ there. (h.each i).1 (closure_as (λ j. (kernel.each j).1) there)),
-  );
-}
+  module _ (is : (i : ℕ) → Contains made i ↔ IsAdvanced rules set x i) where
+    pub advanced_inside : All (λ i. i < item_total rules) made
+    advanced_inside = λ k d less.
+        let (j, own, next, at) = (is (get_or made k d)).0 (Contains-get_or made k d less) in
+        omega (arith, next_inside rules j x next, at)
+
+    pub IsGoto-closed : (next : List ℕ) → IsItemClosure rules made next → IsGoto rules set x next
+    IsGoto-closed next h =
+        AreInOrder-as (λ i j. i < j) (InClosure rules (Contains made))
+        (InClosure rules (IsAdvanced rules set x))
+        (λ i. (
+          (λ there. closure_as (λ j. (is j).0) there),
+          (λ there. closure_as (λ j. (is j).1) there),
+        ))
+        next h
+
+-- item 0 alone, and its closure
+pub first_inside : (rules : List Rule) → 0 < item_total rules → All (λ i. i < item_total rules) (0 ∷ [])
+first_inside rules less zero d low = less
+first_inside rules less (suc k) d low = absurd (omega (arith, low))
+
+pub IsStart-closed : (rules : List Rule) (set : List ℕ) → IsItemClosure rules (0 ∷ []) set → IsStart rules set
+IsStart-closed rules set h =
+    AreInOrder-as (λ i j. i < j) (InClosure rules (Contains (0 ∷ []))) (InClosure rules (λ i. i ≡ 0))
+    (λ i. (
+      (λ there. closure_as (λ j own. alone j own) there),
+      (λ there. closure_as (λ j same. subst (λ (n : ℕ). Contains (0 ∷ []) n) (sym same) (0, omega arith, refl)) there),
+    ))
+    set h
+  where
+    alone : (j : ℕ) → Contains (0 ∷ []) j → j ≡ 0
+    alone j (zero, less, is) = sym is
+    alone j (suc k, less, is) = absurd (omega (arith, less))
 
 -- ---- what a symbol behind a dot brings
 
@@ -347,10 +439,3 @@ AreExpansions-solved grammar {system} rows sound e count long solved = record {
   long = rw e.width at long;
   solved = AreSolved-as (HasAt system) (Expands grammar.rules.items) e.each rows solved;
 }
-
--- no bit is true
-pub none_true : (n i : ℕ) → ¬ Has (replicate n false) i
-none_true n i there =
-    let within = true_inside (replicate n false) i there in
-    let low : i < n = omega (arith, within, length-replicate n false) in
-    false≢true (sym (get_or-replicate n i false false low) ∙ there)

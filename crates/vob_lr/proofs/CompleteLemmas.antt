@@ -8,7 +8,7 @@ use Rattle.vob_lr.specs.Becoming.Becomes.{nothing, terminal, by_rule}
 use Rattle.vob_lr.specs.Grammar.{BecomesEmpty, BeginsWith, HasRule}
 use Rattle.vob_lr.specs.Grammar.BecomesEmpty.{nothing as empty_nothing, by_rule as empty_rule}
 use Rattle.vob_lr.specs.Grammar.BeginsWith.{here, by_rule as begins_rule, behind}
-use Rattle.vob_lr.specs.ItemSets.{Opens}
+use Rattle.vob_lr.specs.ItemSets.{HasItem, Opens}
 use Rattle.vob_lr.specs.ItemSets.InClosure.{inside}
 use Rattle.vob_lr.specs.Items.{Completes, HasNext, IsItem, first_item}
 use Rattle.vob_lr.specs.Lookaheads.{HasMove, HasNextThen, LooksAhead, Machine}
@@ -16,7 +16,6 @@ use Rattle.vob_lr.specs.Lookaheads.LooksAhead.{begins, passes, keeps}
 use Rattle.vob_lr.specs.Parses.{Config, IsAccepted, IsReached, IsReplaced, Steps, beginning, replaced, shifted, top}
 use Rattle.vob_lr.specs.Parses.IsReached.{begins as start_reached, then_steps}
 use Rattle.vob_lr.specs.States.{AreStates}
-use Rattle.vob_flow.specs.Draws.{IsIn}
 use Rattle.vob_lr.specs.Tables.{TableView}
 use Rattle.vob_lr.specs.declared.grammar.Rule.{Rule}
 use Rattle.vob_lr.specs.declared.grammar.Symbol.{Symbol}
@@ -27,7 +26,7 @@ use Rattle.vob_lr.specs.declared.table.Action.TheVariants.{Reduce, Shift}
 use Rattle.vob_lr.proofs.EmptyLemmas.{BecomesEmpty-append}
 use Rattle.vob_lr.proofs.FirstLemmas.{BeginsWith-append}
 use Rattle.vob_lr.proofs.MemberLemmas.{member_advances, member_closed}
-use Rattle.vob.proofs.BitsLemmas.{row_inside}
+use Rattle.vob_lr.proofs.SetLemmas.{set_inside}
 
 -- ---- what becomes nothing, and what begins
 
@@ -116,7 +115,7 @@ module _ (table : TableView) (tokens : List ℕ)
 
   -- an item of the newest state, behind whose rest these symbols may stand before terminal t
   pub record Goes (c : Config) (i t : ℕ) (ys : List Symbol) : Type 0 where
-    pub there : IsIn m.sets (top c.states) i
+    pub there : HasItem m.sets (top c.states) i
     pub next : BeginsWith rules t ys ⊎ (BecomesEmpty rules ys × LooksAhead m t (top c.states) i)
 
   -- the parser has read tokens ts, pushed as many states as there are symbols, and reduced by rs
@@ -131,11 +130,11 @@ module _ (table : TableView) (tokens : List ℕ)
     pub goes : Goes config (i + length xs) t ys
 
   -- a state moves by a symbol behind a dot
-  moves_on : (q i : ℕ) (x : Symbol) → IsIn m.sets q i → HasNext rules i x →
+  moves_on : (q i : ℕ) (x : Symbol) → HasItem m.sets q i → HasNext rules i x →
       (p : ℕ) × HasMove m.moves q x p
   moves_on q i x own next =
       let row = get_or m.moves q [] in
-      let (k, move, less, read, named) = (states.moves_of q (row_inside m.sets q i own)).all x
+      let (k, move, less, read, named) = (states.moves_of q (set_inside m.sets q i own)).all x
       (i, own, next) in
       let to : Move = record { symbol = x; state = move.state } in
       let same = ap (λ (y : Symbol). let one : Move = record { symbol = y; state = move.state } in one)
@@ -153,7 +152,7 @@ module _ (table : TableView) (tokens : List ℕ)
   goes_on : (c d : Config) (i t p : ℕ) (ys : List Symbol) (x : Symbol) → Goes c i t ys →
       HasNext rules i x → HasMove m.moves (top c.states) x p → top d.states ≡ p → Goes d (i + 1) t ys
   goes_on c d i t p ys x g next move at = record {
-    there = subst (λ (q : ℕ). IsIn m.sets q (i + 1)) (sym at)
+    there = subst (λ (q : ℕ). HasItem m.sets q (i + 1)) (sym at)
         (member_advances m states (top c.states) i x p g.there next move);
     next = elim g.next [
       | inl begin ↦ inl begin

@@ -5,7 +5,7 @@ use Rattle.std.proofs.lemmas.Bool.{cases_lt}
 use Rattle.std.proofs.lemmas.List.{get_or_past}
 use Rattle.std.proofs.lemmas.List.Elements.{All-contains, All-drop, All-head, All-tail}
 use Rattle.std.proofs.lemmas.Option.{slice_get_cases}
-use Rattle.vob.proofs.BitsLemmas.{row_inside}
+use Rattle.vob_lr.proofs.SetLemmas.{set_inside}
 use Rattle.vob_flow.proofs.FirstLemmas.{all_at}
 use Rattle.vob_lr.specs.Becoming.{AreDone, TablesDoAll}
 use Rattle.vob_lr.specs.Conflicts.{AreConflicts, IsConflict, action_count}
@@ -133,7 +133,7 @@ module _ (m : Machine) (states : AreStates m.grammar.rules.items m.sets m.moves)
           ap action_of at ∙ ap (λ s. chosen s cell.reduces.items) shift;
       reduces = λ q t r reduce.
           let (i, complete, ahead) = reduce in
-          let (cell, at, is) = cell_there q t (row_inside m.sets q i (ahead_inside m states ahead))
+          let (cell, at, is) = cell_there q t (set_inside m.sets q i (ahead_inside m states ahead))
           (ahead_terminal ahead) in
           let there = subst (λ rs. Contains rs r) (sym (ap (λ both. both.1) (is.left ∙ all_left t is.shift is.reduces)))
           ((is.all.reduces.each r).1 reduce) in

@@ -2,33 +2,32 @@
 use Rattle.std.proofs.Common.{◌≡◌, ◌↔◌, ℕ, ◌+◌, ◌<◌, ◌⊎◌, inl, inr, Bool, true, List, [], ◌∷◌, length, get_or, drop, Some, slice_get, refl, sym, ap, ◌∙◌, subst, arith}
 use Rattle.std.specs.List.{All, Contains}
 use Rattle.std.proofs.lemmas.Bool.{cases_eq, cases_lt, false≢true}
-use Rattle.std.proofs.lemmas.List.Elements.{All-drop}
+use Rattle.std.proofs.lemmas.List.Elements.{All-drop, Contains-get_or}
 use Rattle.std.proofs.lemmas.Option.{get_or_from_slice_get, same_Some, slice_get-get_or, slice_get_within}
 use Rattle.std.specs.declared.ops.Bound.TheVariants.{Unbounded}
-use Rattle.vob.specs.Vobs.{AreOfLength, total_count}
+use Rattle.vob.specs.Vobs.{AreOfLength}
 use Rattle.vob_block.proofs.PackingLemmas.{true_inside}
-use Rattle.vob.proofs.BitsLemmas.{row_inside}
 use Rattle.vob_flow.proofs.FirstLemmas.{all_at}
 use Rattle.vob_flow.specs.Draws.{IsIn}
 use Rattle.vob_lr.specs.Behind.{IsOfTrailer, IsTrailer, StandsBehind}
 use Rattle.vob_lr.specs.Equations.{AreEquations, AreSolved, GainEach, HasAt, Reaches, System}
 use Rattle.vob_lr.specs.Equations.Reaches.{at_start, along}
-use Rattle.vob_lr.specs.Expansions.{Expands}
+use Rattle.vob_lr.specs.Expansions.{Expands, Has}
 use Rattle.vob_lr.specs.Faults.{IsRuleOf, IsSymbol}
 use Rattle.vob_lr.specs.Flows.{FlowsFrom, FlowsOf, FlowsTo, HasTables, HaveLookaheads, IsKept, IsKeptAt, IsKeptBy, IsOpened}
 use Rattle.vob_lr.specs.Walked.{GainWalked, IsOfFirst, IsOfMember}
-use Rattle.vob_lr.specs.ItemSets.{Has, Opens}
+use Rattle.vob_lr.specs.ItemSets.{HasItem, Opens}
 use Rattle.vob_lr.specs.Items.{HasNext, IsItem, item_total}
 use Rattle.vob_lr.specs.Lookaheads.{HasNextThen, LooksAhead, Machine}
 use Rattle.vob_lr.specs.Lookaheads.LooksAhead.{begins, passes, keeps}
-use Rattle.vob_lr.specs.Nodes.{node}
+use Rattle.vob_lr.specs.Nodes.{member_total, node}
 use Rattle.vob_lr.specs.Grammar.{AreFirst, AreNullable}
 use Rattle.vob_lr.specs.States.{AreStates}
 use Rattle.vob_lr.proofs.FollowLemmas.{of_trailer}
 use Rattle.vob_lr.proofs.ItemLemmas.{next_is, one_item}
 use Rattle.vob_lr.proofs.MemberLemmas.{member_advances, member_closed}
 use Rattle.vob_lr.proofs.NodeLemmas.{node_inside, one_node}
-use Rattle.vob_lr.proofs.StateLemmas.{state_long}
+use Rattle.vob_lr.proofs.SetLemmas.{set_inside}
 use Rattle.vob_lr.proofs.SolvedLemmas.{AreSolved-as}
 use Rattle.vob_lr.specs.declared.grammar.Rule.{Rule}
 use Rattle.vob_lr.specs.declared.grammar.Symbol.{Symbol}
@@ -169,16 +168,7 @@ module _ (m : Machine) (nullable : List Bool) (first opens : List (List Bool))
   abbrev rules : List Rule
   rules = m.grammar.rules.items
 
-  -- an item of a state is there
-  pub state_inside : (q j : ℕ) → IsIn m.sets q j → j < item_total rules
-  state_inside q j own =
-      omega (
-        arith,
-        true_inside (get_or m.sets q []) j own,
-        state_long rules (h.states.each q [] (row_inside m.sets q j own)),
-      )
-
-  -- and what stands behind its dot
+  -- what stands behind a dot is there
   pub symbol_there : (j : ℕ) (x : Symbol) → HasNext rules j x →
       IsSymbol m.grammar.terminals m.grammar.nonterminals x
   symbol_there j x next =
@@ -286,26 +276,39 @@ module _ (m : Machine) (nullable : List Bool) (first opens : List (List Bool))
     ]),
   )
 
+  -- all items of a state
+  pub flows_each : (q n : ℕ) (y : Symbol) →
+      IsOfFirst (length (get_or m.sets q [])) (λ k. FlowsFrom m q (get_or (get_or m.sets q []) k 0)) n y
+      ↔ FlowsOf m q n y
+  flows_each q n y =
+      let set = get_or m.sets q [] in (
+        (λ found. (get_or set found.0 0, Contains-get_or set found.0 0 found.1, found.2)),
+        (λ own.
+            let (j, (k, less, is), flows) = own in
+            let same = get_or_from_slice_get set k j 0 (slice_get-get_or set k j less ∙ ap Some is) in
+            (k, less, subst (λ (i : ℕ). FlowsFrom m q i n y) (sym same) flows)),
+      )
+
   pub flows_all : (n : ℕ) (y : Symbol) →
       IsOfFirst (length m.sets) (λ q n y. FlowsOf m q n y) n y ↔ FlowsTo m n y
   flows_all n y = (
     (λ found. (found.0, found.2)),
     (λ found.
         let own = found.1 in
-        (found.0, row_inside m.sets found.0 own.0 own.1, own)),
+        (found.0, set_inside m.sets found.0 own.0 own.1, own)),
   )
 
   -- ---- the least sets that flow so
 
   module _ (rows : List (List Bool)) (s : AreSolved (FlowsTo m) rows) where
-    ahead_at : (t q j r i n : ℕ) → IsIn m.sets q j → IsIn m.sets r i → node m.sets q j ≡ n →
+    ahead_at : (t q j r i n : ℕ) → HasItem m.sets q j → HasItem m.sets r i → node m.sets q j ≡ n →
         node m.sets r i ≡ n → LooksAhead m t q j → LooksAhead m t r i
     ahead_at t q j r i n here there at other l =
         let same = one_node m.sets q r j i here there (at ∙ sym other) in
         subst (λ (k : ℕ). LooksAhead m t k i) same.0
         (subst (λ (k : ℕ). LooksAhead m t q k) same.1 l)
 
-    ahead_sound : {t n : ℕ} → Reaches (FlowsTo m) t n → (r i : ℕ) → IsIn m.sets r i →
+    ahead_sound : {t n : ℕ} → Reaches (FlowsTo m) t n → (r i : ℕ) → HasItem m.sets r i →
         node m.sets r i ≡ n → LooksAhead m t r i
     ahead_sound {t} {n} (at_start (q, (j, own, inl kept))) r i there at =
         absurd (terminal_differs t _ (sym kept.5))
@@ -321,7 +324,7 @@ module _ (m : Machine) (nullable : List Bool) (first opens : List (List Bool))
         (passes (ahead_sound c q j own st.0) next st.1 opens)
 
     ahead_complete : {t q i : ℕ} → LooksAhead m t q i →
-        IsIn m.sets q i × IsIn rows (node m.sets q i) t
+        HasItem m.sets q i × IsIn rows (node m.sets q i) t
     ahead_complete {t} (begins {q} {j} {a} {i} {rest} own next st opens) = (
       member_closed m h.states q j a i own next.next opens,
       s.starts (node m.sets q i) t (q, (j, own, inr (a, i, rest, next, opens, refl, st))),
@@ -340,7 +343,7 @@ module _ (m : Machine) (nullable : List Bool) (first opens : List (List Bool))
         )
 
   pub HaveLookaheads-solved : {system : System} (rows : List (List Bool)) →
-      AreEquations (total_count m.sets) m.grammar.terminals (FlowsTo m) system →
+      AreEquations (member_total m.sets) m.grammar.terminals (FlowsTo m) system →
       length rows ≡ length system.starts → AreOfLength system.places rows →
       AreSolved (HasAt system) rows → HaveLookaheads m rows
   HaveLookaheads-solved {system} rows e count long solved =

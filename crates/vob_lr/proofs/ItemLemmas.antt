@@ -113,6 +113,44 @@ one_complete rules r i j h k =
       long,
     )
 
+-- and a later complete item is that of a later rule
+pub complete_rises : (rules : List Rule) (r s i j : ℕ) → Completes rules r i → Completes rules s j → i < j → r < s
+complete_rises rules r s i j h k less = elim (cases_lt r s) [
+  | inl low ↦ low
+  | inr past ↦ elim (cases_lt s r) [
+    | inl low ↦
+        let below = item_below rules j k.item k.is r (omega (arith, low, k.rule)) in
+        absurd (omega (arith, below, h.is.number, ap (first_item rules) h.rule, less))
+    | inr over ↦
+        let same : s ≡ r = omega (arith, past, over) in
+        let other = subst (λ (n : ℕ). Completes rules n j) same k in
+        absurd (omega (arith, less, one_complete rules r i j h other))
+  ]
+]
+
+-- an item completes the rule of which it is, if its dot is behind the right side
+pub one_completed : (rules : List Rule) (r s i : ℕ) → Completes rules r i → Completes rules s i → r ≡ s
+one_completed rules r s i h k =
+    sym h.rule ∙ ap (λ (z : Item). z.rule) (one_item rules i h.item k.item h.is k.is) ∙ k.rule
+
+module _ (rules : List Rule) (i : ℕ) (item : Item) (is : IsItem rules i item) (r : ℕ) where
+  pub completes_last : length is.rule.right.items ≤ item.dot → (Some item.rule ≡ Some r) ↔ Completes rules r i
+  completes_last past = (
+    (λ e. record { item = item; is = is; rule = same_Some item.rule r e; dot = omega (arith, is.dot, past) }),
+    (λ h. ap Some (ap (λ (z : Item). z.rule) (one_item rules i item h.item is h.is) ∙ h.rule)),
+  )
+
+  pub completes_not : item.dot < length is.rule.right.items → (None ≡ Some r) ↔ Completes rules r i
+  completes_not less = (
+    (λ e. absurd (none-some r e)),
+    (λ h.
+        let same = one_item rules i item h.item is h.is in
+        let there = subst (λ (z : Item). slice_get rules z.rule ≡ Some is.rule) same is.is in
+        let long = ap (λ (x : Rule). length x.right.items)
+        (same_Some is.rule h.is.rule (sym there ∙ h.is.is)) in
+        absurd (omega (arith, less, long, h.dot, ap (λ (z : Item). z.dot) same))),
+  )
+
 -- what stands behind its dot
 pub next_is : (rules : List Rule) (i : ℕ) (item : Item) (is : IsItem rules i item) (x : Symbol) →
     (slice_get is.rule.right.items item.dot ≡ Some x) ↔ HasNext rules i x

@@ -2,6 +2,7 @@ mod AheadLemmas
 mod BecomingLemmas
 mod ClosureLemmas
 mod CompleteLemmas
+mod CompletedLemmas
 mod ConflictLemmas
 mod DerivationLemmas
 mod DoneLemmas
@@ -20,6 +21,7 @@ mod MoveLemmas
 mod NodeLemmas
 mod ParseLemmas
 mod PrecedenceLemmas
+mod SetLemmas
 mod SidesLemmas
 mod SolvedLemmas
 mod SoundLemmas

@@ -1,11 +1,11 @@
 -- The states on a parser's stack, each with the symbol by which it was entered: what stands before
 -- the dots of their items.
-use Rattle.std.proofs.Common.{◌≡◌, ℕ, ◌+◌, ◌<◌, ◌≤◌, zero, suc, inl, inr, Bool, List, [], ◌∷◌, ◌++◌, length, get_or, take, drop, reverse, Some, slice_get, refl, sym, ap, ◌∙◌, subst, arith, add-one}
+use Rattle.std.proofs.Common.{◌≡◌, ℕ, ◌+◌, ◌<◌, ◌≤◌, zero, suc, inl, inr, List, [], ◌∷◌, ◌++◌, length, get_or, take, drop, reverse, Some, slice_get, refl, sym, ap, ◌∙◌, subst, arith, add-one}
 use Rattle.std.proofs.lemmas.Bool.{cases_lt}
 use Rattle.std.proofs.lemmas.List.{get_or_past, reverse-append, take_more}
 use Rattle.std.proofs.lemmas.Option.{get_or_from_slice_get, same_Some, slice_get_within}
-use Rattle.vob_flow.specs.Draws.{IsIn}
-use Rattle.vob_lr.specs.ItemSets.{Has, InClosure, IsAdvanced, Opens}
+use Rattle.std.specs.List.{Contains}
+use Rattle.vob_lr.specs.ItemSets.{HasItem, InClosure, IsAdvanced, Opens}
 use Rattle.vob_lr.specs.ItemSets.InClosure.{inside, expands}
 use Rattle.vob_lr.specs.Items.{HasNext, IsItem}
 use Rattle.vob_lr.specs.Lookaheads.{HasMove, Machine}
@@ -33,7 +33,7 @@ module _ (rules : List Rule) where
       absurd (omega (arith, past, opens_first a i opens item is))
 
   -- and in the first state each dot is first
-  start_first : (set : List Bool) → IsStart rules set → (i : ℕ) → Has set i → (item : Item) →
+  start_first : (set : List ℕ) → IsStart rules set → (i : ℕ) → Contains set i → (item : Item) →
       IsItem rules i item → item.dot ≡ 0
   start_first set h i there item is = elim (cases_lt 0 item.dot) [
     | inl past ↦
@@ -77,7 +77,7 @@ module _ (m : Machine) (h : AreStates m.grammar.rules.items m.sets m.moves) wher
   ]
 
   -- an item whose dot isn't first comes from the state before
-  moved_from : (q : ℕ) (x : Symbol) (p : ℕ) → HasMove m.moves q x p → (i : ℕ) → IsIn m.sets p i →
+  moved_from : (q : ℕ) (x : Symbol) (p : ℕ) → HasMove m.moves q x p → (i : ℕ) → HasItem m.sets p i →
       (item : Item) → IsItem rules i item → 0 < item.dot →
       IsAdvanced rules (get_or m.sets q []) x i
   moved_from q x p move i there item is past =
@@ -99,7 +99,7 @@ module _ (m : Machine) (h : AreStates m.grammar.rules.items m.sets m.moves) wher
 
   -- the symbols before the dot of an item in the newest state are the newest on the stack
   pub dots_linked : {qs : List ℕ} {xs : List Symbol} → AreLinked m.moves qs xs → (i d : ℕ)
-      (item : Item) (is : IsItem rules i item) → IsIn m.sets (get_or qs 0 0) i → item.dot ≡ d →
+      (item : Item) (is : IsItem rules i item) → HasItem m.sets (get_or qs 0 0) i → item.dot ≡ d →
       EndWith xs is.rule.right.items d
   dots_linked bottom i zero item is there dot = (omega arith, refl)
   dots_linked bottom i (suc d) item is there dot =

@@ -1,10 +1,13 @@
 -- The states that were found, and the moves of each.
-use Rattle.std.proofs.Common.{◌≡◌, ◌≢◌, ℕ, suc, ◌+◌, ◌<◌, ◌≤◌, inl, inr, if◌then◌else◌, Some, slice_get, Bool, true, false, List, [], ◌∷◌, ◌++◌, length, get_or, map, replicate, refl, sym, ap, ◌∙◌, subst, arith}
+use Rattle.std.proofs.Common.{◌≡◌, ◌≢◌, ◌==◌, ℕ, suc, ◌+◌, ◌<◌, ◌≤◌, inl, inr, if◌then◌else◌, Some, slice_get, Bool, true, false, List, [], ◌∷◌, ◌++◌, length, get_or, map, Global, Vec, refl, sym, ap, ◌∙◌, subst, arith}
 use Rattle.std.specs.List.{All, AllPairs, Any, Contains, list_any, position_or_len}
+use Rattle.std.specs.Bool.{Decides}
+use Rattle.std.specs.Cmp.Lexicographic.{pointwise}
 use Rattle.indexmap.specs.IndexSet.{insert_key}
 use Rattle.std.specs.declared.ops.Bound.TheVariants.{Unbounded}
 use Rattle.std.proofs.lemmas.Bool.{cases_Bool, cases_eq, cases_lt, false≢true}
-use Rattle.std.proofs.lemmas.List.{append-nil, append_assoc, ext_get_or, get_or-map, get_or_append_left, get_or_push, length-append, length-map, length_push, map-append}
+use Rattle.std.proofs.lemmas.Bool.Decides.{Decides-eqb}
+use Rattle.std.proofs.lemmas.List.{append-nil, append_assoc, get_or-map, get_or_append_left, get_or_push, length-append, length-map, length_push, map-append}
 use Rattle.std.proofs.lemmas.Grind.{flat_map-append}
 use Rattle.std.proofs.lemmas.List.Concat.{flat_map-cons}
 use Rattle.std.proofs.lemmas.List.Elements.{All-head, All-nil, All-push, All-tail}
@@ -12,16 +15,12 @@ use Rattle.std.proofs.lemmas.List.Folds.{Any-from_list_any, list_any_at}
 use Rattle.std.proofs.lemmas.List.Quantifiers.{all_pairs_push}
 use Rattle.std.proofs.lemmas.List.Sums.{fails_before_first, passes_at_first, position_or_len_is}
 use Rattle.std.proofs.lemmas.Option.{get_or_from_slice_get, slice_get-get_or}
-use Rattle.vob_block.specs.Packing.{item}
-use Rattle.vob.specs.Bits.{IsWritten}
-use Rattle.vob.specs.Same.{same_bits}
-use Rattle.vob.specs.Vob.{BitVector}
-use Rattle.vob.specs.Vobs.{bits_of}
+use Rattle.std.proofs.lemmas.Slice.Eq.{slice_eq-Decides}
 use Rattle.vob_block.proofs.PackingLemmas.{true_inside}
-use Rattle.vob.proofs.SameLemmas.{same_bits_decides}
-use Rattle.vob_lr.specs.ItemSets.{InClosure, IsItemClosure, IsGoto, IsItemSet}
-use Rattle.vob_lr.specs.Items.{item_total}
+use Rattle.vob_flow.specs.Lists.{lists_of}
+use Rattle.vob_lr.specs.ItemSets.{InClosure, IsAdvanced, IsGoto}
 use Rattle.vob_lr.specs.Ahead.{AreAhead, symbol_with}
+use Rattle.vob_lr.specs.Nodes.{AreRising}
 use Rattle.vob_lr.specs.Rounds.{AreMovesBut, AreMovesFrom, AreRounds, AreSome, Extends, HasEntered}
 use Rattle.vob_lr.specs.States.{AreGiven, AreMoves, AreStates, IsAhead, IsMove, IsStart, IsState, Precedes, targets_of}
 use Rattle.vob_lr.specs.States.IsState.{start, after}
@@ -30,78 +29,54 @@ use Rattle.vob_lr.specs.declared.grammar.Rule.{Rule}
 use Rattle.vob_lr.specs.declared.grammar.Symbol.{Symbol}
 use Rattle.vob_lr.specs.declared.state.Move.{Move}
 use Rattle.vob_lr.proofs.AheadLemmas.{number_precedes}
-use Rattle.vob_lr.proofs.ClosureLemmas.{closure_as, none_true}
+use Rattle.vob_lr.proofs.SetLemmas.{same_those}
 use Rattle.vob_walk.specs.Left.{AreMatches, is_left}
 use Rattle.vob_walk.specs.Matches.{matches}
 use Rattle.vob_walk.proofs.IndexLemmas.{first_value, left_all, left_none, left_other, matches_after, matches_all, matches_rise}
 
 -- ---- sets of items
 
-same_bit : (a b : Bool) → (a ≡ true → b ≡ true) → (b ≡ true → a ≡ true) → a ≡ b
-same_bit true b to from = sym (to refl)
-same_bit false true to from = from refl
-same_bit false false to from = refl
-
 -- an element at another default
-at_default : (sets : List (List Bool)) (i : ℕ) (d : List Bool) → i < length sets →
+at_default : (sets : List (List ℕ)) (i : ℕ) (d : List ℕ) → i < length sets →
     get_or sets i d ≡ get_or sets i []
 at_default sets i d less =
     get_or_from_slice_get sets i (get_or sets i []) d (slice_get-get_or sets i [] less)
 
-pub same_sets : (rules : List Rule) (P : ℕ → Type 0) (set other : List Bool) →
-    IsItemSet rules P set → IsItemSet rules P other → set ≡ other
-same_sets rules P set other h g =
-    ext_get_or false set other (h.len ∙ sym g.len)
-    (λ i less. same_bit (item set i) (item other i)
-    (λ there. (g.each i).1 ((h.each i).0 there)) (λ there. (h.each i).1 ((g.each i).0 there)))
+pub state_rises : (rules : List Rule) {set : List ℕ} → IsState rules set → AllPairs (λ i j. i < j) set
+state_rises rules (start h) = h.rise
+state_rises rules (after x state ahead h) = h.rise
 
-pub state_long : (rules : List Rule) {set : List Bool} → IsState rules set →
-    length set ≡ item_total rules
-state_long rules (start h) = h.len
-state_long rules (after x state ahead h) = h.len
-
--- the closure of item 0 alone
-pub IsStart-closed : (rules : List Rule) (n : ℕ) (first set : List Bool) →
-    IsWritten (replicate n false) 0 true first → IsItemClosure rules first set → IsStart rules set
-IsStart-closed rules n first set w h = record {
-  len = h.len;
-  each = λ i. (
-    (λ there. closure_as (λ j own. elim (cases_eq j 0) [
-      | inl same ↦ same
-      | inr other ↦ absurd (none_true n j (sym (w.others j other) ∙ own))
-    ]) ((h.each i).0 there)),
-    (λ there. (h.each i).1 (closure_as (λ j same. ap (item first) same ∙ w.there) there)),
-  );
-}
+pub AreRising-states : (rules : List Rule) (sets : List (List ℕ)) → All (IsState rules) sets → AreRising sets
+AreRising-states rules sets each = λ k d less. state_rises rules (each k d less)
 
 -- ---- more sets
 
 module _ (rules : List Rule) where
-  pub Extends-itself : (sets : List (List Bool)) → Extends sets sets
+  pub Extends-itself : (sets : List (List ℕ)) → Extends sets sets
   Extends-itself sets = ([], sym (append-nil sets))
 
-  Extends-both : (sets mid after : List (List Bool)) → Extends sets mid → Extends mid after →
+  Extends-both : (sets mid after : List (List ℕ)) → Extends sets mid → Extends mid after →
       Extends sets after
   Extends-both sets mid more (xs, one) (ys, two) =
       (xs ++ ys, two ∙ ap (λ zs. zs ++ ys) one ∙ append_assoc sets xs ys)
 
-  extended_at : (sets more : List (List Bool)) → Extends sets more → (i : ℕ) → i < length sets →
+  extended_at : (sets more : List (List ℕ)) → Extends sets more → (i : ℕ) → i < length sets →
       (i < length more) × (get_or more i [] ≡ get_or sets i [])
   extended_at sets more (xs, is) i less = (
     omega (arith, less, ap length is, length-append sets xs),
     ap (λ zs. get_or zs i []) is ∙ get_or_append_left sets xs [] i less,
   )
 
-  pub IsMove-extended : (sets more : List (List Bool)) → Extends sets more → (set : List Bool)
+  pub IsMove-extended : (sets more : List (List ℕ)) → Extends sets more → (set : List ℕ)
       (move : Move) → IsMove rules sets set move → IsMove rules more set move
   IsMove-extended sets more e set move h =
       let at = extended_at sets more e move.state h.inside in record {
         ahead = h.ahead;
         inside = at.0;
-        goto = subst (λ (bits : List Bool). IsGoto rules set move.symbol bits) (sym at.1) h.goto;
+        goto = subst (λ (xs : List ℕ). IsGoto rules set move.symbol xs) (sym at.1) h.goto;
       }
 
-  pub AreMoves-extended : (sets more : List (List Bool)) → Extends sets more → (set : List Bool)
+  pub AreMoves-extended : (sets more : List (List ℕ)) → Extends sets more → (set : List ℕ)
       (moves : List Move) → AreMoves rules sets set moves → AreMoves rules more set moves
   AreMoves-extended sets more e set moves h = record {
     each = λ k d less. IsMove-extended sets more e set _ (h.each k d less);
@@ -110,7 +85,7 @@ module _ (rules : List Rule) where
   }
 
   -- a set that was entered
-  module _ (sets : List (List Bool)) (set : List Bool) (more : List (List Bool)) (p : ℕ)
+  module _ (sets : List (List ℕ)) (set : List ℕ) (more : List (List ℕ)) (p : ℕ)
       (h : HasEntered sets set more p) where
     Extends-entered : Extends sets more
     Extends-entered = elim h.added [
@@ -120,8 +95,8 @@ module _ (rules : List Rule) where
 
     AreSome-entered : AreSome rules sets → IsState rules set → AreSome rules more
     AreSome-entered some state = elim h.added [
-      | inl same ↦ subst (λ (xs : List (List Bool)). AreSome rules xs) (sym same) some
-      | inr new ↦ subst (λ (xs : List (List Bool)). AreSome rules xs) (sym new.0) record {
+      | inl same ↦ subst (λ (xs : List (List ℕ)). AreSome rules xs) (sym same) some
+      | inr new ↦ subst (λ (xs : List (List ℕ)). AreSome rules xs) (sym new.0) record {
         each = All-push (IsState rules) sets set some.each state;
         once = all_pairs_push (λ one other. one ≢ other) sets set some.once
             (λ k d less. new.1 k d less);
@@ -138,7 +113,7 @@ given_append n (p ∷ ps) m qs k h g = elim h [
   | inr next ↦ inr (next.0, given_append (n + 1) ps m qs k next.1 g)
 ]
 
-module _ (rules : List Rule) (sets : List (List Bool)) (set : List Bool) (more : List (List Bool))
+module _ (rules : List Rule) (sets : List (List ℕ)) (set : List ℕ) (more : List (List ℕ))
     (p : ℕ) (h : HasEntered sets set more p) where
   entered_given : AreGiven (length sets) (p ∷ []) (length more)
   entered_given = elim h.added [
@@ -172,99 +147,96 @@ targets_more moves row =
     (flat_map-cons (λ (ms : List Move). map (λ m. m.state) ms) row []
     ∙ append-nil (map (λ (m : Move). m.state) row))
 
--- the same of Vobs
-HasEntered-found : (sets : List BitVector) (bits : List Bool) (p : ℕ) → p < length sets →
-    get_or (bits_of sets) p [] ≡ bits → HasEntered (bits_of sets) bits (bits_of sets) p
-HasEntered-found sets bits p less there = record {
-  inside = omega (arith, less, length-map sets (λ v. v.bits));
+-- the same of lists
+HasEntered-found : (sets : List (Vec ℕ Global)) (items : List ℕ) (p : ℕ) → p < length sets →
+    get_or (lists_of sets) p [] ≡ items → HasEntered (lists_of sets) items (lists_of sets) p
+HasEntered-found sets items p less there = record {
+  inside = omega (arith, less, length-map sets (λ v. v.items));
   there = there;
   added = inl refl;
 }
 
-HasEntered-pushed : (sets : List BitVector) (set : BitVector) →
-    All (λ own. own ≢ set.bits) (bits_of sets) → (p : ℕ) → p ≡ length sets →
-    HasEntered (bits_of sets) set.bits (bits_of (sets ++ set ∷ [])) p
+HasEntered-pushed : (sets : List (Vec ℕ Global)) (set : Vec ℕ Global) →
+    All (λ own. own ≢ set.items) (lists_of sets) → (p : ℕ) → p ≡ length sets →
+    HasEntered (lists_of sets) set.items (lists_of (sets ++ set ∷ [])) p
 HasEntered-pushed sets set none p last =
-    let whole = map-append (λ (v : BitVector). v.bits) sets (set ∷ []) in
-    let here : length (bits_of sets) ≡ p = omega (arith, last, length-map sets (λ v. v.bits)) in
+    let whole = map-append (λ (v : Vec ℕ Global). v.items) sets (set ∷ []) in
+    let here : length (lists_of sets) ≡ p = omega (arith, last, length-map sets (λ v. v.items)) in
     rw whole record {
-      inside = omega (arith, here, length_push (bits_of sets) set.bits);
-      there = get_or_push (bits_of sets) set.bits [] p here;
+      inside = omega (arith, here, length_push (lists_of sets) set.items);
+      there = get_or_push (lists_of sets) set.items [] p here;
       added = inr (refl, none);
     }
 
 -- a set that is inserted among others
-abbrev same_vob : BitVector → BitVector → Bool
-same_vob v w = same_bits v.bits w.bits
+abbrev same_list : Vec ℕ Global → Vec ℕ Global → Bool
+same_list v w = pointwise (λ m n. m == n) v.items w.items
 
-pub HasEntered-inserted : (sets : List BitVector) (set : BitVector) (made : List BitVector) (p : ℕ) →
-    made ≡ insert_key (λ v w. same_bits v.bits w.bits) sets set →
-    p ≡ position_or_len (λ w. same_bits set.bits w.bits) sets →
-    HasEntered (bits_of sets) set.bits (bits_of made) p
-HasEntered-inserted sets set made p is at = elim (cases_Bool (list_any (same_vob set) sets)) [
+same_decides : (v w : Vec ℕ Global) → Decides (same_list v w) (v.items ≡ w.items)
+same_decides v w = slice_eq-Decides Decides-eqb v.items w.items (same_list v w) refl
+
+pub HasEntered-inserted : (sets : List (Vec ℕ Global)) (set : Vec ℕ Global) (made : List (Vec ℕ Global)) (p : ℕ) →
+    made ≡ insert_key same_list sets set → p ≡ position_or_len (same_list set) sets →
+    HasEntered (lists_of sets) set.items (lists_of made) p
+HasEntered-inserted sets set made p is at = elim (cases_Bool (list_any (same_list set) sets)) [
   | inl here ↦
-      let (k, own, low, found, equal) = Any-from_list_any (same_vob set) sets here in
+      let (k, own, low, found, equal) = Any-from_list_any (same_list set) sets here in
       let less : p < length sets = elim (cases_lt p (length sets)) [
         | inl low ↦ low
-        | inr past ↦ absurd (false≢true (sym (fails_before_first (same_vob set) sets k own (omega (arith, low, past, at)))
-            ∙ ap (same_vob set) found ∙ equal))
+        | inr past ↦ absurd (false≢true (sym (fails_before_first (same_list set) sets k own (omega (arith, low, past, at)))
+            ∙ ap (same_list set) found ∙ equal))
       ] in
-      let there = passes_at_first (same_vob set) sets set (omega (arith, less, at)) in
+      let there = passes_at_first (same_list set) sets set (omega (arith, less, at)) in
       rw (is ∙ ap (λ b. if b then sets else sets ++ set ∷ []) here)
-      (HasEntered-found sets set.bits p less (get_or-map (λ (v : BitVector). v.bits) sets p set [] less
-      ∙ ap (λ n. (get_or sets n set).bits) at ∙ sym ((same_bits_decides _ _).0 there)))
+      (HasEntered-found sets set.items p less (get_or-map (λ (v : Vec ℕ Global). v.items) sets p set [] less
+      ∙ ap (λ n. (get_or sets n set).items) at ∙ sym ((same_decides set (get_or sets (position_or_len (same_list set) sets) set)).0 there)))
   | inr none ↦
-      let apart : (k : ℕ) (d : BitVector) → k < length sets → same_vob set (get_or sets k d) ≡ false =
-      λ k d low. elim (cases_Bool (same_vob set (get_or sets k d))) [
-        | inl on ↦ absurd (false≢true (sym none ∙ list_any_at (same_vob set) sets k d low on))
+      let apart : (k : ℕ) (d : Vec ℕ Global) → k < length sets → same_list set (get_or sets k d) ≡ false =
+      λ k d low. elim (cases_Bool (same_list set (get_or sets k d))) [
+        | inl on ↦ absurd (false≢true (sym none ∙ list_any_at (same_list set) sets k d low on))
         | inr off ↦ off
       ] in
       rw (is ∙ ap (λ b. if b then sets else sets ++ set ∷ []) none)
       (HasEntered-pushed sets set
       (λ k d low same.
-      let less : k < length sets = omega (arith, low, length-map sets (λ v. v.bits)) in
+      let less : k < length sets = omega (arith, low, length-map sets (λ v. v.items)) in
       false≢true (sym (apart k set less)
-      ∙ (same_bits_decides _ _).1 (sym (sym (get_or-map (λ (v : BitVector). v.bits) sets k set d less) ∙ same))))
-      p (at ∙ position_or_len_is (same_vob set) sets (length sets) set (omega arith) (λ k low. apart k set low)
+      ∙ (same_decides set (get_or sets k set)).1 (sym (sym (get_or-map (λ (v : Vec ℕ Global). v.items) sets k set d less) ∙ same))))
+      p (at ∙ position_or_len_is (same_list set) sets (length sets) set (omega arith) (λ k low. apart k set low)
       (λ low. absurd (omega (arith, low)))))
 ]
 
 -- the first one
-pub entered_first : {set : List Bool} {made : List (List Bool)} {p : ℕ} → HasEntered [] set made p → made ≡ set ∷ []
+pub entered_first : {set : List ℕ} {made : List (List ℕ)} {p : ℕ} → HasEntered [] set made p → made ≡ set ∷ []
 entered_first {made} h = elim h.added [
   | inl none ↦ absurd (omega (arith, h.inside, ap length none))
   | inr both ↦ both.0
 ]
 
-pub still_there : (before sets : List BitVector) → Extends (bits_of before) (bits_of sets) →
+pub still_there : (before sets : List (Vec ℕ Global)) → Extends (lists_of before) (lists_of sets) →
     (p : ℕ) → p < length before → p < length sets
 still_there before sets (more, is) p less =
     omega (
       arith,
       less,
       ap length is,
-      length-append (bits_of before) more,
-      length-map before (λ v. v.bits),
-      length-map sets (λ v. v.bits),
+      length-append (lists_of before) more,
+      length-map before (λ v. v.items),
+      length-map sets (λ v. v.items),
     )
 
 -- a set that is read is a state, as it was before there were more
-pub state_read : (rules : List Rule) (before sets : List BitVector) →
-    AreSome rules (bits_of sets) → Extends (bits_of before) (bits_of sets) → (p : ℕ) →
-    p < length before → (set : BitVector) → slice_get sets p ≡ Some set →
-    (set.bits ≡ get_or (bits_of before) p []) × IsState rules (get_or (bits_of before) p [])
-    × (length set.bits ≡ item_total rules)
+pub state_read : (rules : List Rule) (before sets : List (Vec ℕ Global)) →
+    AreSome rules (lists_of sets) → Extends (lists_of before) (lists_of sets) → (p : ℕ) →
+    p < length before → (set : Vec ℕ Global) → slice_get sets p ≡ Some set →
+    (set.items ≡ get_or (lists_of before) p []) × IsState rules (get_or (lists_of before) p [])
 state_read rules before sets some more p less set read =
-    let at = extended_at rules (bits_of before) (bits_of sets) more p
-    (omega (arith, less, length-map before (λ v. v.bits))) in
-    let low : p < length sets = omega (arith, at.0, length-map sets (λ v. v.bits)) in
-    let own = ap (λ (v : BitVector). v.bits) (sym (get_or_from_slice_get sets p set set read))
-    ∙ sym (get_or-map (λ (v : BitVector). v.bits) sets p set [] low) in
-    let state = some.each p [] at.0 in (
-      own ∙ at.1,
-      subst (λ (bits : List Bool). IsState rules bits) at.1 state,
-      state_long rules (subst (λ (bits : List Bool). IsState rules bits) (sym own) state),
-    )
+    let at = extended_at rules (lists_of before) (lists_of sets) more p
+    (omega (arith, less, length-map before (λ v. v.items))) in
+    let low : p < length sets = omega (arith, at.0, length-map sets (λ v. v.items)) in
+    let own = ap (λ (v : Vec ℕ Global). v.items) (sym (get_or_from_slice_get sets p set set read))
+    ∙ sym (get_or-map (λ (v : Vec ℕ Global). v.items) sets p set [] low) in
+    (own ∙ at.1, subst (λ (xs : List ℕ). IsState rules xs) at.1 (some.each p [] at.0))
 
 -- ---- the moves of a state
 
@@ -288,8 +260,8 @@ Any-last P moves move holds = (
   holds,
 )
 
-module _ (grammar : Grammar) (set ahead : List Bool) (is : AreAhead grammar set ahead) where
-  pub AreMovesBut-start : (sets : List (List Bool)) (left : List ℕ) →
+module _ (grammar : Grammar) (set : List ℕ) (ahead : List Bool) (is : AreAhead grammar set ahead) where
+  pub AreMovesBut-start : (sets : List (List ℕ)) (left : List ℕ) →
       left ≡ matches ahead true Unbounded Unbounded →
       AreMovesBut grammar sets set ahead left []
   AreMovesBut-start sets left all = record {
@@ -306,7 +278,7 @@ module _ (grammar : Grammar) (set ahead : List Bool) (is : AreAhead grammar set 
         absurd (false≢true (sym gone ∙ ap (λ (xs : List ℕ). is_left xs k) all ∙ here));
   }
 
-  module _ (sets : List (List Bool)) (given : List ℕ) (k : ℕ) (left : List ℕ)
+  module _ (sets : List (List ℕ)) (given : List ℕ) (k : ℕ) (left : List ℕ)
       (e : given ≡ k ∷ left) (moves : List Move)
       (h : AreMovesBut grammar sets set ahead given moves) where
     now : AreMovesBut grammar sets set ahead (k ∷ left) moves
@@ -316,15 +288,15 @@ module _ (grammar : Grammar) (set ahead : List Bool) (is : AreAhead grammar set 
     next_ahead : IsAhead grammar.rules.items set (symbol_with grammar.terminals k)
     next_ahead = is.only k (first_value ahead true Unbounded Unbounded k left now.matches)
 
-    next_state : IsState grammar.rules.items set → (next : List Bool) →
+    next_state : IsState grammar.rules.items set → (next : List ℕ) →
         IsGoto grammar.rules.items set (symbol_with grammar.terminals k) next →
         IsState grammar.rules.items next
     next_state state next goto = after (symbol_with grammar.terminals k) state next_ahead goto
 
     -- its move is one more
-    AreMovesBut-step : (next : List Bool) →
+    AreMovesBut-step : (next : List ℕ) →
         IsGoto grammar.rules.items set (symbol_with grammar.terminals k) next →
-        (more : List (List Bool)) (p : ℕ) → HasEntered sets next more p → (move : Move) →
+        (more : List (List ℕ)) (p : ℕ) → HasEntered sets next more p → (move : Move) →
         move.symbol ≡ symbol_with grammar.terminals k → move.state ≡ p →
         AreMovesBut grammar more set ahead left (moves ++ move ∷ [])
     AreMovesBut-step next goto more p entered move symbol state =
@@ -334,8 +306,8 @@ module _ (grammar : Grammar) (set ahead : List Bool) (is : AreAhead grammar set 
           inside = omega (arith, state, entered.inside);
           goto = subst (λ (x : Symbol). IsGoto grammar.rules.items set x (get_or more move.state []))
               (sym symbol)
-              (subst (λ (bits : List Bool).
-              IsGoto grammar.rules.items set (symbol_with grammar.terminals k) bits)
+              (subst (λ (xs : List ℕ).
+              IsGoto grammar.rules.items set (symbol_with grammar.terminals k) xs)
               (sym (ap (λ n. get_or more n []) state ∙ entered.there)) goto);
         } in record {
           matches = matches_after ahead true Unbounded Unbounded k left now.matches;
@@ -370,19 +342,19 @@ module _ (grammar : Grammar) (set ahead : List Bool) (is : AreAhead grammar set 
         }
 
   -- and what was found so far grows with it
-  module _ (before : List (List Bool)) (state : IsState grammar.rules.items set) where
-    pub moves_go_on : (sets : List (List Bool)) (given : List ℕ) (k : ℕ) (left : List ℕ) →
+  module _ (before : List (List ℕ)) (state : IsState grammar.rules.items set) where
+    pub moves_go_on : (sets : List (List ℕ)) (given : List ℕ) (k : ℕ) (left : List ℕ) →
         given ≡ k ∷ left → (moves : List Move) → AreSome grammar.rules.items sets →
         Extends before sets → AreMovesBut grammar sets set ahead given moves →
-        (own : List Bool) → own ≡ set → (next : List Bool) (move : Move) →
+        (own : List ℕ) → own ≡ set → (next : List ℕ) (move : Move) →
         IsGoto grammar.rules.items own move.symbol next →
-        (more : List (List Bool)) (p : ℕ) → HasEntered sets next more p →
+        (more : List (List ℕ)) (p : ℕ) → HasEntered sets next more p →
         move.symbol ≡ symbol_with grammar.terminals k → move.state ≡ p →
         AreSome grammar.rules.items more × Extends before more
         × AreMovesBut grammar more set ahead left (moves ++ move ∷ [])
     moves_go_on sets given k left e moves some grown h own same next move to more p entered symbol at =
-        let goto = subst (λ (bits : List Bool).
-        IsGoto grammar.rules.items bits (symbol_with grammar.terminals k) next) same
+        let goto = subst (λ (xs : List ℕ).
+        IsGoto grammar.rules.items xs (symbol_with grammar.terminals k) next) same
         (subst (λ (x : Symbol). IsGoto grammar.rules.items own x next) symbol to) in (
           AreSome-entered grammar.rules.items sets next more p entered some
               (next_state sets given k left e moves h state next goto),
@@ -391,7 +363,7 @@ module _ (grammar : Grammar) (set ahead : List Bool) (is : AreAhead grammar set 
           AreMovesBut-step sets given k left e moves h next goto more p entered move symbol at,
         )
 
-  pub AreMoves-whole : (sets : List (List Bool)) (left : List ℕ) → left ≡ [] →
+  pub AreMoves-whole : (sets : List (List ℕ)) (left : List ℕ) → left ≡ [] →
       (moves : List Move) → AreMovesBut grammar sets set ahead left moves →
       AreMoves grammar.rules.items sets set moves
   AreMoves-whole sets left none moves h = record {
@@ -406,7 +378,7 @@ module _ (grammar : Grammar) (set ahead : List Bool) (is : AreAhead grammar set 
 -- ---- one state after another
 
 module _ (rules : List Rule) where
-  pub AreRounds-start : (set : List Bool) → IsStart rules set → AreRounds rules (set ∷ []) []
+  pub AreRounds-start : (set : List ℕ) → IsStart rules set → AreRounds rules (set ∷ []) []
   AreRounds-start set h = record {
     some = record {
       each = All-push (IsState rules) [] set (All-nil (IsState rules)) (start h);
@@ -419,9 +391,9 @@ module _ (rules : List Rule) where
     moves_of = λ q less. absurd (omega (arith, less));
   }
 
-module _ (grammar : Grammar) (sets : List (List Bool)) (moves : List (List Move))
+module _ (grammar : Grammar) (sets : List (List ℕ)) (moves : List (List Move))
     (h : AreRounds grammar.rules.items sets moves) where
-  pub AreRounds-step : length moves < length sets → (more : List (List Bool)) (row : List Move) →
+  pub AreRounds-step : length moves < length sets → (more : List (List ℕ)) (row : List Move) →
       AreMovesFrom grammar sets (length moves) more row →
       AreRounds grammar.rules.items more (moves ++ row ∷ [])
   AreRounds-step low more row m =
@@ -430,7 +402,7 @@ module _ (grammar : Grammar) (sets : List (List Bool)) (moves : List (List Move)
       let last = extended_at rules sets more m.more (length moves) low in record {
         some = m.some;
         inside = first.0;
-        first = subst (λ (bits : List Bool). IsStart rules bits) (sym first.1) h.first;
+        first = subst (λ (xs : List ℕ). IsStart rules xs) (sym first.1) h.first;
         count = omega (arith, last.0, length_push moves row);
         given = rw (targets_more moves row)
             (given_append 1 (targets_of moves) (length sets) (map (λ (n : Move). n.state) row)
@@ -438,8 +410,8 @@ module _ (grammar : Grammar) (sets : List (List Bool)) (moves : List (List Move)
         moves_of = λ q less. elim (cases_lt q (length moves)) [
           | inl before ↦
               let at = extended_at rules sets more m.more q (omega (arith, before, low)) in
-              subst (λ (bits : List Bool).
-              AreMoves rules more bits (get_or (moves ++ row ∷ []) q [])) (sym at.1)
+              subst (λ (xs : List ℕ).
+              AreMoves rules more xs (get_or (moves ++ row ∷ []) q [])) (sym at.1)
               (subst (λ (ms : List Move). AreMoves rules more (get_or sets q []) ms)
               (sym (get_or_append_left moves (row ∷ []) [] q before))
               (AreMoves-extended rules sets more m.more _ _ (h.moves_of q before)))
@@ -447,39 +419,39 @@ module _ (grammar : Grammar) (sets : List (List Bool)) (moves : List (List Move)
               let here : length moves ≡ q = omega (arith, past, less, length_push moves row) in
               subst (λ (n : ℕ).
               AreMoves rules more (get_or more n []) (get_or (moves ++ row ∷ []) n [])) here
-              (subst (λ (bits : List Bool).
-              AreMoves rules more bits (get_or (moves ++ row ∷ []) (length moves) [])) (sym last.1)
+              (subst (λ (xs : List ℕ).
+              AreMoves rules more xs (get_or (moves ++ row ∷ []) (length moves) [])) (sym last.1)
               (subst (λ (ms : List Move). AreMoves rules more (get_or sets (length moves) []) ms)
               (sym (get_or_push moves row [] (length moves) refl)) m.moves_of))
         ];
       }
 
-module _ (rules : List Rule) (sets : List (List Bool)) (moves : List (List Move))
+module _ (rules : List Rule) (sets : List (List ℕ)) (moves : List (List Move))
     (h : AreRounds rules sets moves) (all : length sets ≤ length moves) where
   -- each state is one of them
-  state_found : {set : List Bool} → IsState rules set → Contains sets set
+  state_found : {set : List ℕ} → IsState rules set → Contains sets set
   state_found {set} (start first) = (
     0,
     h.inside,
     at_default sets 0 set h.inside
-        ∙ same_sets rules (InClosure rules (λ i. i ≡ 0)) _ set h.first first,
+        ∙ same_those (InClosure rules (λ i. i ≡ 0)) _ set h.first first,
   )
   state_found {set} (after {set = before} {next} x state ahead goto) =
       let (q, low, is) = state_found state in
       let row = h.moves_of q (omega (arith, low, all)) in
       let own : get_or sets q [] ≡ before = sym (at_default sets q before low) ∙ is in
-      let there = subst (λ (bits : List Bool). IsAhead rules bits x) (sym own) ahead in
+      let there = subst (λ (xs : List ℕ). IsAhead rules xs x) (sym own) ahead in
       let (k, move, less, read, named) = row.all x there in
       let m = subst (λ (z : Move). IsMove rules sets (get_or sets q []) z) read
       (row.each k move less) in
       let to = subst (λ (y : Symbol). IsGoto rules (get_or sets q []) y (get_or sets move.state []))
       named m.goto in
-      let reach = subst (λ (bits : List Bool). IsGoto rules bits x (get_or sets move.state []))
+      let reach = subst (λ (xs : List ℕ). IsGoto rules xs x (get_or sets move.state []))
       own to in (
         move.state,
         m.inside,
         at_default sets move.state next m.inside
-            ∙ same_sets rules _ _ next reach goto,
+            ∙ same_those (InClosure rules (IsAdvanced rules before x)) _ next reach goto,
       )
 
   pub AreStates-whole : AreStates rules sets moves

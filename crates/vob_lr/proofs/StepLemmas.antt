@@ -1,12 +1,7 @@
 -- One step of a parser, as its parts take it.
-use Rattle.std.proofs.Common.{◌≡◌, ◌↔◌, ℕ, zero, suc, Bool, true, false, List, [], ◌∷◌, length, get_or, drop, None, Option, Some, slice_get, refl, sym, ap, ◌∙◌, subst, arith}
+use Rattle.std.proofs.Common.{◌≡◌, ◌↔◌, ℕ, length, get_or, drop, None, Option, Some, slice_get, sym, ap, ◌∙◌, subst, arith}
 use Rattle.std.proofs.lemmas.Option.{get_or_from_slice_get, none-some, same_Some}
-use Rattle.std.specs.Bool.{IsTrue}
-use Rattle.std.specs.Option.{option_eq}
-use mathlib.Core.Bool.{beq}
-use Rattle.std.proofs.lemmas.Bool.{false≢true}
-use Rattle.vob_block.specs.Packing.{item}
-use Rattle.vob_flow.specs.Draws.{IsIn}
+use Rattle.vob_lr.specs.ItemSets.{HasItem}
 use Rattle.vob_lr.specs.Items.{Completes}
 use Rattle.vob_lr.specs.Lookaheads.{HasMove, Machine}
 use Rattle.vob_lr.specs.Parses.{Config, IsLast, IsReplaced, replaced, top}
@@ -50,7 +45,7 @@ module _ (m : Machine) (c mid : Config) (r n q : ℕ) (own : Rule) (found : Opti
 
 pub last_is : (m : Machine) (p count i : ℕ) (rule : Rule) →
     Completes m.grammar.rules.items 0 i → rule ≡ get_or m.grammar.rules.items 0 rule →
-    length rule.right.items ≡ count → IsIn m.sets p i ↔ IsLast m p count
+    length rule.right.items ≡ count → HasItem m.sets p i ↔ IsLast m p count
 last_is m p count i rule done read long = (
   (λ there.
       let own = subst (λ (s : ℕ). slice_get m.grammar.rules.items s ≡ Some done.is.rule) done.rule
@@ -59,14 +54,6 @@ last_is m p count i rule done read long = (
       let right = ap (λ (x : Rule). length x.right.items) (read ∙ same) in
       record { item = i; completes = done; there = there; whole = omega (arith, done.dot, right, long) }),
   (λ last.
-      subst (λ (k : ℕ). IsIn m.sets p k) (one_complete m.grammar.rules.items 0 last.item i last.completes done)
+      subst (λ (k : ℕ). HasItem m.sets p k) (one_complete m.grammar.rules.items 0 last.item i last.completes done)
       last.there),
 )
-
--- a bit that is read
-pub bit_is : (bits : List Bool) (i : ℕ) →
-    IsTrue (option_eq beq (slice_get bits i) (Some true)) ↔ (item bits i ≡ true)
-bit_is [] i = ((λ h. absurd (false≢true h)), (λ h. h))
-bit_is (true ∷ bits) zero = ((λ h. refl), (λ h. refl))
-bit_is (false ∷ bits) zero = ((λ h. h), (λ h. h))
-bit_is (bit ∷ bits) (suc i) = bit_is bits i

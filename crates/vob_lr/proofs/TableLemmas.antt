@@ -3,7 +3,7 @@ use Rattle.std.proofs.Common.{◌≡◌, ◌↔◌, ◌⊎◌, ℕ, ◌+◌, ◌
 use Rattle.std.specs.Bool.{beq}
 use Rattle.std.specs.List.{AllPairs, Contains}
 use Rattle.std.specs.Option.{option_eq}
-use Rattle.std.proofs.lemmas.Bool.{cases_eq, cases_lt, false≢true}
+use Rattle.std.proofs.lemmas.Bool.{cases_lt, false≢true}
 use Rattle.std.proofs.lemmas.List.{get_or-take, get_or_append_left, get_or_push, length-take, length_push, map-append, take_all, take_more}
 use Rattle.std.proofs.lemmas.Option.{get_or_from_slice_get, slice_get-get_or}
 use Rattle.std.proofs.lemmas.List.Elements.{Contains-append_left, Contains-get_or, Contains-push, Contains-push_cases}
@@ -57,48 +57,6 @@ module _ {X : Type 0} (Before : X → X → Type 0) where
         (λ k d less. below (get_or xs k d)
         ((h.each (get_or xs k d)).0 (Contains-get_or xs k d less)));
   }
-
--- ---- below a bound, one number after another
-
-abbrev pub Below : (ℕ → Type 0) → ℕ → ℕ → Type 0
-Below P bound n = (n < bound) × P n
-
-module _ (P : ℕ → Type 0) where
-  pub below_none : AreThose (Below P 0) []
-  below_none = AreInOrder-nothing (λ i j. i < j) (Below P 0) (λ n there. absurd (omega (arith, there.0)))
-
-  pub below_with : (ns : List ℕ) (bound : ℕ) → AreThose (Below P bound) ns → P bound →
-      AreThose (Below P (bound + 1)) (ns ++ bound ∷ [])
-  below_with ns bound h own =
-      AreInOrder-more (λ i j. i < j) (Below P bound) (Below P (bound + 1)) ns bound h (λ n there. there.0)
-      (λ n. (
-        (λ there. elim there [
-          | inl old ↦ (omega (arith, old.0), old.1)
-          | inr same ↦ (omega (arith, same), subst P same own)
-        ]),
-        (λ there. elim (cases_eq n bound) [
-          | inl same ↦ inr (sym same)
-          | inr other ↦ inl (omega (arith, there.0, other), there.1)
-        ]),
-      ))
-
-  pub below_without : (ns : List ℕ) (bound : ℕ) → AreThose (Below P bound) ns → (P bound → ⊥) →
-      AreThose (Below P (bound + 1)) ns
-  below_without ns bound h not =
-      AreInOrder-as (λ i j. i < j) (Below P bound) (Below P (bound + 1))
-      (λ n. (
-        (λ there. (omega (arith, there.0), there.1)),
-        (λ there. elim (cases_eq n bound) [
-          | inl same ↦ absurd (not (subst P same there.1))
-          | inr other ↦ (omega (arith, there.0, other), there.1)
-        ]),
-      )) ns h
-
-  pub below_all : (ns : List ℕ) (bound : ℕ) → AreThose (Below P bound) ns →
-      ((n : ℕ) → P n → n < bound) → AreThose P ns
-  below_all ns bound h inside =
-      AreInOrder-as (λ i j. i < j) (Below P bound) P
-      (λ n. ((λ there. there.1), (λ there. (inside n there, there)))) ns h
 
 -- ---- among the first numbers of a list, one after another
 

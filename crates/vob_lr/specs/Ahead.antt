@@ -1,6 +1,6 @@
 -- The symbols behind the dots of a set of items, by number. No public clause cites this page.
 use Rattle.std.specs.Prelude.{◌≡◌, ℕ, ◌+◌, ◌-◌, Bool, if◌then◌else◌, nat_lt, List}
-use Rattle.vob_lr.specs.ItemSets.{Has}
+use Rattle.vob_lr.specs.Expansions.{Has}
 use Rattle.vob_lr.specs.Items.{HasNext}
 use Rattle.vob_lr.specs.States.{IsAhead}
 use Rattle.vob_lr.specs.declared.grammar.Grammar.{Grammar}
@@ -21,7 +21,7 @@ abbrev pub HasAhead : Grammar → ℕ → ℕ → Type 0
 HasAhead grammar j k = HasNext grammar.rules.items j (symbol_with grammar.terminals k)
 
 -- the numbers of the symbols behind the dots of a set
-pub record AreAhead (grammar : Grammar) (set ahead : List Bool) : Type 0 where
+pub record AreAhead (grammar : Grammar) (set : List ℕ) (ahead : List Bool) : Type 0 where
   pub each : (x : Symbol) → IsAhead grammar.rules.items set x →
       (k : ℕ) × Has ahead k × (symbol_with grammar.terminals k ≡ x)
   pub only : (k : ℕ) → Has ahead k →

@@ -1,18 +1,20 @@
--- What each nonterminal brings into a closure, and sets under way. No public clause cites this
--- page.
-use Rattle.std.specs.Prelude.{◌≡◌, ◌↔◌, ◌⊎◌, ℕ, ◌+◌, ◌<◌, Bool, true, false, Option, None, Some, List, length, All, slice_get}
-use Rattle.std.specs.declared.ops.Bound.TheVariants.{Unbounded}
+-- What each nonterminal brings into a closure, and sets under way. No public clause cites this page.
+use Rattle.std.specs.Prelude.{◌≡◌, ◌↔◌, ◌⊎◌, ℕ, ◌+◌, ◌<◌, Bool, true, Option, None, Some, List, length, All, Contains, slice_get, slice_index_or}
+use Rattle.vob_block.specs.Packing.{item}
 use Rattle.vob.specs.Vobs.{AreOfLength}
 use Rattle.vob_flow.specs.Draws.{IsIn}
 use Rattle.vob_lr.specs.Equations.{AreSolved, Reaches}
 use Rattle.vob_lr.specs.Faults.{IsRuleOf}
-use Rattle.vob_lr.specs.ItemSets.{Has, Opens}
+use Rattle.vob_lr.specs.ItemSets.{Opens}
 use Rattle.vob_lr.specs.Items.{HasNext, first_item, item_total}
 use Rattle.vob_lr.specs.declared.grammar.Grammar.{Grammar}
 use Rattle.vob_lr.specs.declared.grammar.Rule.{Rule}
 use Rattle.vob_lr.specs.declared.grammar.Symbol.{Symbol}
 use Rattle.vob_lr.specs.declared.grammar.Symbol.TheVariants.{Terminal, Nonterminal}
-use Rattle.vob_walk.specs.Left.{AreMatches, is_left}
+
+-- a set of bits has number i
+abbrev pub Has : List Bool → ℕ → Type 0
+Has set i = item set i ≡ true
 
 -- nonterminal a brings the first items of its rules, and what a nonterminal behind their dots does
 abbrev pub Expands : List Rule → ℕ → Symbol → Type 0
@@ -58,14 +60,20 @@ pub record Gains (P : ℕ → Type 0) (before after : List Bool) : Type 0 where
   pub len : length after ≡ length before
   pub each : (i : ℕ) → Has after i ↔ (Has before i ⊎ P i)
 
--- a walk over a set gathers what its items bring, but for those that are left
-pub record IsGathered (Each : ℕ → ℕ → Type 0) (set before : List Bool) (left : List ℕ)
-    (after : List Bool) : Type 0 where
-  pub matches : AreMatches set true Unbounded Unbounded left
-  pub len : length after ≡ length before
-  pub kept : (i : ℕ) → Has before i → Has after i
-  pub done : (j i : ℕ) → Has set j → is_left left j ≡ false → Each j i → Has after i
-  pub only : (i : ℕ) → Has after i → Has before i ⊎ ((j : ℕ) × Has set j × Each j i)
+-- and a list that does
+abbrev pub Adds : (ℕ → Type 0) → List ℕ → List ℕ → Type 0
+Adds P before after = (i : ℕ) → Contains after i ↔ (Contains before i ⊎ P i)
+
+-- one of the first k numbers of a list gives i, or one of all
+abbrev pub IsByFirst : (ℕ → ℕ → Type 0) → List ℕ → ℕ → ℕ → Type 0
+IsByFirst Each list k i = (q : ℕ) × (q < k) × Each (slice_index_or list q 0) i
+
+abbrev pub IsByMember : (ℕ → ℕ → Type 0) → List ℕ → ℕ → Type 0
+IsByMember Each list i = (j : ℕ) × Contains list j × Each j i
+
+-- item j gives itself, and the items that it brings
+abbrev pub Gives : List Rule → ℕ → ℕ → Type 0
+Gives rules j i = (j ≡ i) ⊎ Brings rules j i
 
 -- the item behind item j, whose dot passed symbol x
 abbrev pub Advances : List Rule → Symbol → ℕ → ℕ → Type 0

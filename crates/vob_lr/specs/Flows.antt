@@ -1,14 +1,13 @@
 -- How lookaheads flow between the items of states. No public clause cites this page.
 use Rattle.std.specs.Prelude.{◌≡◌, ◌↔◌, ◌⊎◌, ℕ, ◌+◌, Bool, List, length, slice_get, slice_index_or, [], All, Some}
-use Rattle.vob.specs.Vobs.{total_count}
 use Rattle.vob_flow.specs.Draws.{IsIn}
 use Rattle.vob_lr.specs.Behind.{StandsBehind}
 use Rattle.vob_lr.specs.Faults.{IsRuleOf}
 use Rattle.vob_lr.specs.Grammar.{AreFirst, AreNullable}
-use Rattle.vob_lr.specs.ItemSets.{Opens}
+use Rattle.vob_lr.specs.ItemSets.{HasItem, Opens}
 use Rattle.vob_lr.specs.Items.{HasNext}
 use Rattle.vob_lr.specs.Lookaheads.{AreLookaheads, HasMove, HasNextThen, Machine}
-use Rattle.vob_lr.specs.Nodes.{AreOffsets, node}
+use Rattle.vob_lr.specs.Nodes.{AreOffsets, member_total, node}
 use Rattle.vob_lr.specs.States.{AreStates}
 use Rattle.vob_lr.specs.declared.grammar.Grammar.{Grammar}
 use Rattle.vob_lr.specs.declared.grammar.Symbol.{Symbol}
@@ -57,15 +56,15 @@ abbrev pub FlowsFrom : Machine → ℕ → ℕ → ℕ → Symbol → Type 0
 FlowsFrom m q j n y = IsKept m q j n y ⊎ IsOpened m q j n y
 
 abbrev pub FlowsOf : Machine → ℕ → ℕ → Symbol → Type 0
-FlowsOf m q n y = (j : ℕ) × IsIn m.sets q j × FlowsFrom m q j n y
+FlowsOf m q n y = (j : ℕ) × HasItem m.sets q j × FlowsFrom m q j n y
 
 abbrev pub FlowsTo : Machine → ℕ → Symbol → Type 0
 FlowsTo m n y = (q : ℕ) × FlowsOf m q n y
 
 -- a row for each node: the lookaheads of the item
 pub record HaveLookaheads (m : Machine) (rows : List (List Bool)) : Type 0 where
-  pub count : length rows ≡ total_count m.sets
-  pub each : (q i : ℕ) → IsIn m.sets q i →
+  pub count : length rows ≡ member_total m.sets
+  pub each : (q i : ℕ) → HasItem m.sets q i →
       AreLookaheads m q i (slice_index_or rows (node m.sets q i) [])
 
 -- by the nodes of the states

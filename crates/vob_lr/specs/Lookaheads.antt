@@ -1,10 +1,9 @@
 -- The lookaheads of the items of states: the terminals that may follow what an item stands for.
 use Rattle.std.specs.Prelude.{◌≡◌, ◌↔◌, ℕ, ◌+◌, Bool, true, List, [], length, drop, slice_index_or, Contains}
 use Rattle.vob_block.specs.Packing.{item}
-use Rattle.vob.specs.Vobs.{bits_of}
-use Rattle.vob_flow.specs.Draws.{IsIn}
+use Rattle.vob_flow.specs.Lists.{lists_of}
 use Rattle.vob_lr.specs.Grammar.{BecomesEmpty, BeginsWith}
-use Rattle.vob_lr.specs.ItemSets.{Opens}
+use Rattle.vob_lr.specs.ItemSets.{HasItem, Opens}
 use Rattle.vob_lr.specs.Items.{Completes, HasNext}
 use Rattle.vob_lr.specs.Rounds.{rows_of}
 use Rattle.vob_lr.specs.declared.grammar.Grammar.{Grammar}
@@ -17,14 +16,14 @@ use Rattle.vob_lr.specs.declared.state.Move.{Move}
 -- a grammar, its states and their moves
 pub record Machine : Type 0 where
   pub grammar : Grammar
-  pub sets : List (List Bool)
+  pub sets : List (List ℕ)
   pub moves : List (List Move)
 
 -- those of an automaton
 abbrev pub machine_of : Grammar → Automaton → Machine
 machine_of grammar automaton = record {
   grammar = grammar;
-  sets = bits_of automaton.sets.items;
+  sets = lists_of automaton.sets.items;
   moves = rows_of automaton.moves.items;
 }
 
@@ -41,7 +40,7 @@ HasMove moves q x p = Contains (slice_index_or moves q []) (record { symbol = x;
 -- the first items of a's rules what can begin the symbols behind a, and its own lookaheads if these
 -- can become empty; and an item keeps its lookaheads as its dot passes a symbol
 pub data LooksAhead (m : Machine) (t : ℕ) : ℕ → ℕ → Type 0 where
-  begins : {q j a i : ℕ} {rest : List Symbol} → IsIn m.sets q j →
+  begins : {q j a i : ℕ} {rest : List Symbol} → HasItem m.sets q j →
       HasNextThen m.grammar.rules.items j a rest → BeginsWith m.grammar.rules.items t rest →
       Opens m.grammar.rules.items a i → LooksAhead m t q i
   passes : {q j a i : ℕ} {rest : List Symbol} → LooksAhead m t q j →

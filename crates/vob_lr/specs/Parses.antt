@@ -1,6 +1,6 @@
 -- A parser by a table: what it does step by step.
 use Rattle.std.specs.Prelude.{◌≡◌, ℕ, ◌+◌, ◌<◌, ◌≤◌, List, [], ◌∷◌, length, drop, slice_get, slice_index_or, Option, Some}
-use Rattle.vob_flow.specs.Draws.{IsIn}
+use Rattle.vob_lr.specs.ItemSets.{HasItem}
 use Rattle.vob_lr.specs.Items.{Completes}
 use Rattle.vob_lr.specs.Lookaheads.{HasMove, Machine}
 use Rattle.vob_lr.specs.Tables.{TableView, action_at}
@@ -67,7 +67,7 @@ pub data IsReached (table : TableView) (tokens : List ℕ) : Config → Type 0 w
 pub record IsLast (m : Machine) (p count : ℕ) : Type 0 where
   pub item : ℕ
   pub completes : Completes m.grammar.rules.items 0 item
-  pub there : IsIn m.sets p item
+  pub there : HasItem m.sets p item
   pub whole : completes.item.dot ≡ count
 
 -- all tokens are read, and the end leads to such a state

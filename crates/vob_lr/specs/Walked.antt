@@ -2,7 +2,7 @@
 use Rattle.std.specs.Prelude.{◌≡◌, ◌⊎◌, ℕ, ◌<◌, Bool, true, false, List, length}
 use Rattle.std.specs.declared.ops.Bound.TheVariants.{Unbounded}
 use Rattle.vob_lr.specs.Equations.{HasAt, System}
-use Rattle.vob_lr.specs.ItemSets.{Has}
+use Rattle.vob_lr.specs.Expansions.{Has}
 use Rattle.vob_lr.specs.declared.grammar.Symbol.{Symbol}
 use Rattle.vob_walk.specs.Left.{AreMatches, is_left}
 

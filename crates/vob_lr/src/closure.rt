@@ -1,13 +1,14 @@
 //! Sets of items: their closures, and what is left of them when the dot passes a symbol.
-ghost use Rattle.std.specs.Prelude.{◌≡◌, ◌≢◌, ◌↔◌, ℕ, ◌<◌, length, All, Err, IfOk, IsTrue, OnOk, Some};
+ghost use Rattle.std.specs.Prelude.{◌≡◌, ◌≢◌, ◌↔◌, ℕ, ◌<◌, length, All, Contains, Err, IfOk, IsTrue, OnOk, Some};
 ghost use Rattle.vob.specs.Vobs.{AreOfLength};
 ghost use Rattle.vob_lr.specs.Equations.{AreEquations, At, GainEach};
-ghost use Rattle.vob_lr.specs.Expansions.{Advances, AreExpansions, Brings, Expands, Gains, HasOpening, HasRow, IsBrought, IsOpening};
+ghost use Rattle.vob_lr.specs.Expansions.{Adds, Advances, AreExpansions, Expands, Gains, Gives, Has, HasOpening, HasRow, IsBrought, IsOpening};
 ghost use Rattle.vob_lr.specs.Faults.{IsBadRule, IsRuleOf};
-ghost use Rattle.vob_lr.specs.ItemSets.{IsAdvanced, IsItemClosure, IsGoto, IsItemSet};
+ghost use Rattle.vob_lr.specs.ItemSets.{IsAdvanced, IsItemClosure, IsGoto};
 ghost use Rattle.vob_lr.specs.Items.{item_total};
 ghost use Rattle.vob_lr.specs.Ahead.{AreAhead};
 ghost use Rattle.vob_lr.specs.States.{IsStart};
+ghost use Rattle.vob_lr.specs.Those.{AreThose};
 
 use crate::ahead::ahead_of;
 use crate::equations::Equations;
@@ -120,6 +121,13 @@ fn stands_behind(next: Option<Symbol>, symbol: Symbol) -> bool
     next == Some(symbol)
 }
 
+/// Returns the numbers that a set of bits has, in rising order.
+fn numbers_of(alloc: Global, set: &Vob) -> Result<Vec<usize>, AllocError>
+    ensures { IfOk result (λ numbers. AreThose (Has set.now.bits) numbers.items) }
+{
+    set.iter_set_bits(..).collect(alloc)
+}
+
 /// The items of a grammar with sound rules, and what each nonterminal brings into a closure. A
 /// contract sees the grammar.
 #[derive(Drop)]
@@ -166,83 +174,94 @@ impl<'a> Closures<'a> {
         &self.items
     }
 
-    /// Adds what the item with a number brings.
+    /// Adds an item, whose number must be one, and what it brings.
     fn expand(&self, number: usize, made: &mut Vob)
         requires number { number < item_total self.now.rules.items }
         requires long { length made.old.bits ≡ item_total self.now.rules.items }
-        ensures { Gains (Brings self.now.rules.items number) made.old.bits made.new.bits }
+        ensures { Gains (Gives self.now.rules.items number) made.old.bits made.new.bits }
     {
+        made.set(number, true);
         bring(self.items.next(number), &self.expansions, made);
     }
 
-    /// Returns the closure of a set of items, which must have a bit for each. Fails if memory runs
-    /// out.
-    pub fn closure(&self, set: &Vob) -> Result<Vob, AllocError>
-        requires { length set.now.bits ≡ item_total self.now.rules.items }
+    /// Returns the closure of some items, whose numbers must be there. It rises, and has each item
+    /// once. Fails if memory runs out.
+    pub fn closure(&self, alloc: Global, set: &[usize]) -> Result<Vec<usize>, AllocError>
+        requires { All (λ i. i < item_total self.now.rules.items) set.now }
         ensures { IfOk result (λ closure.
-            IsItemClosure self.now.rules.items set.now.bits closure.bits) }
+            IsItemClosure self.now.rules.items set.now closure.items) }
     {
-        let mut closure = set.clone()?;
-        for number in set.iter_set_bits(..) {
-            self.expand(number, &mut closure);
+        let mut made = Vob::from_elem(alloc, false, self.items.len())?;
+        for place in 0..set.len() {
+            self.expand(set[place], &mut made);
         }
-        Ok(closure)
+        numbers_of(alloc, &made)
     }
 
     /// Adds the item behind the one with a number, if a symbol stands between their dots.
-    fn advance(&self, number: usize, symbol: Symbol, made: &mut Vob)
-        requires number { number < item_total self.now.rules.items }
-        requires long { length made.old.bits ≡ item_total self.now.rules.items }
-        ensures { Gains (Advances self.now.rules.items symbol number)
-            made.old.bits made.new.bits }
+    fn advance(
+        &self,
+        number: usize,
+        symbol: Symbol,
+        made: &mut Vec<usize>,
+    ) -> Result<(), AllocError>
+        ensures { OnOk result (Adds (Advances self.now.rules.items symbol number)
+            made.old.items made.new.items) }
     {
         // The number of items is in the range of its type: a proof knows it from this read.
         let _len = self.items.len();
         if !stands_behind(self.items.next(number), symbol) {
-            return;
+            return Ok(());
         }
-        made.set(number + 1, true);
+        made.push(number + 1)?;
+        Ok(())
     }
 
-    /// Returns the items of a set after their dots passed a symbol.
-    fn advanced(&self, alloc: Global, set: &Vob, symbol: Symbol) -> Result<Vob, AllocError>
-        requires { length set.now.bits ≡ item_total self.now.rules.items }
-        ensures { IfOk result (λ made. IsItemSet self.now.rules.items
-            (IsAdvanced self.now.rules.items set.now.bits symbol) made.bits) }
+    /// Returns some items after their dots passed a symbol.
+    fn advanced(
+        &self,
+        alloc: Global,
+        set: &[usize],
+        symbol: Symbol,
+    ) -> Result<Vec<usize>, AllocError>
+        ensures { IfOk result (λ made. (i : ℕ) → Contains made.items i
+            ↔ IsAdvanced self.now.rules.items set.now symbol i) }
     {
-        let mut made = Vob::from_elem(alloc, false, set.len())?;
-        for number in set.iter_set_bits(..) {
-            self.advance(number, symbol, &mut made);
+        let mut made = Vec::new(alloc);
+        for place in 0..set.len() {
+            self.advance(set[place], symbol, &mut made)?;
         }
         Ok(made)
     }
 
-    /// Returns the closure of the items of a set after their dots passed a symbol: no item if it
-    /// stands behind no dot. The set must have a bit for each item. Fails if memory runs out.
-    pub fn goto(&self, alloc: Global, set: &Vob, symbol: Symbol) -> Result<Vob, AllocError>
-        requires { length set.now.bits ≡ item_total self.now.rules.items }
+    /// Returns the closure of some items after their dots passed a symbol: no item if it stands behind
+    /// no dot. It rises, and has each item once. Fails if memory runs out.
+    pub fn goto(
+        &self,
+        alloc: Global,
+        set: &[usize],
+        symbol: Symbol,
+    ) -> Result<Vec<usize>, AllocError>
         ensures { IfOk result (λ next.
-            IsGoto self.now.rules.items set.now.bits symbol next.bits) }
+            IsGoto self.now.rules.items set.now symbol next.items) }
     {
         let made = self.advanced(alloc, set, symbol)?;
-        self.closure(&made)
+        self.closure(alloc, &made)
     }
 
-    /// Returns the numbers of the symbols behind the dots of a set of items.
-    pub(crate) fn ahead(&self, alloc: Global, set: &Vob) -> Result<Vob, AllocError>
-        requires { length set.now.bits ≡ item_total self.now.rules.items }
-        ensures { IfOk result (λ ahead. AreAhead self.now set.now.bits ahead.bits) }
+    /// Returns the numbers of the symbols behind the dots of some items, with a bit for each symbol.
+    pub(crate) fn ahead(&self, alloc: Global, set: &[usize]) -> Result<Vob, AllocError>
+        ensures { IfOk result (λ ahead. AreAhead self.now set.now ahead.bits) }
     {
         ahead_of(alloc, &self.items, set)
     }
 
     /// Returns the closure of item 0.
-    pub(crate) fn start(&self, alloc: Global) -> Result<Vob, AllocError>
+    pub(crate) fn start(&self, alloc: Global) -> Result<Vec<usize>, AllocError>
         requires { 0 < length self.now.rules.items }
-        ensures { IfOk result (λ set. IsStart self.now.rules.items set.bits) }
+        ensures { IfOk result (λ set. IsStart self.now.rules.items set.items) }
     {
-        let mut first = Vob::from_elem(alloc, false, self.items.len())?;
-        first.set(0, true);
-        self.closure(&first)
+        let first = [0];
+        self.closure(alloc, &first)
     }
 }

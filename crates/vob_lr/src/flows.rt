@@ -1,16 +1,15 @@
 //! How lookaheads flow between the items of states: what each item starts with, and which others it
 //! draws from.
 ghost use Rattle.std.specs.Prelude.{◌≡◌, ◌↔◌, ◌+◌, ◌<◌, ℕ, [], drop, length, slice_index_or, Contains, IfOk, IsTrue, OnOk};
-ghost use Rattle.vob.specs.Vobs.{total_count};
-ghost use Rattle.vob_flow.specs.Draws.{IsIn};
 ghost use Rattle.vob_lr.specs.Behind.{IsOfTrailer, IsTrailer};
 ghost use Rattle.vob_lr.specs.Equations.{AreEquations, GainEach};
 ghost use Rattle.vob_lr.specs.Faults.{IsRuleOf};
 ghost use Rattle.vob_lr.specs.Flows.{FlowsFrom, FlowsOf, FlowsTo, IsKept, IsKeptBy, IsOpened};
+ghost use Rattle.vob_lr.specs.Expansions.{Has};
 ghost use Rattle.vob_lr.specs.Walked.{IsOfFirst, IsOfMember};
-ghost use Rattle.vob_lr.specs.ItemSets.{Has};
+ghost use Rattle.vob_lr.specs.ItemSets.{HasItem};
 ghost use Rattle.vob_lr.specs.Items.{HasNext};
-ghost use Rattle.vob_lr.specs.Nodes.{node};
+ghost use Rattle.vob_lr.specs.Nodes.{member_total, node};
 ghost use Rattle.vob_lr.specs.declared.grammar.Symbol.TheVariants.{Nonterminal};
 
 use crate::equations::Equations;
@@ -87,8 +86,8 @@ impl<'a> Flows<'a> {
         empty: bool,
         equations: &mut Equations,
     ) -> Result<(), AllocError>
-        requires opened { (i : ℕ) → Has opened.now i → IsIn self.now.sets state i }
-        requires sets { length equations.old.starts ≡ total_count self.now.sets }
+        requires opened { (i : ℕ) → Has opened.now i → HasItem self.now.sets state i }
+        requires sets { length equations.old.starts ≡ member_total self.now.sets }
         requires places { length begins.now.bits ≡ equations.old.places }
         ensures { OnOk result (GainEach (IsOfMember opened.now
             (λ i n y. (node self.now.sets state i ≡ n) × IsOfTrailer from begins.now.bits empty y))
@@ -111,10 +110,10 @@ impl<'a> Flows<'a> {
         begins: &mut Vob,
         equations: &mut Equations,
     ) -> Result<(), AllocError>
-        requires item { IsIn self.now.sets state number }
+        requires item { HasItem self.now.sets state number }
         requires next { HasNext self.now.grammar.rules.items number (Nonterminal nonterminal) }
         requires begins { length begins.old.bits ≡ self.now.grammar.terminals }
-        requires sets { length equations.old.starts ≡ total_count self.now.sets }
+        requires sets { length equations.old.starts ≡ member_total self.now.sets }
         requires places { equations.old.places ≡ self.now.grammar.terminals }
         ensures len { length begins.new.bits ≡ length begins.old.bits }
         ensures opened { OnOk result (GainEach (IsOpened self.now state number)
@@ -138,10 +137,10 @@ impl<'a> Flows<'a> {
         by: Move,
         equations: &mut Equations,
     ) -> Result<(), AllocError>
-        requires item { IsIn self.now.sets state number }
+        requires item { HasItem self.now.sets state number }
         requires next { HasNext self.now.grammar.rules.items number symbol }
         requires by { Contains (slice_index_or self.now.moves state []) by }
-        requires sets { length equations.old.starts ≡ total_count self.now.sets }
+        requires sets { length equations.old.starts ≡ member_total self.now.sets }
         ensures { OnOk result (GainEach (IsKeptBy self.now state number symbol by)
             equations.old equations.new) }
     {
@@ -163,9 +162,9 @@ impl<'a> Flows<'a> {
         symbol: Symbol,
         equations: &mut Equations,
     ) -> Result<(), AllocError>
-        requires item { IsIn self.now.sets state number }
+        requires item { HasItem self.now.sets state number }
         requires next { HasNext self.now.grammar.rules.items number symbol }
-        requires sets { length equations.old.starts ≡ total_count self.now.sets }
+        requires sets { length equations.old.starts ≡ member_total self.now.sets }
         ensures { OnOk result (GainEach (IsKept self.now state number)
             equations.old equations.new) }
     {
@@ -185,9 +184,9 @@ impl<'a> Flows<'a> {
         begins: &mut Vob,
         equations: &mut Equations,
     ) -> Result<(), AllocError>
-        requires item { IsIn self.now.sets state number }
+        requires item { HasItem self.now.sets state number }
         requires begins { length begins.old.bits ≡ self.now.grammar.terminals }
-        requires sets { length equations.old.starts ≡ total_count self.now.sets }
+        requires sets { length equations.old.starts ≡ member_total self.now.sets }
         requires places { equations.old.places ≡ self.now.grammar.terminals }
         ensures len { length begins.new.bits ≡ length begins.old.bits }
         ensures flows { OnOk result (GainEach (FlowsFrom self.now state number)
@@ -213,14 +212,15 @@ impl<'a> Flows<'a> {
     ) -> Result<(), AllocError>
         requires state { state < length self.now.sets }
         requires begins { length begins.old.bits ≡ self.now.grammar.terminals }
-        requires sets { length equations.old.starts ≡ total_count self.now.sets }
+        requires sets { length equations.old.starts ≡ member_total self.now.sets }
         requires places { equations.old.places ≡ self.now.grammar.terminals }
         ensures len { length begins.new.bits ≡ length begins.old.bits }
         ensures flows { OnOk result (GainEach (FlowsOf self.now state)
             equations.old equations.new) }
     {
-        for number in self.nodes.items(state).iter_set_bits(..) {
-            self.flow(state, number, begins, equations)?;
+        let items = self.nodes.items(state);
+        for place in 0..items.len() {
+            self.flow(state, items[place], begins, equations)?;
         }
         Ok(())
     }
@@ -228,7 +228,7 @@ impl<'a> Flows<'a> {
     /// Does both for all items of all states.
     fn flow_all(&self, begins: &mut Vob, equations: &mut Equations) -> Result<(), AllocError>
         requires begins { length begins.old.bits ≡ self.now.grammar.terminals }
-        requires sets { length equations.old.starts ≡ total_count self.now.sets }
+        requires sets { length equations.old.starts ≡ member_total self.now.sets }
         requires places { equations.old.places ≡ self.now.grammar.terminals }
         ensures { OnOk result
             (GainEach (IsOfFirst (length self.now.sets) (λ q n y. FlowsOf self.now q n y))
@@ -243,7 +243,7 @@ impl<'a> Flows<'a> {
     /// Returns what the nodes start with, and which others each draws from.
     pub fn equations(&self, alloc: Global) -> Result<Equations, AllocError>
         ensures { IfOk result
-            (AreEquations (total_count self.now.sets) self.now.grammar.terminals (FlowsTo self.now)) }
+            (AreEquations (member_total self.now.sets) self.now.grammar.terminals (FlowsTo self.now)) }
     {
         let terminals = self.items.grammar().terminals;
         let mut begins = Vob::from_elem(alloc, false, terminals)?;

@@ -94,12 +94,14 @@ impl<'a> Items<'a> {
         self.items[number]
     }
 
-    /// Returns the symbol behind the dot of an item, whose number must be one, or `None` if the dot
-    /// is behind all.
+    /// Returns the symbol behind the dot of an item, or `None` if the dot is behind all or no item has
+    /// the number.
     pub fn next(&self, number: usize) -> Option<Symbol>
-        requires { number < item_total self.now.rules.items }
         ensures { (x : Symbol) → (result ≡ Some x) ↔ HasNext self.now.rules.items number x }
     {
+        if number >= self.items.len() {
+            return None;
+        }
         let item = self.item(number);
         symbol_at(&self.grammar.rules[item.rule].right, item.dot)
     }
@@ -110,6 +112,20 @@ impl<'a> Items<'a> {
         ensures { Completes self.now.rules.items rule result }
     {
         self.first(rule) + self.grammar.rules[rule].right.len()
+    }
+
+    /// Returns the rule whose item with the dot behind all has a number, or `None` if none does.
+    pub fn completed(&self, number: usize) -> Option<usize>
+        ensures { (rule : ℕ) → (result ≡ Some rule) ↔ Completes self.now.rules.items rule number }
+    {
+        if number >= self.items.len() {
+            return None;
+        }
+        let item = self.item(number);
+        if item.dot < self.grammar.rules[item.rule].right.len() {
+            return None;
+        }
+        Some(item.rule)
     }
 }
 

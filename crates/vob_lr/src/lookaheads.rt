@@ -1,9 +1,9 @@
 //! The lookaheads of a grammar's states, by which a parser knows when an item is complete.
 ghost use Rattle.std.specs.Prelude.{◌≡◌, ◌≢◌, ◌↔◌, ℕ, [], All, Err, IfErr, IfNone, IfOk, IfSome, IsTrue, OnOk, Some};
-ghost use Rattle.vob.specs.Vobs.{bits_of};
-ghost use Rattle.vob_flow.specs.Draws.{IsIn};
+ghost use Rattle.vob_flow.specs.Lists.{lists_of};
 ghost use Rattle.vob_lr.specs.Faults.{IsBadRule, IsRuleOf, MayRefuseGrammar};
 ghost use Rattle.vob_lr.specs.Flows.{HaveLookaheads};
+ghost use Rattle.vob_lr.specs.ItemSets.{HasItem};
 ghost use Rattle.vob_lr.specs.Lookaheads.{AreLookaheads, HasMove, Reduces, machine_of};
 ghost use Rattle.vob_lr.specs.Rounds.{rows_of};
 ghost use Rattle.vob_lr.specs.States.{AreStates};
@@ -33,7 +33,6 @@ pub struct Lookaheads<'a> {
 }
 
 impl<'a> Model for Lookaheads<'a> {
-    ghost use Rattle.vob.specs.Vobs.{bits_of};
     ghost use Rattle.vob_lr.specs.Flows.{AreFilled};
     ghost use Rattle.vob_lr.specs.Lookaheads.{Machine, machine_of};
 
@@ -53,9 +52,9 @@ fn solve_lookaheads(
     nodes: &Nodes<'_>,
 ) -> Result<BitRows, AllocError>
     requires rules { All (IsRuleOf items.now) items.now.rules.items }
-    requires states { AreStates items.now.rules.items (bits_of automaton.now.sets.items)
+    requires states { AreStates items.now.rules.items (lists_of automaton.now.sets.items)
         (rows_of automaton.now.moves.items) }
-    requires nodes { nodes.now ≡ bits_of automaton.now.sets.items }
+    requires nodes { nodes.now ≡ lists_of automaton.now.sets.items }
     ensures { IfOk result (λ rows.
         HaveLookaheads (machine_of items.now automaton.now) rows.rows) }
 {
@@ -134,17 +133,14 @@ impl<'a> Lookaheads<'a> {
     /// state doesn't have the item.
     pub fn of(&self, state: usize, item: usize) -> Option<Row<'_>>
         ensures some { IfSome result (λ set. AreLookaheads self.now state item set) }
-        ensures none { IfNone result (¬ IsIn self.now.sets state item) }
+        ensures none { IfNone result (¬ HasItem self.now.sets state item) }
     {
-        let set = self.automaton.sets.get(state)?;
-        if set.get(item) != Some(true) {
-            return None;
-        }
         let nodes = Nodes {
             sets: &self.automaton.sets,
             offsets: &self.offsets,
         };
-        Some(self.rows.row(nodes.number(state, item)))
+        let number = nodes.number_if(state, item)?;
+        Some(self.rows.row(number))
     }
 
     /// Returns whether a parser may reduce by a rule in a state if a terminal is ahead: whether it is

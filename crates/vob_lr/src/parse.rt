@@ -190,7 +190,7 @@ impl Table<'_> {
             return false;
         }
         match self.lookaheads().automaton().sets.get(state) {
-            Some(set) => set.get(items.complete(0)) == Some(true),
+            Some(set) => set.contains(&items.complete(0)),
             None => false,
         }
     }

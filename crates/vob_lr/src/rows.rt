@@ -1,7 +1,5 @@
 //! The rows of a parser's table.
-ghost use Rattle.std.specs.Prelude.{◌≡◌, ◌<◌, [], length, slice_index_or, IfOk};
-ghost use Rattle.vob.specs.Vobs.{bits_of};
-ghost use Rattle.vob_lr.specs.Items.{item_total};
+ghost use Rattle.std.specs.Prelude.{◌≡◌, ◌<◌, [], length, slice_index_or, AllPairs, IfOk};
 ghost use Rattle.vob_lr.specs.Lookaheads.{Reduces};
 ghost use Rattle.vob_lr.specs.Those.{AreThose};
 ghost use Rattle.vob_lr.specs.Tables.{AreCells, AreRowsOfCells, IsCell, cells_of};
@@ -13,7 +11,6 @@ use crate::lookaheads::Lookaheads;
 use crate::precedence::{Precedence, precedence_at, resolve};
 use crate::table::Cell;
 use std::alloc::{AllocError, Global};
-use vob::Vob;
 
 /// What the cells of a table are made from: the states of a grammar, and the precedences of its
 /// terminals and of its rules.
@@ -24,14 +21,15 @@ pub(crate) struct Source<'t, 'a> {
     pub rules: &'t [Option<Precedence>],
 }
 
-/// Returns the rules whose complete items a set has.
-fn complete_rules(alloc: Global, items: &Items<'_>, set: &Vob) -> Result<Vec<usize>, AllocError>
+/// Returns the rules whose complete items a set has. The set must rise.
+fn complete_rules(alloc: Global, items: &Items<'_>, set: &[usize]) -> Result<Vec<usize>, AllocError>
+    requires { AllPairs (λ i j. i < j) set.now }
     ensures { IfOk result (λ rules.
-        AreThose (HasComplete items.now.rules.items set.now.bits) rules.items) }
+        AreThose (HasComplete items.now.rules.items set.now) rules.items) }
 {
     let mut rules = Vec::new(alloc);
-    for rule in 0..items.grammar().rules.len() {
-        if set.get(items.complete(rule)) == Some(true) {
+    for place in 0..set.len() {
+        if let Some(rule) = items.completed(set[place]) {
             rules.push(rule)?;
         }
     }

@@ -1,6 +1,6 @@
 //! The states of the automaton of a grammar, and the moves between them.
 ghost use Rattle.std.specs.Prelude.{◌≡◌, ◌≢◌, ◌↔◌, ℕ, ◌<◌, [], length, slice_index_or, All, AllPairs, Contains, Err, IfErr, IfNone, IfOk, IfSome, Some};
-ghost use Rattle.vob.specs.Vobs.{bits_of};
+ghost use Rattle.vob_flow.specs.Lists.{lists_of};
 ghost use Rattle.vob_lr.specs.Faults.{IsBadRule, MayRefuseGrammar};
 ghost use Rattle.vob_lr.specs.Ahead.{AreAhead, symbol_with};
 ghost use Rattle.vob_lr.specs.Rounds.{AreMovesFrom, AreSome, HasEntered, rows_of};
@@ -19,11 +19,11 @@ pub struct Move {
     pub state: usize,
 }
 
-/// The states of a grammar, numbered from 0 on: the items of each, by a bit for each item, and its
-/// moves.
+/// The states of a grammar, numbered from 0 on: the numbers of each one's items, in rising order, and
+/// its moves.
 #[derive(Drop)]
 pub struct Automaton {
-    pub sets: Vec<Vob>,
+    pub sets: Vec<Vec<usize>>,
     pub moves: Vec<Vec<Move>>,
 }
 
@@ -39,9 +39,9 @@ fn symbol_at(terminals: usize, number: usize) -> Symbol
 }
 
 /// Returns the number of a set of items among others, to which it is added if it isn't there.
-fn enter(sets: &mut IndexSet<Vob>, set: Vob) -> Result<usize, AllocError>
-    ensures { IfOk result (λ state. HasEntered (bits_of sets.old.keys) set.bits
-        (bits_of sets.new.keys) state) }
+fn enter(sets: &mut IndexSet<Vec<usize>>, set: Vec<usize>) -> Result<usize, AllocError>
+    ensures { IfOk result (λ state. HasEntered (lists_of sets.old.keys) set.items
+        (lists_of sets.new.keys) state) }
 {
     let Ok((state, _)) = sets.insert_full(set) else {
         return Err(AllocError);
@@ -54,16 +54,16 @@ fn enter(sets: &mut IndexSet<Vob>, set: Vob) -> Result<usize, AllocError>
 fn moves_by(
     alloc: Global,
     closures: &Closures<'_>,
-    sets: &mut IndexSet<Vob>,
+    sets: &mut IndexSet<Vec<usize>>,
     from: usize,
     ahead: &Vob,
 ) -> Result<Vec<Move>, AllocError>
     requires from { from < length sets.old.keys }
-    requires some { AreSome closures.now.rules.items (bits_of sets.old.keys) }
-    requires ahead { AreAhead closures.now (slice_index_or (bits_of sets.old.keys) from [])
+    requires some { AreSome closures.now.rules.items (lists_of sets.old.keys) }
+    requires ahead { AreAhead closures.now (slice_index_or (lists_of sets.old.keys) from [])
         ahead.now.bits }
-    ensures { IfOk result (λ moves. AreMovesFrom closures.now (bits_of sets.old.keys) from
-        (bits_of sets.new.keys) moves.items) }
+    ensures { IfOk result (λ moves. AreMovesFrom closures.now (lists_of sets.old.keys) from
+        (lists_of sets.new.keys) moves.items) }
 {
     let terminals = closures.items().grammar().terminals;
     let mut moves = Vec::new(alloc);
@@ -80,13 +80,13 @@ fn moves_by(
 fn moves_from(
     alloc: Global,
     closures: &Closures<'_>,
-    sets: &mut IndexSet<Vob>,
+    sets: &mut IndexSet<Vec<usize>>,
     from: usize,
 ) -> Result<Vec<Move>, AllocError>
     requires from { from < length sets.old.keys }
-    requires some { AreSome closures.now.rules.items (bits_of sets.old.keys) }
-    ensures { IfOk result (λ moves. AreMovesFrom closures.now (bits_of sets.old.keys) from
-        (bits_of sets.new.keys) moves.items) }
+    requires some { AreSome closures.now.rules.items (lists_of sets.old.keys) }
+    ensures { IfOk result (λ moves. AreMovesFrom closures.now (lists_of sets.old.keys) from
+        (lists_of sets.new.keys) moves.items) }
 {
     let ahead = closures.ahead(alloc, &sets[from])?;
     moves_by(alloc, closures, sets, from, &ahead)
@@ -108,7 +108,7 @@ pub(crate) fn find_move(moves: &[Move], symbol: Symbol) -> Option<usize>
 }
 
 /// Returns sets as a list.
-fn listed(alloc: Global, sets: IndexSet<Vob>) -> Result<Vec<Vob>, AllocError>
+fn listed(alloc: Global, sets: IndexSet<Vec<usize>>) -> Result<Vec<Vec<usize>>, AllocError>
     ensures { IfOk result (λ list. list.items ≡ sets.keys) }
 {
     sets.into_iter().collect(alloc)
@@ -118,7 +118,7 @@ fn listed(alloc: Global, sets: IndexSet<Vob>) -> Result<Vec<Vob>, AllocError>
 fn states_of(alloc: Global, closures: &Closures<'_>) -> Result<Automaton, AllocError>
     requires { 0 < length closures.now.rules.items }
     ensures { IfOk result (λ made. AreStates closures.now.rules.items
-        (bits_of made.sets.items) (rows_of made.moves.items)) }
+        (lists_of made.sets.items) (rows_of made.moves.items)) }
 {
     let mut sets = IndexSet::new(alloc);
     enter(&mut sets, closures.start(alloc)?)?;
@@ -140,7 +140,7 @@ fn states_of(alloc: Global, closures: &Closures<'_>) -> Result<Automaton, AllocE
 /// memory runs out.
 pub fn states(alloc: Global, grammar: &Grammar) -> Result<Automaton, GrammarError>
     ensures states { IfOk result (λ made. AreStates grammar.now.rules.items
-        (bits_of made.sets.items) (rows_of made.moves.items)) }
+        (lists_of made.sets.items) (rows_of made.moves.items)) }
 
     // The rules are checked first.
     ensures no_rule { (result ≡ Err GrammarError.NoRule) ↔ (grammar.now.rules.items ≡ []) }

@@ -1,11 +1,7 @@
 //! Items, closures and states of grammars worked by hand.
-ghost use Rattle.std.specs.Prelude.{◌≡◌, length};
-ghost use Rattle.vob_lr.specs.Items.{item_total};
-
 use super::grammar::{empty, grammar_of};
-use super::support::same;
+use super::support::{same, same_list};
 use std::process::Abort;
-use vob::Vob;
 use vob_lr::{Closures, GrammarError, Item, Items, Move, Symbol, states};
 
 /// The names of nonterminals and of terminals, rules, and for each state its items and its moves, by
@@ -55,26 +51,16 @@ fn byte(text: &str, index: usize) -> u8 {
     text.as_bytes().get(index).copied().unwrap_or(0)
 }
 
-/// Compares a set with the numbers of its items.
-fn check_items(rt: &impl Abort, set: &Vob, items: &[usize]) {
-    same(rt, "the items", 0, set.count_ones(), items.len());
-    for item in items {
-        same(rt, "item", *item, set.get(*item), Some(true));
-    }
-}
-
 /// Compares what follows a set by a symbol with the numbers of its items.
 fn check_goto(
     rt: &(impl Abort + AllocGlobal),
     closures: &Closures<'_>,
-    set: &Vob,
+    set: &[usize],
     symbol: Symbol,
     items: &[usize],
-)
-    requires { length set.now.bits ≡ item_total closures.now.rules.items }
-{
+) {
     let next = closures.goto(rt.alloc(), set, symbol).expect(rt, "a set");
-    check_items(rt, &next, items);
+    same_list(rt, "the items that follow", &next, items);
 }
 
 /// Compares moves with the names of their symbols and the numbers of their states.
@@ -92,7 +78,7 @@ fn check_states(rt: &(impl Abort + AllocGlobal), row: &Row) {
     same(rt, "the states", 0, made.sets.len(), row.items.len());
     same(rt, "the moves", 0, made.moves.len(), row.moves.len());
     for (set, items) in made.sets.iter().zip(row.items) {
-        check_items(rt, set, items);
+        same_list(rt, "the items", set, items);
     }
     for (moves, wanted) in made.moves.iter().zip(row.moves) {
         check_moves(rt, row.names, moves, wanted);
@@ -125,13 +111,24 @@ fn a_symbol_that_is_not_ahead_leaves_nothing(rt: HostRuntime) {
     let row = &GRAMMARS[0];
     let grammar = grammar_of(&rt, row.names, row.rules);
     let closures = Closures::new(rt.alloc(), &grammar).expect(&rt, "closures");
-    let mut first = Vob::from_elem(rt.alloc(), false, closures.items().len()).expect(&rt, "a set");
-    first.set_indices(&[0]).expect(&rt, "an index");
-    let start = closures.closure(&first).expect(&rt, "a set");
-    check_items(&rt, &start, &[0, 2, 6, 8, 12, 14, 18]);
+    let start = [0, 2, 6, 8, 12, 14, 18];
     check_goto(&rt, &closures, &start, Symbol::Terminal(0), &[]);
     check_goto(&rt, &closures, &start, Symbol::Terminal(9), &[]);
     check_goto(&rt, &closures, &start, Symbol::Nonterminal(2), &[7, 9]);
+    // An item that isn't there has no symbol behind its dot.
+    check_goto(&rt, &closures, &[20, usize::MAX], Symbol::Terminal(0), &[]);
+}
+
+#[test]
+fn a_closure_has_what_stands_behind_the_dots(rt: HostRuntime) {
+    let row = &GRAMMARS[0];
+    let grammar = grammar_of(&rt, row.names, row.rules);
+    let closures = Closures::new(rt.alloc(), &grammar).expect(&rt, "closures");
+    assert!(&rt; closures.items().len() == 20);
+    let closure = closures.closure(rt.alloc(), &[10]).expect(&rt, "a set");
+    same_list(&rt, "the items", &closure, &[10, 14, 18]);
+    let closure = closures.closure(rt.alloc(), &[19, 3]).expect(&rt, "a set");
+    same_list(&rt, "the items", &closure, &[3, 19]);
 }
 
 #[test]

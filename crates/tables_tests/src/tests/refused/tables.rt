@@ -2,7 +2,6 @@
 use crate::tests::support::{FIRST, request, same, tell};
 use std::alloc::{AllocError, Global};
 use std::process::Abort;
-use vob::Vob;
 use vob_lr::{Automaton, Closures, Grammar, GrammarError, Rule, Symbol, states};
 
 /// One rule: nonterminal 0 becomes terminal 0.
@@ -43,14 +42,10 @@ fn are_states(rt: &(impl Abort + AllocGlobal), behind: usize) -> bool {
     are_given(rt, states(rt.alloc(), &grammar))
 }
 
-/// Whether the item behind the first one was found, behind a set of the caller.
+/// Whether the item behind the first one was found alone.
 fn is_passed(alloc: Global, closures: &Closures<'_>) -> Result<bool, AllocError> {
-    let mut first = Vob::from_elem(alloc, false, closures.items().len())?;
-    if !first.is_empty() {
-        first.set(0, true);
-    }
-    let next = closures.goto(alloc, &first, Symbol::Terminal(0))?;
-    Ok(next.get(1) == Some(true))
+    let next = closures.goto(alloc, &[0], Symbol::Terminal(0))?;
+    Ok(next.contains(&1))
 }
 
 #[test]

@@ -1,7 +1,6 @@
 -- The row of the nonterminal is added.
 use Rattle.std.proofs.Common.{◌<◌, ◌∙◌, [], List, Bool, ap, length, subst}
-use Rattle.vob_lr.specs.Expansions.{Gains}
-use Rattle.vob_lr.specs.ItemSets.{Has}
+use Rattle.vob_lr.specs.Expansions.{Gains, Has}
 use Rattle.vob_lr.proofs.ClosureLemmas.{Gains-or}
 use Rattle.vob_lr.proofs.closure.bring_by.Goals as goal
 

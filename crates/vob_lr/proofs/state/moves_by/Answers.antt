@@ -27,12 +27,6 @@ index-requires c =
           c.loop-number.invariant.more c.args.from c.requires.from,
     )
 
-pub goto-requires : goal.goto-requires
-goto-requires c =
-    (state_read c.args.closures.now.rules.items c.args.sets.now.keys c.loop-number.sets.keys
-    c.loop-number.invariant.some c.loop-number.invariant.more c.args.from c.requires.from
-    c.index.result.now c.index.ensures).2
-
 pub loop-number-preserved : goal.loop-number-preserved
 loop-number-preserved c =
     let grammar = c.args.closures.now in
@@ -43,7 +37,7 @@ loop-number-preserved c =
     symbol_with g.terminals c.in-Some.number) (c.grammar.ensures ∙ c.items.ensures) in
     let move : Move = record { symbol = c.symbol_at-symbol.result; state = c.in_ok-state.state } in
     let on = moves_go_on grammar _ _ c.requires.ahead _ read.1 _ _ c.in-Some.number _
-    c.in-Some.ensures.steps.gives _ h.some h.more h.moves _ read.0 _ move c.in_ok-next.ensures _ _
+    c.in-Some.ensures.steps.gives _ h.some h.more h.moves _ read.0 _ move (rw c.deref.ensures.value at c.in_ok-next.ensures) _ _
     c.in_ok-state.ensures symbol refl in record {
       can_next = tt;
       is_finite = tt;

@@ -1,37 +1,22 @@
--- The walk gives the next item, and the one behind it is added.
-use Rattle.std.proofs.Common.{◌∙◌, ap, arith, false, length, replicate}
-use Rattle.std.proofs.lemmas.List.{length-replicate}
-use Rattle.vob_lr.specs.Expansions.{Advances}
-use Rattle.vob_lr.proofs.ClosureLemmas.{IsAdvanced-gathered, IsGathered-start, IsGathered-step, gathered_inside, none_true}
+-- The item behind one more is added.
+use Rattle.std.proofs.Common.{◌+◌, [], arith}
+use Rattle.vob_lr.specs.Expansions.{Advances, IsByFirst}
+use Rattle.vob_lr.proofs.ClosureLemmas.{Adds-both, Adds-none, IsAdvanced-added, by_first_more, by_first_none}
 use Rattle.vob_lr.proofs.closure.Closures.advanced.Goals as goal
 
-pub loop-number-init : goal.loop-number-init
-loop-number-init c = record {
-  can_next = tt;
-  is_finite = tt;
-  gathered = rw (c.in_ok-made.ensures.bits, c.len.ensures.len)
-      (IsGathered-start _ _ _ _ (ap (λ walk. walk.rest)
-      c.into_iter-number-iterator.ensures.into_iter_gives
-      ∙ (c.iter_set_bits-number-items.ensures.fresh tt).whole.rest));
-}
+pub loop-place-init : goal.loop-place-init
+loop-place-init c =
+    let Each = Advances c.args.self.now.rules.items c.args.symbol in
+    rw c.new-made.ensures.items (Adds-none (IsByFirst Each c.args.set.now 0) [] (by_first_none Each c.args.set.now))
 
-pub advance-requires-clause-number : goal.advance-requires-clause-number
-advance-requires-clause-number c =
-    let inside = gathered_inside (Advances c.args.self.now.rules.items c.args.symbol)
-    c.args.set.now.bits (replicate (length c.args.set.now.bits) false) _ _ _
-    c.in-Some.ensures.steps.gives _ c.loop-number.invariant.gathered in
-    omega (arith, inside, c.requires)
-
-pub loop-number-preserved : goal.loop-number-preserved
-loop-number-preserved c = record {
-  can_next = tt;
-  is_finite = tt;
-  gathered = IsGathered-step _ _ _ _ _ _ c.in-Some.ensures.steps.gives _
-      c.loop-number.invariant.gathered _ c.advance.ensures;
-}
+pub loop-place-preserved : goal.loop-place-preserved
+loop-place-preserved c =
+    let Each = Advances c.args.self.now.rules.items c.args.symbol in
+    let k = c.loop-place.place in
+    Adds-both [] c.loop-place.made.items c.advance.new.made.items (IsByFirst Each c.args.set.now k) _ (IsByFirst Each c.args.set.now (k + 1))
+    (by_first_more Each c.args.set.now k) c.loop-place.invariant c.in_ok-advance.ensures
 
 pub returns : goal.returns
 returns c =
-    let long = length-replicate (length c.args.set.now.bits) false ∙ c.requires in
-    IsAdvanced-gathered _ _ _ _ c.in-None.ensures.steps.gives.0 _ _
-    (none_true (length c.args.set.now.bits)) long c.loop-number.invariant.gathered
+    IsAdvanced-added c.args.self.now.rules.items c.args.set.now c.args.symbol c.loop-place.made.items
+    c.loop-place.place (omega arith) c.loop-place.invariant

@@ -1,34 +1,34 @@
--- The walk gives the next item, which brings what it does.
-use Rattle.std.proofs.Common.{◌∙◌, ap, arith}
-use Rattle.vob_lr.specs.Expansions.{Brings}
-use Rattle.vob_lr.proofs.ClosureLemmas.{IsItemClosure-gathered, IsGathered-start, IsGathered-step, gathered_inside}
+-- One item more gives what it does.
+use Rattle.std.proofs.Common.{◌+◌, ◌∙◌, arith, false, replicate}
+use Rattle.std.proofs.lemmas.List.{length-replicate}
+use Rattle.std.proofs.lemmas.Result.{IfOk-weaker}
+use Rattle.vob_lr.specs.Expansions.{Gives, IsByFirst}
+use Rattle.vob_lr.specs.Items.{item_total}
+use Rattle.vob_lr.proofs.ClosureLemmas.{Gains-both, Gains-none, IsItemClosure-gained, by_first_more, by_first_none}
 use Rattle.vob_lr.proofs.closure.Closures.closure.Goals as goal
 
-pub loop-number-init : goal.loop-number-init
-loop-number-init c = record {
-  can_next = tt;
-  is_finite = tt;
-  gathered = rw c.in_ok-closure.ensures.bits
-      (IsGathered-start _ _ _ _ (ap (λ walk. walk.rest)
-      c.into_iter-number-iterator.ensures.into_iter_gives
-      ∙ (c.iter_set_bits-number-items.ensures.fresh tt).whole.rest));
-}
+pub loop-place-init : goal.loop-place-init
+loop-place-init c =
+    let rules = c.args.self.now.rules.items in
+    rw (c.in_ok-made.ensures.bits, c.len.ensures, c.self.view_is)
+    (Gains-none (IsByFirst (Gives rules) c.args.set.now 0) (replicate (item_total rules) false)
+    (by_first_none (Gives rules) c.args.set.now))
 
-pub expand-requires-clause-number : goal.expand-requires-clause-number
-expand-requires-clause-number c =
-    let inside = gathered_inside (Brings c.args.self.now.rules.items) c.args.set.now.bits
-    c.args.set.now.bits _ _ _ c.in-Some.ensures.steps.gives _ c.loop-number.invariant.gathered in
-    omega (arith, inside, c.requires)
+pub expand-requires-clause-long : goal.expand-requires-clause-long
+expand-requires-clause-long c =
+    c.loop-place.invariant.len ∙ length-replicate (item_total c.args.self.now.rules.items) false
 
-pub loop-number-preserved : goal.loop-number-preserved
-loop-number-preserved c = record {
-  can_next = tt;
-  is_finite = tt;
-  gathered = IsGathered-step _ _ _ _ _ _ c.in-Some.ensures.steps.gives _
-      c.loop-number.invariant.gathered _ c.expand.ensures;
-}
+pub loop-place-preserved : goal.loop-place-preserved
+loop-place-preserved c =
+    let rules = c.args.self.now.rules.items in
+    let k = c.loop-place.place in
+    Gains-both _ _ _ (IsByFirst (Gives rules) c.args.set.now k) _
+    (IsByFirst (Gives rules) c.args.set.now (k + 1)) (by_first_more (Gives rules) c.args.set.now k)
+    c.loop-place.invariant c.expand.ensures
 
 pub returns : goal.returns
 returns c =
-    IsItemClosure-gathered _ _ _ c.in-None.ensures.steps.gives.0 _ c.requires
-    c.loop-number.invariant.gathered
+    let rules = c.args.self.now.rules.items in
+    IfOk-weaker c.numbers_of.result _ _
+    (λ closure h. IsItemClosure-gained rules c.args.set.now c.loop-place.place (omega arith)
+    (item_total rules) c.loop-place.made.bits c.loop-place.invariant closure.items h) c.numbers_of.ensures

@@ -1,22 +1,14 @@
 -- Nothing flows from an item that is complete, and what is behind it else.
-use Rattle.std.proofs.Common.{ap, inl, inr, subst, sym}
+use Rattle.std.proofs.Common.{inl, inr, subst, sym}
 use Rattle.std.proofs.lemmas.Option.{none-some}
 use Rattle.std.proofs.lemmas.Result.{on_ok_weaker}
 use Rattle.vob_lr.specs.Flows.{FlowsFrom, HasTables}
-use Rattle.vob_lr.specs.Items.{HasNext, item_total}
+use Rattle.vob_lr.specs.Items.{HasNext}
 use Rattle.vob_lr.specs.Lookaheads.{Machine}
 use Rattle.vob_lr.specs.declared.grammar.Symbol.{Symbol}
 use Rattle.vob_lr.proofs.EquationLemmas.{GainEach-as, GainEach-both, GainEach-none}
-use Rattle.vob_lr.proofs.FlowLemmas.{flows_kept, flows_nowhere, state_inside}
+use Rattle.vob_lr.proofs.FlowLemmas.{flows_kept, flows_nowhere}
 use Rattle.vob_lr.proofs.flows.Flows.flow.Goals as goal
-
-pub next-requires : goal.next-requires
-next-requires c =
-    let h = subst (λ (z : Machine). HasTables z c.self.inside.nullable.now.bits
-    c.self.inside.first.now.rows c.self.inside.opens.now.starts) c.self.view_is
-    c.self.invariant in
-    rw (ap (λ (m : Machine). item_total m.grammar.rules.items) c.self.view_is)
-    (state_inside _ _ _ _ h c.args.state c.args.number c.requires.item)
 
 pub returns-in-None-clause-flows : goal.returns-in-None-clause-flows
 returns-in-None-clause-flows c =

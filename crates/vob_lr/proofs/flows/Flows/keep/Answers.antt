@@ -3,7 +3,7 @@ use Rattle.std.proofs.Common.{◌≡◌, ◌+◌, ◌<◌, ◌∙◌, ℕ, Globa
 use Rattle.std.specs.List.{Contains}
 use Rattle.std.proofs.lemmas.List.{get_or-map, length-map}
 use Rattle.std.proofs.lemmas.Option.{slice_get_read}
-use Rattle.vob.proofs.BitsLemmas.{row_inside}
+use Rattle.vob_lr.proofs.SetLemmas.{set_inside}
 use Rattle.vob_lr.specs.Equations.{GainEach}
 use Rattle.vob_lr.specs.Flows.{HasTables, IsKept, IsKeptAt}
 use Rattle.vob_lr.specs.Walked.{IsOfFirst}
@@ -25,7 +25,7 @@ keep_by-requires-clause-by c =
     c.self.invariant in
     let count = length-map moves (λ (list : Vec Move Global). list.items) in
     let all = ap (λ (z : Machine). length z.moves) c.self.view_is in
-    let state = row_inside m.sets q c.args.number c.requires.item in
+    let state = set_inside m.sets q c.args.number c.requires.item in
     let low : q < length moves = omega (arith, count, all, h.states.count, state) in
     let same = ap (λ (z : Machine). get_or z.moves q []) (sym c.self.view_is)
     ∙ get_or-map (λ (list : Vec Move Global). list.items) moves q c.index-moves-state.result [] low
@@ -46,7 +46,7 @@ loop-step-preserved c =
     c.self.invariant in
     let count = length-map moves (λ (list : Vec Move Global). list.items) in
     let all = ap (λ (z : Machine). length z.moves) c.self.view_is in
-    let state = row_inside m.sets q c.args.number c.requires.item in
+    let state = set_inside m.sets q c.args.number c.requires.item in
     let low : q < length moves = omega (arith, count, all, h.states.count, state) in
     let same = ap (λ (z : Machine). get_or z.moves q []) (sym c.self.view_is)
     ∙ get_or-map (λ (list : Vec Move Global). list.items) moves q c.index-moves-state.result [] low
@@ -71,7 +71,7 @@ returns c =
     c.self.invariant in
     let count = length-map moves (λ (list : Vec Move Global). list.items) in
     let all = ap (λ (z : Machine). length z.moves) c.self.view_is in
-    let state = row_inside m.sets q j c.requires.item in
+    let state = set_inside m.sets q j c.requires.item in
     let low : q < length moves = omega (arith, count, all, h.states.count, state) in
     let same = ap (λ (z : Machine). get_or z.moves q []) (sym c.self.view_is)
     ∙ get_or-map (λ (list : Vec Move Global). list.items) moves q c.index-moves-state.result [] low

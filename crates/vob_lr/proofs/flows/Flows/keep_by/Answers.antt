@@ -2,11 +2,10 @@
 use Rattle.std.proofs.Common.{◌+◌, ◌∙◌, ap, arith, subst, sym}
 use Rattle.std.proofs.lemmas.Bool.{false≢true}
 use Rattle.std.proofs.lemmas.Result.{on_ok_weaker}
-use Rattle.vob.specs.Vobs.{total_count}
 use Rattle.vob_lr.specs.Flows.{HasTables, IsKeptBy}
 use Rattle.vob_lr.specs.Items.{item_total}
 use Rattle.vob_lr.specs.Lookaheads.{Machine}
-use Rattle.vob_lr.specs.Nodes.{node}
+use Rattle.vob_lr.specs.Nodes.{member_total, node}
 use Rattle.vob_lr.specs.declared.grammar.Symbol.TheVariants.{Nonterminal}
 use Rattle.vob_lr.proofs.EquationLemmas.{GainEach-as, GainEach-none}
 use Rattle.vob_lr.proofs.FlowLemmas.{move_at}
@@ -34,7 +33,7 @@ number-to-requires c =
 
 pub draw-requires : goal.draw-requires
 draw-requires c =
-    let sets = ap (λ (m : Machine). total_count m.sets) c.self.view_is in
+    let sets = ap (λ (m : Machine). member_total m.sets) c.self.view_is in
     omega (arith, c.number-to.ensures.inside, sets, c.requires.sets)
 
 pub returns-then-not-is_by : goal.returns-then-not-is_by

@@ -6,7 +6,8 @@ use Rattle.vob_lr.specs.Behind.{IsOfTrailer, IsTrailer}
 use Rattle.vob_lr.specs.Equations.{GainEach}
 use Rattle.vob_lr.specs.Flows.{HasTables, IsOpened}
 use Rattle.vob_lr.specs.Walked.{IsOfMember}
-use Rattle.vob_lr.specs.ItemSets.{Has, Opens}
+use Rattle.vob_lr.specs.Expansions.{Has}
+use Rattle.vob_lr.specs.ItemSets.{Opens}
 use Rattle.vob_lr.specs.Items.{HasNext, IsItem, item_total}
 use Rattle.vob_lr.specs.Lookaheads.{Machine}
 use Rattle.vob_lr.specs.Nodes.{node}
@@ -15,17 +16,16 @@ use Rattle.vob_lr.specs.declared.grammar.Rule.{Rule}
 use Rattle.vob_lr.specs.declared.grammar.Symbol.TheVariants.{Nonterminal}
 use Rattle.vob_lr.proofs.EquationLemmas.{GainEach-as}
 use Rattle.vob_lr.proofs.FirstLemmas.{rule_read}
+use Rattle.vob_lr.proofs.ItemLemmas.{next_inside}
 use Rattle.vob_lr.proofs.MemberLemmas.{member_closed}
-use Rattle.vob_lr.proofs.FlowLemmas.{next_dot, next_then, opened_is, state_inside, symbol_there}
+use Rattle.vob_lr.proofs.FlowLemmas.{next_dot, next_then, opened_is, symbol_there}
 use Rattle.vob_lr.proofs.flows.Flows.open.Goals as goal
 
 pub item-item-requires : goal.item-item-requires
 item-item-requires c =
-    let h = subst (λ (z : Machine). HasTables z c.self.inside.nullable.now.bits
-    c.self.inside.first.now.rows c.self.inside.opens.now.starts) c.self.view_is
-    c.self.invariant in
-    rw (ap (λ (m : Machine). item_total m.grammar.rules.items) c.self.view_is)
-    (state_inside _ _ _ _ h c.args.state c.args.number c.requires.item)
+    let next = next_inside c.args.self.now.grammar.rules.items c.args.number (Nonterminal c.args.nonterminal)
+    c.requires.next in
+    omega (arith, next, ap (λ (m : Machine). item_total m.grammar.rules.items) c.self.view_is)
 
 pub index-rule-requires : goal.index-rule-requires
 index-rule-requires c =

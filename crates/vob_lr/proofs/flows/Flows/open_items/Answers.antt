@@ -1,9 +1,8 @@
 -- One item more starts with the terminals, and draws from the node.
 use Rattle.std.proofs.Common.{◌≡◌, ◌∙◌, ap, arith, sym}
-use Rattle.vob.specs.Vobs.{total_count}
 use Rattle.vob_lr.specs.Behind.{IsOfTrailer}
 use Rattle.vob_lr.specs.Lookaheads.{Machine}
-use Rattle.vob_lr.specs.Nodes.{node}
+use Rattle.vob_lr.specs.Nodes.{member_total, node}
 use Rattle.vob_lr.proofs.EquationLemmas.{GainEach-as}
 use Rattle.vob_lr.proofs.FlowLemmas.{GainEach-walked, GainWalked-start, GainWalked-step, walked_own}
 use Rattle.vob_lr.proofs.flows.Flows.open_items.Goals as goal
@@ -25,7 +24,7 @@ number-to-requires c =
 
 pub add_trailer-requires-clause-set : goal.add_trailer-requires-clause-set
 add_trailer-requires-clause-set c =
-    let sets = ap (λ (m : Machine). total_count m.sets) c.self.view_is in
+    let sets = ap (λ (m : Machine). member_total m.sets) c.self.view_is in
     omega (
       arith,
       c.number-to.ensures.inside,

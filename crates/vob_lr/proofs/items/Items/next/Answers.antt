@@ -1,9 +1,18 @@
 -- The symbol at the dot.
-use Rattle.std.proofs.Common.{◌∙◌, List, ap, get_or, slice_get}
+use Rattle.std.proofs.Common.{◌∙◌, List, ap, arith, get_or, slice_get}
+use Rattle.std.proofs.lemmas.Option.{none-some}
 use Rattle.vob_lr.specs.declared.grammar.Grammar.{Grammar}
 use Rattle.vob_lr.specs.declared.grammar.Symbol.{Symbol}
-use Rattle.vob_lr.proofs.ItemLemmas.{next_read}
+use Rattle.vob_lr.proofs.ItemLemmas.{item_inside, next_read}
 use Rattle.vob_lr.proofs.items.Items.next.Goals as goal
+
+pub returns-then-number-len : goal.returns-then-number-len
+returns-then-number-len c =
+    let rules = c.self.inside.grammar.now.rules.items in
+    rw (← c.self.view_is) (λ x. (
+      (λ e. absurd (none-some x e)),
+      (λ next. absurd (omega (arith, item_inside rules c.args.number next.item next.is, c.self.invariant.numbers.total))),
+    ))
 
 pub returns : goal.returns
 returns c = λ x.

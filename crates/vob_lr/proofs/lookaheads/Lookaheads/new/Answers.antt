@@ -1,8 +1,18 @@
 -- What the states refuse is refused, and nothing else but memory.
 use Rattle.std.proofs.Common.{◌≡◌, Err, ap}
 use Rattle.std.proofs.lemmas.Result.{err_from_is_err_and}
+use Rattle.vob_flow.specs.Lists.{lists_of}
 use Rattle.vob_lr.specs.declared.grammar.GrammarError.TheVariants.{BadSymbol}
+use Rattle.vob_lr.proofs.StateLemmas.{AreRising-states}
 use Rattle.vob_lr.proofs.lookaheads.Lookaheads.new.Goals as goal
+
+pub invariant_of-nodes : goal.invariant_of-nodes
+invariant_of-nodes c =
+    let sets = c.in_ok-automaton.automaton.sets.items in
+    rw (c.deref-2.ensures.value, c.deref-3.ensures.value) (
+      AreRising-states c.args.grammar.now.rules.items (lists_of sets) c.in_ok-automaton.ensures.states.each,
+      rw c.deref.ensures.value at c.in_ok-offsets.ensures,
+    )
 
 pub returns-in_err-automaton-clause-bad_symbol : goal.returns-in_err-automaton-clause-bad_symbol
 returns-in_err-automaton-clause-bad_symbol c =

@@ -4,7 +4,7 @@ use Rattle.std.specs.Bool.{beq}
 use Rattle.std.specs.Option.{option_eq}
 use Rattle.std.proofs.lemmas.Option.{get_or_from_slice_get, slice_get-get_or}
 use Rattle.vob_block.proofs.PackingLemmas.{true_inside}
-use Rattle.vob_flow.specs.Draws.{IsIn}
+use Rattle.vob_lr.specs.ItemSets.{HasItem}
 use Rattle.vob_lr.specs.Items.{Completes}
 use Rattle.vob_lr.specs.Lookaheads.{LooksAhead, Machine}
 use Rattle.vob_lr.specs.States.{AreStates}
@@ -24,7 +24,7 @@ returns-in-None c =
           Completes z.grammar.rules.items c.args.rule c.complete.result) c.self.view_is
           c.complete.ensures in
           let same = one_complete m.grammar.rules.items c.args.rule i c.complete.result complete own in
-          absurd (c.in-None.ensures.none (subst (λ n. IsIn m.sets c.args.state n) same
+          absurd (c.in-None.ensures.none (subst (λ n. HasItem m.sets c.args.state n) same
           (ahead_inside m states ahead)))),
     )
 
