@@ -15,6 +15,7 @@ mod FlowLemmas
 mod FollowLemmas
 mod GrowthLemmas
 mod ItemLemmas
+mod KeptLemmas
 mod LinkLemmas
 mod MemberLemmas
 mod MoveLemmas

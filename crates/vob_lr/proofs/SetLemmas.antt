@@ -1,9 +1,9 @@
 -- Lists of numbers that rise: which are equal, and where a number stands.
-use Rattle.std.proofs.Common.{◌≡◌, ◌==◌, ◌↔◌, ◌⊎◌, ℕ, zero, suc, ◌<◌, ◌≤◌, inl, inr, List, [], ◌∷◌, length, get_or, Err, Ok, Some, nat_cmp, refl, sym, ap, ◌∙◌, arith, eq-eqb, eqb-true}
+use Rattle.std.proofs.Common.{◌≡◌, ◌==◌, ◌↔◌, ◌⊎◌, ℕ, zero, suc, ◌<◌, ◌≤◌, inl, inr, List, [], ◌∷◌, ◌++◌, length, get_or, Err, Ok, Some, nat_cmp, refl, sym, ap, ◌∙◌, arith, eq-eqb, eqb-true}
 use Rattle.std.specs.List.{AllPairs, Contains}
 use Rattle.std.specs.List.Sorted.{IsBinarySearchResult}
 use Rattle.std.proofs.lemmas.Bool.{cases_lt, false≢true, ne_eqb}
-use Rattle.std.proofs.lemmas.List.{get_or_past}
+use Rattle.std.proofs.lemmas.List.{get_or_append_left, get_or_past, length-append}
 use Rattle.std.proofs.lemmas.List.Sorted.{searched}
 use Rattle.std.proofs.lemmas.List.Sums.{fails_before_first, passes_at_first, position_or_len_is}
 use Rattle.std.proofs.lemmas.Option.{get_or_from_slice_get, slice_get-get_or}
@@ -84,6 +84,32 @@ module _ (list : List ℕ) (n : ℕ) (there : Contains list n) where
   pub place_at : (d : ℕ) → get_or list (place_of list n) d ≡ n
   place_at d =
       eqb-true (get_or list (place_of list n) d) n (passes_at_first (λ m. m == n) list d place_inside)
+
+-- and behind all, if it isn't there
+pub place_past : (list : List ℕ) (n : ℕ) → (¬ Contains list n) → length list ≤ place_of list n
+place_past list n none = elim (cases_lt (place_of list n) (length list)) [
+  | inl low ↦
+      absurd (none (
+        place_of list n,
+        low,
+        eqb-true (get_or list (place_of list n) n) n
+            (passes_at_first (λ m. m == n) list n low),
+      ))
+  | inr past ↦ past
+]
+
+-- more numbers behind it don't move it
+pub place_append : (list more : List ℕ) (n : ℕ) → place_of list n < length list →
+    place_of (list ++ more) n ≡ place_of list n
+place_append list more n low =
+    let p = place_of list n in
+    position_or_len_is (λ m. m == n) (list ++ more) p 0 (omega (arith, low, length-append list more))
+    (λ k less.
+    let inside : k < length list = omega (arith, less, low) in
+    ap (λ m. m == n) (get_or_append_left list more 0 k inside)
+    ∙ fails_before_first (λ m. m == n) list k 0 less)
+    (λ within.
+    ap (λ m. m == n) (get_or_append_left list more 0 p low) ∙ passes_at_first (λ m. m == n) list 0 low)
 
 -- in a list that rises it stands nowhere else
 pub place_is : (list : List ℕ) (n k : ℕ) → AllPairs (λ i j. i < j) list → k < length list →

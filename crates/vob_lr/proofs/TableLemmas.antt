@@ -1,16 +1,16 @@
 -- Numbers with a property, and the rows of a table.
-use Rattle.std.proofs.Common.{◌≡◌, ◌↔◌, ◌⊎◌, ℕ, ◌+◌, ◌<◌, ◌≤◌, inl, inr, Bool, true, false, List, [], ◌∷◌, ◌++◌, get_or, length, take, None, Option, Some, Vec, refl, sym, ap, ◌∙◌, subst, arith}
+use Rattle.std.proofs.Common.{◌≡◌, ◌↔◌, ◌⊎◌, ℕ, ◌+◌, ◌<◌, ◌≤◌, inl, inr, Bool, true, false, List, [], ◌∷◌, ◌++◌, get_or, length, take, None, Option, Some, refl, sym, ap, ◌∙◌, subst, arith}
 use Rattle.std.specs.Bool.{beq}
 use Rattle.std.specs.List.{AllPairs, Contains}
 use Rattle.std.specs.Option.{option_eq}
 use Rattle.std.proofs.lemmas.Bool.{cases_lt, false≢true}
-use Rattle.std.proofs.lemmas.List.{get_or-take, get_or_append_left, get_or_push, length-take, length_push, map-append, take_all, take_more}
+use Rattle.std.proofs.lemmas.List.{get_or-take, get_or_append_left, get_or_push, length-take, length_push, take_all, take_more}
 use Rattle.std.proofs.lemmas.Option.{get_or_from_slice_get, slice_get-get_or}
 use Rattle.std.proofs.lemmas.List.Elements.{Contains-append_left, Contains-get_or, Contains-push, Contains-push_cases}
 use Rattle.std.proofs.lemmas.List.Quantifiers.{all_pairs_push}
-use Rattle.std.specs.declared.alloc.Global.{Global}
 use Rattle.vob_lr.specs.Lookaheads.{Machine}
-use Rattle.vob_lr.specs.Tables.{AreCells, AreRowsOfCells, IsCell, cells_of}
+use Rattle.vob_lr.specs.Kept.{IsPushed}
+use Rattle.vob_lr.specs.Tables.{AreCells, AreRowsOfCells, IsCell}
 use Rattle.vob_lr.specs.Those.{AreInOrder, AreThose}
 use Rattle.vob_lr.specs.declared.precedence.Precedence.{Precedence}
 use Rattle.vob_lr.specs.declared.table.Cell.{Cell}
@@ -134,40 +134,50 @@ module _ (m : Machine) (terminals rules : List (Option Precedence)) where
   pub AreCells-nothing : (q : ℕ) → AreCells m terminals rules q 0 []
   AreCells-nothing q = record { long = refl; each = λ t d less. absurd (omega (arith, less)) }
 
-  pub AreCells-more : (q n : ℕ) (row : List Cell) (cell : Cell) →
-      AreCells m terminals rules q n row → IsCell m terminals rules q n cell →
-      AreCells m terminals rules q (n + 1) (row ++ cell ∷ [])
-  AreCells-more q n row cell h own = record {
-    long = length_push row cell ∙ ap (λ k. k + 1) h.long;
-    each = λ t d less. elim (cases_lt t (length row)) [
-      | inl low ↦
-          subst (λ c. IsCell m terminals rules q t c)
-          (sym (get_or_append_left row (cell ∷ []) d t low)) (h.each t d low)
-      | inr past ↦
-          let here : t ≡ length row = omega (arith, past, less, length_push row cell) in
-          subst (λ c. IsCell m terminals rules q t c) (sym (get_or_push row cell d t (sym here)))
-          (subst (λ k. IsCell m terminals rules q k cell) (sym h.long ∙ sym here) own)
-    ];
+  IsCell-same : (q t : ℕ) (cell own : Cell) → own.shift ≡ cell.shift →
+      own.reduces.items ≡ cell.reduces.items → IsCell m terminals rules q t cell →
+      IsCell m terminals rules q t own
+  IsCell-same q t cell own shift reduces h = record {
+    shift = h.shift;
+    reduces = h.reduces;
+    all = h.all;
+    left = ap (λ (s : Option ℕ). (s, own.reduces.items)) shift
+        ∙ ap (λ (rs : List ℕ). (cell.shift, rs)) reduces ∙ h.left;
   }
 
-  pub AreRowsOfCells-more : (n : ℕ) (rows : List (Vec Cell Global)) (row : Vec Cell Global) →
-      AreRowsOfCells m terminals rules n (cells_of rows) →
-      AreCells m terminals rules n m.grammar.terminals row.items →
-      AreRowsOfCells m terminals rules (n + 1) (cells_of (rows ++ row ∷ []))
-  AreRowsOfCells-more n rows row h own =
-      let whole = map-append (λ (r : Vec Cell Global). r.items) rows (row ∷ []) in
-      rw whole record {
-        count = length_push (cells_of rows) row.items ∙ ap (λ k. k + 1) h.count;
-        each = λ q less. elim (cases_lt q (length (cells_of rows))) [
+  pub AreCells-more : (q n : ℕ) (row : List Cell) (cell : Cell) (after : List Cell) →
+      AreCells m terminals rules q n row → IsCell m terminals rules q n cell →
+      IsPushed row cell after → AreCells m terminals rules q (n + 1) after
+  AreCells-more q n row cell after h given (own, shift, reduces, is) =
+      let same = IsCell-same q n cell own shift reduces given in
+      rw is record {
+        long = length_push row own ∙ ap (λ k. k + 1) h.long;
+        each = λ t d less. elim (cases_lt t (length row)) [
           | inl low ↦
-              subst (λ cs. AreCells m terminals rules q m.grammar.terminals cs)
-              (sym (get_or_append_left (cells_of rows) (row.items ∷ []) [] q low)) (h.each q low)
+              subst (λ c. IsCell m terminals rules q t c)
+              (sym (get_or_append_left row (own ∷ []) d t low)) (h.each t d low)
           | inr past ↦
-              let here : q ≡ length (cells_of rows) =
-              omega (arith, past, less, length_push (cells_of rows) row.items) in
-              subst (λ cs. AreCells m terminals rules q m.grammar.terminals cs)
-              (sym (get_or_push (cells_of rows) row.items [] q (sym here)))
-              (subst (λ k. AreCells m terminals rules k m.grammar.terminals row.items)
-              (sym h.count ∙ sym here) own)
+              let here : t ≡ length row = omega (arith, past, less, length_push row own) in
+              subst (λ c. IsCell m terminals rules q t c) (sym (get_or_push row own d t (sym here)))
+              (subst (λ k. IsCell m terminals rules q k own) (sym h.long ∙ sym here) same)
         ];
       }
+
+  pub AreRowsOfCells-more : (n : ℕ) (rows : List (List Cell)) (row : List Cell) →
+      AreRowsOfCells m terminals rules n rows →
+      AreCells m terminals rules n m.grammar.terminals row →
+      AreRowsOfCells m terminals rules (n + 1) (rows ++ row ∷ [])
+  AreRowsOfCells-more n rows row h own = record {
+    count = length_push rows row ∙ ap (λ k. k + 1) h.count;
+    each = λ q less. elim (cases_lt q (length rows)) [
+      | inl low ↦
+          subst (λ cs. AreCells m terminals rules q m.grammar.terminals cs)
+          (sym (get_or_append_left rows (row ∷ []) [] q low)) (h.each q low)
+      | inr past ↦
+          let here : q ≡ length rows = omega (arith, past, less, length_push rows row) in
+          subst (λ cs. AreCells m terminals rules q m.grammar.terminals cs)
+          (sym (get_or_push rows row [] q (sym here)))
+          (subst (λ k. AreCells m terminals rules k m.grammar.terminals row)
+          (sym h.count ∙ sym here) own)
+    ];
+  }

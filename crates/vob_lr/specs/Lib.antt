@@ -12,6 +12,7 @@ pub mod Heads
 pub mod ItemSets
 pub mod ItemTables
 pub mod Items
+pub mod Kept
 pub mod Lookaheads
 pub mod Nodes
 pub mod Parses

@@ -1,6 +1,5 @@
 -- The table of a parser: what it may do in each state when a terminal is ahead.
-use Rattle.std.specs.Prelude.{◌≡◌, ◌↔◌, ℕ, ◌<◌, List, [], ◌∷◌, length, slice_get, slice_index_or, map, All, None, Option, Some, Vec}
-use Rattle.std.specs.declared.alloc.Global.{Global}
+use Rattle.std.specs.Prelude.{◌≡◌, ◌↔◌, ℕ, ◌<◌, List, [], ◌∷◌, length, slice_get, slice_index_or, All, None, Option, Some}
 use Rattle.vob_lr.specs.Lookaheads.{HasMove, Machine, Reduces}
 use Rattle.vob_lr.specs.Precedences.{resolved, stays}
 use Rattle.vob_lr.specs.Those.{AreThose}
@@ -49,10 +48,6 @@ pub record AreRowsOfCells (m : Machine) (terminals rules : List (Option Preceden
 pub record TableView : Type 0 where
   pub machine : Machine
   pub cells : List (List Cell)
-
--- the rows of cells
-abbrev pub cells_of : List (Vec Cell Global) → List (List Cell)
-cells_of rows = map (λ row. row.items) rows
 
 -- what a parser does of what it may: it shifts, or else reduces by the lowest rule
 abbrev pub chosen : Option ℕ → List ℕ → Option Action

@@ -2,6 +2,7 @@
 #![tactic(auto)]
 
 mod ahead;
+mod cells;
 mod closure;
 mod empty;
 mod equations;

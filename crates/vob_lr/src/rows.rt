@@ -2,9 +2,10 @@
 ghost use Rattle.std.specs.Prelude.{◌≡◌, ◌<◌, [], length, slice_index_or, AllPairs, IfOk};
 ghost use Rattle.vob_lr.specs.Lookaheads.{Reduces};
 ghost use Rattle.vob_lr.specs.Those.{AreThose};
-ghost use Rattle.vob_lr.specs.Tables.{AreCells, AreRowsOfCells, IsCell, cells_of};
+ghost use Rattle.vob_lr.specs.Tables.{AreCells, AreRowsOfCells, IsCell};
 ghost use Rattle.vob_lr.specs.ItemSets.{HasComplete};
 
+use crate::cells::CellRow;
 use crate::grammar::Symbol;
 use crate::items::Items;
 use crate::lookaheads::Lookaheads;
@@ -81,27 +82,27 @@ impl Source<'_, '_> {
     }
 
     /// Returns the row of a state.
-    fn row(&self, alloc: Global, state: usize) -> Result<Vec<Cell>, AllocError>
+    fn row(&self, alloc: Global, state: usize) -> Result<CellRow, AllocError>
         requires { state < length self.now.lookaheads.now.sets }
         ensures { IfOk result (λ row. AreCells self.now.lookaheads.now self.now.terminals.now
-            self.now.rules.now state self.now.lookaheads.now.grammar.terminals row.items) }
+            self.now.rules.now state self.now.lookaheads.now.grammar.terminals row) }
     {
         let lookaheads = self.lookaheads;
         let items = lookaheads.items();
         let automaton = lookaheads.automaton();
         let complete = complete_rules(alloc, items, &automaton.sets[state])?;
-        let mut row = Vec::new(alloc);
+        let mut row = CellRow::new(alloc);
         for terminal in 0..items.grammar().terminals {
-            row.push(self.cell(alloc, state, terminal, &complete)?)?;
+            row = row.with(self.cell(alloc, state, terminal, &complete)?)?;
         }
         Ok(row)
     }
 
     /// Returns the rows of all states.
-    pub fn rows(&self, alloc: Global) -> Result<Vec<Vec<Cell>>, AllocError>
+    pub fn rows(&self, alloc: Global) -> Result<Vec<CellRow>, AllocError>
         ensures { IfOk result (λ rows. AreRowsOfCells self.now.lookaheads.now
             self.now.terminals.now self.now.rules.now (length self.now.lookaheads.now.sets)
-            (cells_of rows.items)) }
+            rows.items) }
     {
         let states = self.lookaheads.automaton().sets.len();
         let mut rows = Vec::new(alloc);

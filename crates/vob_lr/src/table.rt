@@ -3,6 +3,7 @@ ghost use Rattle.std.specs.Prelude.{◌≡◌, ◌↔◌, ◌+◌, [], length, N
 ghost use Rattle.vob_lr.specs.Conflicts.{AreConflicts, AreConflictsBefore, IsConflictAt};
 ghost use Rattle.vob_lr.specs.Tables.{AreRowsOfCells, AreSound, action_at};
 
+use crate::cells::CellRow;
 use crate::lookaheads::Lookaheads;
 use crate::precedence::Precedence;
 use crate::rows::Source;
@@ -38,17 +39,17 @@ pub struct Conflict {
 #[derive(Drop)]
 pub struct Table<'a> {
     lookaheads: Lookaheads<'a>,
-    rows: Vec<Vec<Cell>>,
+    rows: Vec<CellRow>,
 }
 
 impl<'a> Model for Table<'a> {
-    ghost use Rattle.vob_lr.specs.Tables.{AreSound, TableView, cells_of};
+    ghost use Rattle.vob_lr.specs.Tables.{AreSound, TableView};
 
     ghost Value = { TableView };
 
-    ghost view = { λ a. record { machine = a.lookaheads; cells = cells_of a.rows.items } };
+    ghost view = { λ a. record { machine = a.lookaheads; cells = a.rows.items } };
 
-    ghost invariant = { λ a. AreSound a.lookaheads (cells_of a.rows.items) };
+    ghost invariant = { λ a. AreSound a.lookaheads a.rows.items };
 }
 
 impl Cell {
@@ -85,7 +86,7 @@ impl<'a> Table<'a> {
     /// binds more tightly stays, as in yacc and bison; if both bind alike, the associativity of the
     /// terminal decides. What it leaves to choose is a conflict.
     ///
-    /// Fails if memory runs out. It takes 40 bytes a state and terminal.
+    /// Fails if memory runs out. It takes 48 bytes for each cell with an action.
     pub fn new(
         alloc: Global,
         lookaheads: Lookaheads<'a>,

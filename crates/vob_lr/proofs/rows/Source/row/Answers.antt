@@ -25,7 +25,6 @@ complete_rules-requires c =
 pub loop-terminal-preserved : goal.loop-terminal-preserved
 loop-terminal-preserved c =
     let source = c.args.self.now in
-    rw c.in_ok-push.ensures.items
-    (AreCells-more source.lookaheads.now source.terminals.now source.rules.now c.args.state
-    c.loop-terminal.terminal c.loop-terminal.row.items c.in_ok-cell.field-0 c.loop-terminal.invariant
-    c.in_ok-cell.ensures)
+    AreCells-more source.lookaheads.now source.terminals.now source.rules.now c.args.state
+    c.loop-terminal.terminal c.loop-terminal.row c.in_ok-cell.field-0 c.in_ok-row.row
+    c.loop-terminal.invariant c.in_ok-cell.ensures c.in_ok-row.ensures

@@ -4,4 +4,4 @@ use Rattle.vob_lr.proofs.rows.Source.row.Given as goal
 
 abbrev pub invariant-loop-terminal : goal.invariant-loop-terminal
 invariant-loop-terminal l =
-    AreCells l.self.lookaheads.now l.self.terminals.now l.self.rules.now l.state l.terminal l.row.items
+    AreCells l.self.lookaheads.now l.self.terminals.now l.self.rules.now l.state l.terminal l.row
