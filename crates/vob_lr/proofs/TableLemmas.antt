@@ -148,7 +148,7 @@ module _ (m : Machine) (terminals rules : List (Option Precedence)) where
   pub AreCells-more : (q n : ℕ) (row : List Cell) (cell : Cell) (after : List Cell) →
       AreCells m terminals rules q n row → IsCell m terminals rules q n cell →
       IsPushed row cell after → AreCells m terminals rules q (n + 1) after
-  AreCells-more q n row cell after h given (own, shift, reduces, is) =
+  AreCells-more q n row cell after h given (own, (shift, reduces), is) =
       let same = IsCell-same q n cell own shift reduces given in
       rw is record {
         long = length_push row own ∙ ap (λ k. k + 1) h.long;

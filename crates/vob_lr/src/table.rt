@@ -86,7 +86,8 @@ impl<'a> Table<'a> {
     /// binds more tightly stays, as in yacc and bison; if both bind alike, the associativity of the
     /// terminal decides. What it leaves to choose is a conflict.
     ///
-    /// Fails if memory runs out. It takes 48 bytes for each cell with an action.
+    /// Fails if memory runs out. Cells with an action take 16 bytes, and more if
+    /// no other of the state holds the same.
     pub fn new(
         alloc: Global,
         lookaheads: Lookaheads<'a>,
