@@ -1,3 +1,4 @@
 mod CalendarLemmas
 mod RoomLemmas
 mod SlotsLemmas
+mod SummaryLemmas

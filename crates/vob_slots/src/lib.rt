@@ -3,5 +3,7 @@
 
 pub mod calendar;
 pub mod loops;
+pub mod search;
 pub mod slots;
+pub mod summary;
 pub mod take_slot;

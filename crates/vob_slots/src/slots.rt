@@ -11,6 +11,7 @@ ghost use Rattle.vob_block.specs.Packing.{item};
 ghost use Rattle.vob_walk.specs.Matches.{matches};
 ghost use Rattle.vob_walk.specs.Walk.{GivesFirst, GivesLast};
 
+use crate::summary::Summarized;
 use std::alloc::{AllocError, Global};
 use std::marker::Model;
 use vob::{IterSetBits, IterUnsetBits, Vob, VobError};
@@ -18,7 +19,7 @@ use vob::{IterSetBits, IterUnsetBits, Vob, VobError};
 /// Numbered slots, each free or taken. Contracts see the list of whether each is taken.
 #[derive(Drop)]
 pub struct Slots {
-    taken: Vob,
+    taken: Summarized,
     free: usize,
     // No slot below this number is free.
     first: usize,
@@ -51,9 +52,9 @@ impl Model for Slots {
 
     ghost Value = { List Bool };
 
-    ghost view = { λ slots. slots.taken.bits };
+    ghost view = { λ slots. slots.taken };
 
-    ghost invariant = { λ slots. AreKept slots.taken.bits slots.free slots.first
+    ghost invariant = { λ slots. AreKept slots.taken slots.free slots.first
         slots.row slots.room };
 }
 
@@ -62,7 +63,7 @@ impl Slots {
     pub fn new(alloc: Global, count: usize) -> Result<Slots, AllocError>
         ensures { IfOk result (λ slots. slots ≡ replicate count false) }
     {
-        let taken = Vob::from_elem(alloc, false, count)?;
+        let taken = Summarized::new(alloc, count)?;
         Ok(Slots {
             taken,
             free: count,
@@ -90,18 +91,17 @@ impl Slots {
     pub fn is_taken(&self, slot: usize) -> bool
         ensures { result ≡ item self.now slot }
     {
-        slot < self.taken.len() && self.taken.get_unchecked(slot)
+        slot < self.taken.len() && self.taken.bits().get_unchecked(slot)
     }
 
-    /// Takes the first free slot and returns it, or `None` if none is free. The search begins where
-    /// the last one ended, or at a lower slot that was given back since.
+    /// Takes the first free slot and returns it, or `None` if none is free. It reads a few blocks, however
+    /// many slots are taken, as `Search::first_unset` says.
     pub fn alloc(&mut self) -> Option<usize>
         ensures first { IsNext false self.old 0 result }
         ensures taken { MatchOption result (self.new ≡ self.old)
             (λ slot. self.new ≡ slice_set self.old slot true) }
     {
-        let Some(slot) = self.taken.next_unset(self.first) else {
-            self.first = self.taken.len();
+        let Some(slot) = self.taken.first_unset() else {
             return None;
         };
         self.taken.set(slot, true);
@@ -148,13 +148,13 @@ impl Slots {
             return Some(0);
         }
         let len = self.taken.len();
-        let start = room_from(&self.taken, self.least_room(count), count);
+        let start = room_from(self.taken.bits(), self.least_room(count), count);
         self.row = count;
         let Some(start) = start else {
             self.room = len;
             return None;
         };
-        self.taken.set_range(start..start + count, true);
+        self.taken.set_range(start, start + count, true);
         self.free -= count;
         self.room = start + count;
         Some(start)
@@ -180,8 +180,8 @@ impl Slots {
         // The length is in the range of its type: a proof knows it from this read.
         let _len = self.taken.len();
         let end = start + count;
-        let given = self.taken.iter_set_bits(start..end).count();
-        self.taken.set_range(start..end, false);
+        let given = self.taken.bits().iter_set_bits(start..end).count();
+        self.taken.set_range(start, end, false);
         self.free += given;
         self.first = self.first.min(start);
         self.room = self.room.min(start.saturating_sub(self.row));
@@ -193,7 +193,7 @@ impl Slots {
         ensures runs { YieldsInOrder GivesFirst (λ walk. walk.rest) }
         ensures runs_back { YieldsInReverse GivesLast (λ walk. walk.rest) }
     {
-        self.taken.iter_set_bits(..)
+        self.taken.bits().iter_set_bits(..)
     }
 
     /// Returns a walk over the numbers of the free slots, in rising order.
@@ -202,7 +202,7 @@ impl Slots {
         ensures runs { YieldsInOrder GivesFirst (λ walk. walk.rest) }
         ensures runs_back { YieldsInReverse GivesLast (λ walk. walk.rest) }
     {
-        self.taken.iter_unset_bits(..)
+        self.taken.bits().iter_unset_bits(..)
     }
 
     /// Adds free slots after the others. More than a length can count are refused first.
@@ -217,7 +217,7 @@ impl Slots {
         if more > usize::MAX - len {
             return Err(VobError::TooLong);
         }
-        self.taken.resize(len + more, false)?;
+        self.taken.grow(more)?;
         self.free += more;
         self.room = self.room.min(len.saturating_sub(self.row));
         Ok(())

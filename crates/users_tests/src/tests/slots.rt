@@ -107,6 +107,50 @@ fn scripts_by_a_seed_agree_with_a_list(rt: HostRuntime) {
     }
 }
 
+/// Takes all of so many slots, and gives three back, which are the next ones then.
+fn check_full(rt: &(impl Abort + AllocGlobal), count: usize) {
+    let mut slots = Slots::new(rt.alloc(), count).expect(rt, "memory");
+    same(rt, "all", count, slots.alloc_run(count), Some(0));
+    same(rt, "none", count, slots.alloc(), None);
+    let (middle, last) = (count / 2, count.saturating_sub(1));
+    for slot in [last, 0, middle] {
+        same(rt, "given back", slot, slots.free(slot), true);
+    }
+    for slot in [0, middle, last] {
+        same(rt, "the next", count, slots.alloc(), Some(slot));
+    }
+    same(rt, "none again", count, slots.alloc(), None);
+}
+
+// A word has 64 slots, and a word of the first summary stands for 4,096.
+#[test]
+fn slots_of_a_full_arena_come_again(rt: HostRuntime) {
+    for count in [3, 64, 65, 128, 4095, 4096, 4097, 8200] {
+        check_full(&rt, count);
+    }
+}
+
+#[test]
+fn slots_that_grow_are_free_behind_the_others(rt: HostRuntime) {
+    for (count, more) in [(63, 1), (63, 2), (64, 1), (64, 64), (4095, 2), (4096, 4097)] {
+        let mut slots = Slots::new(rt.alloc(), count).expect(&rt, "memory");
+        same(&rt, "all", count, slots.alloc_run(count), Some(0));
+        slots.grow(more).expect(&rt, "memory");
+        same(&rt, "free", count, slots.free_count(), more);
+        same(&rt, "the next", count, slots.alloc(), Some(count));
+        same(&rt, "given back", count, slots.free(0), true);
+        same(&rt, "the next", more, slots.alloc(), Some(0));
+        same(
+            &rt,
+            "the others",
+            count,
+            slots.alloc_run(more.saturating_sub(1)).is_some(),
+            true,
+        );
+        same(&rt, "none", count, slots.alloc(), None);
+    }
+}
+
 #[test]
 fn free_slots_are_taken_from_the_first_on(rt: HostRuntime) {
     let mut taken = vob_of(&rt, "1010");

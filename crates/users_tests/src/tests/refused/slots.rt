@@ -48,8 +48,8 @@ fn stretches_in_common_are_listed_by_one_request(rt: HostRuntime) {
 }
 
 #[test]
-fn slots_grow_by_one_request(rt: HostRuntime) {
-    request(&rt, FIRST - 1);
+fn slots_grow_or_stay(rt: HostRuntime) {
+    request(&rt, FIRST - 3);
     let mut slots = Slots::new(rt.alloc(), 64).expect(&rt, "memory");
     same(&rt, "a slot", 0, slots.alloc(), Some(0));
     let grown = given(&rt, slots.grow(64), VobError::Memory).is_some();

@@ -1,15 +1,16 @@
 -- One slot more is taken, and none below it was free.
-use Rattle.std.proofs.Common.{false, arith}
+use Rattle.std.proofs.Common.{false, arith, refl}
 use Rattle.vob_slots.proofs.RoomLemmas.{below_next, rooms_taken}
 use Rattle.vob_slots.proofs.slots.Slots.alloc.Goals as goal
 
-pub invariant_of-self-2 : goal.invariant_of-self-2
-invariant_of-self-2 c =
-    let bits = c.self.inside.taken.bits in
+pub invariant_of-self : goal.invariant_of-self
+invariant_of-self c =
+    let bits = c.self.inside.taken in
     let written = c.set.ensures.written in
-    let found = c.in-Some.ensures.next in record {
-      count = omega (arith, rw c.in-Some.ensures.inside.1 at written.count false, c.self.invariant.count);
-      below = below_next c.self.inside.first c.in-Some.slot bits c.set.new.self.bits c.self.invariant.below found written;
-      rooms = rooms_taken c.self.inside.row c.self.inside.room c.in-Some.slot bits c.set.new.self.bits
+    let found = (c.in-Some.ensures.next.some c.in-Some.slot).0 refl in record {
+      count = omega (arith, rw found.there at written.count false, c.self.invariant.count);
+      below = below_next 0 c.in-Some.slot bits c.set.new.self (λ i less. absurd (omega (arith, less)))
+          c.in-Some.ensures.next written;
+      rooms = rooms_taken c.self.inside.row c.self.inside.room c.in-Some.slot bits c.set.new.self
           c.self.invariant.rooms written;
     }

@@ -5,13 +5,13 @@ use Rattle.vob_slots.proofs.slots.Slots.least_room.Goals as goal
 
 pub returns-then-count-self : goal.returns-then-count-self
 returns-then-count-self c = rw (← c.self.view_is)
-    (rooms_first c.args.count c.self.inside.first c.self.inside.taken.bits c.requires c.self.invariant.below)
+    (rooms_first c.args.count c.self.inside.first c.self.inside.taken c.requires c.self.invariant.below)
 
 pub returns : goal.returns
 returns c = rw (← c.self.view_is) (λ j there. omega (
   arith,
-  rooms_first c.args.count c.self.inside.first c.self.inside.taken.bits c.requires c.self.invariant.below j there,
-  rooms_wide c.self.inside.row c.args.count c.self.inside.room c.self.inside.taken.bits (omega (arith, c.if-count-self.false))
+  rooms_first c.args.count c.self.inside.first c.self.inside.taken c.requires c.self.invariant.below j there,
+  rooms_wide c.self.inside.row c.args.count c.self.inside.room c.self.inside.taken (omega (arith, c.if-count-self.false))
       c.self.invariant.rooms j there,
   c.max.ensures,
 ))
