@@ -1,6 +1,6 @@
 //! How lookaheads flow between the items of states: what each item starts with, and which others it
 //! draws from.
-ghost use Rattle.std.specs.Prelude.{◌≡◌, ◌↔◌, ◌+◌, ◌<◌, ℕ, [], drop, length, slice_index_or, Contains, IfOk, IsTrue, OnOk};
+ghost use Rattle.std.specs.Prelude.{◌≡◌, ◌+◌, ◌<◌, ℕ, [], drop, length, slice_index_or, Contains, IfOk, OnOk};
 ghost use Rattle.vob_lr.specs.Behind.{IsOfTrailer, IsTrailer};
 ghost use Rattle.vob_lr.specs.Equations.{AreEquations, GainEach};
 ghost use Rattle.vob_lr.specs.Faults.{IsRuleOf};
@@ -17,7 +17,7 @@ use crate::follow::put_before;
 use crate::grammar::{Rule, Symbol};
 use crate::items::Items;
 use crate::nodes::Nodes;
-use crate::state::Move;
+use crate::state::{Move, is_by};
 use std::alloc::{AllocError, Global};
 use std::marker::Model;
 use vob::Vob;
@@ -47,13 +47,6 @@ impl<'a> Model for Flows<'a> {
     ghost invariant = { λ a. HasTables
         (record { grammar = a.items.now; sets = a.nodes.now; moves = rows_of a.moves.now })
         a.nullable.now.bits a.first.now.rows a.opens.now.starts };
-}
-
-/// Whether a move is by a symbol.
-fn is_by(by: Move, symbol: Symbol) -> bool
-    ensures { IsTrue result ↔ (by.symbol ≡ symbol) }
-{
-    by.symbol == symbol
 }
 
 impl<'a> Flows<'a> {

@@ -1,5 +1,5 @@
 //! The states of the automaton of a grammar, and the moves between them.
-ghost use Rattle.std.specs.Prelude.{◌≡◌, ◌≢◌, ◌↔◌, ℕ, ◌<◌, [], length, slice_index_or, All, AllPairs, Contains, Err, IfErr, IfNone, IfOk, IfSome, Some};
+ghost use Rattle.std.specs.Prelude.{◌≡◌, ◌↔◌, ℕ, ◌<◌, [], length, slice_index_or, AllPairs, Contains, Err, IfErr, IfOk, IsTrue, Some};
 ghost use Rattle.vob_flow.specs.Lists.{lists_of};
 ghost use Rattle.vob_lr.specs.Faults.{IsBadRule, MayRefuseGrammar};
 ghost use Rattle.vob_lr.specs.Ahead.{AreAhead, symbol_with};
@@ -92,6 +92,26 @@ fn moves_from(
     moves_by(alloc, closures, sets, from, &ahead)
 }
 
+/// Returns whether a move is by a symbol.
+pub(crate) fn is_by(by: Move, symbol: Symbol) -> bool
+    ensures { IsTrue result ↔ (by.symbol ≡ symbol) }
+{
+    by.symbol == symbol
+}
+
+/// Returns whether a symbol comes before another: a terminal before a nonterminal, and of a kind the
+/// lower number.
+fn comes_before(one: Symbol, other: Symbol) -> bool
+    ensures { IsTrue result ↔ Precedes one other }
+{
+    match (one, other) {
+        (Symbol::Terminal(t), Symbol::Terminal(u)) => t < u,
+        (Symbol::Terminal(_), Symbol::Nonterminal(_)) => true,
+        (Symbol::Nonterminal(_), Symbol::Terminal(_)) => false,
+        (Symbol::Nonterminal(a), Symbol::Nonterminal(b)) => a < b,
+    }
+}
+
 /// Returns the state to which one of some moves leads by a symbol, or `None` if none does. The moves
 /// must be in the order of their symbols.
 pub(crate) fn find_move(moves: &[Move], symbol: Symbol) -> Option<usize>
@@ -99,9 +119,18 @@ pub(crate) fn find_move(moves: &[Move], symbol: Symbol) -> Option<usize>
     ensures { (p : ℕ) → (result ≡ Some p)
         ↔ Contains moves.now (record { symbol = symbol; state = p }) }
 {
-    for found in moves {
-        if found.symbol == symbol {
+    let mut start = 0;
+    let mut end = moves.len();
+    'halves: while start < end {
+        let middle = start + (end - start) / 2;
+        let found = moves[middle];
+        if is_by(found, symbol) {
             return Some(found.state);
+        }
+        if comes_before(found.symbol, symbol) {
+            start = middle + 1;
+        } else {
+            end = middle;
         }
     }
     None

@@ -1,8 +1,10 @@
--- None of the moves so far is by the symbol.
-use Rattle.std.proofs.Common.{◌≡◌, ℕ, ◌<◌, get_or}
-use Rattle.vob_lr.specs.declared.state.Move.{Move}
+-- The move lies between two places, if it is there.
+use Rattle.std.proofs.Common.{◌-◌}
+use Rattle.vob_lr.proofs.MoveLemmas.{IsHalved}
 use Rattle.vob_lr.proofs.state.find_move.Given as goal
 
-abbrev pub invariant-loop-found : goal.invariant-loop-found
-invariant-loop-found l =
-    (k : ℕ) (d : Move) → k < l.found-index → (get_or l.moves k d).symbol ≡ l.symbol → ⊥
+abbrev pub invariant-halves : goal.invariant-halves
+invariant-halves l = IsHalved l.moves l.symbol l.start l.end
+
+abbrev pub decreases-halves : goal.decreases-halves
+decreases-halves l = l.end - l.start
