@@ -7,10 +7,7 @@ use files_text::{put_name, put_next};
 use std::alloc::Global;
 use std::io;
 use std::io::Write;
-use vob::Vob;
-use vob_lr::{
-    Cell, Grammar, Item, Lookaheads, Move, Rule, Symbol, Table, first_sets, follow_sets, nullable,
-};
+use vob_lr::{Cell, Grammar, GrammarSets, Item, Lookaheads, Move, Rule, Symbol, Table};
 use vob_rows::{BitRows, Row};
 
 /// Writes how many symbols, rules, states and conflicts there are.
@@ -61,30 +58,11 @@ fn put_set<W: Write>(
     output.write_all(b"\n")
 }
 
-/// The sets of a grammar's nonterminals.
-#[derive(Drop)]
-struct Sets {
-    nullable: Vob,
-    first: BitRows,
-    follow: BitRows,
-}
-
-impl Sets {
-    /// Finds the sets.
-    fn new(alloc: Global, grammar: &Grammar) -> Result<Sets, GrammarFault> {
-        Ok(Sets {
-            nullable: nullable(alloc, grammar)?,
-            first: first_sets(alloc, grammar)?,
-            follow: follow_sets(alloc, grammar)?,
-        })
-    }
-}
-
 /// Writes the sets of a nonterminal.
 fn put_nonterminal<W: Write>(
     output: &mut W,
     names: &SymbolNames,
-    sets: &Sets,
+    sets: &GrammarSets,
     number: usize,
 ) -> io::Result<()> {
     output.write_all(b"\n")?;
@@ -265,7 +243,7 @@ pub fn print_grammar<W: Write>(
     wants_states: bool,
     output: &mut W,
 ) -> Result<u8, GrammarFault> {
-    let sets = Sets::new(alloc, &file.grammar)?;
+    let sets = GrammarSets::new(alloc, &file.grammar)?;
     let table = file.table(alloc)?;
     let conflicts = Conflicts::of(alloc, file, &table)?;
     let states = table.lookaheads().automaton().sets.len();

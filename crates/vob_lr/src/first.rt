@@ -1,13 +1,13 @@
 //! Which terminals can begin what the nonterminals of a grammar become.
-ghost use Rattle.std.specs.Prelude.{◌≡◌, ◌≢◌, ◌↔◌, ◌<◌, ℕ, length, All, IfErr, IfOk, IsOk, OnOk, Err};
+ghost use Rattle.std.specs.Prelude.{◌≡◌, ◌<◌, length, All, IfOk, IsOk, OnOk};
 ghost use Rattle.vob_lr.specs.Equations.{AreEquations, At, GainEach};
-ghost use Rattle.vob_lr.specs.Faults.{IsBadRule, IsRuleOf, MayRefuseRules};
+ghost use Rattle.vob_lr.specs.Faults.{IsRuleOf};
 ghost use Rattle.vob_lr.specs.Grammar.{AreFirst, AreNullable};
 ghost use Rattle.vob_lr.specs.Heads.{HasHead, HasPlace, IsHead};
 
-use crate::empty::{is_null, solve_nullable};
+use crate::empty::is_null;
 use crate::equations::Equations;
-use crate::grammar::{Grammar, GrammarError, Symbol, check_rules};
+use crate::grammar::{Grammar, Symbol};
 use std::alloc::{AllocError, Global};
 use vob::Vob;
 use vob_rows::BitRows;
@@ -82,24 +82,5 @@ pub(crate) fn solve_first(
     }
     let equations = first_equations(alloc, grammar, nullable)?;
     let sets = equations.solve(alloc)?;
-    Ok(sets)
-}
-
-/// Returns a set for each nonterminal, of the terminals that can begin what it becomes.
-///
-/// Fails with the first rule that names a symbol that isn't there, or if memory runs out.
-pub fn first_sets(alloc: Global, grammar: &Grammar) -> Result<BitRows, GrammarError>
-    ensures first { IfOk result (λ sets. AreFirst grammar.now sets.rows) }
-    ensures columns { IfOk result (λ sets. sets.columns ≡ grammar.now.terminals) }
-
-    // The rules are checked first, and memory is asked for only if there are nonterminals.
-    ensures bad_symbol { (rule : ℕ)
-        → (result ≡ Err (GrammarError.BadSymbol rule)) ↔ IsBadRule grammar.now rule }
-    ensures memory { result ≡ Err GrammarError.Memory → grammar.now.nonterminals ≢ 0 }
-    ensures refused { IfErr result (MayRefuseRules grammar.now) }
-{
-    check_rules(grammar)?;
-    let nullable = solve_nullable(alloc, grammar)?;
-    let sets = solve_first(alloc, grammar, &nullable)?;
     Ok(sets)
 }

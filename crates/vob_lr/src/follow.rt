@@ -1,19 +1,18 @@
 //! Which terminals can follow the nonterminals of a grammar.
-ghost use Rattle.std.specs.Prelude.{◌≡◌, ◌≢◌, ◌↔◌, ◌⊎◌, ℕ, true, length, IsTrue, All, IfErr, IfOk, IsOk, OnOk, Err};
+ghost use Rattle.std.specs.Prelude.{◌≡◌, ◌↔◌, ◌⊎◌, ℕ, true, length, IsTrue, All, IfOk, IsOk, OnOk};
 ghost use Rattle.vob_block.specs.Packing.{item};
 ghost use Rattle.vob.specs.Vobs.{AreOfLength};
 ghost use Rattle.vob_lr.specs.Behind.{HasBehind, IsBehind, IsBelow, IsOfTrailer, IsStart};
 ghost use Rattle.vob_lr.specs.Equations.{AreEquations, GainEach};
-ghost use Rattle.vob_lr.specs.Faults.{IsBadRule, IsRuleOf, MayRefuseRules};
+ghost use Rattle.vob_lr.specs.Faults.{IsRuleOf};
 ghost use Rattle.vob_lr.specs.Grammar.{AreFirst, AreFollow, AreNullable};
 ghost use Rattle.vob_lr.specs.Heads.{HasPlace};
 ghost use Rattle.vob_lr.specs.Passes.{IsNull};
 ghost use Rattle.vob_lr.specs.declared.grammar.Symbol.TheVariants.{Nonterminal};
 
-use crate::empty::{is_null, solve_nullable};
+use crate::empty::is_null;
 use crate::equations::Equations;
-use crate::first::solve_first;
-use crate::grammar::{Grammar, GrammarError, Rule, Symbol, check_rules};
+use crate::grammar::{Grammar, Rule, Symbol};
 use std::alloc::{AllocError, Global};
 use vob::Vob;
 use vob_rows::{BitRows, Row};
@@ -155,7 +154,7 @@ fn follow_equations(
 }
 
 /// Returns the follow sets of a grammar with sound rules. No nonterminals take no memory.
-fn solve_follow(
+pub(crate) fn solve_follow(
     alloc: Global,
     grammar: &Grammar,
     nullable: &Vob,
@@ -174,26 +173,5 @@ fn solve_follow(
     }
     let equations = follow_equations(alloc, grammar, nullable, first)?;
     let sets = equations.solve(alloc)?;
-    Ok(sets)
-}
-
-/// Returns a set for each nonterminal, of the terminals that can follow it where a nonterminal is
-/// derived from, whichever that is.
-///
-/// Fails with the first rule that names a symbol that isn't there, or if memory runs out.
-pub fn follow_sets(alloc: Global, grammar: &Grammar) -> Result<BitRows, GrammarError>
-    ensures follow { IfOk result (λ sets. AreFollow grammar.now sets.rows) }
-    ensures columns { IfOk result (λ sets. sets.columns ≡ grammar.now.terminals) }
-
-    // The rules are checked first, and memory is asked for only if there are nonterminals.
-    ensures bad_symbol { (rule : ℕ)
-        → (result ≡ Err (GrammarError.BadSymbol rule)) ↔ IsBadRule grammar.now rule }
-    ensures memory { result ≡ Err GrammarError.Memory → grammar.now.nonterminals ≢ 0 }
-    ensures refused { IfErr result (MayRefuseRules grammar.now) }
-{
-    check_rules(grammar)?;
-    let nullable = solve_nullable(alloc, grammar)?;
-    let first = solve_first(alloc, grammar, &nullable)?;
-    let sets = solve_follow(alloc, grammar, &nullable, &first)?;
     Ok(sets)
 }

@@ -10,14 +10,14 @@ pub fn empty_is_derived()
     ensures { EmptyIsDerived }
 {}
 
-/// A terminal can begin symbols exactly if they derive some that it begins. So `first_sets` finds
-/// the terminals that begin what each nonterminal derives.
+/// A terminal can begin symbols exactly if they derive some that it begins. So `GrammarSets::first`
+/// has the terminals that begin what each nonterminal derives.
 pub fn beginning_is_derived()
     ensures { BeginningIsDerived }
 {}
 
 /// A terminal can follow a nonterminal exactly if some nonterminal derives symbols where it stands
-/// right behind that. So `follow_sets` finds these terminals.
+/// right behind that. So `GrammarSets::follow` has these terminals.
 pub fn following_is_derived()
     ensures { FollowingIsDerived }
 {}

@@ -1,5 +1,5 @@
 //! The lookaheads of a grammar's states, by which a parser knows when an item is complete.
-ghost use Rattle.std.specs.Prelude.{◌≡◌, ◌≢◌, ◌↔◌, ℕ, [], All, Err, IfErr, IfNone, IfOk, IfSome, IsTrue, OnOk, Some};
+ghost use Rattle.std.specs.Prelude.{◌≡◌, ◌↔◌, ℕ, [], All, Err, IfErr, IfNone, IfOk, IfSome, IsTrue, OnOk, Some};
 ghost use Rattle.vob_flow.specs.Lists.{lists_of};
 ghost use Rattle.vob_lr.specs.Faults.{IsBadRule, IsRuleOf, MayRefuseGrammar};
 ghost use Rattle.vob_lr.specs.Flows.{HaveLookaheads};

@@ -1,5 +1,5 @@
 //! The nodes of a graph over the items of states: each item of each state is one, with a number.
-ghost use Rattle.std.specs.Prelude.{◌≡◌, ◌+◌, ◌<◌, ◌≤◌, ℕ, [], length, slice_index_or, AllPairs, Contains, IfNone, IfOk, IfSome};
+ghost use Rattle.std.specs.Prelude.{◌≡◌, ◌+◌, ◌<◌, ℕ, [], length, slice_index_or, AllPairs, Contains, IfNone, IfOk, IfSome};
 ghost use Rattle.vob_flow.specs.Lists.{lists_of};
 ghost use Rattle.vob_lr.specs.ItemSets.{HasItem};
 ghost use Rattle.vob_lr.specs.Nodes.{AreOffsets, member_total, node, place_of};

@@ -1,5 +1,5 @@
 //! The rows of a parser's table.
-ghost use Rattle.std.specs.Prelude.{◌≡◌, ◌<◌, [], length, slice_index_or, AllPairs, IfOk};
+ghost use Rattle.std.specs.Prelude.{◌<◌, [], length, slice_index_or, AllPairs, IfOk};
 ghost use Rattle.vob_lr.specs.Lookaheads.{Reduces};
 ghost use Rattle.vob_lr.specs.Those.{AreThose};
 ghost use Rattle.vob_lr.specs.Tables.{AreCells, AreRowsOfCells, IsCell};

@@ -3,7 +3,7 @@
 //! there.
 use super::support::{check_bits, check_error, same};
 use std::process::Abort;
-use vob_lr::{Grammar, GrammarError, Rule, Symbol, first_sets, follow_sets, nullable};
+use vob_lr::{Grammar, GrammarError, GrammarSets, Rule, Symbol, nullable};
 use vob_rows::BitRows;
 
 /// A grammar of these numbers of symbols, without a rule.
@@ -87,17 +87,10 @@ fn check_sets(
     first: &[&str],
     follow: &[&str],
 ) {
-    check_bits(rt, &nullable(rt.alloc(), grammar).expect(rt, "a set"), null);
-    check_rows(
-        rt,
-        &first_sets(rt.alloc(), grammar).expect(rt, "sets"),
-        first,
-    );
-    check_rows(
-        rt,
-        &follow_sets(rt.alloc(), grammar).expect(rt, "sets"),
-        follow,
-    );
+    let sets = GrammarSets::new(rt.alloc(), grammar).expect(rt, "sets");
+    check_bits(rt, &sets.nullable, null);
+    check_rows(rt, &sets.first, first);
+    check_rows(rt, &sets.follow, follow);
 }
 
 /// Compares all sets of the grammar of some texts.
@@ -176,26 +169,23 @@ fn a_chain_longer_than_a_block_is_gone_up(rt: HostRuntime) {
         }
     }
     add(&rt, &mut grammar, 69, &[]);
-    let null = nullable(rt.alloc(), &grammar).expect(&rt, "a set");
-    same(&rt, "nullable", 70, null.count_ones(), 70);
-    let sets = first_sets(rt.alloc(), &grammar).expect(&rt, "sets");
-    same(&rt, "the sets", 70, sets.rows(), 70);
+    let sets = GrammarSets::new(rt.alloc(), &grammar).expect(&rt, "sets");
+    same(&rt, "nullable", 70, sets.nullable.count_ones(), 70);
+    same(&rt, "the sets", 70, sets.first.rows(), 70);
     for n in 0..70 {
         for t in 0..70 {
-            same(&rt, "terminal", t, sets.get(n, t), Some(n <= t));
+            same(&rt, "terminal", t, sets.first.get(n, t), Some(n <= t));
         }
     }
 }
 
-/// Compares that all calls name the first rule that isn't one.
+/// Compares that the first rule that isn't one is named.
 fn check_bad(rt: &(impl Abort + AllocGlobal), grammar: &Grammar, rule: usize) {
     let refusal = GrammarError::BadSymbol { rule };
+    let refused = GrammarSets::new(rt.alloc(), grammar).err();
+    same(rt, "sets", rule, refused, Some(refusal));
     let refused = nullable(rt.alloc(), grammar).err();
     same(rt, "nullable", rule, refused, Some(refusal));
-    let refused = first_sets(rt.alloc(), grammar).err();
-    same(rt, "first sets", rule, refused, Some(refusal));
-    let refused = follow_sets(rt.alloc(), grammar).err();
-    same(rt, "follow sets", rule, refused, Some(refusal));
 }
 
 #[test]

@@ -2,8 +2,7 @@
 use crate::tests::support::{FIRST, request, same, tell};
 use std::alloc::{AllocError, Global};
 use std::process::Abort;
-use vob_lr::{Grammar, GrammarError, Rule, Symbol, first_sets, follow_sets, nullable};
-use vob_rows::BitRows;
+use vob_lr::{Grammar, GrammarError, GrammarSets, Rule, Symbol, nullable};
 
 /// One nonterminal that becomes nothing, or itself around terminal 1 of two.
 fn grammar(alloc: Global) -> Result<Grammar, AllocError> {
@@ -28,13 +27,16 @@ fn grammar(alloc: Global) -> Result<Grammar, AllocError> {
     })
 }
 
-/// Whether sets were given, which then are one with terminal 1 alone.
-fn are_given(rt: &impl Abort, sets: Result<BitRows, GrammarError>) -> bool {
+/// Whether sets were given, which then have nonterminal 0 and terminal 1 alone.
+fn are_given(rt: &impl Abort, sets: Result<GrammarSets, GrammarError>) -> bool {
     match sets {
         Ok(sets) => {
-            same(rt, "the sets", 0, sets.rows(), 1);
-            same(rt, "a terminal", 0, sets.get(0, 0), Some(false));
-            same(rt, "a terminal", 0, sets.get(0, 1), Some(true));
+            same(rt, "nullable", 0, sets.nullable.get(0), Some(true));
+            for rows in [&sets.first, &sets.follow] {
+                same(rt, "the sets", 0, rows.rows(), 1);
+                same(rt, "a terminal", 0, rows.get(0, 0), Some(false));
+                same(rt, "a terminal", 0, rows.get(0, 1), Some(true));
+            }
             true
         }
         Err(refusal) => {
@@ -44,22 +46,11 @@ fn are_given(rt: &impl Abort, sets: Result<BitRows, GrammarError>) -> bool {
     }
 }
 
-/// Whether the first sets were found, whole, behind so many requests.
-fn are_first(rt: &(impl Abort + AllocGlobal), behind: usize) -> bool {
-    request(rt, behind);
-    let Ok(grammar) = grammar(rt.alloc()) else {
-        return false;
-    };
-    are_given(rt, first_sets(rt.alloc(), &grammar))
-}
-
-/// Whether the follow sets were found, whole, behind so many requests.
-fn are_follow(rt: &(impl Abort + AllocGlobal), behind: usize) -> bool {
-    request(rt, behind);
-    let Ok(grammar) = grammar(rt.alloc()) else {
-        return false;
-    };
-    are_given(rt, follow_sets(rt.alloc(), &grammar))
+#[test]
+fn sets_are_found_or_refused(rt: HostRuntime) {
+    request(&rt, FIRST - 2);
+    let grammar = grammar(rt.alloc()).expect(&rt, "memory");
+    tell(&rt, are_given(&rt, GrammarSets::new(rt.alloc(), &grammar)));
 }
 
 #[test]
@@ -77,14 +68,4 @@ fn nullables_are_found_by_one_request(rt: HostRuntime) {
         }
     };
     tell(&rt, found);
-}
-
-#[test]
-fn first_sets_are_found_or_refused(rt: HostRuntime) {
-    tell(&rt, are_first(&rt, FIRST));
-}
-
-#[test]
-fn follow_sets_are_found_or_refused(rt: HostRuntime) {
-    tell(&rt, are_follow(&rt, FIRST));
 }
