@@ -1,17 +1,17 @@
 -- Summaries of bits: how they change, and where they lead.
-use Rattle.std.proofs.Common.{◌≡◌, ◌↔◌, ◌⊎◌, ℕ, ◌+◌, ◌-◌, ◌*◌, ◌/◌, ◌<◌, ◌≤◌, ◌&&◌, Bool, true, false, List, [], ◌∷◌, ◌++◌, length, take, replicate, nat_le, nat_lt, leb-true, ltb-true, le-leb, Option, None, Some, refl, sym, ap, ◌∙◌, subst, arith, inl, inr}
+use Rattle.std.proofs.Common.{◌≡◌, ◌↔◌, ◌⊎◌, ℕ, ◌+◌, ◌-◌, ◌*◌, ◌/◌, ◌<◌, ◌≤◌, Bool, true, false, List, ◌++◌, length, take, replicate, nat_le, nat_lt, leb-true, ltb-true, Option, None, Some, refl, sym, ap, ◌∙◌, subst, arith, inl, inr}
 use Rattle.std.specs.Int.{div_ceil}
 use Rattle.std.specs.Option.{IfSome, option_map, unwrap_or}
-use Rattle.std.specs.List.{Contains}
 use Rattle.std.specs.declared.ops.Bound.TheVariants.{Excluded, Included}
-use Rattle.std.proofs.lemmas.Bool.{and_parts, cases_eq, cases_lt, false≢true, false_from_ne_true, lt-ltb, true_from_ne_false}
+use Rattle.std.proofs.lemmas.Bool.{and_parts, cases_eq, cases_lt, false≢true, false_from_ne_true, true_from_ne_false}
 use Rattle.std.proofs.lemmas.List.{get_or-replicate, get_or_append_left, length-append, length-replicate, take_all}
 use Rattle.std.proofs.lemmas.Option.{none-some}
-use Rattle.vob_block.specs.Packing.{item, need}
+use Rattle.vob_block.specs.Packing.{bit_at, item, need, packing}
+use Rattle.vob_block.proofs.PackingLemmas.{bit_at-packing, length-packing}
 use Rattle.vob_block.proofs.NeedLemmas.{need-is-div_ceil}
-use Rattle.vob_walk.specs.Matches.{matches, within}
+use Rattle.vob_walk.specs.Matches.{within}
+use Rattle.vob_walk.specs.Next.{HasNoBit, IsFirstBit}
 use Rattle.vob_walk.specs.Runs.{IsFirstFrom}
-use Rattle.vob_walk.proofs.IndexLemmas.{matches_exactly}
 use Rattle.vob.specs.Bits.{IsWritten}
 use Rattle.vob.specs.Sets.{IsNext}
 use Rattle.vob_slots.specs.Summaries.{IsFull, IsSummary, IsSummaryBut, words}
@@ -25,10 +25,6 @@ words_need n = refl
 pub words_is : (n : ℕ) → div_ceil n 64 ≡ words n
 words_is n = need-is-div_ceil 64 (omega arith) n 64 refl ∙ words_need n
 
-within_range : (start end i : ℕ) → start ≤ i → i < end → within (Included start) (Excluded end) i ≡ true
-within_range start end i le less =
-    ap (λ b. b && nat_lt i end) (le-leb start i le) ∙ lt-ltb i end less
-
 pub outside_range : (start end i : ℕ) → 0 < end → (i < start) ⊎ (end - 1 < i) →
     within (Included start) (Excluded end) i ≡ false
 outside_range start end i some side = false_from_ne_true (within (Included start) (Excluded end) i) (λ on.
@@ -37,25 +33,34 @@ outside_range start end i some side = false_from_ne_true (within (Included start
       | inr past ↦ omega (arith, past, some, ltb-true i end both.1)
     ])
 
-module _ (bits : List Bool) (w start end : ℕ) where
-  pub not_full_by : (i : ℕ) (rest : List ℕ) →
-      matches bits false (Included start) (Excluded end) ≡ i ∷ rest →
-      ((j : ℕ) → start ≤ j → j < end → j / 64 ≡ w) → ¬ IsFull bits w
-  not_full_by i rest is inside all =
-      let there = subst (λ (xs : List ℕ). Contains xs i) (sym is) (0, omega arith, refl) in
-      let (less, ranged, off) = (matches_exactly bits false (Included start) (Excluded end) i).0 there in
-      let both = and_parts (nat_le start i) (nat_lt i end) ranged in
-      false≢true (sym off ∙ all i less (inside i (leb-true start i both.0) (ltb-true i end both.1)))
+module _ (bits : List Bool) (blocks : List ℕ) (is : blocks ≡ packing bits 64) where
+  bit_is : (i : ℕ) → bit_at blocks 64 i ≡ item bits i
+  bit_is i = ap (λ xs. bit_at xs 64 i) is ∙ bit_at-packing 64 (omega arith) bits i
 
-  pub full_by : matches bits false (Included start) (Excluded end) ≡ [] →
-      ((j : ℕ) → j < length bits → j / 64 ≡ w → (start ≤ j) × (j < end)) → IsFull bits w
-  full_by none inside i less at =
-      let both = inside i less at in
-      true_from_ne_false (item bits i) (λ off.
-      let there = (matches_exactly bits false (Included start) (Excluded end) i).1
-      (less, within_range start end i both.0 both.1, off) in
-      let (k, low, is) = subst (λ (xs : List ℕ). Contains xs i) none there in
-      omega (arith, low))
+  pub enough_for : (items : ℕ) → items ≡ length blocks → (end : ℕ) → end ≤ length bits → need end 64 ≤ items
+  enough_for items count end le =
+      omega (
+        arith,
+        count,
+        ap length is,
+        length-packing 64 (omega arith) bits,
+        words_need end,
+        words_need (length bits),
+        le,
+      )
+
+  -- a word, or what there is of the last one
+  module _ (w end : ℕ) (last : (i : ℕ) → i < length bits → i / 64 ≡ w → i < end) where
+    pub full_by : HasNoBit 64 blocks false (w * 64) end → IsFull bits w
+    full_by none i less at =
+        true_from_ne_false (item bits i)
+        (λ off. none i (omega (arith, at)) (last i less at) (bit_is i ∙ off))
+
+    pub not_full_by : end ≤ length bits → end ≤ w * 64 + 64 → (i : ℕ) →
+        IsFirstBit 64 blocks false (w * 64) end i → ¬ IsFull bits w
+    not_full_by inside least i first all =
+        let on = all i (omega (arith, first.below, inside)) (omega (arith, first.above, first.below, least)) in
+        false≢true (sym (sym (bit_is i) ∙ first.there) ∙ on)
 
 module _ (bits after : List Bool) (n : ℕ) (le : length bits ≤ n)
     (is : after ≡ take n bits ++ replicate (n - length bits) false) where

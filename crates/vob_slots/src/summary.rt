@@ -13,6 +13,7 @@ use crate::search::{Level, Search};
 use std::alloc::{AllocError, Global};
 use std::marker::Model;
 use vob::{Vob, VobError};
+use vob_walk::next_index;
 
 /// How many bits a word has.
 pub(crate) const WORD: usize = 64;
@@ -22,26 +23,28 @@ fn is_full(bits: &Vob, word: usize) -> bool
     requires { word < words (length bits.now.bits) }
     ensures { IsTrue result ↔ IsFull bits.now.bits word }
 {
-    // The length is in the range of its type: a proof knows it from this read.
-    let _len = bits.len();
+    let len = bits.len();
     let start = word * WORD;
-    let end = start.saturating_add(WORD);
-    match bits.iter_unset_bits(start..end).next() {
+    let end = start + (len - start).min(WORD);
+    match next_index(&mut bits.blocks(), false, end, start) {
         Some(_) => false,
         None => true,
     }
 }
 
-/// Brings the bits of a summary for some words up to date.
-fn renew(bits: &Vob, full: &mut Vob, from: usize, to: usize)
+/// Brings the bits of a summary for some words up to date. Returns whether one changed.
+fn renew(bits: &Vob, full: &mut Vob, from: usize, to: usize) -> bool
     requires inside { to ≤ length full.old.bits }
     requires others { IsSummaryBut from to bits.now.bits full.old.bits }
     ensures summary { IsSummary bits.now.bits full.new.bits }
-    ensures same { (w : ℕ) → (w < from) ⊎ (to ≤ w) → item full.new.bits w ≡ item full.old.bits w }
+    ensures others { (w : ℕ) → (w < from) ⊎ (to ≤ w) → item full.new.bits w ≡ item full.old.bits w }
+    ensures same { result ≡ false → full.new.bits ≡ full.old.bits }
 {
+    let mut changed = false;
     for word in from..to {
-        full.set(word, is_full(bits, word));
+        changed |= full.set(word, is_full(bits, word));
     }
+    changed
 }
 
 /// Brings both summaries up to date after the bits from `start` to below `end` changed. There must be
@@ -50,8 +53,7 @@ fn renew_both(bits: &Vob, full: &mut Vob, fuller: &mut Vob, start: usize, end: u
     requires some { start < end }
     requires inside { end ≤ length bits.now.bits }
     requires first { IsSummaryBut (start / 64) ((end - 1) / 64 + 1) bits.now.bits full.old.bits }
-    requires second { IsSummaryBut (start / 64 / 64) ((end - 1) / 64 / 64 + 1)
-        full.old.bits fuller.old.bits }
+    requires second { IsSummary full.old.bits fuller.old.bits }
     ensures first { IsSummary bits.now.bits full.new.bits }
     ensures second { IsSummary full.new.bits fuller.new.bits }
 {
@@ -59,8 +61,9 @@ fn renew_both(bits: &Vob, full: &mut Vob, fuller: &mut Vob, start: usize, end: u
     let _len = bits.len();
     let from = start / WORD;
     let last = (end - 1) / WORD;
-    renew(bits, full, from, last + 1);
-    renew(full, fuller, from / WORD, last / WORD + 1);
+    if renew(bits, full, from, last + 1) {
+        renew(full, fuller, from / WORD, last / WORD + 1);
+    }
 }
 
 /// Bits with two summaries, by which the first unset bit is found in a few reads. Contracts see the
@@ -184,13 +187,15 @@ impl Summarized {
         }
         let len = self.bits.len();
         let end = len + more;
-        let first = end.div_ceil(WORD);
+        let first = (end - 1) / WORD + 1;
+        let second = (first - 1) / WORD + 1;
         let mut full = self.full.clone()?;
         full.resize(first, false)?;
         let mut fuller = self.fuller.clone()?;
-        fuller.resize(first.div_ceil(WORD), false)?;
+        fuller.resize(second, false)?;
         self.bits.resize(end, false)?;
-        renew_both(&self.bits, &mut full, &mut fuller, len, end);
+        renew(&self.bits, &mut full, len / WORD, first);
+        renew(&full, &mut fuller, len / WORD / WORD, second);
         self.full = full;
         self.fuller = fuller;
         Ok(())
