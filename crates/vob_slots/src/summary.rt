@@ -47,23 +47,20 @@ fn renew(bits: &Vob, full: &mut Vob, from: usize, to: usize) -> bool
     changed
 }
 
-/// Brings both summaries up to date after the bits from `start` to below `end` changed. There must be
-/// some.
-fn renew_both(bits: &Vob, full: &mut Vob, fuller: &mut Vob, start: usize, end: usize)
-    requires some { start < end }
-    requires inside { end ≤ length bits.now.bits }
-    requires first { IsSummaryBut (start / 64) ((end - 1) / 64 + 1) bits.now.bits full.old.bits }
-    requires second { IsSummary full.old.bits fuller.old.bits }
-    ensures first { IsSummary bits.now.bits full.new.bits }
-    ensures second { IsSummary full.new.bits fuller.new.bits }
+/// Brings a summary up to date after a bit was set to `value`. Returns whether the summary changed.
+fn renew_at(bits: &Vob, full: &mut Vob, index: usize, value: bool) -> bool
+    requires inside { index < length bits.now.bits }
+    requires unset { value ≡ false → item bits.now.bits index ≡ false }
+    requires others { IsSummaryBut (index / 64) (index / 64 + 1) bits.now.bits full.old.bits }
+    ensures summary { IsSummary bits.now.bits full.new.bits }
+    ensures unset { value ≡ false → item full.new.bits (index / 64) ≡ false }
+    ensures others { (w : ℕ) → (w < index / 64) ⊎ (index / 64 < w) →
+        item full.new.bits w ≡ item full.old.bits w }
+    ensures same { result ≡ false → full.new.bits ≡ full.old.bits }
 {
-    // The length is in the range of its type: a proof knows it from this read.
-    let _len = bits.len();
-    let from = start / WORD;
-    let last = (end - 1) / WORD;
-    if renew(bits, full, from, last + 1) {
-        renew(full, fuller, from / WORD, last / WORD + 1);
-    }
+    // A word with an unset bit isn't full: none is looked for.
+    let word = index / WORD;
+    full.set(word, value && is_full(bits, word))
 }
 
 /// Bits with two summaries, by which the first unset bit is found in a few reads. Contracts see the
@@ -151,13 +148,10 @@ impl Summarized {
         if !self.bits.set(index, value) {
             return false;
         }
-        renew_both(
-            &self.bits,
-            &mut self.full,
-            &mut self.fuller,
-            index,
-            index + 1,
-        );
+        let word = index / WORD;
+        if renew_at(&self.bits, &mut self.full, index, value) {
+            renew_at(&self.full, &mut self.fuller, word, value);
+        }
         true
     }
 
@@ -169,8 +163,13 @@ impl Summarized {
         ensures bits { self.new ≡ replaced start end (replicate (end - start) value) self.old }
     {
         self.bits.set_range(start..end, value);
-        if start < end {
-            renew_both(&self.bits, &mut self.full, &mut self.fuller, start, end);
+        if start == end {
+            return;
+        }
+        let from = start / WORD;
+        let last = (end - 1) / WORD;
+        if renew(&self.bits, &mut self.full, from, last + 1) {
+            renew(&self.full, &mut self.fuller, from / WORD, last / WORD + 1);
         }
     }
 
