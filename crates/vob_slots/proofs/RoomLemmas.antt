@@ -1,7 +1,7 @@
 -- Where rows of free slots begin, as slots are taken and given back.
 use Rattle.std.proofs.Common.{◌≡◌, ◌≢◌, ◌⊎◌, ℕ, ◌+◌, ◌-◌, ◌<◌, ◌≤◌, Bool, true, false, List, ◌++◌, cond, replicate, length, Option, None, Some, refl, sym, ap, ◌∙◌, arith, inl, inr}
 use Rattle.std.specs.Option.{unwrap_or}
-use Rattle.std.proofs.lemmas.Bool.{cases_Bool, cases_eq, cases_lt, false≢true, false_from_ne_true, true_from_ne_false}
+use Rattle.std.proofs.lemmas.Bool.{cases_Bool, cases_eq, cases_lt, false≢true, false_from_ne_true}
 use Rattle.std.specs.declared.ops.Bound.TheVariants.{Included, Excluded}
 use Rattle.std.proofs.lemmas.List.{get_or_append_left}
 use Rattle.std.proofs.lemmas.List.Folds.{sum_by-replicate}
@@ -62,11 +62,15 @@ rooms_wide few count room bits less rooms j there = rooms j record {
   unset = λ i above below. there.unset i above (omega (arith, below, less));
 }
 
--- none begins below the first free slot
-pub rooms_first : (n first : ℕ) (bits : List Bool) → 0 < n → ((i : ℕ) → i < first → item bits i ≡ true) →
-    (j : ℕ) → IsRoom n bits j → first ≤ j
-rooms_first n first bits some below j there = elim (cases_lt j first) [
-  | inl less ↦ absurd (false≢true (sym (there.unset j (omega arith) (omega (arith, some))) ∙ below j less))
+-- none begins below the first free slot, and none at all if there is no such slot
+pub rooms_next : (n : ℕ) (bits : List Bool) (answer : Option ℕ) → 0 < n → IsNext false bits 0 answer →
+    (j : ℕ) → IsRoom n bits j → unwrap_or answer (length bits) ≤ j
+rooms_next n bits None some next j there =
+    absurd (next.none.0 refl j (omega arith) (omega (arith, there.inside, some))
+    (there.unset j (omega arith) (omega (arith, some))))
+rooms_next n bits (Some first) some next j there = elim (cases_lt j first) [
+  | inl less ↦
+      absurd (((next.some first).0 refl).between j (omega arith) less (there.unset j (omega arith) (omega (arith, some))))
   | inr past ↦ past
 ]
 
@@ -77,25 +81,6 @@ rooms_taken n room slot bits after rooms w = rooms_keep n room bits after rooms 
   | inl here ↦ absurd (false≢true (sym off ∙ ap (item after) here ∙ w.there))
   | inr apart ↦ sym (w.others i apart) ∙ off
 ])
-
-pub below_taken : (first slot : ℕ) (bits after : List Bool) → ((i : ℕ) → i < first → item bits i ≡ true) →
-    IsWritten bits slot true after → (i : ℕ) → i < first → item after i ≡ true
-below_taken first slot bits after below w i less = elim (cases_eq i slot) [
-  | inl here ↦ ap (item after) here ∙ w.there
-  | inr apart ↦ w.others i apart ∙ below i less
-]
-
--- the first free one
-pub below_next : (first slot : ℕ) (bits after : List Bool) → ((i : ℕ) → i < first → item bits i ≡ true) →
-    IsNext false bits first (Some slot) → IsWritten bits slot true after → (i : ℕ) → i < slot + 1 → item after i ≡ true
-below_next first slot bits after below next w i less =
-    let found = (next.some slot).0 refl in elim (cases_eq i slot) [
-      | inl here ↦ ap (item after) here ∙ w.there
-      | inr apart ↦ w.others i apart ∙ elim (cases_lt i first) [
-        | inl low ↦ below i low
-        | inr past ↦ true_from_ne_false (item bits i) (found.between i past (omega (arith, less, apart)))
-      ]
-    ]
 
 -- a bit that was set, and so was unset
 pub was_free : (b : Bool) → differ b true ≡ true → b ≡ false

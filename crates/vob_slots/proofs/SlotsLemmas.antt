@@ -3,7 +3,7 @@ use Rattle.std.specs.List.{range_with_len}
 use Rattle.std.specs.declared.ops.Bound.TheVariants.{Included, Excluded}
 use Rattle.std.proofs.Common.{◌≡◌, ℕ, ◌+◌, ◌*◌, ◌-◌, ◌<◌, ◌≤◌, Bool, true, false, not, ◌&&◌, cond, List, [], ◌∷◌, ◌++◌}
 use Rattle.std.proofs.Common.{length, take, drop, replicate, count_by, nat_le, nat_lt, refl, sym, ap, ◌∙◌, arith, inl, inr, leb-true, ltb-true}
-use Rattle.std.proofs.lemmas.Bool.{cases_lt, cases_Bool, and_left, and_parts, lt-leb}
+use Rattle.std.proofs.lemmas.Bool.{cases_lt, and_left, and_parts, lt-leb}
 use Rattle.std.proofs.lemmas.List.{get_or_past}
 use Rattle.std.proofs.lemmas.List.Sums.{sum_by-append, sum_by-cons, length-filter}
 use Rattle.std.proofs.lemmas.List.Folds.{sum_by-replicate}
@@ -14,7 +14,6 @@ use Rattle.vob.specs.Bits.{count_of}
 use Rattle.vob.specs.Ranges.{replaced, IsChangedWithin}
 use Rattle.vob.specs.Room.{IsRoom}
 use Rattle.vob.proofs.RangeLemmas.{IsChangedWithin-value}
-use Rattle.vob_block.proofs.PackingLemmas.{true_inside}
 
 -- ---- rows of slots
 
@@ -111,20 +110,3 @@ count-given_run bits after start end given changed is =
     let same = ap (λ n. count_by (λ i. not (item after i)) (range_with_len 0 n)) changed.len in
     let found = is ∙ length-filter (λ i. inside i && item bits i) indices in
     omega (arith, all, old, new, same, found)
-
-pub below_given_run : (bits after : List Bool) (first start end least : ℕ)
-    → ((i : ℕ) → i < first → item bits i ≡ true)
-    → IsChangedWithin (λ _. false) (Included start) (Excluded end) bits after
-    → least ≤ first → least ≤ start → (i : ℕ) → i < least → item after i ≡ true
-below_given_run bits after first start end least below changed low lower i less =
-    changed.outside i (below_start start end i (omega arith)) ∙ below i (omega arith)
-
-pub below_taken_run : (bits after : List Bool) (first start end : ℕ)
-    → ((i : ℕ) → i < first → item bits i ≡ true)
-    → IsChangedWithin (λ _. true) (Included start) (Excluded end) bits after
-    → (i : ℕ) → i < first → item after i ≡ true
-below_taken_run bits after first start end below changed i less =
-    elim (cases_Bool (within (Included start) (Excluded end) i)) [
-      | inl there ↦ changed.inside i (true_inside bits i (below i less)) there
-      | inr other ↦ changed.outside i other ∙ below i less
-    ]

@@ -6,8 +6,8 @@ use Rattle.std.specs.declared.ops.Bound.TheVariants.{Excluded, Included}
 use Rattle.std.proofs.lemmas.Bool.{and_parts, cases_eq, cases_lt, false≢true, false_from_ne_true, true_from_ne_false}
 use Rattle.std.proofs.lemmas.List.{get_or-replicate, get_or_append_left, length-append, length-replicate, take_all}
 use Rattle.std.proofs.lemmas.Option.{none-some}
-use Rattle.vob_block.specs.Packing.{bit_at, item, need, packing}
-use Rattle.vob_block.proofs.PackingLemmas.{bit_at-packing, length-packing}
+use Rattle.vob_block.specs.Packing.{bit_at, item, need, packing, unpacking}
+use Rattle.vob_block.proofs.PackingLemmas.{bit_at-packing, length-packing, unpacking_from_items}
 use Rattle.vob_block.proofs.NeedLemmas.{need-is-div_ceil}
 use Rattle.vob_walk.specs.Matches.{within}
 use Rattle.vob_walk.specs.Next.{HasNoBit, IsFirstBit}
@@ -36,6 +36,9 @@ outside_range start end i some side = false_from_ne_true (within (Included start
 module _ (bits : List Bool) (blocks : List ℕ) (is : blocks ≡ packing bits 64) where
   bit_is : (i : ℕ) → bit_at blocks 64 i ≡ item bits i
   bit_is i = ap (λ xs. bit_at xs 64 i) is ∙ bit_at-packing 64 (omega arith) bits i
+
+  pub unpacked : (n : ℕ) → n ≡ length bits → unpacking n blocks 64 ≡ bits
+  unpacked n long = unpacking_from_items bits n blocks 64 (sym long) (λ i less. bit_is i)
 
   pub enough_for : (items : ℕ) → items ≡ length blocks → (end : ℕ) → end ≤ length bits → need end 64 ≤ items
   enough_for items count end le =

@@ -10,12 +10,12 @@ words n = (n + 63) / 64
 abbrev pub IsFull : List Bool → ℕ → Type 0
 IsFull bits w = (i : ℕ) → i < length bits → i / 64 ≡ w → item bits i ≡ true
 
--- a bit for each word, which says so but for the words from one on to below another
+-- a bit for each word, which says whether it is full, but for words `from` to below `to`
 pub record IsSummaryBut (from to : ℕ) (bits full : List Bool) : Type 0 where
   pub long : length full ≡ words (length bits)
   pub each : (w : ℕ) → w < length full → (w < from) ⊎ (to ≤ w) → (item full w ≡ true) ↔ IsFull bits w
 
--- which says so of each word
+-- a bit for each word, which says whether it is full
 abbrev pub IsSummary : List Bool → List Bool → Type 0
 IsSummary bits full = IsSummaryBut 0 0 bits full
 

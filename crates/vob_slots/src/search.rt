@@ -9,23 +9,24 @@ use vob::Vob;
 use vob_block::Blocks;
 use vob_walk::next_index;
 
-/// Bits, and the blocks by which they are read. Contracts see the bits, and how many blocks were read.
+/// Bits that are read by blocks. Contracts see the bits, and how many blocks were read.
 #[derive(Drop)]
 pub(crate) struct Level<'a> {
-    vob: &'a Vob,
     blocks: Blocks<'a, usize>,
+    len: usize,
 }
 
 impl<'a> Model for Level<'a> {
     ghost use Rattle.std.specs.Prelude.{◌≡◌, map};
-    ghost use Rattle.vob_block.specs.Packing.{packing};
+    ghost use Rattle.vob_block.specs.Packing.{packing, unpacking};
     ghost use Rattle.vob_slots.specs.Summaries.{Seen};
 
     ghost Value = { Seen };
 
-    ghost view = { λ l. record { bits = l.vob.now.bits; reads = l.blocks.reads } };
+    ghost view = { λ l. record { bits = unpacking l.len (map (λ block. block) l.blocks.items) 64; reads = l.blocks.reads } };
 
-    ghost invariant = { λ l. map (λ block. block) l.blocks.items ≡ packing l.vob.now.bits 64 };
+    ghost invariant = { λ l. map (λ block. block) l.blocks.items
+        ≡ packing (unpacking l.len (map (λ block. block) l.blocks.items) 64) 64 };
 }
 
 impl<'a> Level<'a> {
@@ -35,8 +36,8 @@ impl<'a> Level<'a> {
         ensures reads { result.reads ≡ 0 }
     {
         Level {
-            vob,
             blocks: vob.blocks(),
+            len: vob.len(),
         }
     }
 
@@ -47,14 +48,14 @@ impl<'a> Level<'a> {
         ensures reads { self.new.reads ≤ self.old.reads
             + (unwrap_or (option_map (λ i. i / 64 + 1) result) (words (length self.old.bits)) - from / 64) }
     {
-        next_index(&mut self.blocks, false, self.vob.len(), from)
+        next_index(&mut self.blocks, false, self.len, from)
     }
 
     /// Returns how many bits there are.
     fn len(&self) -> usize
         ensures { result ≡ length self.now.bits }
     {
-        self.vob.len()
+        self.len
     }
 }
 

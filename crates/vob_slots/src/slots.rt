@@ -1,5 +1,4 @@
-//! Slots that are free or taken: a user of `next_unset`, of `first_unset_run`, of ranges, and of
-//! the flag of `set`.
+//! Slots that are free or taken: a user of bits with summaries, of `next_unset`, of ranges, and of walks.
 ghost use Rattle.std.specs.Prelude.{◌≡◌, ◌≢◌, ◌↔◌, ℕ, ◌+◌, ◌<◌, ◌≤◌, ◌++◌, true, false, length, replicate, slice_set, IsTrue, MatchOption, IsOk, IfOk, OnOk, OnErr, Err};
 ghost use Rattle.std.specs.Iterator.Runs.{YieldsInOrder, YieldsInReverse};
 ghost use Rattle.std.specs.declared.ops.Bound.TheVariants.{Unbounded};
@@ -21,15 +20,12 @@ use vob::{IterSetBits, IterUnsetBits, Vob, VobError};
 pub struct Slots {
     taken: Summarized,
     free: usize,
-    // No slot below this number is free.
-    first: usize,
     // No `row` slots in a row are free from a slot below `room` on.
     row: usize,
     room: usize,
 }
 
-/// Returns the first slot from `from` on from which so many in a row are free. They must not be from a
-/// lower one on.
+/// Returns the first slot from which `count` in a row are free. No such row may begin below `from`.
 fn room_from(taken: &Vob, from: usize, count: usize) -> Option<usize>
     requires some { 0 < count }
     requires below { (j : ℕ) → IsRoom count taken.now.bits j → from ≤ j }
@@ -54,12 +50,11 @@ impl Model for Slots {
 
     ghost view = { λ slots. slots.taken };
 
-    ghost invariant = { λ slots. AreKept slots.taken slots.free slots.first
-        slots.row slots.room };
+    ghost invariant = { λ slots. AreKept slots.taken slots.free slots.row slots.room };
 }
 
 impl Slots {
-    /// Makes `count` free slots.
+    /// Makes `count` free slots. Fails if memory runs out.
     pub fn new(alloc: Global, count: usize) -> Result<Slots, AllocError>
         ensures { IfOk result (λ slots. slots ≡ replicate count false) }
     {
@@ -67,7 +62,6 @@ impl Slots {
         Ok(Slots {
             taken,
             free: count,
-            first: 0,
             row: 1,
             room: 0,
         })
@@ -94,8 +88,8 @@ impl Slots {
         slot < self.taken.len() && self.taken.bits().get_unchecked(slot)
     }
 
-    /// Takes the first free slot and returns it, or `None` if none is free. It reads a few blocks, however
-    /// many slots are taken, as `Search::first_unset` says.
+    /// Takes the first free slot and returns it, or `None` if none is free. The search is that of
+    /// `Search::first_unset`, which reads two blocks, and one for each 2^18 slots, at most.
     pub fn alloc(&mut self) -> Option<usize>
         ensures first { IsNext false self.old 0 result }
         ensures taken { MatchOption result (self.new ≡ self.old)
@@ -106,7 +100,6 @@ impl Slots {
         };
         self.taken.set(slot, true);
         self.free -= 1;
-        self.first = slot + 1;
         Some(slot)
     }
 
@@ -131,14 +124,14 @@ impl Slots {
             return false;
         }
         self.free += 1;
-        self.first = self.first.min(slot);
         self.room = self.room.min(slot.saturating_sub(self.row));
         true
     }
 
     /// Takes the first `count` slots in a row that are all free, and returns the lowest of them, or
     /// `None` if there is no such row. If `count` is 0, it takes none and returns 0. The search begins
-    /// at the first free slot, or where one for no more slots ended, if none was given back since.
+    /// at the first free slot, or where the last one ended if that was for no more slots. Slots that
+    /// are given back or added since move that place down.
     pub fn alloc_run(&mut self, count: usize) -> Option<usize>
         ensures first { MatchOption result (HasNoRoom count self.old) (IsFirstRoom count self.old) }
         ensures taken { MatchOption result (self.new ≡ self.old)
@@ -165,10 +158,11 @@ impl Slots {
         requires { 0 < count }
         ensures { (j : ℕ) → IsRoom count self.now j → result ≤ j }
     {
+        let first = self.taken.first_unset().unwrap_or(self.taken.len());
         if count < self.row {
-            return self.first;
+            return first;
         }
-        self.first.max(self.room)
+        first.max(self.room)
     }
 
     /// Takes `count` slots from `start` on back, whether or not they are taken. So many must be
@@ -183,7 +177,6 @@ impl Slots {
         let given = self.taken.bits().iter_set_bits(start..end).count();
         self.taken.set_range(start, end, false);
         self.free += given;
-        self.first = self.first.min(start);
         self.room = self.room.min(start.saturating_sub(self.row));
     }
 
@@ -205,7 +198,8 @@ impl Slots {
         self.taken.bits().iter_unset_bits(..)
     }
 
-    /// Adds free slots after the others. More than a length can count are refused first.
+    /// Adds free slots after the others. Fails first if there would be more than a length can count, and
+    /// then if memory runs out; the slots stay.
     pub fn grow(&mut self, more: usize) -> Result<(), VobError>
         ensures ok { OnOk result (self.new ≡ self.old ++ replicate more false) }
         ensures err { OnErr result (self.new ≡ self.old) }

@@ -32,7 +32,7 @@ fn is_full(bits: &Vob, word: usize) -> bool
     }
 }
 
-/// Brings the bits of a summary for some words up to date. Returns whether one changed.
+/// Brings the bits of a summary for some words up to date. Returns false only if none changed.
 fn renew(bits: &Vob, full: &mut Vob, from: usize, to: usize) -> bool
     requires inside { to ≤ length full.old.bits }
     requires others { IsSummaryBut from to bits.now.bits full.old.bits }
@@ -47,7 +47,8 @@ fn renew(bits: &Vob, full: &mut Vob, from: usize, to: usize) -> bool
     changed
 }
 
-/// Brings a summary up to date after a bit was set to `value`. Returns whether the summary changed.
+/// Brings a summary up to date after a bit was set to `value`. Returns false only if the summary
+/// stays.
 fn renew_at(bits: &Vob, full: &mut Vob, index: usize, value: bool) -> bool
     requires inside { index < length bits.now.bits }
     requires unset { value ≡ false → item bits.now.bits index ≡ false }

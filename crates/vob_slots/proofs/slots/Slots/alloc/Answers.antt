@@ -1,6 +1,6 @@
--- One slot more is taken, and none below it was free.
+-- One slot more is taken.
 use Rattle.std.proofs.Common.{false, arith, refl}
-use Rattle.vob_slots.proofs.RoomLemmas.{below_next, rooms_taken}
+use Rattle.vob_slots.proofs.RoomLemmas.{rooms_taken}
 use Rattle.vob_slots.proofs.slots.Slots.alloc.Goals as goal
 
 pub invariant_of-self : goal.invariant_of-self
@@ -9,8 +9,6 @@ invariant_of-self c =
     let written = c.set.ensures.written in
     let found = (c.in-Some.ensures.next.some c.in-Some.slot).0 refl in record {
       count = omega (arith, rw found.there at written.count false, c.self.invariant.count);
-      below = below_next 0 c.in-Some.slot bits c.set.new.self (λ i less. absurd (omega (arith, less)))
-          c.in-Some.ensures.next written;
       rooms = rooms_taken c.self.inside.row c.self.inside.room c.in-Some.slot bits c.set.new.self
           c.self.invariant.rooms written;
     }

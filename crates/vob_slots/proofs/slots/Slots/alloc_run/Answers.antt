@@ -1,7 +1,7 @@
--- The row was free, so as many fewer are, and each slot below the least one stays taken.
+-- The row was free, so as many fewer are.
 use Rattle.std.proofs.Common.{◌+◌, replicate, true, ap, ◌∙◌, arith}
 use Rattle.vob_slots.proofs.RoomLemmas.{rooms_behind}
-use Rattle.vob_slots.proofs.SlotsLemmas.{row_is, count-taken_run, below_taken_run}
+use Rattle.vob_slots.proofs.SlotsLemmas.{row_is, count-taken_run}
 use Rattle.vob.specs.Ranges.{replaced}
 use Rattle.vob_slots.proofs.slots.Slots.alloc_run.Goals as goal
 
@@ -20,7 +20,6 @@ room_from-start-requires-clause-below c = rw (c.bits.ensures, c.self.view_is) c.
 pub invariant_of-self : goal.invariant_of-self
 invariant_of-self c = record {
   count = c.self.invariant.count;
-  below = c.self.invariant.below;
   rooms = λ j there. absurd ((rw c.bits.ensures at c.in_default.ensures).none j there);
 }
 
@@ -33,9 +32,6 @@ invariant_of-self-2 c =
     c.set_range.ensures.bits in
     record {
       count = omega (arith, fewer, c.self.invariant.count);
-      below = below_taken_run c.self.inside.taken c.set_range.new.self c.self.inside.first
-          start
-          (start + c.args.count) c.self.invariant.below c.set_range.ensures.each;
       rooms = rooms_behind c.args.count start c.self.inside.taken c.set_range.new.self (omega (arith, c.if-count-eq0.false))
           (rw c.bits.ensures at c.in-Some.ensures) c.set_range.ensures.each;
     }

@@ -20,11 +20,9 @@ invariant_of-self-2 c =
     let bits = c.self.inside.taken in
     let written = c.set.ensures.written in record {
       count = omega (arith, rw taken at written.count false, c.self.invariant.count);
-      below = λ i less. written.others i (λ e. omega (arith, e, less, c.min-self-inside.ensures))
-          ∙ c.self.invariant.below i (omega (arith, less, c.min-self-inside.ensures));
       rooms = rooms_lower c.self.inside.row c.self.inside.room bits c.set.new.self c.self.invariant.rooms
-          c.args.slot c.min-self-inside-2.result (omega (arith, c.if-slot-len.false, c.len.ensures))
+          c.args.slot c.min-self-inside.result (omega (arith, c.if-slot-len.false, c.len.ensures))
           (λ i less. written.others i (λ e. omega (arith, e, less)))
-          (omega (arith, c.min-self-inside-2.ensures))
-          (omega (arith, c.min-self-inside-2.ensures, c.saturating_sub.ensures));
+          (omega (arith, c.min-self-inside.ensures))
+          (omega (arith, c.min-self-inside.ensures, c.saturating_sub.ensures));
     }

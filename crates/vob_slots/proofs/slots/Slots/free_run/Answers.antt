@@ -3,7 +3,7 @@ use Rattle.std.proofs.Common.{◌+◌, length, replicate, false, ap, ◌∙◌, 
 use Rattle.std.proofs.lemmas.List.Sums.{count_by-le-length}
 use Rattle.vob_walk.specs.Matches.{has_value}
 use Rattle.vob.specs.Ranges.{replaced}
-use Rattle.vob_slots.proofs.SlotsLemmas.{row_is, below_start, count-given_run, below_given_run}
+use Rattle.vob_slots.proofs.SlotsLemmas.{row_is, below_start, count-given_run}
 use Rattle.vob_slots.proofs.RoomLemmas.{rooms_lower}
 use Rattle.vob_slots.proofs.slots.Slots.free_run.Goals as goal
 
@@ -23,16 +23,12 @@ invariant_of-self c =
     (c.count-given.ensures ∙ ap length (rw c.bits.ensures at (c.iter_set_bits.ensures.fresh tt).whole.rest)) in
     record {
       count = omega (arith, more, c.self.invariant.count);
-      below = below_given_run c.self.inside.taken c.set_range.new.self c.self.inside.first
-          c.args.start end c.min-self-inside.result c.self.invariant.below
-          c.set_range.ensures.each
-          (omega arith) (omega arith);
       rooms = rooms_lower c.self.inside.row c.self.inside.room c.self.inside.taken c.set_range.new.self
-          c.self.invariant.rooms c.args.start c.min-self-inside-2.result
+          c.self.invariant.rooms c.args.start c.min-self-inside.result
           (omega (arith, c.requires, ap length c.self.view_is))
           (λ i less. c.set_range.ensures.each.outside i (below_start c.args.start end i less))
-          (omega (arith, c.min-self-inside-2.ensures))
-          (omega (arith, c.min-self-inside-2.ensures, c.saturating_sub.ensures));
+          (omega (arith, c.min-self-inside.ensures))
+          (omega (arith, c.min-self-inside.ensures, c.saturating_sub.ensures));
     }
 
 pub returns : goal.returns

@@ -1,6 +1,5 @@
 -- The slots that were there stay, and those behind them are free.
-use Rattle.std.proofs.Common.{◌≡◌, ◌∙◌, ◌++◌, false, replicate, length, arith}
-use Rattle.vob_block.proofs.PackingLemmas.{true_inside}
+use Rattle.std.proofs.Common.{◌≡◌, ◌++◌, false, replicate, length, arith}
 use Rattle.vob_slots.proofs.RoomLemmas.{grown_count, grown_same, rooms_lower}
 use Rattle.vob_slots.proofs.slots.Slots.grow.Goals as goal
 
@@ -11,9 +10,6 @@ invariant_of-self-2 c =
     let more = c.args.more in
     let whole : after ≡ bits ++ replicate more false = c.in_ok-grow.ensures.ok in record {
       count = omega (arith, grown_count bits after more whole, c.self.invariant.count);
-      below = λ i less.
-          let on = c.self.invariant.below i less in
-          grown_same bits after more whole i (true_inside bits i on) ∙ on;
       rooms = rooms_lower c.self.inside.row c.self.inside.room bits after c.self.invariant.rooms
           (length bits) c.min-self-inside.result (omega arith) (grown_same bits after more whole)
           (omega (arith, c.min-self-inside.ensures))
