@@ -1,7 +1,7 @@
 #!/usr/bin/env bash
 # Shows how ./conthiral grows: bench/growth.sh [FILTER]. For each row whose name has FILTER in it, prints time and
-# memory at three sizes, a factor of ten apart, beside petgraph, tred, bison or sqlite3. A time is the median of three
-# runs, in seconds of the processor; memory is the most that was resident, in MB.
+# memory at three sizes, a factor of ten apart, beside petgraph, tred, bison, sqlite3 or awk. A time is the median of
+# three runs, in seconds of the processor; memory is the most that was resident, in MB.
 #
 # Wants ./build, cargo, and Debian's packages librust-petgraph-dev, graphviz, bison, sqlite3 and time. Nothing is
 # downloaded.
@@ -128,3 +128,5 @@ rows 'immediate dominators, nodes, beside petgraph' loops 10000 flow --analysis 
 rows 'tables, rules, beside bison' grammar 80 grammar /dev/stdin -- bison -o "$out/grammar.c" /dev/stdin
 rows 'filter, rows, beside sqlite3' table 10000 filter - 'age<30 & height>170' -- \
     sqlite3 :memory: '.import --csv /dev/stdin t' "select * from t where age + 0 < 30 and height + 0 > 170"
+rows 'filter, rows, beside awk' table 10000 filter - 'age<30 & height>170' -- \
+    awk -F , 'NR == 1 || ($1 < 30 && $2 > 170)'
