@@ -50,7 +50,7 @@ fn is_passed(alloc: Global, closures: &Closures<'_>) -> Result<bool, AllocError>
 
 #[test]
 fn gotos_are_found_or_refused(rt: HostRuntime) {
-    request(&rt, FIRST - 14);
+    request(&rt, FIRST - 12);
     let grammar = grammar(rt.alloc()).expect(&rt, "memory");
     let closures = Closures::new(rt.alloc(), &grammar).expect(&rt, "memory");
     let found = match is_passed(rt.alloc(), &closures) {
