@@ -70,11 +70,11 @@ A condition compares by =, !=, <, <=, > and >=, and joins by !, & and | (not,
 and, or), which bind in this order, and parentheses. Names and values that hold
 spaces or marks need double quotes. A value in quotes is a text. Without, it is
 the column of that name, or else a number, as all cells of the column then are,
-or else a text. Columns compare as numbers if all cells are, else as texts: by =
-and != alone if some are. A comparison with an empty cell is missing: its row is
-not kept, nor by !. `NAME is missing`, `NAME is not missing` ask for such cells.
+or else a text. Two cells compare as numbers if both are, else as texts; by <
+and its like never one of each. A comparison with an empty cell is missing: its
+row isn't kept, nor by !. `NAME is missing`, `NAME is not missing` ask for them.
 
-Exit status: 0; 1 if --quiet keeps no row; 2 after a fault.
+Exit status: 0; 1 if --quiet keeps no row; 2 at a fault: rows before it stand.
 Example: ./conthiral filter examples/files/cities.csv 'elevation>5 | city=Oslo'";
 
 /// What the words ask for. Each task names the file that it reads.

@@ -3,10 +3,11 @@
 use crate::command::{STANDARD_INPUT, Task, command, shown_name, task_of};
 use crate::fault::{Fault, Report};
 use crate::progress::Watched;
-use files_filter::print_filter;
+use files_filter::{Shows, print_filter};
 use files_flow::print_flow;
 use files_grammar::{GrammarFile, print_grammar, print_parse};
 use files_graph::print_closure;
+use std::fs::File;
 use std::io::{BufWriter, Read, Write};
 use std::process::ExitCode;
 use std::rt::{Env, Files};
@@ -40,39 +41,66 @@ fn read_grammar<R: Eprint + AllocGlobal>(
     Ok(grammar)
 }
 
+/// Writes the rows of a table of which a condition is true, as they are read. Returns the status.
+fn filter<R: Files + Input + AllocGlobal, W: Write>(
+    rt: &R,
+    file: &str,
+    condition: &str,
+    shows: Shows,
+    output: &mut W,
+) -> Result<u8, Fault> {
+    let alloc = rt.alloc();
+    if file == STANDARD_INPUT {
+        return Ok(print_filter(alloc, rt.reader(), condition, shows, output)?);
+    }
+    let input = File::open(rt, file).map_err(files_text::Fault::Input)?;
+    Ok(print_filter(alloc, input, condition, shows, output)?)
+}
+
 /// Reads the input of a task, and writes what it asks for. Returns the status.
+fn write_task<R: Files + Input + Eprint + AllocGlobal, W: Write>(
+    rt: &R,
+    task: &Task<'_>,
+    text: &[u8],
+    output: &mut W,
+) -> Result<u8, Fault> {
+    let alloc = rt.alloc();
+    match task {
+        Task::Grammar { file, states } => {
+            let grammar = read_grammar(rt, text, file)?;
+            Ok(print_grammar(alloc, &grammar, *states, output)?)
+        }
+        Task::Parse { grammar, .. } => {
+            let read = fs::read(rt, grammar).map_err(Fault::GrammarInput)?;
+            let grammar = read_grammar(rt, &read, grammar)?;
+            Ok(print_parse(alloc, &grammar, text, output)?)
+        }
+        Task::Closure { part, .. } => Ok(print_closure(alloc, text, *part, output)?),
+        Task::Flow { analysis, .. } => Ok(print_flow(alloc, text, *analysis, output)?),
+        Task::Filter {
+            file,
+            condition,
+            shows,
+        } => filter(rt, file, condition, *shows, output),
+    }
+}
+
+/// Reads the input of a task, but for a table, and writes what the task asks for. Returns the status.
+/// What was written before a fault stays.
 fn perform<R: Files + Input + Print + Eprint + Clock + AllocGlobal>(
     rt: &R,
     task: &Task<'_>,
     says: bool,
 ) -> Result<u8, Fault> {
     let alloc = rt.alloc();
-    let text = read_input(rt, task.file()).map_err(files_text::Fault::Input)?;
-    let mut output = BufWriter::new(alloc, Watched::new(rt, says, text.len()))?;
-    let status = match task {
-        Task::Grammar { file, states } => {
-            let grammar = read_grammar(rt, &text, file)?;
-            print_grammar(alloc, &grammar, *states, &mut output)?
-        }
-        Task::Parse { grammar, .. } => {
-            let read = fs::read(rt, grammar).map_err(Fault::GrammarInput)?;
-            print_parse(
-                alloc,
-                &read_grammar(rt, &read, grammar)?,
-                &text,
-                &mut output,
-            )?
-        }
-        Task::Closure { part, .. } => print_closure(alloc, &text, *part, &mut output)?,
-        Task::Flow { analysis, .. } => print_flow(alloc, &text, *analysis, &mut output)?,
-        Task::Filter {
-            condition,
-            shows,
-            ..
-        } => print_filter(alloc, &text, condition, *shows, &mut output)?,
+    let text = match task {
+        Task::Filter { .. } => Vec::new(alloc),
+        _ => read_input(rt, task.file()).map_err(files_text::Fault::Input)?,
     };
+    let mut output = BufWriter::new(alloc, Watched::new(rt, says, text.len()))?;
+    let status = write_task(rt, task, &text, &mut output);
     output.flush()?;
-    Ok(status)
+    status
 }
 
 /// Performs a task, and says on standard error why it failed.

@@ -1,1 +1,6 @@
 pub mod FilterTextLemmas
+mod WholeLemmas
+mod ReadingLemmas
+mod AnswersLemmas
+mod BlocksLemmas
+mod FilteredLemmas

@@ -1,1 +1,7 @@
 pub mod FilterText
+pub mod Whole
+pub mod Reading
+pub mod Answers
+pub mod Blocks
+pub mod Written
+pub mod Filtered

@@ -1,134 +1,77 @@
 //! What a condition asks of each row of a table.
+ghost use Rattle.std.specs.Prelude.{◌≡◌, IfOk};
+ghost use Rattle.csv.specs.Records.{fields_of};
+ghost use Rattle.files_filter.specs.Answers.{Answers, cell_at};
 
 use crate::condition::{Comparison, Operand, Question, Relation};
 use crate::fault::FilterFault;
 use crate::number::Number;
-use crate::table::{Table, no_column, no_number};
+use crate::table::Table;
 use csv::ByteRecord;
 use std::alloc::Global;
 use std::cmp::Ordering;
-
-/// Whether some cells are numbers, and whether some are none. Empty cells are neither.
-#[derive(Clone, Copy)]
-struct Cells {
-    have_numbers: bool,
-    have_texts: bool,
-}
-
-impl Cells {
-    /// Looks at the cells of a column.
-    fn of(table: &Table<'_>, place: usize) -> Cells {
-        let mut cells = Cells {
-            have_numbers: false,
-            have_texts: false,
-        };
-        for row in table.rows.iter() {
-            match row.get(place) {
-                None | Some(b"") => {}
-                Some(cell) if Number::of(cell).is_some() => cells.have_numbers = true,
-                Some(_) => cells.have_texts = true,
-            }
-        }
-        cells
-    }
-
-    /// Returns whether either has numbers, and whether either has texts.
-    fn or(self, other: Cells) -> Cells {
-        Cells {
-            have_numbers: self.have_numbers || other.have_numbers,
-            have_texts: self.have_texts || other.have_texts,
-        }
-    }
-
-    /// Returns whether a relation asks about numbers: if all cells are, or if some are and it asks
-    /// which is less.
-    fn are_numbers(self, relation: Relation) -> bool {
-        self.have_numbers && (relation.is_order() || !self.have_texts)
-    }
-}
+use std::io::Read;
 
 /// What a cell is compared with.
 #[derive(Clone, Copy)]
-enum Other<'a> {
+pub enum Other<'a> {
     Text(&'a [u8]),
     Number(Number<'a>),
-    // The cell in the column at a place, and whether both should be numbers.
-    Column { place: usize, are_numbers: bool },
+    // The cell in the column at a place.
+    Column(usize),
 }
 
 /// What is asked of a cell.
 #[derive(Clone, Copy)]
-enum Kind<'a> {
+pub enum Kind<'a> {
     Missing(bool),
     Compared(Relation, Other<'a>),
 }
 
-/// What is asked of each row: of its cell in a column.
+/// What is asked of each row: of its cell in the column at a place.
 #[derive(Clone, Copy)]
 pub struct Test<'a> {
-    place: usize,
-    kind: Kind<'a>,
+    pub place: usize,
+    pub kind: Kind<'a>,
 }
 
 /// Returns what a value of a condition is. A quoted one is a text. Another is the column of that
-/// name, or else a number if it reads as one, or else a text. Fails if such a text is to be compared
-/// with numbers.
-fn other_of<'a>(
-    table: &Table<'_>,
-    place: usize,
-    relation: Relation,
-    value: &Operand<'a>,
-) -> Result<Other<'a>, FilterFault> {
+/// name, or else a number if it reads as one, or else a text.
+fn other_of<'a, R: Read + Drop>(table: &Table<R>, value: &Operand<'a>) -> Other<'a> {
     if value.is_quoted {
-        return Ok(Other::Text(value.text));
+        return Other::Text(value.text);
     }
-    if let Some(other) = table.place(value.text) {
-        let cells = Cells::of(table, place).or(Cells::of(table, other));
-        return Ok(Other::Column {
-            place: other,
-            are_numbers: cells.are_numbers(relation),
-        });
+    match table.place(value.text) {
+        Some(place) => Other::Column(place),
+        None => match Number::of(value.text) {
+            Some(number) => Other::Number(number),
+            None => Other::Text(value.text),
+        },
     }
-    if let Some(number) = Number::of(value.text) {
-        return Ok(Other::Number(number));
-    }
-    if Cells::of(table, place).are_numbers(relation) {
-        return Err(FilterFault::Condition {
-            column: value.at,
-            expected: "a number, as the column has numbers, or a text in quotes",
-        });
-    }
-    Ok(Other::Text(value.text))
 }
 
-/// Returns the number that a cell is, or the fault if it is none.
-fn number_at<'a>(
-    alloc: Global,
-    table: &Table<'_>,
-    row: &'a ByteRecord,
-    place: usize,
-) -> Result<Number<'a>, FilterFault> {
-    match Number::of(row.get(place).unwrap_or_default()) {
-        Some(number) => Ok(number),
-        None => Err(no_number(alloc, table, place, row)?),
-    }
+/// Returns the cell of a row at a place. One that isn't there is empty.
+pub fn cell(row: &ByteRecord, place: usize) -> &[u8]
+    ensures { result.now ≡ cell_at (fields_of row.now) place }
+{
+    row.get(place).unwrap_or_default()
 }
 
 impl<'a> Test<'a> {
     /// Finds the columns of a comparison. Fails if the first is none.
-    pub fn new(
+    pub fn new<R: Read + Drop>(
         alloc: Global,
-        table: &Table<'_>,
+        table: &Table<R>,
         comparison: &Comparison<'a>,
     ) -> Result<Test<'a>, FilterFault> {
         let column = &comparison.column;
         let Some(place) = table.place(column.text) else {
-            return Err(no_column(alloc, table, column)?);
+            return Err(table.no_column(alloc, column)?);
         };
         let kind = match &comparison.question {
             Question::Missing(is_missing) => Kind::Missing(*is_missing),
             Question::Compared(relation, value) => {
-                Kind::Compared(*relation, other_of(table, place, *relation, value)?)
+                Kind::Compared(*relation, other_of(table, value))
             }
         };
         Ok(Test { place, kind })
@@ -136,48 +79,50 @@ impl<'a> Test<'a> {
 
     /// Returns what the test is in a row, or `None` if it is missing, as a comparison with an empty
     /// cell is. Fails if a cell should be a number and isn't.
-    pub fn value(
+    pub fn value<R: Read + Drop>(
         &self,
         alloc: Global,
-        table: &Table<'_>,
+        table: &Table<R>,
         row: &ByteRecord,
-    ) -> Result<Option<bool>, FilterFault> {
-        let cell = row.get(self.place).unwrap_or_default();
+    ) -> Result<Option<bool>, FilterFault>
+        ensures { IfOk result (λ answer. Answers self.now (fields_of row.now) answer) }
+    {
+        let first = cell(row, self.place);
         match self.kind {
-            Kind::Missing(is_missing) => Ok(Some(cell.is_empty() == is_missing)),
-            Kind::Compared(_, Other::Column { place, .. })
-                if row.get(place).unwrap_or_default().is_empty() => Ok(None),
-            Kind::Compared(_, _) if cell.is_empty() => Ok(None),
-            Kind::Compared(relation, other) => {
-                let order = self.order(alloc, table, row, &other)?;
+            Kind::Missing(true) => Ok(Some(first.is_empty())),
+            Kind::Missing(false) => Ok(Some(!first.is_empty())),
+            Kind::Compared(_, _) if first.is_empty() => Ok(None),
+            Kind::Compared(relation, Other::Text(text)) => {
+                Ok(Some(relation.holds(first.cmp(text))))
+            }
+            Kind::Compared(relation, Other::Number(number)) => match Number::of(first) {
+                Some(first) => Ok(Some(relation.holds(first.order(number)))),
+                None => Err(table.no_number(alloc, row, self.place)?),
+            },
+            Kind::Compared(_, Other::Column(place)) if cell(row, place).is_empty() => Ok(None),
+            Kind::Compared(relation, Other::Column(place)) => {
+                let order = self.order_of_cells(alloc, table, row, relation, place)?;
                 Ok(Some(relation.holds(order)))
             }
         }
     }
 
-    /// Returns the order of a cell and what it is compared with. Neither is empty.
-    fn order(
+    /// Returns the order of two cells of a row: of numbers if both are, else of texts. Fails if one
+    /// alone is a number, and it is asked which is less.
+    fn order_of_cells<R: Read + Drop>(
         &self,
         alloc: Global,
-        table: &Table<'_>,
+        table: &Table<R>,
         row: &ByteRecord,
-        other: &Other<'_>,
+        relation: Relation,
+        place: usize,
     ) -> Result<Ordering, FilterFault> {
-        let cell = row.get(self.place).unwrap_or_default();
-        match other {
-            Other::Text(text) => Ok(cell.cmp(text)),
-            Other::Number(number) => {
-                let first = number_at(alloc, table, row, self.place)?;
-                Ok(first.order(*number))
-            }
-            Other::Column {
-                place,
-                are_numbers: false,
-            } => Ok(cell.cmp(row.get(*place).unwrap_or_default())),
-            Other::Column { place, .. } => {
-                let first = number_at(alloc, table, row, self.place)?;
-                Ok(first.order(number_at(alloc, table, row, *place)?))
-            }
+        let (first, second) = (cell(row, self.place), cell(row, place));
+        match (Number::of(first), Number::of(second)) {
+            (Some(first), Some(second)) => Ok(first.order(second)),
+            (None, Some(_)) if relation.is_order() => Err(table.no_number(alloc, row, self.place)?),
+            (Some(_), None) if relation.is_order() => Err(table.no_number(alloc, row, place)?),
+            _ => Ok(first.cmp(second)),
         }
     }
 }

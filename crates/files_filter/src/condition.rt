@@ -1,4 +1,6 @@
 //! Conditions on the columns of a table: `city = Paris & !(age < 30)`.
+ghost use Rattle.std.specs.Prelude.{◌≡◌};
+ghost use Rattle.files_filter.specs.Answers.{holds};
 
 use crate::fault::FilterFault;
 use std::alloc::{AllocError, Global};
@@ -21,14 +23,16 @@ pub enum Relation {
 
 impl Relation {
     /// Returns whether it holds of two values in an order.
-    pub fn holds(self, order: Ordering) -> bool {
+    pub fn holds(self, order: Ordering) -> bool
+        ensures { result ≡ holds self order }
+    {
         match self {
-            Relation::Equal => order == Ordering::Equal,
-            Relation::NotEqual => order != Ordering::Equal,
-            Relation::Less => order == Ordering::Less,
-            Relation::LessOrEqual => order != Ordering::Greater,
-            Relation::Greater => order == Ordering::Greater,
-            Relation::GreaterOrEqual => order != Ordering::Less,
+            Relation::Equal => order.is_eq(),
+            Relation::NotEqual => order.is_ne(),
+            Relation::Less => order.is_lt(),
+            Relation::LessOrEqual => order.is_le(),
+            Relation::Greater => order.is_gt(),
+            Relation::GreaterOrEqual => order.is_ge(),
         }
     }
 

@@ -1,30 +1,30 @@
 //! The rows of a table that a condition is true of.
-ghost use Rattle.std.specs.Prelude.{◌≡◌, ◌<◌, ◌++◌, length, map, All, IfOk, OnOk};
+ghost use Rattle.std.specs.Prelude.{◌≡◌, ◌-◌, ◌<◌, ◌∷◌, ◌^◌, [], ℕ, All, IfOk, List, OnOk, Option, length, map, option_map};
 ghost use Rattle.std.specs.Io.KnownBytes.{Appends};
+ghost use Rattle.std.specs.List.{flat_map};
 ghost use Rattle.csv.specs.Records.{fields_of};
 ghost use Rattle.csv.specs.Writing.{text_written};
-ghost use Rattle.vob_filter.specs.Filter.{AreRows};
+ghost use Rattle.files_filter.specs.Filtered.{IsFiltered, IsShown, heading};
+ghost use Rattle.files_filter.specs.FilterText.{IsReady, answered, row_line, rows_text, shown, true_rows, windowed};
 ghost use Rattle.files_text.specs.Printed.{members};
-ghost use Rattle.files_filter.specs.FilterText.{IsReady, paged, row_line, rows_text, true_rows};
+ghost use Rattle.files_filter.specs.Reading.{Cells, HasRead};
+ghost use Rattle.files_filter.specs.Written.{cells_of};
 
-use crate::comparing::Test;
-use crate::condition::{Condition, read_condition};
+use crate::block::{Block, Next, Row, columns_of, read_block};
+use crate::condition::read_condition;
 use crate::fault::FilterFault;
+use crate::questions::Questions;
 use crate::table::Table;
 use csv::{ByteRecord, Writer, WriterBuilder};
+use files_text::Fault;
 use std::alloc::{AllocError, Global};
-use std::io::Write;
+use std::io::{Read, Write};
 use vob::Vob;
-use vob_filter::column::Column;
-use vob_filter::filter::{Expression, are_rows, count, select};
-use vob_filter::rows;
-use vob_filter::rows::kept_rows;
+use vob_filter::filter::{Expression, select};
+use vob_filter::rows::page;
 
 /// How many rows a page has.
 pub const PAGE_ROWS: usize = 20;
-
-/// How many rows are written at once.
-const PART_ROWS: usize = 1024;
 
 /// What a filter prints.
 #[derive(Clone, Copy, PartialEq, Eq)]
@@ -39,42 +39,39 @@ pub enum Shows {
     Nothing,
 }
 
-/// Makes the column of what a comparison is in each row.
-fn column_of(alloc: Global, table: &Table<'_>, test: &Test<'_>) -> Result<Column, FilterFault> {
-    let mut column = Column::missing(alloc, table.rows.len())?;
-    for (number, row) in table.rows.iter().enumerate() {
-        let value = test.value(alloc, table, row)?;
-        if number < column.len() {
-            column.set(number, value);
-        }
-    }
-    Ok(column)
+/// Which of the kept rows are shown: those after the first ones, and of these at most a number, or
+/// all.
+#[derive(Clone, Copy)]
+struct Window {
+    skip: usize,
+    most: Option<usize>,
 }
 
-/// Makes the columns of the comparisons of a condition.
-fn columns_of(
-    alloc: Global,
-    table: &Table<'_>,
-    condition: &Condition<'_>,
-) -> Result<Vec<Column>, FilterFault> {
-    let mut columns = Vec::new(alloc);
-    for comparison in condition.comparisons.iter() {
-        let test = Test::new(alloc, table, comparison)?;
-        columns.push(column_of(alloc, table, &test)?)?;
+impl Window {
+    /// Returns the window of what is to be shown.
+    fn of(shows: Shows) -> Window
+        ensures { (rows : List Cells) → length rows < 2 ^ 64 →
+            windowed result.skip result.most rows ≡ shown shows rows }
+    {
+        let (skip, most) = match shows {
+            Shows::Rows => (0, None),
+            Shows::Page(page) => (
+                page.saturating_sub(1).saturating_mul(PAGE_ROWS),
+                Some(PAGE_ROWS),
+            ),
+            Shows::Count | Shows::Nothing => (0, Some(0)),
+        };
+        Window { skip, most }
     }
-    Ok(columns)
-}
 
-/// Returns the numbers of the rows of a page, counted from 1, of those that are kept, or of all.
-fn numbers_of(alloc: Global, kept: &Vob, page: Option<usize>) -> Result<Vec<usize>, AllocError>
-    ensures { IfOk result (λ numbers. numbers.items ≡ paged page (members kept.now.bits)) }
-{
-    match page {
-        None => kept_rows(alloc, kept),
-        Some(number) => {
-            let before = number.saturating_sub(1).saturating_mul(PAGE_ROWS);
-            let skip = before.min(kept.len());
-            rows::page(alloc, kept, skip, PAGE_ROWS)
+    /// Returns the window for the rows after some, of which a number are shown.
+    fn after(self, rows: usize, shown: usize) -> Window
+        ensures skip { result.skip ≡ self.skip - rows }
+        ensures most { result.most ≡ option_map (λ most. most - shown) self.most }
+    {
+        Window {
+            skip: self.skip.saturating_sub(rows),
+            most: self.most.map(|most| most.saturating_sub(shown)),
         }
     }
 }
@@ -82,25 +79,26 @@ fn numbers_of(alloc: Global, kept: &Vob, page: Option<usize>) -> Result<Vec<usiz
 /// Writes the rows with some numbers.
 fn put_rows<W: Write + Drop>(
     writer: &mut Writer<W>,
-    rows: &[ByteRecord],
+    rows: &[Row],
     numbers: &[usize],
 ) -> Result<(), FilterFault>
     requires numbers { All (λ number. number < length rows.now) numbers.now }
     requires ready { IsReady writer.old }
     ensures { OnOk result (Appends (text_written W.contents writer.old)
         (text_written W.contents writer.new)
-        (rows_text (map fields_of rows.now) numbers.now)) }
+        (flat_map (λ number. row_line (cells_of rows.now number)) numbers.now)) }
 {
     for number in numbers {
-        writer.write_byte_record(&rows[*number])?;
+        writer.write_byte_record(&rows[*number].cells)?;
     }
     Ok(())
 }
 
 /// Returns the lines of the rows with some numbers.
-fn lines_of(alloc: Global, rows: &[ByteRecord], numbers: &[usize]) -> Result<Vec<u8>, FilterFault>
+fn lines_of(alloc: Global, rows: &[Row], numbers: &[usize]) -> Result<Vec<u8>, FilterFault>
     requires { All (λ number. number < length rows.now) numbers.now }
-    ensures { IfOk result (λ text. text.items ≡ rows_text (map fields_of rows.now) numbers.now) }
+    ensures { IfOk result (λ text. text.items
+        ≡ flat_map (λ number. row_line (cells_of rows.now number)) numbers.now) }
 {
     let mut writer = WriterBuilder::new().from_writer(Vec::new(alloc));
     put_rows(&mut writer, rows, numbers)?;
@@ -122,132 +120,153 @@ fn header_line(alloc: Global, header: &ByteRecord) -> Result<Vec<u8>, FilterFaul
     }
 }
 
-/// Writes the lines of the rows with some numbers, a part of them at once.
-fn put_lines<W: Write>(
+/// Writes the header of a table, if rows are to be shown.
+fn put_heading<W: Write>(
     alloc: Global,
-    rows: &[ByteRecord],
-    numbers: &[usize],
-    output: &mut W,
-) -> Result<(), FilterFault>
-    requires { All (λ number. number < length rows.now) numbers.now }
-    ensures { OnOk result (Appends (W.contents output.old) (W.contents output.new)
-        (rows_text (map fields_of rows.now) numbers.now)) }
-{
-    let mut rest = numbers;
-    while !rest.is_empty() {
-        let (part, after) = rest.split_at(rest.len().min(PART_ROWS));
-        output.write_all(&lines_of(alloc, rows, part)?)?;
-        rest = after;
-    }
-    Ok(())
-}
-
-/// Writes the header of a table and the rows with some numbers.
-fn put_table<W: Write>(
-    alloc: Global,
-    table: &Table<'_>,
-    numbers: &[usize],
-    output: &mut W,
-) -> Result<(), FilterFault>
-    requires { All (λ number. number < length table.now.rows.items) numbers.now }
-    ensures { OnOk result (Appends (W.contents output.old) (W.contents output.new)
-        (row_line (fields_of table.now.header)
-        ++ rows_text (map fields_of table.now.rows.items) numbers.now)) }
-{
-    output.write_all(&header_line(alloc, &table.header)?)?;
-    put_lines(alloc, &table.rows, numbers, output)
-}
-
-/// Writes the header of a table and the rows of which a condition is true, or a page of them.
-fn put_kept<W: Write>(
-    alloc: Global,
-    table: &Table<'_>,
-    kept: &Vob,
-    page: Option<usize>,
-    output: &mut W,
-) -> Result<(), FilterFault>
-    requires { length kept.now.bits ≡ length table.now.rows.items }
-    ensures { OnOk result (Appends (W.contents output.old) (W.contents output.new)
-        (row_line (fields_of table.now.header)
-        ++ rows_text (map fields_of table.now.rows.items) (paged page (members kept.now.bits)))) }
-{
-    let numbers = numbers_of(alloc, kept, page)?;
-    put_table(alloc, table, &numbers, output)
-}
-
-/// Writes the header of a table and the rows of which a condition is true, or a page of them. The
-/// columns say what each comparison is in each row.
-fn put_true_rows<W: Write>(
-    alloc: Global,
-    table: &Table<'_>,
-    expression: &Expression,
-    columns: &[Column],
-    page: Option<usize>,
-    output: &mut W,
-) -> Result<(), FilterFault>
-    requires { AreRows (length table.now.rows.items) columns.now }
-    ensures { OnOk result (Appends (W.contents output.old) (W.contents output.new)
-        (row_line (fields_of table.now.header) ++ rows_text (map fields_of table.now.rows.items)
-        (paged page (true_rows expression.now columns.now (length table.now.rows.items))))) }
-{
-    let kept = select(alloc, expression, columns, table.rows.len())?;
-    put_kept(alloc, table, &kept, page, output)
-}
-
-/// Writes what is asked for of the rows of which a condition is true. Returns the status.
-fn put_shown<W: Write>(
-    alloc: Global,
-    table: &Table<'_>,
-    expression: &Expression,
-    columns: &[Column],
+    header: &ByteRecord,
     shows: Shows,
     output: &mut W,
-) -> Result<u8, FilterFault>
-    requires { AreRows (length table.now.rows.items) columns.now }
+) -> Result<(), FilterFault>
+    ensures { OnOk result (Appends (W.contents output.old) (W.contents output.new)
+        (heading shows (fields_of header.now))) }
 {
     match shows {
-        Shows::Rows => put_true_rows(alloc, table, expression, columns, None, output)?,
-        Shows::Page(page) => {
-            put_true_rows(alloc, table, expression, columns, Some(page), output)?;
+        Shows::Rows | Shows::Page(_) => {
+            output.write_all(&header_line(alloc, header)?)?;
+            Ok(())
         }
-        Shows::Count => {
-            let count = count(alloc, expression, columns, table.rows.len())?;
-            writeln!(output, "{count}")?;
-        }
-        Shows::Nothing => {
-            let count = count(alloc, expression, columns, table.rows.len())?;
-            return Ok(if count > 0 { 0 } else { 1 });
-        }
+        Shows::Count | Shows::Nothing => Ok(()),
     }
-    Ok(0)
 }
 
-/// Writes the rows of a table of which a condition is true, or a page of them. An empty cell is
-/// missing, and so is each comparison with it. Returns the status: 1 if nothing is to be shown and
-/// no row is kept, else 0.
-///
-/// Fails if the text is no table, if the condition can't be read or names no column, or at the
-/// first cell that should be a number. Nothing is written then. Fails too if memory runs out, or if
-/// the output can't be written.
-pub fn print_filter<W: Write>(
+/// Returns the rows of a block of which a condition is true, a bit each.
+fn kept_rows(
     alloc: Global,
-    text: &[u8],
+    rows: &[Row],
+    width: usize,
+    expression: &Expression,
+) -> Result<Vob, AllocError>
+    requires { All (λ row. length row.answers.items ≡ width) rows.now }
+    ensures len { IfOk result (λ kept. length kept.bits ≡ length rows.now) }
+    ensures rows { IfOk result (λ kept. map (cells_of rows.now) (members kept.bits)
+        ≡ true_rows expression.now (map answered rows.now)) }
+{
+    let columns = columns_of(alloc, rows, width)?;
+    select(alloc, expression, &columns, rows.len())
+}
+
+/// Writes the rows of a block of which a condition is true, as a window shows them. Returns how many
+/// it is true of, and how many were written. Each row has `width` answers.
+fn put_block<W: Write>(
+    alloc: Global,
+    rows: &[Row],
+    width: usize,
+    expression: &Expression,
+    window: Window,
+    output: &mut W,
+) -> Result<(usize, usize), FilterFault>
+    requires { All (λ row. length row.answers.items ≡ width) rows.now }
+    ensures kept { IfOk result (λ counts. counts.0
+        ≡ length (true_rows expression.now (map answered rows.now))) }
+    ensures written { IfOk result (λ counts. counts.1 ≡ length (windowed window.skip window.most
+        (true_rows expression.now (map answered rows.now)))) }
+    ensures wrote { OnOk result (Appends (W.contents output.old) (W.contents output.new)
+        (rows_text (windowed window.skip window.most
+        (true_rows expression.now (map answered rows.now))))) }
+{
+    let kept = kept_rows(alloc, rows, width, expression)?;
+    let most = window.most.unwrap_or(kept.len());
+    let numbers = page(alloc, &kept, window.skip, most)?;
+    output.write_all(&lines_of(alloc, rows, &numbers)?)?;
+    Ok((kept.count_ones(), numbers.len()))
+}
+
+/// Writes the rows of a table of which a condition is true, as a window shows them. Returns how many
+/// it is true of.
+fn put_true_rows<R: Read + Drop, W: Write>(
+    alloc: Global,
+    table: &mut Table<R>,
+    questions: &mut Questions<'_>,
+    expression: &Expression,
+    mut window: Window,
+    output: &mut W,
+) -> Result<usize, FilterFault>
+    ensures { IfOk result (λ count. (text : Option (List ℕ)) (rows : List Cells) →
+        HasRead R.remaining text rows table.old →
+        IsFiltered text rows questions.old.tests.items expression.now window.skip window.most
+        (W.contents output.old) (W.contents output.new) count) }
+{
+    let width = questions.len();
+    let mut count: usize = 0;
+    let mut spare = Vec::new(alloc);
+    for _ in 0..usize::MAX {
+        let Block { rows, next } = read_block(alloc, table, questions, &mut spare)?;
+        let (kept, written) = put_block(alloc, &rows, width, expression, window, output)?;
+        window = window.after(kept, written);
+        let Some(sum) = count.checked_add(kept) else {
+            return Err(FilterFault::Text(Fault::Memory));
+        };
+        count = sum;
+        spare = rows;
+        match next {
+            Next::Rows => {}
+            Next::End => return Ok(count),
+            Next::Fault(fault) => return Err(fault),
+        }
+    }
+    Err(FilterFault::Text(Fault::Memory))
+}
+
+/// Writes what is to be shown of a table: its header, if rows are, and the rows of which a condition
+/// is true. Returns how many it is true of.
+fn put_shown<R: Read + Drop, W: Write>(
+    alloc: Global,
+    table: &mut Table<R>,
+    questions: &mut Questions<'_>,
+    expression: &Expression,
+    shows: Shows,
+    output: &mut W,
+) -> Result<usize, FilterFault>
+    ensures { IfOk result (λ count. (text : Option (List ℕ)) →
+        HasRead R.remaining text (fields_of table.old.header ∷ []) table.old →
+        IsShown text (fields_of table.old.header) questions.old.tests.items expression.now shows
+        (W.contents output.old) (W.contents output.new) count) }
+{
+    put_heading(alloc, &table.header, shows, output)?;
+    let window = Window::of(shows);
+    let count = put_true_rows(alloc, table, questions, expression, window, output)?;
+    Ok(count)
+}
+
+/// Writes the rows of a table of which a condition is true, or a page of them, as they are read. An
+/// empty cell is missing, and so is each comparison with it. Returns the status: 1 if nothing is to
+/// be shown and no row is kept, else 0.
+///
+/// Fails if the condition can't be read or names no column, if the text is no table, at the first
+/// cell that should be a number, or if numbers are compared with texts. The rows that are kept before
+/// the fault are written then. Fails too if memory runs out, or if the output can't be written.
+pub fn print_filter<R: Read + Drop, W: Write>(
+    alloc: Global,
+    input: R,
     condition: &str,
     shows: Shows,
     output: &mut W,
 ) -> Result<u8, FilterFault> {
     let condition = read_condition(alloc, condition)?;
-    let table = Table::read(alloc, text)?;
-    let columns = columns_of(alloc, &table, &condition)?;
-    if !are_rows(&columns, table.rows.len()) {
-        return Err(FilterFault::Columns);
-    }
-    put_shown(
+    let mut table = Table::read(alloc, input)?;
+    let mut questions = Questions::new(alloc, &table, &condition)?;
+    let count = put_shown(
         alloc,
-        &table,
+        &mut table,
+        &mut questions,
         &condition.expression,
-        &columns,
         shows,
         output,
-    )
+    )?;
+    match shows {
+        Shows::Count => writeln!(output, "{count}")?,
+        Shows::Nothing if count == 0 => return Ok(1),
+        _ => {}
+    }
+    Ok(0)
 }

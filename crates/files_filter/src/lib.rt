@@ -1,13 +1,17 @@
 //! Tables of CSV, and the rows of which a condition is true.
 #![tactic(auto)]
 
+mod block;
 mod comparing;
 mod condition;
 mod fault;
 mod filter;
+mod guard;
 mod number;
+mod questions;
 mod quotes;
 mod table;
+mod whole;
 
 pub use fault::FilterFault;
 pub use filter::{Shows, print_filter};

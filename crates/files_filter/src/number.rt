@@ -23,6 +23,22 @@ fn is_above_zero(byte: u8) -> bool {
     byte.is_ascii_digit() && byte != b'0'
 }
 
+/// Returns whether a text is a number of digits alone.
+fn is_whole(text: &[u8]) -> bool {
+    !text.is_empty() && text.iter().all(|byte| byte.is_ascii_digit())
+}
+
+/// Returns whether a text is a decimal number.
+fn is_decimal(text: &[u8]) -> bool {
+    if !text.iter().all(|byte| is_numeric(*byte)) {
+        return false;
+    }
+    match str::from_utf8(text) {
+        Ok(text) => text.parse::<f64>().is_ok(),
+        Err(_) => false,
+    }
+}
+
 /// Returns the digits of a number with their sign and point, and the power of ten after an `e`.
 fn split_power(text: &[u8]) -> Option<(&[u8], i32)> {
     let Some(at) = text.iter().position(|byte| b"eE".contains(byte)) else {
@@ -50,11 +66,13 @@ fn order_digits(first: &[u8], second: &[u8]) -> Ordering {
 impl<'a> Number<'a> {
     /// Returns the number that a text is, as `-1`, `.5` or `2.5e3`, or `None` if it is none.
     pub fn of(text: &'a [u8]) -> Option<Number<'a>> {
-        if !text.iter().all(|byte| is_numeric(*byte)) {
+        let (text, power) = if is_whole(text) {
+            (text, 0)
+        } else if is_decimal(text) {
+            split_power(text)?
+        } else {
             return None;
-        }
-        str::from_utf8(text).ok()?.parse::<f64>().ok()?;
-        let (text, power) = split_power(text)?;
+        };
         let Some(first) = text.iter().position(|byte| is_above_zero(*byte)) else {
             return Some(Number {
                 is_negative: false,

@@ -1,16 +1,18 @@
 //! The quotes of a row of CSV, which are to stand as in RFC 4180.
 
-use files_text::Fault;
+/// The mark of UTF-8, with which a text may begin.
+pub const MARK: &[u8] = b"\xef\xbb\xbf";
 
 /// What a byte of a row stands in.
 #[derive(Clone, Copy)]
-enum Part {
+pub enum Part {
+    // At the start of a text, after so many bytes of the mark.
+    Mark(usize),
     Start,
     Plain,
-    // A quoted cell has the place of its first quote.
-    Quoted(usize),
+    Quoted,
     // After a quote in a quoted cell, which ends it or is doubled.
-    Quote(usize),
+    Quote,
     // After a carriage return, which ends the row with a line feed.
     Return,
     // After the row.
@@ -18,83 +20,67 @@ enum Part {
 }
 
 impl Part {
-    /// Returns what the next byte stands in, after the byte at a place, or what was expected in its
-    /// place.
-    fn after(self, at: usize, byte: u8) -> Result<Part, &'static str> {
+    /// Returns what the next byte stands in, or what was expected in its place.
+    #[inline(always)]
+    pub fn after(self, byte: u8) -> Result<Part, &'static str> {
         match (self, byte) {
-            (Part::Quoted(open), b'"') => Ok(Part::Quote(open)),
-            (Part::Quoted(open), _) | (Part::Quote(open), b'"') => Ok(Part::Quoted(open)),
+            (Part::Mark(count), _) if MARK.get(count) == Some(&byte) => Ok(Part::marked(count)),
+            (Part::Mark(0), b'"') => Ok(Part::Quoted),
+            (Part::Quoted, b'"') => Ok(Part::Quote),
+            (Part::Quoted, _) | (Part::Quote, b'"') => Ok(Part::Quoted),
             (Part::Return, b'\n') => Ok(Part::End),
             (Part::Return, _) => Err("a line feed after a carriage return"),
             (_, b'\n') => Ok(Part::End),
             (_, b'\r') => Ok(Part::Return),
             (_, b',') => Ok(Part::Start),
-            (Part::Start, b'"') => Ok(Part::Quoted(at)),
-            (Part::Quote(_), _) => Err("a comma or the end of the line after a closing `\"`"),
+            (Part::Start, b'"') => Ok(Part::Quoted),
+            (Part::Quote, _) => Err("a comma or the end of the line after a closing `\"`"),
             (_, b'"') => Err("no `\"` in a cell without quotes"),
             _ => Ok(Part::Plain),
         }
     }
-}
 
-/// Returns the fault of something else at a place of a text.
-pub fn fault_at(text: &[u8], at: usize, expected: &'static str) -> Fault {
-    let (line, column) = line_and_column(text, at);
-    Fault::Line {
-        line,
-        column,
-        expected,
-    }
-}
-
-/// Returns the line and the column of a place of a text, counted from 1. A column is a byte.
-pub fn line_and_column(text: &[u8], at: usize) -> (usize, usize) {
-    let mut line: usize = 1;
-    let mut start: usize = 0;
-    for place in 0..at.min(text.len()) {
-        if text[place] == b'\n' {
-            line = line.saturating_add(1);
-            start = place.saturating_add(1);
+    /// Returns what stands after one more byte of the mark.
+    fn marked(count: usize) -> Part {
+        let count = count.saturating_add(1);
+        if count < MARK.len() {
+            Part::Mark(count)
+        } else {
+            Part::Start
         }
     }
-    (line, at.saturating_sub(start).saturating_add(1))
 }
 
-/// Fails at the first byte that RFC 4180 refuses of the row from `start` on. Such is a quote in a
-/// cell without quotes, more after a closing quote, a quote that isn't closed, or a carriage return
-/// without a line feed.
-pub fn check_row(text: &[u8], start: usize) -> Result<(), Fault> {
-    let mut part = Part::Start;
-    for at in start..text.len() {
-        part = match part.after(at, text[at]) {
-            Ok(Part::End) => return Ok(()),
-            Ok(next) => next,
-            Err(expected) => return Err(fault_at(text, at, expected)),
-        };
-    }
-    match part {
-        Part::Quoted(open) => Err(fault_at(text, open, "a closing `\"`")),
-        Part::Return => Err(fault_at(text, text.len(), "a line feed after a carriage return")),
-        _ => Ok(()),
-    }
-}
-
-/// Returns the place where a cell begins, counted from 0, of the row from `start` on.
-pub fn cell_start(text: &[u8], start: usize, cell: usize) -> usize {
-    let mut part = Part::Start;
+/// Returns the place where a cell begins, counted from 0, in a row that begins in `part`.
+pub fn cell_start(row: &[u8], mut part: Part, cell: usize) -> usize {
     let mut found: usize = 0;
-    for at in start..text.len() {
+    for at in 0..row.len() {
         if found >= cell {
             return at;
         }
-        part = match part.after(at, text[at]) {
-            Ok(Part::Start) => {
-                found = found.saturating_add(1);
-                Part::Start
-            }
+        part = match part.after(row[at]) {
             Ok(next) => next,
             Err(_) => return at,
         };
+        if row[at] == b',' && matches!(part, Part::Start) {
+            found = found.saturating_add(1);
+        }
     }
-    text.len()
+    row.len()
+}
+
+/// Returns the place of the quote that opens the last cell of a row.
+pub fn last_quote(row: &[u8], mut part: Part) -> usize {
+    let mut open: usize = 0;
+    for at in 0..row.len() {
+        let before = part;
+        part = match part.after(row[at]) {
+            Ok(next) => next,
+            Err(_) => return open,
+        };
+        if matches!(before, Part::Start | Part::Mark(_)) && matches!(part, Part::Quoted) {
+            open = at;
+        }
+    }
+    open
 }

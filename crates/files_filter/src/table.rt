@@ -1,136 +1,21 @@
 //! Tables of CSV: a header, and rows of as many cells.
+ghost use Rattle.std.specs.Prelude.{◌≡◌, ◌∷◌, [], IfOk, ℕ, List, Option};
+ghost use Rattle.csv.specs.Records.{fields_of};
+ghost use Rattle.files_filter.specs.Reading.{Cells, HasRead, ReadsNext};
 
 use crate::condition::{Operand, is_word};
 use crate::fault::FilterFault;
-use crate::quotes::{cell_start, check_row, line_and_column};
-use csv::{ByteRecord, ErrorKind, Position, ReaderBuilder};
+use crate::whole::WholeRows;
+use csv::{ByteRecord, ErrorKind, Position, Reader, ReaderBuilder};
 use files_text::{Fault, Names};
 use std::alloc::{AllocError, Global};
+use std::io;
+use std::io::Read;
 
 /// How many names of columns, and how many bytes of a cell, a message has at most.
 const MOST_NAMES: usize = 10;
 
 const MOST_BYTES: usize = 40;
-
-/// A table: its text, its header, and the rows below it.
-#[derive(Drop)]
-pub struct Table<'a> {
-    pub text: &'a [u8],
-    pub header: ByteRecord,
-    pub rows: Vec<ByteRecord>,
-}
-
-/// Returns the place where a row begins that is read from a position on. Blank lines before the row
-/// are passed over.
-fn row_start(text: &[u8], position: Option<Position>) -> usize {
-    let from = position.map(|position| position.byte()).unwrap_or(0);
-    let from = usize::try_from(from).unwrap_or(text.len());
-    for at in from..text.len() {
-        if text[at] != b'\n' && text[at] != b'\r' {
-            return at;
-        }
-    }
-    text.len()
-}
-
-/// Returns the fault of a row that can't be read.
-fn no_row(text: &[u8], error: csv::Error) -> FilterFault {
-    match error.into_kind() {
-        ErrorKind::Io(error) => FilterFault::Text(Fault::Input(error)),
-        ErrorKind::UnequalLengths {
-            pos,
-            expected_len,
-            len,
-        } => {
-            let start = row_start(text, pos);
-            if let Err(fault) = check_row(text, start) {
-                return FilterFault::Text(fault);
-            }
-            let (line, _) = line_and_column(text, start);
-            FilterFault::Row {
-                line,
-                cells: len,
-                header: expected_len,
-            }
-        }
-        _ => FilterFault::Text(Fault::Memory),
-    }
-}
-
-/// Returns a text without the mark of UTF-8 that it may begin with.
-fn without_mark(text: &[u8]) -> &[u8] {
-    if text.starts_with(b"\xef\xbb\xbf") {
-        text.get(3..).unwrap_or_default()
-    } else {
-        text
-    }
-}
-
-impl<'a> Table<'a> {
-    /// Reads a table. Fails if two columns have one name, or at the first row that RFC 4180 refuses,
-    /// or that has more cells than the header, or fewer. Columns without a name may be many.
-    pub fn read(alloc: Global, text: &'a [u8]) -> Result<Table<'a>, FilterFault> {
-        let text = without_mark(text);
-        let mut reader = ReaderBuilder::new()
-            .has_headers(false)
-            .from_reader(alloc, text);
-        let mut header = ByteRecord::new(alloc);
-        let found = match reader.read_byte_record(&mut header) {
-            Ok(found) => found,
-            Err(error) => return Err(no_row(text, error)),
-        };
-        if !found {
-            return Err(FilterFault::Text(Fault::Line {
-                line: 1,
-                column: 1,
-                expected: "a header",
-            }));
-        }
-        check_header(alloc, text, &header)?;
-        let mut rows = Vec::new(alloc);
-        for row in reader.into_byte_records() {
-            match row {
-                Ok(row) => {
-                    check_row(text, row_start(text, row.position())).map_err(FilterFault::Text)?;
-                    rows.push(row)?;
-                }
-                Err(error) => return Err(no_row(text, error)),
-            }
-        }
-        Ok(Table { text, header, rows })
-    }
-
-    /// Returns the place of the column with a name, if there is one. An empty name is none.
-    pub fn place(&self, name: &[u8]) -> Option<usize> {
-        if name.is_empty() {
-            return None;
-        }
-        (0..self.header.len()).find(|place| self.header.get(*place) == Some(name))
-    }
-}
-
-/// Fails at the first byte of a header that RFC 4180 refuses, or at the first column that has the
-/// name of one before.
-fn check_header(alloc: Global, text: &[u8], header: &ByteRecord) -> Result<(), FilterFault> {
-    let start = row_start(text, header.position());
-    check_row(text, start).map_err(FilterFault::Text)?;
-    let mut names = Names::new(alloc);
-    for place in 0..header.len() {
-        let name = header.get(place).unwrap_or_default();
-        if names.find(name).is_some() {
-            let (line, column) = line_and_column(text, cell_start(text, start, place));
-            return Err(FilterFault::Twice {
-                line,
-                column,
-                name: shown(alloc, name)?,
-            });
-        }
-        if !name.is_empty() {
-            names.number(name)?;
-        }
-    }
-    Ok(())
-}
 
 /// Returns a text as it stands in a condition: in quotes if it needs them. A long one is cut.
 fn shown(alloc: Global, text: &[u8]) -> Result<String, AllocError> {
@@ -160,32 +45,145 @@ fn names_shown(alloc: Global, header: &ByteRecord) -> Result<String, AllocError>
     Ok(names)
 }
 
-/// Returns the fault of a name in a condition that no column has.
-pub fn no_column(
-    alloc: Global,
-    table: &Table<'_>,
-    column: &Operand<'_>,
-) -> Result<FilterFault, AllocError> {
-    Ok(FilterFault::Column {
-        column: column.at,
-        name: shown(alloc, column.text)?,
-        names: names_shown(alloc, &table.header)?,
-    })
+/// A table that is read row by row, and its header.
+#[derive(Drop)]
+pub struct Table<R> {
+    reader: Reader<WholeRows<R>>,
+    pub header: ByteRecord,
 }
 
-/// Returns the fault of a cell that isn't a number: of a row, in the column at a place.
-pub fn no_number(
-    alloc: Global,
-    table: &Table<'_>,
-    place: usize,
-    row: &ByteRecord,
-) -> Result<FilterFault, AllocError> {
-    let start = row_start(table.text, row.position());
-    let (line, column) = line_and_column(table.text, cell_start(table.text, start, place));
-    Ok(FilterFault::Cell {
-        line,
-        column,
-        name: shown(alloc, table.header.get(place).unwrap_or_default())?,
-        cell: shown(alloc, row.get(place).unwrap_or_default())?,
-    })
+impl<R: Read + Drop> Table<R> {
+    /// Reads the header of a table. Fails if there is none, if two columns have one name, or if RFC
+    /// 4180 refuses a byte of it. Columns without a name may be many.
+    pub fn read(alloc: Global, input: R) -> Result<Table<R>, FilterFault>
+        ensures { IfOk result (λ table.
+            HasRead R.remaining (R.remaining input) (fields_of table.header ∷ []) table) }
+    {
+        let reader = ReaderBuilder::new()
+            .has_headers(false)
+            .from_reader(alloc, WholeRows::new(alloc, input));
+        let mut table = Table {
+            reader,
+            header: ByteRecord::new(alloc),
+        };
+        let mut header = ByteRecord::new(alloc);
+        if !table.next(&mut header)? {
+            return Err(FilterFault::Text(Fault::Line {
+                line: 1,
+                column: 1,
+                expected: "a header",
+            }));
+        }
+        table.header = header;
+        table.check_names(alloc)?;
+        Ok(table)
+    }
+
+    /// Reads the next row, and returns whether there is one. Fails at a byte that RFC 4180 refuses,
+    /// or at a row that has more cells than the header, or fewer.
+    pub fn next(&mut self, row: &mut ByteRecord) -> Result<bool, FilterFault>
+        ensures header { self.new.header ≡ self.old.header }
+        ensures next { IfOk result (λ found. (text : Option (List ℕ)) (rows : List Cells) →
+            HasRead R.remaining text rows self.old →
+            ReadsNext R.remaining text rows self.new found (fields_of row.new)) }
+    {
+        match self.reader.read_byte_record(row) {
+            Ok(found) => Ok(found),
+            Err(error) => Err(self.no_row(error)),
+        }
+    }
+
+    /// Returns the fault of a row that can't be read.
+    fn no_row(&self, error: csv::Error) -> FilterFault {
+        match error.into_kind() {
+            ErrorKind::Io(error) => FilterFault::Text(self.no_text(error)),
+            ErrorKind::UnequalLengths {
+                pos,
+                expected_len,
+                len,
+            } => {
+                let (line, _) = self.cell_place(pos, 0);
+                FilterFault::Row {
+                    line,
+                    cells: len,
+                    header: expected_len,
+                }
+            }
+            _ => FilterFault::Text(Fault::Memory),
+        }
+    }
+
+    /// Returns the fault of a text that can't be read.
+    fn no_text(&self, error: io::Error) -> Fault {
+        match self.reader.get_ref().fault() {
+            Some(fault) => fault,
+            None if error.kind() == io::ErrorKind::OutOfMemory => Fault::Memory,
+            None => Fault::Input(error),
+        }
+    }
+
+    /// Returns the line and the column of a cell of the row that was read last, by where the reader
+    /// stood before it.
+    fn cell_place(&self, position: Option<Position>, cell: usize) -> (usize, usize) {
+        let byte = position.map(|position| position.byte()).unwrap_or(0);
+        self.reader.get_ref().cell_place(byte, cell)
+    }
+
+    /// Returns the place of the column with a name, if there is one. An empty name is none.
+    pub fn place(&self, name: &[u8]) -> Option<usize> {
+        if name.is_empty() {
+            return None;
+        }
+        (0..self.header.len()).find(|place| self.header.get(*place) == Some(name))
+    }
+
+    /// Fails at the first column that has the name of one before.
+    fn check_names(&self, alloc: Global) -> Result<(), FilterFault> {
+        let mut names = Names::new(alloc);
+        for place in 0..self.header.len() {
+            let name = self.header.get(place).unwrap_or_default();
+            if names.find(name).is_some() {
+                let (line, column) = self.cell_place(self.header.position(), place);
+                return Err(FilterFault::Twice {
+                    line,
+                    column,
+                    name: shown(alloc, name)?,
+                });
+            }
+            if !name.is_empty() {
+                names.number(name)?;
+            }
+        }
+        Ok(())
+    }
+
+    /// Returns the fault of a name in a condition that no column has.
+    pub fn no_column(
+        &self,
+        alloc: Global,
+        column: &Operand<'_>,
+    ) -> Result<FilterFault, AllocError> {
+        Ok(FilterFault::Column {
+            column: column.at,
+            name: shown(alloc, column.text)?,
+            names: names_shown(alloc, &self.header)?,
+        })
+    }
+
+    /// Returns the fault of a cell that isn't a number: of the row that was read last, in the column
+    /// at a place.
+    pub fn no_number(
+        &self,
+        alloc: Global,
+        row: &ByteRecord,
+        place: usize,
+    ) -> Result<FilterFault, AllocError> {
+        let (line, column) = self.cell_place(row.position(), place);
+        Ok(FilterFault::Cell {
+            line,
+            column,
+            name: shown(alloc, self.header.get(place).unwrap_or_default())?,
+            cell: shown(alloc, row.get(place).unwrap_or_default())?,
+        })
+    }
 }

@@ -1,0 +1,10 @@
+-- No byte is lost.
+use Rattle.std.specs.Io.KnownBytes.{Keeps}
+use Rattle.files_filter.specs.Whole.{IsFresh, unread}
+use Rattle.files_filter.proofs.whole.WholeRows.fill.Given as goal
+
+abbrev pub invariant-loop : goal.invariant-loop
+invariant-loop g l = record {
+  fresh : IsFresh l.self;
+  unread : Keeps (unread g.R.Read.remaining l.fn.self) (unread g.R.Read.remaining l.self);
+}

@@ -1,0 +1,13 @@
+-- The rows that are given are bytes less.
+use Rattle.std.proofs.Common.{◌≡◌, ◌≤◌, arith, length}
+use Rattle.files_filter.specs.Whole.{rows_at_hand}
+use Rattle.files_filter.proofs.WholeLemmas.{gives}
+use Rattle.files_filter.proofs.whole.WholeRows.give.Goals as goal
+
+pub returns-clause-bytes : goal.returns-clause-bytes
+returns-clause-bytes g c =
+    let self = c.args.self.now in
+    let rows : c.rows-rows.result.now ≡ rows_at_hand self = c.rows-rows.ensures in
+    let fits : c.min-count.result ≤ length c.rows-rows.result.now = omega (arith, c.min-count.ensures) in
+    gives self.text.items self.given self.whole self.filled c.min-count.result (g.R.Read.remaining self.input)
+    c.copy_from_slice.new.self _ (rw rows at fits) (rw rows at c.copy_from_slice.ensures.after)
