@@ -126,7 +126,7 @@ for analysis in live reaching available busy dominators; do
 done
 rows 'immediate dominators, nodes, beside petgraph' loops 10000 flow --analysis immediate -- "$immediate"
 rows 'tables, rules, beside bison' grammar 80 grammar /dev/stdin -- bison -o "$out/grammar.c" /dev/stdin
-rows 'filter, rows, beside sqlite3' table 10000 filter - 'age<30 & height>170' -- \
+rows 'filter, rows, beside sqlite3' table 100000 filter - 'age<30 & height>170' -- \
     sqlite3 :memory: '.import --csv /dev/stdin t' "select * from t where age + 0 < 30 and height + 0 > 170"
-rows 'filter, rows, beside awk' table 10000 filter - 'age<30 & height>170' -- \
+rows 'filter, rows, beside awk' table 100000 filter - 'age<30 & height>170' -- \
     awk -F , 'NR == 1 || ($1 < 30 && $2 > 170)'
