@@ -114,13 +114,13 @@ fn parsed(
         .saturating_add(1)
         .saturating_mul(file.grammar.rules.len())
         .saturating_mul(8);
-    let mut parsed = table.parse(alloc, &tokens, steps);
+    let mut parsed = table.parse_within(alloc, &tokens, steps);
     if matches!(parsed, Err(ParseError::TooLong)) {
         if let Some(at) = endless_at(alloc, table, &tokens)? {
             let (line, column) = place_of(words, at);
             return Err(GrammarFault::Endless { line, column });
         }
-        parsed = table.parse(alloc, &tokens, usize::MAX);
+        parsed = table.parse_within(alloc, &tokens, usize::MAX);
     }
     match parsed {
         Ok(rules) => Ok(rules),

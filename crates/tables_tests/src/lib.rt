@@ -1,5 +1,6 @@
 //! Tests of the sets of grammars, their tables, parsers and texts; and worked values of the sets.
 #![tactic(auto)]
 
+pub mod language;
 #[cfg(test)]
 mod tests;

@@ -10,7 +10,7 @@ use Rattle.vob_lr.specs.declared.grammar.Symbol.{Symbol}
 use Rattle.vob_lr.specs.declared.grammar.Symbol.TheVariants.{Terminal, Nonterminal}
 
 module _ (rules : List Rule) where
-  terminals_become : (ts : List ℕ) → Becomes rules (map Terminal ts) ts []
+  pub terminals_become : (ts : List ℕ) → Becomes rules (map Terminal ts) ts []
   terminals_become [] = nothing
   terminals_become (t ∷ ts) = terminal (terminals_become ts)
 
@@ -24,17 +24,17 @@ module _ (rules : List Rule) where
   no_rules (by_rule r rule ts us rs ss is b b') (v ∷ vs) h = absurd (cc)
 
   -- two parts, one behind the other
-  record Parts (xs ys : List Symbol) (ts rs : List ℕ) : Type 0 where
-    ts_of : List ℕ
-    us_of : List ℕ
-    rs_of : List ℕ
-    ss_of : List ℕ
-    one : Becomes rules xs ts_of rs_of
-    other : Becomes rules ys us_of ss_of
-    tokens : ts ≡ ts_of ++ us_of
-    reduced : rs ≡ rs_of ++ ss_of
+  pub record Parts (xs ys : List Symbol) (ts rs : List ℕ) : Type 0 where
+    pub ts_of : List ℕ
+    pub us_of : List ℕ
+    pub rs_of : List ℕ
+    pub ss_of : List ℕ
+    pub one : Becomes rules xs ts_of rs_of
+    pub other : Becomes rules ys us_of ss_of
+    pub tokens : ts ≡ ts_of ++ us_of
+    pub reduced : rs ≡ rs_of ++ ss_of
 
-  parts : {zs : List Symbol} {ts rs : List ℕ} → Becomes rules zs ts rs → (xs ys : List Symbol) →
+  pub parts : {zs : List Symbol} {ts rs : List ℕ} → Becomes rules zs ts rs → (xs ys : List Symbol) →
       zs ≡ xs ++ ys → Parts xs ys ts rs
   parts {zs} {ts} {rs} b [] ys h = record {
     ts_of = [];
@@ -77,7 +77,7 @@ module _ (rules : List Rule) where
             ∙ sym (append_assoc rs (r ∷ p.rs_of) p.ss_of);
       }
 
-  joined : {xs ys : List Symbol} {ts us rs ss : List ℕ} → Becomes rules xs ts rs →
+  pub joined : {xs ys : List Symbol} {ts us rs ss : List ℕ} → Becomes rules xs ts rs →
       Becomes rules ys us ss → Becomes rules (xs ++ ys) (ts ++ us) (rs ++ ss)
   joined nothing c = c
   joined (terminal b) c = terminal (joined b c)

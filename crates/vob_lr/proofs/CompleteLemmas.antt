@@ -44,7 +44,7 @@ append_empty [] us h = (refl, h)
 append_empty (t ∷ ts) us h = absurd (cc)
 
 module _ (rules : List Rule) where
-  empty_becomes : {xs : List Symbol} {ts rs : List ℕ} → Becomes rules xs ts rs → ts ≡ [] →
+  pub empty_becomes : {xs : List Symbol} {ts rs : List ℕ} → Becomes rules xs ts rs → ts ≡ [] →
       BecomesEmpty rules xs
   empty_becomes nothing h = empty_nothing
   empty_becomes (terminal b) h = absurd (cc)

@@ -1,12 +1,22 @@
--- The conflicts of a table, one cell after another.
-use Rattle.std.proofs.Common.{◌≡◌, ◌↔◌, ◌⊎◌, ℕ, ◌+◌, ◌≤◌, inl, inr, List, [], ◌∷◌, ◌++◌, get_or, length, sym, ap, ◌∙◌, subst, arith}
-use Rattle.std.specs.List.{All}
+-- Where the answer to a question is yes, one cell after another.
+use Rattle.std.proofs.Common.{◌≡◌, ◌↔◌, ◌⊎◌, ℕ, ◌+◌, ◌<◌, inl, inr, List, [], ◌∷◌, ◌++◌, get_or, length, Some, slice_get, sym, ap, ◌∙◌, subst, arith}
 use Rattle.std.proofs.lemmas.Bool.{cases_eq, cases_lt}
 use Rattle.std.proofs.lemmas.List.{get_or_past}
 use Rattle.std.proofs.lemmas.Option.{slice_get_within}
-use Rattle.vob_lr.specs.Conflicts.{AreConflicts, AreConflictsBefore, ComesBefore, IsConflictAt}
+use Rattle.vob_lr.specs.Conflicts.{ArePlacesBefore, ComesBefore, IsAt, MayTake}
+use Rattle.vob_lr.specs.Stops.{IsSound}
+use Rattle.vob_lr.specs.Tables.{TableView}
+use Rattle.vob_lr.specs.Those.{AreInOrder}
+use Rattle.vob_lr.specs.declared.conflicts.Question.{Question}
+use Rattle.vob_lr.specs.declared.conflicts.Question.TheVariants.{Decided, Undecided}
+use Rattle.vob_lr.specs.declared.grammar.Symbol.TheVariants.{Terminal}
+use Rattle.vob_lr.specs.declared.table.Action.{Action}
+use Rattle.vob_lr.specs.declared.table.Action.TheVariants.{Reduce, Shift}
 use Rattle.vob_lr.specs.declared.table.Cell.{Cell}
 use Rattle.vob_lr.specs.declared.table.Conflict.{Conflict}
+use Rattle.vob_lr.proofs.DoneLemmas.{ahead_terminal, move_inside, move_terminal}
+use Rattle.vob_lr.proofs.MemberLemmas.{ahead_inside}
+use Rattle.vob_lr.proofs.SetLemmas.{set_inside}
 use Rattle.vob_lr.proofs.TableLemmas.{AreInOrder-as, AreInOrder-more, AreInOrder-nothing}
 
 abbrev place : ℕ → ℕ → Conflict
@@ -16,16 +26,16 @@ one_place : (c : Conflict) (q t : ℕ) → c.state ≡ q → c.terminal ≡ t �
 one_place c q t state terminal =
     ap (λ s. place s c.terminal) state ∙ ap (λ u. place q u) terminal
 
-module _ (cells : List (List Cell)) where
-  pub no_conflicts : AreConflictsBefore cells (place 0 0) []
-  no_conflicts =
-      AreInOrder-nothing ComesBefore (λ c. ComesBefore c (place 0 0) × IsConflictAt cells c)
+module _ (table : TableView) (question : Question) where
+  pub no_places : ArePlacesBefore table question (place 0 0) []
+  no_places =
+      AreInOrder-nothing ComesBefore (λ c. ComesBefore c (place 0 0) × IsAt table question c)
       (λ c there. elim there.0 [
         | inl low ↦ absurd (omega (arith, low))
         | inr low ↦ absurd (omega (arith, low.1))
       ])
 
-  module _ (q t : ℕ) (found : List Conflict) (h : AreConflictsBefore cells (place q t) found) where
+  module _ (q t : ℕ) (found : List Conflict) (h : ArePlacesBefore table question (place q t) found) where
     -- before the next terminal comes this one, and what comes before it
     before : (c : Conflict) → ComesBefore c (place q (t + 1))
         ↔ (ComesBefore c (place q t) ⊎ (place q t ≡ c))
@@ -50,16 +60,16 @@ module _ (cells : List (List Cell)) where
       ]),
     )
 
-    pub conflicts_with : IsConflictAt cells (place q t) →
-        AreConflictsBefore cells (place q (t + 1)) (found ++ place q t ∷ [])
-    conflicts_with own =
-        AreInOrder-more ComesBefore (λ c. ComesBefore c (place q t) × IsConflictAt cells c)
-        (λ c. ComesBefore c (place q (t + 1)) × IsConflictAt cells c) found (place q t) h
+    pub places_with : IsAt table question (place q t) →
+        ArePlacesBefore table question (place q (t + 1)) (found ++ place q t ∷ [])
+    places_with own =
+        AreInOrder-more ComesBefore (λ c. ComesBefore c (place q t) × IsAt table question c)
+        (λ c. ComesBefore c (place q (t + 1)) × IsAt table question c) found (place q t) h
         (λ c there. there.0)
         (λ c. (
           (λ there. elim there [
             | inl old ↦ ((before c).1 (inl old.0), old.1)
-            | inr same ↦ ((before c).1 (inr same), subst (λ d. IsConflictAt cells d) same own)
+            | inr same ↦ ((before c).1 (inr same), subst (λ d. IsAt table question d) same own)
           ]),
           (λ there. elim ((before c).0 there.0) [
             | inl old ↦ inl (old, there.1)
@@ -67,25 +77,25 @@ module _ (cells : List (List Cell)) where
           ]),
         ))
 
-    pub conflicts_without : (IsConflictAt cells (place q t) → ⊥) →
-        AreConflictsBefore cells (place q (t + 1)) found
-    conflicts_without none =
-        AreInOrder-as ComesBefore (λ c. ComesBefore c (place q t) × IsConflictAt cells c)
-        (λ c. ComesBefore c (place q (t + 1)) × IsConflictAt cells c)
+    pub places_without : (IsAt table question (place q t) → ⊥) →
+        ArePlacesBefore table question (place q (t + 1)) found
+    places_without none =
+        AreInOrder-as ComesBefore (λ c. ComesBefore c (place q t) × IsAt table question c)
+        (λ c. ComesBefore c (place q (t + 1)) × IsAt table question c)
         (λ c. (
           (λ there. ((before c).1 (inl there.0), there.1)),
           (λ there. elim ((before c).0 there.0) [
             | inl old ↦ (old, there.1)
-            | inr same ↦ absurd (none (subst (λ d. IsConflictAt cells d) (sym same) there.1))
+            | inr same ↦ absurd (none (subst (λ d. IsAt table question d) (sym same) there.1))
           ]),
         )) found h
 
     -- behind the last terminal of a state comes the next state
-    pub conflicts_of_row : length (get_or cells q []) ≤ t →
-        AreConflictsBefore cells (place (q + 1) 0) found
-    conflicts_of_row past =
-        AreInOrder-as ComesBefore (λ c. ComesBefore c (place q t) × IsConflictAt cells c)
-        (λ c. ComesBefore c (place (q + 1) 0) × IsConflictAt cells c)
+    pub places_of_row : ((c : Conflict) → IsAt table question c → c.terminal < t) →
+        ArePlacesBefore table question (place (q + 1) 0) found
+    places_of_row inside =
+        AreInOrder-as ComesBefore (λ c. ComesBefore c (place q t) × IsAt table question c)
+        (λ c. ComesBefore c (place (q + 1) 0) × IsAt table question c)
         (λ c. (
           (λ there. elim there.0 [
             | inl low ↦ (inl (omega (arith, low)), there.1)
@@ -93,38 +103,44 @@ module _ (cells : List (List Cell)) where
           ]),
           (λ there. elim there.0 [
             | inl low ↦ elim (cases_eq c.state q) [
-              | inl same ↦
-                  let (cell, is, more) = there.1 in
-                  let inside = slice_get_within (get_or cells c.state []) c.terminal cell is in
-                  let long = ap (λ k. length (get_or cells k [])) same in
-                  (inr (same, omega (arith, inside, long, past)), there.1)
+              | inl same ↦ (inr (same, inside c there.1), there.1)
               | inr other ↦ (inl (omega (arith, low, other)), there.1)
             ]
             | inr low ↦ absurd (omega (arith, low.1))
           ]),
         )) found h
 
-  pub conflicts_of_all : (q : ℕ) (found : List Conflict) → length cells ≤ q →
-      AreConflictsBefore cells (place q 0) found → AreConflicts cells found
-  conflicts_of_all q found past h =
-      AreInOrder-as ComesBefore (λ c. ComesBefore c (place q 0) × IsConflictAt cells c)
-      (IsConflictAt cells)
-      (λ c. (
-        (λ there. there.1),
-        (λ there. elim (cases_lt c.state q) [
-          | inl low ↦ (inl low, there)
-          | inr high ↦
-              let (cell, is, more) = there in
-              let inside = slice_get_within (get_or cells c.state []) c.terminal cell is in
-              let none = ap length (get_or_past cells c.state [] (omega (arith, past, high))) in
-              absurd (omega (arith, inside, none))
-        ]),
-      )) found h
+  pub places_of_all : (q : ℕ) (found : List Conflict) →
+      ((c : Conflict) → IsAt table question c → c.state < q) →
+      ArePlacesBefore table question (place q 0) found → AreInOrder ComesBefore (IsAt table question) found
+  places_of_all q found inside h =
+      AreInOrder-as ComesBefore (λ c. ComesBefore c (place q 0) × IsAt table question c)
+      (IsAt table question) (λ c. ((λ there. there.1), (λ there. (inl (inside c there), there)))) found h
 
-  -- no row is longer than there are terminals
-  pub row_long : (terminals : ℕ) → All (λ row. length row ≡ terminals) cells → (q : ℕ) →
-      length (get_or cells q []) ≤ terminals
-  row_long terminals long q = elim (cases_lt q (length cells)) [
-    | inl low ↦ omega (arith, long q [] low)
-    | inr past ↦ omega (arith, ap length (get_or_past cells q [] past))
-  ]
+-- ---- a state and a terminal of which the answer is yes are there
+
+module _ (table : TableView) (sound : IsSound table) where
+  may_inside : (q t : ℕ) (action : Action) → MayTake table.machine q t action →
+      (q < length table.machine.sets) × (t < table.machine.grammar.terminals)
+  may_inside q t (Shift p) move = (
+    move_inside table.machine sound.states sound.rules q (Terminal t) p move,
+    move_terminal table.machine sound.states sound.rules q t p move,
+  )
+  may_inside q t (Reduce r) (i, complete, ahead) = (
+    set_inside table.machine.sets q i (ahead_inside table.machine sound.states ahead),
+    ahead_terminal table.machine sound.states sound.rules ahead,
+  )
+
+  cell_inside : (q t : ℕ) (cell : Cell) → slice_get (get_or table.cells q []) t ≡ Some cell →
+      (q < length table.machine.sets) × (t < table.machine.grammar.terminals)
+  cell_inside q t cell is =
+      let inside = slice_get_within (get_or table.cells q []) t cell is in
+      elim (cases_lt q (length table.cells)) [
+        | inl low ↦ (omega (arith, low, sound.actions.count), omega (arith, inside, sound.actions.long q [] low))
+        | inr past ↦ absurd (omega (arith, inside, ap length (get_or_past table.cells q [] past)))
+      ]
+
+  pub place_inside : (question : Question) (c : Conflict) → IsAt table question c →
+      (c.state < length table.machine.sets) × (c.terminal < table.machine.grammar.terminals)
+  place_inside Undecided c (cell, is, more) = cell_inside c.state c.terminal cell is
+  place_inside Decided c (action, (may, out)) = may_inside c.state c.terminal action may

@@ -2,7 +2,7 @@
 use Rattle.std.proofs.Common.{◌≡◌, ℕ, ◌⊎◌, inl, inr, List, [], ◌∷◌, ◌++◌, map, Some, slice_get, refl, sym, ap, ◌∙◌, subst}
 use Rattle.std.proofs.lemmas.List.{append-nil, append_assoc}
 use Rattle.std.proofs.lemmas.Option.{get_or_from_slice_get, slice_get_within}
-use Rattle.vob_lr.specs.Derivations.{BeginningIsDerived, Derives, DerivesInOne, EmptyIsDerived, FollowingIsDerived, RightmostIsDerived}
+use Rattle.vob_lr.specs.Derivations.{BeginningIsDerived, Derives, DerivesBy, DerivesInOne, EmptyIsDerived, FollowingIsDerived}
 use Rattle.vob_lr.specs.Derivations.DerivesInOne.{replaced}
 use Rattle.vob_lr.specs.Derivations.Derives.{itself, further}
 use Rattle.vob_lr.specs.Derivations.DerivesBy.{nothing as last, further as then_by}
@@ -64,18 +64,18 @@ module _ {rules : List Rule} where
       ∙ ap (λ zs. l ++ (before ++ zs)) (append_assoc right after r)
       ∙ sym (append_assoc l before (right ++ (after ++ r))))
 
-  between : (l r : List Symbol) {xs ys : List Symbol} → Derives rules xs ys →
+  pub between : (l r : List Symbol) {xs ys : List Symbol} → Derives rules xs ys →
       Derives rules (l ++ (xs ++ r)) (l ++ (ys ++ r))
   between l r itself = itself
   between l r (further d step) = further (between l r d) (step_between l r step)
 
-  after_that : {xs ys zs : List Symbol} → Derives rules xs ys → Derives rules ys zs →
+  pub after_that : {xs ys zs : List Symbol} → Derives rules xs ys → Derives rules ys zs →
       Derives rules xs zs
   after_that d itself = d
   after_that d (further e step) = further (after_that d e) step
 
   -- a rule is a derivation
-  by_one : {a : ℕ} {right : List Symbol} (l r : List Symbol) → HasRule rules a right →
+  pub by_one : {a : ℕ} {right : List Symbol} (l r : List Symbol) → HasRule rules a right →
       Derives rules (l ++ Nonterminal a ∷ r) (l ++ (right ++ r))
   by_one l r has = further itself (replaced l r has refl refl)
 
@@ -249,7 +249,8 @@ has_rule rules r rule is = (
   refl,
 )
 
-pub rightmost_derived : RightmostIsDerived
+pub rightmost_derived : (rules : List Rule) (tokens : List ℕ) (xs : List Symbol) (by : List ℕ) →
+    DerivesBy rules tokens xs by → Derives rules xs (map Terminal tokens)
 rightmost_derived rules tokens xs by (last is) =
     subst (λ (ys : List Symbol). Derives rules xs ys) is itself
 rightmost_derived rules tokens xs by (then_by {r = r} {rule = rule} before after there is d) =

@@ -1,8 +1,6 @@
 -- A parser takes one way.
-use Rattle.std.proofs.Common.{◌≡◌, ℕ, ◌≤◌, ◌⊎◌, inl, inr, List, [], length, get_or, drop, reverse, Some, refl, sym, ap, ◌∙◌, subst, arith}
-use Rattle.std.proofs.lemmas.List.{length-reverse, reverse-reverse}
+use Rattle.std.proofs.Common.{◌≡◌, ℕ, ◌<◌, ◌≤◌, ◌⊎◌, inl, inr, List, [], length, get_or, drop, Some, refl, sym, ap, ◌∙◌, subst, arith}
 use Rattle.std.proofs.lemmas.Option.{get_or_from_slice_get, same_Some, slice_get-get_or}
-use Rattle.vob_lr.specs.Becoming.{ParsesAreFound}
 use Rattle.vob_lr.specs.Lookaheads.{HasMove, Machine}
 use Rattle.vob_lr.specs.Parses.{Config, IsAccepted, IsReached, IsTaken, Steps, beginning, replaced, top}
 use Rattle.vob_lr.specs.Parses.IsReached.{begins, then_steps}
@@ -15,8 +13,6 @@ use Rattle.vob_lr.specs.declared.grammar.Symbol.TheVariants.{Nonterminal}
 use Rattle.vob_lr.specs.declared.state.Move.{Move}
 use Rattle.vob_lr.specs.declared.table.Action.{Action}
 use Rattle.vob_lr.specs.declared.table.Action.TheVariants.{Reduce, Shift}
-use Rattle.vob_lr.proofs.BecomingLemmas.{derived_becomes}
-use Rattle.vob_lr.proofs.CompleteLemmas.{becomes_accepted}
 use Rattle.vob_lr.proofs.LinkLemmas.{move_inside}
 use Rattle.vob_lr.proofs.MoveLemmas.{one_move}
 
@@ -114,6 +110,14 @@ module _ (table : TableView) (tokens : List ℕ)
   leads_grows (further {d} {e} leads step) =
       omega (arith, leads_grows leads, taken_grows d e step.action step.taken)
 
+  -- so a parser accepts once
+  pub accepts_once : {c d : Config} → IsReached table tokens c → IsAccepted table tokens c →
+      IsReached table tokens d → IsAccepted table tokens d → c ≡ d
+  accepts_once {c} {d} reached a other b = elim (one_way reached other) [
+    | inl leads ↦ stays leads (accepted_stays c a)
+    | inr leads ↦ sym (stays leads (accepted_stays d b))
+  ]
+
   -- where a parser accepts, it is nowhere stuck, and reduces no more
   module _ (c : Config) (reached : IsReached table tokens c) (a : IsAccepted table tokens c) where
     pub never_stuck : (n : ℕ) → ¬ IsUnexpected table tokens n
@@ -126,21 +130,10 @@ module _ (table : TableView) (tokens : List ℕ)
           (subst (λ (x : Config). IsAccepted table tokens x) (sym (stays leads stuck.no_step)) a)
     ]
 
-    pub never_longer : (steps : ℕ) → length c.reduced ≤ steps → ¬ IsTooLong table tokens steps
-    never_longer steps less long = elim (one_way reached long.reached) [
+    pub never_longer : (steps : ℕ) → IsTooLong table tokens steps → steps < length c.reduced
+    never_longer steps long = elim (one_way reached long.reached) [
       | inl leads ↦
           let same = ap (λ (x : Config). length x.reduced) (stays leads (accepted_stays c a)) in
-          omega (arith, same, less, long.more)
-      | inr leads ↦ omega (arith, leads_grows leads, less, long.more)
+          omega (arith, same, long.more)
+      | inr leads ↦ omega (arith, leads_grows leads, long.more)
     ]
-
-pub parses_found : ParsesAreFound
-parses_found table tokens parsed steps states done p less =
-    let b = derived_becomes table.machine.grammar.rules.items p.derives in
-    let found = becomes_accepted table tokens states done p.rule p.is p.symbols p.then_end
-    (reverse (reverse parsed)) b in
-    let count = ap length found.3 ∙ ap (λ (rs : List ℕ). length (reverse rs)) (reverse-reverse parsed)
-    ∙ length-reverse parsed in (
-      never_stuck table tokens states found.0 found.1 found.2,
-      never_longer table tokens states found.0 found.1 found.2 steps (omega (arith, count, less)),
-    )

@@ -1,6 +1,6 @@
 -- The cells of a state, of which those with an action are kept.
 use Rattle.std.proofs.Common.{◌≡◌, ℕ, ◌+◌, ◌<◌, ◌≤◌, inl, inr, List, [], ◌∷◌, ◌++◌, length, get_or, None, Option, Some, false, slice_get, refl, sym, ap, ◌∙◌, subst, arith}
-use Rattle.std.specs.List.{AllPairs, Contains}
+use Rattle.std.specs.List.{All, AllPairs, Contains}
 use Rattle.std.specs.Option.{is_some}
 use Rattle.std.proofs.lemmas.Bool.{cases_lt, false≢true}
 use Rattle.std.proofs.lemmas.List.{get_or_append_left, get_or_default, get_or_past, get_or_push, length_push}
@@ -8,7 +8,7 @@ use Rattle.std.proofs.lemmas.List.Elements.{All-push, Contains-push_cases}
 use Rattle.std.proofs.lemmas.List.FromFn.{fill_by_all, get_or-map-range_with_len, length-map-range_with_len, map-range_with_len_more}
 use Rattle.std.proofs.lemmas.List.Quantifiers.{all_pairs_push}
 use Rattle.std.proofs.lemmas.Option.{get_or_from_slice_get, slice_get-get_or, slice_get_past, slice_get_within}
-use Rattle.vob_lr.specs.Kept.{AreKept, Equals, IsPushed, Keeps, cells_below}
+use Rattle.vob_lr.specs.Kept.{Acts, AreKept, Equals, IsPushed, Keeps, cells_below}
 use Rattle.vob_lr.specs.Nodes.{place_of}
 use Rattle.vob_lr.specs.Tables.{chosen}
 use Rattle.vob_lr.specs.declared.table.Cell.{Cell}
@@ -29,15 +29,19 @@ Keeps-found kept cell place own is same = record {
   stays = λ k d less. refl;
   inside = slice_get_within kept place own is;
   there = λ d. subst (λ (c : Cell). Equals cell c) (sym (get_or_from_slice_get kept place own d is)) same;
+  differ = λ h. h;
+  act = λ own h. h;
 }
 
 pub Keeps-pushed : (kept : List Cell) (cell : Cell) (place : ℕ) → place ≡ length kept →
-    Keeps kept cell (kept ++ cell ∷ []) place
-Keeps-pushed kept cell place at = record {
+    All (λ own. ¬ Equals cell own) kept → Keeps kept cell (kept ++ cell ∷ []) place
+Keeps-pushed kept cell place at none = record {
   long = omega (arith, length_push kept cell);
   stays = λ k d less. get_or_append_left kept (cell ∷ []) d k less;
   inside = omega (arith, at, length_push kept cell);
   there = λ d. subst (λ (c : Cell). Equals cell c) (sym (get_or_push kept cell d place (sym at))) (refl, refl);
+  differ = λ h. all_pairs_push (λ earlier later. ¬ Equals later earlier) kept cell h none;
+  act = λ own h. All-push Acts kept cell h own;
 }
 
 -- ---- the cells of a row
@@ -115,6 +119,8 @@ module _ (n : ℕ) (terminals places : List ℕ) (kept : List Cell) (nothing : C
       below = λ k d less. omega (arith, h.below k d less);
       long = h.long;
       inside = h.inside;
+      differ = h.differ;
+      act = h.act;
       no_shift = h.no_shift;
       no_reduces = h.no_reduces;
     }
@@ -140,13 +146,16 @@ module _ (n : ℕ) (terminals places : List ℕ) (kept : List Cell) (nothing : C
       rises : AllPairs (λ t u. t < u) after
       rises = all_pairs_push (λ t u. t < u) terminals n h.rise (λ k d less. h.below k d less)
 
-      pub AreKept-with : AreKept (n + 1) (terminals ++ n ∷ []) (places ++ place ∷ []) more nothing
-      AreKept-with = record {
+      pub AreKept-with : Acts cell →
+          AreKept (n + 1) (terminals ++ n ∷ []) (places ++ place ∷ []) more nothing
+      AreKept-with own = record {
         rise = rises;
         below = All-push (λ t. t < n + 1) terminals n (λ k d less. omega (arith, h.below k d less)) (omega arith);
         long = omega (arith, h.long, length_push terminals n, length_push places place);
         inside = All-push (λ p. p < length more) places place
             (λ i d less. omega (arith, h.inside i d less, k.long)) k.inside;
+        differ = k.differ h.differ;
+        act = k.act own h.act;
         no_shift = h.no_shift;
         no_reduces = h.no_reduces;
       }

@@ -1,5 +1,6 @@
 mod AheadLemmas
 mod BecomingLemmas
+mod BoundLemmas
 mod ClosureLemmas
 mod CompleteLemmas
 mod CompletedLemmas
@@ -7,6 +8,7 @@ mod ConflictLemmas
 mod DerivationLemmas
 mod DoneLemmas
 mod EmptyLemmas
+mod EnteredLemmas
 mod EquationLemmas
 mod FateLemmas
 mod FaultLemmas
@@ -16,14 +18,20 @@ mod FollowLemmas
 mod GrowthLemmas
 mod ItemLemmas
 mod KeptLemmas
+mod LanguageLemmas
+mod LeftOutLemmas
 mod LinkLemmas
 mod MemberLemmas
 mod MoveLemmas
 mod NodeLemmas
 mod ParseLemmas
 mod PrecedenceLemmas
+mod PrefixLemmas
+mod RightmostLemmas
 mod SetLemmas
 mod SidesLemmas
+mod SizeLemmas
+mod SmallLemmas
 mod SolvedLemmas
 mod SoundLemmas
 mod StateLemmas

@@ -135,6 +135,9 @@ module _ (table : TableView) (tokens : List ℕ)
   run_reached (then_steps {c} {d} reached step) =
       run_takes c d step.action (run_reached reached) step.is step.taken
 
+  pub read_within : (c : Config) → IsReached table tokens c → c.read ≤ length tokens
+  read_within c reached = (run_reached reached).read
+
   -- a rule by which the table reduces finds states enough
   pub reduce_fits : (c : Config) (r : ℕ) → IsReached table tokens c →
       action_in table tokens c ≡ Some (Reduce r) → CanReplace rules r c

@@ -1,16 +1,10 @@
--- What symbols become by rules, as a parser finds it.
-use Rattle.std.specs.Prelude.{◌≡◌, ℕ, List, [], ◌∷◌, ◌++◌, ◌≤◌, length, slice_get, slice_index_or, All, None, Option, Some}
-use Rattle.vob_lr.specs.Conflicts.{AreConflicts}
-use Rattle.vob_lr.specs.Derivations.{IsParse}
-use Rattle.vob_lr.specs.Faults.{IsRuleOf}
+-- What symbols become by rules, as a parser finds it. No public clause cites this page.
+use Rattle.std.specs.Prelude.{◌≡◌, ℕ, List, [], ◌∷◌, ◌++◌, slice_get, Some}
 use Rattle.vob_lr.specs.Lookaheads.{HasMove, Machine, Reduces}
-use Rattle.vob_lr.specs.States.{AreStates}
-use Rattle.vob_lr.specs.Stops.{IsTooLong, IsUnexpected}
-use Rattle.vob_lr.specs.Tables.{AreRowsOfCells, TableView, action_at}
+use Rattle.vob_lr.specs.Tables.{action_at}
 use Rattle.vob_lr.specs.declared.grammar.Rule.{Rule}
 use Rattle.vob_lr.specs.declared.grammar.Symbol.{Symbol}
 use Rattle.vob_lr.specs.declared.grammar.Symbol.TheVariants.{Terminal, Nonterminal}
-use Rattle.vob_lr.specs.declared.precedence.Precedence.{Precedence}
 use Rattle.vob_lr.specs.declared.table.Action.TheVariants.{Reduce, Shift}
 use Rattle.vob_lr.specs.declared.table.Cell.{Cell}
 
@@ -28,19 +22,3 @@ pub data Becomes (rules : List Rule) : List Symbol → List ℕ → List ℕ →
 pub record AreDone (m : Machine) (cells : List (List Cell)) : Type 0 where
   pub shifts : (q t p : ℕ) → HasMove m.moves q (Terminal t) p → action_at cells q t ≡ Some (Shift p)
   pub reduces : (q t r : ℕ) → Reduces m q t r → action_at cells q t ≡ Some (Reduce r)
-
--- the table of a grammar without precedences says all that a parser may do, if it has no conflict
-abbrev pub TablesDoAll : Type 0
-TablesDoAll = (m : Machine) (terminals rules : List (Option Precedence)) (cells : List (List Cell)) →
-    AreStates m.grammar.rules.items m.sets m.moves →
-    All (IsRuleOf m.grammar) m.grammar.rules.items →
-    AreRowsOfCells m terminals rules (length m.sets) cells →
-    ((r : ℕ) → slice_index_or rules r None ≡ None) → AreConflicts cells [] → AreDone m cells
-
--- a parser by such a table isn't stuck over tokens that have a parse, and needs no more reductions
-abbrev pub ParsesAreFound : Type 0
-ParsesAreFound = (table : TableView) (tokens parsed : List ℕ) (steps : ℕ) →
-    AreStates table.machine.grammar.rules.items table.machine.sets table.machine.moves →
-    AreDone table.machine table.cells →
-    IsParse table.machine.grammar.rules.items tokens parsed → length parsed ≤ steps →
-    ((n : ℕ) → ¬ IsUnexpected table tokens n) × ¬ IsTooLong table tokens steps

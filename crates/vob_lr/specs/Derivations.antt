@@ -36,6 +36,14 @@ pub record IsParse (rules : List Rule) (tokens parsed : List ℕ) : Type 0 where
   pub then_end : rule.right.items ≡ symbols ++ Terminal 0 ∷ []
   pub derives : DerivesBy rules tokens symbols (reverse parsed)
 
+-- tokens that what stands before the end in rule 0 derives
+pub record IsSentence (rules : List Rule) (tokens : List ℕ) : Type 0 where
+  pub rule : Rule
+  pub is : slice_get rules 0 ≡ Some rule
+  pub symbols : List Symbol
+  pub then_end : rule.right.items ≡ symbols ++ Terminal 0 ∷ []
+  pub derives : Derives rules symbols (map Terminal tokens)
+
 -- a rule as its symbols: the nonterminal on its left side, and those on its right side
 abbrev pub sides : Rule → ℕ × List Symbol
 sides rule = (rule.left, rule.right.items)
@@ -61,7 +69,12 @@ FollowingIsDerived = (rules : List Rule) (t a : ℕ) →
     Follows rules t a ↔ ((b : ℕ) × (before : List Symbol) × (after : List Symbol)
     × Derives rules (Nonterminal b ∷ []) (before ++ Nonterminal a ∷ Terminal t ∷ after))
 
--- what derives tokens by some rules derives them
-abbrev pub RightmostIsDerived : Type 0
-RightmostIsDerived = (rules : List Rule) (tokens : List ℕ) (xs : List Symbol) (by : List ℕ) →
-    DerivesBy rules tokens xs by → Derives rules xs (map Terminal tokens)
+-- what derives tokens has a rightmost derivation of them, and only that does
+abbrev pub DerivedIsRightmost : Type 0
+DerivedIsRightmost = (rules : List Rule) (tokens : List ℕ) (xs : List Symbol) →
+    Derives rules xs (map Terminal tokens) ↔ ((by : List ℕ) × DerivesBy rules tokens xs by)
+
+-- sentences are the tokens that have a parse
+abbrev pub SentencesHaveParses : Type 0
+SentencesHaveParses = (rules : List Rule) (tokens : List ℕ) →
+    IsSentence rules tokens ↔ ((parsed : List ℕ) × IsParse rules tokens parsed)

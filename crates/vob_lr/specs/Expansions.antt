@@ -1,10 +1,10 @@
 -- What each nonterminal brings into a closure, and sets under way. No public clause cites this page.
-use Rattle.std.specs.Prelude.{◌≡◌, ◌↔◌, ◌⊎◌, ℕ, ◌+◌, ◌<◌, Bool, true, Option, None, Some, List, length, All, Contains, slice_get, slice_index_or}
+use Rattle.std.specs.Prelude.{◌≡◌, ◌↔◌, ◌⊎◌, ℕ, ◌+◌, ◌<◌, Bool, true, Option, None, Some, List, length, Contains, slice_get, slice_index_or}
 use Rattle.vob_block.specs.Packing.{item}
 use Rattle.vob.specs.Vobs.{AreOfLength}
 use Rattle.vob_flow.specs.Draws.{IsIn}
 use Rattle.vob_lr.specs.Equations.{AreSolved, Reaches}
-use Rattle.vob_lr.specs.Faults.{IsRuleOf}
+use Rattle.vob_lr.specs.Faults.{IsWellFormed}
 use Rattle.vob_lr.specs.ItemSets.{Opens}
 use Rattle.vob_lr.specs.Items.{HasNext, first_item, item_total}
 use Rattle.vob_lr.specs.declared.grammar.Grammar.{Grammar}
@@ -38,7 +38,7 @@ HasOpening rules k a x =
 
 -- a set for each nonterminal of what it brings
 pub record AreExpansions (grammar : Grammar) (rows : List (List Bool)) : Type 0 where
-  pub rules : All (IsRuleOf grammar) grammar.rules.items
+  pub rules : IsWellFormed grammar
   pub count : length rows ≡ grammar.nonterminals
   pub long : AreOfLength (item_total grammar.rules.items) rows
   pub solved : AreSolved (Expands grammar.rules.items) rows

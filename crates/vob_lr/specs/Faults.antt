@@ -22,6 +22,10 @@ IsRule terminals nonterminals rule =
 abbrev pub IsRuleOf : Grammar → Rule → Type 0
 IsRuleOf grammar rule = IsRule grammar.terminals grammar.nonterminals rule
 
+-- each rule is one
+abbrev pub IsWellFormed : Grammar → Type 0
+IsWellFormed grammar = All (IsRuleOf grammar) grammar.rules.items
+
 -- rule n is the first that names another symbol
 pub record IsBadRule (grammar : Grammar) (n : ℕ) : Type 0 where
   pub lower : (k : ℕ) (rule : Rule) → k < n → slice_get grammar.rules.items k ≡ Some rule →

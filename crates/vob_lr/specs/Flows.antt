@@ -1,8 +1,8 @@
 -- How lookaheads flow between the items of states. No public clause cites this page.
-use Rattle.std.specs.Prelude.{◌≡◌, ◌↔◌, ◌⊎◌, ℕ, ◌+◌, Bool, List, length, slice_get, slice_index_or, [], All, Some}
+use Rattle.std.specs.Prelude.{◌≡◌, ◌↔◌, ◌⊎◌, ℕ, ◌+◌, Bool, List, length, slice_get, slice_index_or, [], Some}
 use Rattle.vob_flow.specs.Draws.{IsIn}
 use Rattle.vob_lr.specs.Behind.{StandsBehind}
-use Rattle.vob_lr.specs.Faults.{IsRuleOf}
+use Rattle.vob_lr.specs.Faults.{IsWellFormed}
 use Rattle.vob_lr.specs.Grammar.{AreFirst, AreNullable}
 use Rattle.vob_lr.specs.ItemSets.{HasItem, Opens}
 use Rattle.vob_lr.specs.Items.{HasNext}
@@ -22,7 +22,7 @@ pub record AreOpenings (grammar : Grammar) (rows : List (List Bool)) : Type 0 wh
 -- what lookaheads are found by
 pub record HasTables (m : Machine) (nullable : List Bool) (first opens : List (List Bool))
     : Type 0 where
-  pub rules : All (IsRuleOf m.grammar) m.grammar.rules.items
+  pub rules : IsWellFormed m.grammar
   pub states : AreStates m.grammar.rules.items m.sets m.moves
   pub empties : AreNullable m.grammar nullable
   pub firsts : AreFirst m.grammar first
@@ -69,6 +69,7 @@ pub record HaveLookaheads (m : Machine) (rows : List (List Bool)) : Type 0 where
 
 -- by the nodes of the states
 pub record AreFilled (m : Machine) (offsets : List ℕ) (rows : List (List Bool)) : Type 0 where
+  pub rules : IsWellFormed m.grammar
   pub states : AreStates m.grammar.rules.items m.sets m.moves
   pub offsets_of : AreOffsets m.sets (length m.sets) offsets
   pub rows_of : HaveLookaheads m rows

@@ -1,7 +1,9 @@
 -- The cells of a state, of which those with an action are kept. No public clause cites this page.
-use Rattle.std.specs.Prelude.{◌≡◌, ℕ, ◌<◌, ◌≤◌, List, [], ◌∷◌, ◌++◌, length, map, slice_index_or, All, AllPairs, None}
+use Rattle.std.specs.Prelude.{◌≡◌, ℕ, ◌<◌, ◌≤◌, List, [], ◌∷◌, ◌++◌, length, map, slice_index_or, All, AllPairs, None, true}
 use Rattle.std.specs.List.{range_with_len}
+use Rattle.std.specs.Option.{is_some}
 use Rattle.vob_lr.specs.Nodes.{place_of}
+use Rattle.vob_lr.specs.Tables.{chosen}
 use Rattle.vob_lr.specs.declared.table.Cell.{Cell}
 
 -- a cell holds what another does
@@ -15,12 +17,22 @@ cells_below n terminals places kept nothing =
     map (λ t. slice_index_or kept (slice_index_or places (place_of terminals t) (length kept)) nothing)
     (range_with_len 0 n)
 
--- terminals in rising order, each with the place of a cell, and a cell that holds nothing
+-- no cell holds what an earlier one does
+abbrev pub AreDifferent : List Cell → Type 0
+AreDifferent cells = AllPairs (λ earlier later. ¬ Equals later earlier) cells
+
+-- a cell with an action
+abbrev pub Acts : Cell → Type 0
+Acts cell = is_some (chosen cell.shift cell.reduces.items) ≡ true
+
+-- terminals in rising order, each with the place of a cell with an action, and a cell that holds nothing
 pub record AreKept (n : ℕ) (terminals places : List ℕ) (kept : List Cell) (nothing : Cell) : Type 0 where
   pub rise : AllPairs (λ t u. t < u) terminals
   pub below : All (λ t. t < n) terminals
   pub long : length places ≡ length terminals
   pub inside : All (λ place. place < length kept) places
+  pub differ : AreDifferent kept
+  pub act : All Acts kept
   pub no_shift : nothing.shift ≡ None
   pub no_reduces : nothing.reduces.items ≡ []
 
@@ -30,6 +42,8 @@ pub record Keeps (kept : List Cell) (cell : Cell) (more : List Cell) (place : �
   pub stays : (k : ℕ) (d : Cell) → k < length kept → slice_index_or more k d ≡ slice_index_or kept k d
   pub inside : place < length more
   pub there : (d : Cell) → Equals cell (slice_index_or more place d)
+  pub differ : AreDifferent kept → AreDifferent more
+  pub act : Acts cell → All Acts kept → All Acts more
 
 -- one cell more, which holds the same
 abbrev pub IsPushed : List Cell → Cell → List Cell → Type 0

@@ -3,6 +3,7 @@ pub mod Becoming
 pub mod Behind
 pub mod Conflicts
 pub mod Derivations
+pub mod Entered
 pub mod Equations
 pub mod Expansions
 pub mod Faults
@@ -13,12 +14,14 @@ pub mod ItemSets
 pub mod ItemTables
 pub mod Items
 pub mod Kept
+pub mod Languages
 pub mod Lookaheads
 pub mod Nodes
 pub mod Parses
 pub mod Passes
 pub mod Precedences
 pub mod Rounds
+pub mod Sizes
 pub mod States
 pub mod Stops
 pub mod Tables

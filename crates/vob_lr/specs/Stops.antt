@@ -1,6 +1,7 @@
 -- Where a parser stops, and why.
 use Rattle.std.specs.Prelude.{◌≡◌, ℕ, ◌<◌, ◌≤◌, List, ◌++◌, length, reverse, slice_get, Some, codes}
 use Rattle.std.specs.Fmt.{decimal}
+use Rattle.vob_lr.specs.Faults.{IsWellFormed}
 use Rattle.vob_lr.specs.Parses.{Config, IsAccepted, IsReached, Steps}
 use Rattle.vob_lr.specs.States.{AreStates}
 use Rattle.vob_lr.specs.Tables.{AreSound, TableView}
@@ -35,8 +36,9 @@ IsStop Next steps c Memory = Unit {0}
 IsStop Next steps c (Unexpected n) = (c.read ≡ n) × ((d : Config) → ¬ Next d)
 IsStop Next steps c TooLong = (d : Config) × Next d × (steps < length d.reduced)
 
--- the actions of a table are those of its grammar's states
+-- the actions of a table are those of its grammar's states, and the rules name symbols of the grammar alone
 pub record IsSound (table : TableView) : Type 0 where
+  pub rules : IsWellFormed table.machine.grammar
   pub states : AreStates table.machine.grammar.rules.items table.machine.sets table.machine.moves
   pub actions : AreSound table.machine table.cells
 

@@ -1,7 +1,7 @@
 //! The symbols behind the dots of a set of items.
-ghost use Rattle.std.specs.Prelude.{◌≡◌, ◌+◌, ◌≤◌, length, All, IfOk};
+ghost use Rattle.std.specs.Prelude.{◌≡◌, ◌+◌, ◌≤◌, length, IfOk};
 ghost use Rattle.vob_lr.specs.Expansions.{Gains};
-ghost use Rattle.vob_lr.specs.Faults.{IsRuleOf};
+ghost use Rattle.vob_lr.specs.Faults.{IsWellFormed};
 ghost use Rattle.vob_lr.specs.Ahead.{AreAhead, HasAhead, number_of};
 
 use crate::grammar::Symbol;
@@ -33,7 +33,7 @@ fn symbol_count(items: &Items<'_>) -> Result<usize, AllocError>
 
 /// Adds the number of the symbol behind the dot of an item, if there is one.
 fn look(items: &Items<'_>, number: usize, ahead: &mut Vob)
-    requires rules { All (IsRuleOf items.now) items.now.rules.items }
+    requires rules { IsWellFormed items.now }
     requires long { length ahead.old.bits ≡ items.now.terminals + items.now.nonterminals }
     ensures { Gains (HasAhead items.now number) ahead.old.bits ahead.new.bits }
 {
@@ -49,7 +49,7 @@ fn look(items: &Items<'_>, number: usize, ahead: &mut Vob)
 
 /// Returns the numbers of the symbols behind the dots of some items, with a bit for each symbol.
 pub(crate) fn ahead_of(alloc: Global, items: &Items<'_>, set: &[usize]) -> Result<Vob, AllocError>
-    requires { All (IsRuleOf items.now) items.now.rules.items }
+    requires { IsWellFormed items.now }
     ensures { IfOk result (λ ahead. AreAhead items.now set.now ahead.bits) }
 {
     let places = symbol_count(items)?;

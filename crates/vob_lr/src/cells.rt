@@ -1,5 +1,5 @@
 //! The cells of a state.
-ghost use Rattle.std.specs.Prelude.{◌≡◌, [], IfNone, IfOk, IfSome, IsTrue, None, slice_get, Some};
+ghost use Rattle.std.specs.Prelude.{◌≡◌, ◌↔◌, [], All, IfNone, IfOk, IfSome, IsTrue, None, slice_get, Some};
 ghost use Rattle.vob_lr.specs.Kept.{Equals, IsPushed, Keeps};
 ghost use Rattle.vob_lr.specs.declared.table.Cell.{Cell as Seen};
 
@@ -10,15 +10,16 @@ use std::marker::Model;
 
 /// Returns whether a cell holds what another does.
 fn equals(cell: &Cell, own: &Cell) -> bool
-    ensures { IsTrue result → Equals cell.now own.now }
+    ensures { IsTrue result ↔ Equals cell.now own.now }
 {
     own.shift == cell.shift && own.reduces.as_slice() == cell.reduces.as_slice()
 }
 
 /// Returns the place of a cell among others that holds the same, or `None` if none does.
 fn find_equal(kept: &[Cell], cell: &Cell) -> Option<usize>
-    ensures { IfSome result (λ place.
+    ensures some { IfSome result (λ place.
         (own : Seen) × (slice_get kept.now place ≡ Some own) × Equals cell.now own) }
+    ensures none { IfNone result (All (λ own. ¬ Equals cell.now own) kept.now) }
 {
     for place in 0..kept.len() {
         if equals(cell, &kept[place]) {

@@ -3,7 +3,7 @@ ghost use Rattle.std.specs.Prelude.{◌≡◌, ◌≢◌, ◌↔◌, ℕ, ◌<�
 ghost use Rattle.vob.specs.Vobs.{AreOfLength};
 ghost use Rattle.vob_lr.specs.Equations.{AreEquations, At, GainEach};
 ghost use Rattle.vob_lr.specs.Expansions.{Adds, Advances, AreExpansions, Expands, Gains, Gives, Has, HasOpening, HasRow, IsBrought, IsOpening};
-ghost use Rattle.vob_lr.specs.Faults.{IsBadRule, IsRuleOf};
+ghost use Rattle.vob_lr.specs.Faults.{IsBadRule, IsWellFormed};
 ghost use Rattle.vob_lr.specs.ItemSets.{IsAdvanced, IsItemClosure, IsGoto};
 ghost use Rattle.vob_lr.specs.Items.{item_total};
 ghost use Rattle.vob_lr.specs.Ahead.{AreAhead};
@@ -46,7 +46,7 @@ fn open_rules(
     equations: &mut Equations,
 ) -> Result<(), AllocError>
     requires items { items.now ≡ grammar.now }
-    requires rules { All (IsRuleOf grammar.now) grammar.now.rules.items }
+    requires rules { IsWellFormed grammar.now }
     requires sets { length equations.old.starts ≡ grammar.now.nonterminals }
     requires places { equations.old.places ≡ item_total grammar.now.rules.items }
     ensures { OnOk result
@@ -67,7 +67,7 @@ pub(crate) fn expansion_equations(
     items: &Items<'_>,
 ) -> Result<Equations, AllocError>
     requires items { items.now ≡ grammar.now }
-    requires rules { All (IsRuleOf grammar.now) grammar.now.rules.items }
+    requires rules { IsWellFormed grammar.now }
     ensures { IfOk result (AreEquations grammar.now.nonterminals
         (item_total grammar.now.rules.items) (Expands grammar.now.rules.items)) }
 {
@@ -79,7 +79,7 @@ pub(crate) fn expansion_equations(
 /// Returns for each nonterminal of a grammar with sound rules the items that it brings.
 fn expansions_of(alloc: Global, grammar: &Grammar, items: &Items<'_>) -> Result<BitRows, AllocError>
     requires items { items.now ≡ grammar.now }
-    requires rules { All (IsRuleOf grammar.now) grammar.now.rules.items }
+    requires rules { IsWellFormed grammar.now }
     ensures { IfOk result (λ expansions. AreExpansions grammar.now expansions.rows) }
 {
     let equations = expansion_equations(alloc, grammar, items)?;

@@ -1,7 +1,7 @@
 //! Which terminals can begin what the nonterminals of a grammar become.
 ghost use Rattle.std.specs.Prelude.{◌≡◌, ◌<◌, length, All, IfOk, IsOk, OnOk};
 ghost use Rattle.vob_lr.specs.Equations.{AreEquations, At, GainEach};
-ghost use Rattle.vob_lr.specs.Faults.{IsRuleOf};
+ghost use Rattle.vob_lr.specs.Faults.{IsWellFormed};
 ghost use Rattle.vob_lr.specs.Grammar.{AreFirst, AreNullable};
 ghost use Rattle.vob_lr.specs.Heads.{HasHead, HasPlace, IsHead};
 
@@ -36,7 +36,7 @@ fn add_heads(
 
 /// Does that for the right sides of all rules.
 fn add_rules(nullable: &Vob, grammar: &Grammar, equations: &mut Equations) -> Result<(), AllocError>
-    requires rules { All (IsRuleOf grammar.now) grammar.now.rules.items }
+    requires rules { IsWellFormed grammar.now }
     requires sets { length equations.old.starts ≡ grammar.now.nonterminals }
     requires places { equations.old.places ≡ grammar.now.terminals }
     ensures { OnOk result (GainEach (HasHead nullable.now.bits grammar.now.rules.items)
@@ -54,7 +54,7 @@ fn first_equations(
     grammar: &Grammar,
     nullable: &Vob,
 ) -> Result<Equations, AllocError>
-    requires { All (IsRuleOf grammar.now) grammar.now.rules.items }
+    requires { IsWellFormed grammar.now }
     ensures { IfOk result (AreEquations grammar.now.nonterminals grammar.now.terminals
         (HasHead nullable.now.bits grammar.now.rules.items)) }
 {
@@ -70,7 +70,7 @@ pub(crate) fn solve_first(
     grammar: &Grammar,
     nullable: &Vob,
 ) -> Result<BitRows, AllocError>
-    requires rules { All (IsRuleOf grammar.now) grammar.now.rules.items }
+    requires rules { IsWellFormed grammar.now }
     requires nullable { AreNullable grammar.now nullable.now.bits }
     ensures first { IfOk result (λ sets. AreFirst grammar.now sets.rows) }
     ensures columns { IfOk result (λ sets. sets.columns ≡ grammar.now.terminals) }

@@ -1,10 +1,10 @@
 //! Which terminals can follow the nonterminals of a grammar.
-ghost use Rattle.std.specs.Prelude.{◌≡◌, ◌↔◌, ◌⊎◌, ℕ, true, length, IsTrue, All, IfOk, IsOk, OnOk};
+ghost use Rattle.std.specs.Prelude.{◌≡◌, ◌↔◌, ◌⊎◌, ℕ, true, length, IsTrue, IfOk, IsOk, OnOk};
 ghost use Rattle.vob_block.specs.Packing.{item};
 ghost use Rattle.vob.specs.Vobs.{AreOfLength};
 ghost use Rattle.vob_lr.specs.Behind.{HasBehind, IsBehind, IsBelow, IsOfTrailer, IsStart};
 ghost use Rattle.vob_lr.specs.Equations.{AreEquations, GainEach};
-ghost use Rattle.vob_lr.specs.Faults.{IsRuleOf};
+ghost use Rattle.vob_lr.specs.Faults.{IsRuleOf, IsWellFormed};
 ghost use Rattle.vob_lr.specs.Grammar.{AreFirst, AreFollow, AreNullable};
 ghost use Rattle.vob_lr.specs.Heads.{HasPlace};
 ghost use Rattle.vob_lr.specs.Passes.{IsNull};
@@ -118,7 +118,7 @@ fn add_rules(
     begins: &mut Vob,
     equations: &mut Equations,
 ) -> Result<(), AllocError>
-    requires rules { All (IsRuleOf grammar.now) grammar.now.rules.items }
+    requires rules { IsWellFormed grammar.now }
     requires nullable { AreNullable grammar.now nullable.now.bits }
     requires first { AreFirst grammar.now first.now.rows }
     requires begins { length begins.old.bits ≡ grammar.now.terminals }
@@ -141,7 +141,7 @@ fn follow_equations(
     nullable: &Vob,
     first: &BitRows,
 ) -> Result<Equations, AllocError>
-    requires rules { All (IsRuleOf grammar.now) grammar.now.rules.items }
+    requires rules { IsWellFormed grammar.now }
     requires nullable { AreNullable grammar.now nullable.now.bits }
     requires first { AreFirst grammar.now first.now.rows }
     ensures { IfOk result (AreEquations grammar.now.nonterminals grammar.now.terminals
@@ -160,7 +160,7 @@ pub(crate) fn solve_follow(
     nullable: &Vob,
     first: &BitRows,
 ) -> Result<BitRows, AllocError>
-    requires rules { All (IsRuleOf grammar.now) grammar.now.rules.items }
+    requires rules { IsWellFormed grammar.now }
     requires nullable { AreNullable grammar.now nullable.now.bits }
     requires first { AreFirst grammar.now first.now.rows }
     ensures follow { IfOk result (λ sets. AreFollow grammar.now sets.rows) }

@@ -1,6 +1,6 @@
 //! Context-free grammars, and the first rule of one that names a symbol that isn't there.
-ghost use Rattle.std.specs.Prelude.{◌↔◌, All, IsTrue, IfErr, OnOk};
-ghost use Rattle.vob_lr.specs.Faults.{IsFault, IsSymbol, IsRuleOf};
+ghost use Rattle.std.specs.Prelude.{◌↔◌, IsTrue, IfErr, OnOk};
+ghost use Rattle.vob_lr.specs.Faults.{IsFault, IsRuleOf, IsSymbol, IsWellFormed};
 
 use std::alloc::AllocError;
 use std::{error, fmt};
@@ -104,7 +104,7 @@ fn is_rule_of(grammar: &Grammar, rule: &Rule) -> bool
 
 /// Whether each rule names symbols of the grammar alone, or else the first that doesn't.
 pub(crate) fn check_rules(grammar: &Grammar) -> Result<(), GrammarError>
-    ensures ok { OnOk result (All (IsRuleOf grammar.now) grammar.now.rules.items) }
+    ensures ok { OnOk result (IsWellFormed grammar.now) }
     ensures err { IfErr result (IsFault grammar.now) }
 {
     for rule in 0..grammar.rules.len() {

@@ -1,8 +1,9 @@
-//! What the sets of a grammar mean by derivations, and which item stands behind another. Each
-//! function does nothing: its contract is the law.
-ghost use Rattle.vob_lr.specs.Becoming.{ParsesAreFound, TablesDoAll};
-ghost use Rattle.vob_lr.specs.Derivations.{BeginningIsDerived, EmptyIsDerived, FollowingIsDerived, ParsesAreOfSymbols, RightmostIsDerived};
+//! What the sets and the tables of a grammar mean by derivations, and which item stands behind
+//! another. Each function does nothing: its contract is the law.
+ghost use Rattle.vob_lr.specs.Derivations.{BeginningIsDerived, DerivedIsRightmost, EmptyIsDerived, FollowingIsDerived, ParsesAreOfSymbols, SentencesHaveParses};
+ghost use Rattle.vob_lr.specs.Entered.{OthersAreNotEntered};
 ghost use Rattle.vob_lr.specs.Items.{NextItemIsBehind};
+ghost use Rattle.vob_lr.specs.Languages.{AcceptedAreSentences, ErrorsAreEarly, ErrorsAreLate, SentencesHaveOneParse, TooLongIsNoSentence};
 
 /// Symbols can become empty exactly if they derive nothing. So `nullable` finds the nonterminals
 /// that derive nothing.
@@ -28,10 +29,14 @@ pub fn next_item_is_behind()
     ensures { NextItemIsBehind }
 {}
 
-/// What derives some tokens by a rightmost derivation derives them. So `parse` accepts nothing but
-/// what the grammar derives.
-pub fn rightmost_is_derived()
-    ensures { RightmostIsDerived }
+/// What derives tokens has a rightmost derivation of them, and only that does.
+pub fn derived_is_rightmost()
+    ensures { DerivedIsRightmost }
+{}
+
+/// The sentences of a grammar are the tokens that have a parse. So `parse` accepts nothing else.
+pub fn sentences_have_parses()
+    ensures { SentencesHaveParses }
 {}
 
 /// Rules with the same symbols have the same parses. So a parse by the rules of a table is one by
@@ -40,14 +45,35 @@ pub fn parses_are_of_symbols()
     ensures { ParsesAreOfSymbols }
 {}
 
-/// If the table says each action that a parser may do, tokens with a rightmost derivation are never
-/// refused, but for memory or too few reductions.
-pub fn parses_are_found()
-    ensures { ParsesAreFound }
+/// By the table of an LALR(1) grammar a parser accepts exactly the sentences.
+pub fn accepted_are_sentences()
+    ensures { AcceptedAreSentences }
 {}
 
-/// The table of a grammar without precedences, whose rules name its symbols alone, says all that a
-/// parser may do if it has no conflict.
-pub fn tables_do_all()
-    ensures { TablesDoAll }
+/// A sentence of an LALR(1) grammar has one parse. So `parse` returns that.
+pub fn sentences_have_one_parse()
+    ensures { SentencesHaveOneParse }
+{}
+
+/// By the table of an LALR(1) grammar an error is early: the tokens up to the one that `parse` names
+/// begin no sentence.
+pub fn errors_are_early()
+    ensures { ErrorsAreEarly }
+{}
+
+/// By a table a parser enters no states but those of `Table::entered`.
+pub fn others_are_not_entered()
+    ensures { OthersAreNotEntered }
+{}
+
+/// An error isn't too early: the tokens before the one that `parse` names begin a sentence, if each
+/// nonterminal derives some tokens.
+pub fn errors_are_late()
+    ensures { ErrorsAreLate }
+{}
+
+/// By the table of an LALR(1) grammar tokens that a parser reduces by more rules than suffice are no
+/// sentence. So `parse` fails over a sentence for memory alone.
+pub fn too_long_is_no_sentence()
+    ensures { TooLongIsNoSentence }
 {}

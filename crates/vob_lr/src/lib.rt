@@ -2,9 +2,12 @@
 #![tactic(auto)]
 
 mod ahead;
+mod bound;
 mod cells;
 mod closure;
+mod conflicts;
 mod empty;
+mod entered;
 mod equations;
 mod first;
 mod flows;

@@ -1,7 +1,7 @@
 //! The lookaheads of a grammar's states, by which a parser knows when an item is complete.
-ghost use Rattle.std.specs.Prelude.{◌≡◌, ◌↔◌, ℕ, [], All, Err, IfErr, IfNone, IfOk, IfSome, IsTrue, OnOk, Some};
+ghost use Rattle.std.specs.Prelude.{◌≡◌, ◌↔◌, ℕ, [], Err, IfErr, IfNone, IfOk, IfSome, IsTrue, OnOk, Some};
 ghost use Rattle.vob_flow.specs.Lists.{lists_of};
-ghost use Rattle.vob_lr.specs.Faults.{IsBadRule, IsRuleOf, MayRefuseGrammar};
+ghost use Rattle.vob_lr.specs.Faults.{IsBadRule, IsWellFormed, MayRefuseGrammar};
 ghost use Rattle.vob_lr.specs.Flows.{HaveLookaheads};
 ghost use Rattle.vob_lr.specs.ItemSets.{HasItem};
 ghost use Rattle.vob_lr.specs.Lookaheads.{AreLookaheads, HasMove, Reduces, machine_of};
@@ -51,7 +51,7 @@ fn solve_lookaheads(
     automaton: &Automaton,
     nodes: &Nodes<'_>,
 ) -> Result<BitRows, AllocError>
-    requires rules { All (IsRuleOf items.now) items.now.rules.items }
+    requires rules { IsWellFormed items.now }
     requires states { AreStates items.now.rules.items (lists_of automaton.now.sets.items)
         (rows_of automaton.now.moves.items) }
     requires nodes { nodes.now ≡ lists_of automaton.now.sets.items }
@@ -82,7 +82,7 @@ impl<'a> Lookaheads<'a> {
     /// memory runs out.
     pub fn new(alloc: Global, grammar: &'a Grammar) -> Result<Lookaheads<'a>, GrammarError>
         ensures grammar { IfOk result (λ made. made.grammar ≡ grammar.now) }
-        ensures sound { OnOk result (All (IsRuleOf grammar.now) grammar.now.rules.items) }
+        ensures sound { OnOk result (IsWellFormed grammar.now) }
 
         // The rules are checked first.
         ensures no_rule { (result ≡ Err GrammarError.NoRule) ↔ (grammar.now.rules.items ≡ []) }
@@ -118,6 +118,7 @@ impl<'a> Lookaheads<'a> {
     pub fn automaton(&self) -> &Automaton
         ensures machine { machine_of self.now.grammar result.now ≡ self.now }
         ensures states { AreStates self.now.grammar.rules.items self.now.sets self.now.moves }
+        ensures rules { IsWellFormed self.now.grammar }
     {
         &self.automaton
     }

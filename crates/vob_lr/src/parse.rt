@@ -1,6 +1,7 @@
 //! A parser by a table.
 ghost use Rattle.std.specs.Prelude.{◌≡◌, ◌↔◌, ℕ, ◌<◌, ◌≤◌, drop, length, reverse, slice_get, slice_index, Err, IfErr, IfOk, IsTrue, OnOk, Some};
 ghost use Rattle.vob_lr.specs.Derivations.{IsParse};
+ghost use Rattle.vob_lr.specs.Languages.{MoreThanSuffice};
 ghost use Rattle.vob_lr.specs.Parses.{IsAccepted, IsLast, IsReached, IsReplaced, Steps, beginning, replaced, shifted, top};
 ghost use Rattle.vob_lr.specs.Stops.{AcceptsBy, CanReplace, IsSound, IsStop, IsTooLong, IsUnexpected};
 
@@ -17,7 +18,7 @@ pub enum ParseError {
     Memory,
     /// No action takes the token with an index, or the end if the index is the number of tokens.
     Unexpected { at: usize },
-    /// There are more reductions than were allowed.
+    /// There are more reductions than suffice for a sentence, or than were allowed.
     TooLong,
 }
 
@@ -260,37 +261,63 @@ impl Table<'_> {
         Ok(())
     }
 
-    /// Parses tokens, each the number of a terminal, without the end. Returns the rules by which the
-    /// parser reduced, in their order: read backwards, they are a rightmost derivation of the tokens
-    /// from the start symbol. A table with conflicts that were left shifts, or else reduces by the
-    /// lowest rule.
+    /// Parses tokens as `parse` does, but by so many reductions at most: a table with conflicts may
+    /// need more than suffice for a sentence.
     ///
-    /// Fails with the index of the first token that no action takes, or the number of tokens if that
-    /// is the end. Fails if there are more than `steps` reductions: a grammar with a cycle may need
-    /// them without end. Fails if memory runs out.
-    pub fn parse(
+    /// Fails as `parse` does, and if there are more than so many reductions.
+    pub fn parse_within(
         &self,
         alloc: Global,
         tokens: &[usize],
-        steps: usize,
+        reductions: usize,
     ) -> Result<Vec<usize>, ParseError>
         ensures derives { IfOk result (λ rules.
             IsParse self.now.machine.grammar.rules.items tokens.now rules.items) }
-        ensures within { IfOk result (λ rules. length rules.items ≤ steps) }
+        ensures within { IfOk result (λ rules. length rules.items ≤ reductions) }
 
         // It does what the table says.
         ensures accepted { IfOk result (λ rules. AcceptsBy self.now tokens.now rules.items) }
         ensures unexpected { (n : ℕ) → result ≡ Err (ParseError.Unexpected n)
             → IsUnexpected self.now tokens.now n }
         ensures too_long { result ≡ Err ParseError.TooLong
-            → IsTooLong self.now tokens.now steps }
+            → IsTooLong self.now tokens.now reductions }
     {
         // A proof knows from this call that the actions are those of the states.
-        let _states = self.lookaheads().automaton();
+        let _states = self.lookaheads();
         let mut run = Run::new(alloc)?;
         'steps: while !self.accepts(tokens, &run) {
-            self.step(tokens, steps, &mut run)?;
+            self.step(tokens, reductions, &mut run)?;
         }
         Ok(run.into_rules())
+    }
+
+    /// Parses tokens, each the number of a terminal, without the end. Returns the rules by which the
+    /// parser reduced, in their order: read backwards, they are a rightmost derivation of the tokens
+    /// from the start symbol. A table with conflicts that were left shifts, or else reduces by the
+    /// lowest rule.
+    ///
+    /// Fails with the index of the first token that no action takes, or the number of tokens if that
+    /// is the end. Fails if there are more reductions than suffice for a sentence of so many tokens: a
+    /// grammar with a cycle may need them without end. Fails if memory runs out. If the table has no
+    /// conflict and precedence decided none, it fails over a sentence for memory alone: see
+    /// `laws::accepted_are_sentences`.
+    pub fn parse(&self, alloc: Global, tokens: &[usize]) -> Result<Vec<usize>, ParseError>
+        ensures derives { IfOk result (λ rules.
+            IsParse self.now.machine.grammar.rules.items tokens.now rules.items) }
+
+        // It does what the table says.
+        ensures accepted { IfOk result (λ rules. AcceptsBy self.now tokens.now rules.items) }
+        ensures unexpected { (n : ℕ) → result ≡ Err (ParseError.Unexpected n)
+            → IsUnexpected self.now tokens.now n }
+        ensures too_long { result ≡ Err ParseError.TooLong
+            → MoreThanSuffice self.now tokens.now }
+    {
+        let reductions = self.most_reductions(tokens.len());
+        let parsed = self.parse_within(alloc, tokens, reductions);
+        if reductions == usize::MAX && matches!(parsed, Err(ParseError::TooLong)) {
+            // So many rules don't fit in memory.
+            return Err(ParseError::Memory);
+        }
+        parsed
     }
 }

@@ -23,7 +23,7 @@ pub(crate) struct Source<'t, 'a> {
 }
 
 /// Returns the rules whose complete items a set has. The set must rise.
-fn complete_rules(alloc: Global, items: &Items<'_>, set: &[usize]) -> Result<Vec<usize>, AllocError>
+fn completed(alloc: Global, items: &Items<'_>, set: &[usize]) -> Result<Vec<usize>, AllocError>
     requires { AllPairs (λ i j. i < j) set.now }
     ensures { IfOk result (λ rules.
         AreThose (HasComplete items.now.rules.items set.now) rules.items) }
@@ -35,6 +35,21 @@ fn complete_rules(alloc: Global, items: &Items<'_>, set: &[usize]) -> Result<Vec
         }
     }
     Ok(rules)
+}
+
+/// Returns the rules whose complete items a state has: none if there is no such state.
+pub(crate) fn complete_rules(
+    alloc: Global,
+    lookaheads: &Lookaheads<'_>,
+    state: usize,
+) -> Result<Vec<usize>, AllocError>
+    ensures { IfOk result (λ rules. AreThose (HasComplete lookaheads.now.grammar.rules.items
+        (slice_index_or lookaheads.now.sets state [])) rules.items) }
+{
+    match lookaheads.automaton().sets.get(state) {
+        Some(set) => completed(alloc, lookaheads.items(), set),
+        None => Ok(Vec::new(alloc)),
+    }
 }
 
 /// Returns those of a state's complete rules by which a parser may reduce if a terminal is ahead.
@@ -83,16 +98,12 @@ impl Source<'_, '_> {
 
     /// Returns the row of a state.
     fn row(&self, alloc: Global, state: usize) -> Result<CellRow, AllocError>
-        requires { state < length self.now.lookaheads.now.sets }
         ensures { IfOk result (λ row. AreCells self.now.lookaheads.now self.now.terminals.now
             self.now.rules.now state self.now.lookaheads.now.grammar.terminals row) }
     {
-        let lookaheads = self.lookaheads;
-        let items = lookaheads.items();
-        let automaton = lookaheads.automaton();
-        let complete = complete_rules(alloc, items, &automaton.sets[state])?;
+        let complete = complete_rules(alloc, self.lookaheads, state)?;
         let mut row = CellRow::new(alloc);
-        for terminal in 0..items.grammar().terminals {
+        for terminal in 0..self.lookaheads.items().grammar().terminals {
             row = row.with(self.cell(alloc, state, terminal, &complete)?)?;
         }
         Ok(row)

@@ -1,8 +1,10 @@
 //! The table of a parser.
-ghost use Rattle.std.specs.Prelude.{◌≡◌, ◌↔◌, ◌+◌, [], length, None, slice_get, slice_index_or, Some, IfNone, IfOk, IfSome, IsTrue, OnOk};
-ghost use Rattle.vob_lr.specs.Conflicts.{AreConflicts, AreConflictsBefore, IsConflictAt};
-ghost use Rattle.vob_lr.specs.Tables.{AreRowsOfCells, AreSound, action_at};
+ghost use Rattle.std.specs.Prelude.{◌≡◌, ◌↔◌, ◌⊎◌, [], length, None, slice_get, slice_index_or, Some, IfNone, IfOk, IfSome, IsTrue};
+ghost use Rattle.vob_lr.specs.Languages.{Suffice};
+ghost use Rattle.vob_lr.specs.Stops.{IsSound};
+ghost use Rattle.vob_lr.specs.Tables.{AreRowsOfCells, action_at};
 
+use crate::bound::{Bound, bound_of};
 use crate::cells::CellRow;
 use crate::lookaheads::Lookaheads;
 use crate::precedence::Precedence;
@@ -27,7 +29,7 @@ pub struct Cell {
     pub reduces: Vec<usize>,
 }
 
-/// A state and a terminal for which a table has more than one action.
+/// A state and a terminal with more than one action, before precedence decides or after.
 #[derive(Clone, Copy, Debug, PartialEq, Eq)]
 pub struct Conflict {
     pub state: usize,
@@ -40,16 +42,22 @@ pub struct Conflict {
 pub struct Table<'a> {
     lookaheads: Lookaheads<'a>,
     rows: Vec<CellRow>,
+    // How many reductions suffice for a sentence.
+    bound: Bound,
 }
 
 impl<'a> Model for Table<'a> {
-    ghost use Rattle.vob_lr.specs.Tables.{AreSound, TableView};
+    ghost use Rattle.std.below.core.specs.declared.int.usize.TheConstants.{MAX};
+    ghost use Rattle.vob_lr.specs.Sizes.{IsBound};
+    ghost use Rattle.vob_lr.specs.Stops.{IsSound};
+    ghost use Rattle.vob_lr.specs.Tables.{TableView};
 
     ghost Value = { TableView };
 
     ghost view = { λ a. record { machine = a.lookaheads; cells = a.rows.items } };
 
-    ghost invariant = { λ a. AreSound a.lookaheads a.rows.items };
+    ghost invariant = { λ a. IsSound (record { machine = a.lookaheads; cells = a.rows.items })
+        × IsBound MAX a.lookaheads.grammar.rules.items a.bound.base a.bound.each };
 }
 
 impl Cell {
@@ -86,8 +94,8 @@ impl<'a> Table<'a> {
     /// binds more tightly stays, as in yacc and bison; if both bind alike, the associativity of the
     /// terminal decides. What it leaves to choose is a conflict.
     ///
-    /// Fails if memory runs out. Cells with an action take 16 bytes, and more if
-    /// no other of the state holds the same.
+    /// Fails if memory runs out. A cell with an action takes 16 bytes; each of a state that differs
+    /// from its others takes about 80 more.
     pub fn new(
         alloc: Global,
         lookaheads: Lookaheads<'a>,
@@ -98,21 +106,38 @@ impl<'a> Table<'a> {
         ensures cells { IfOk result (λ table. AreRowsOfCells table.machine terminals.now rules.now
             (length table.machine.sets) table.cells) }
     {
+        // A proof knows from this call what the states are.
+        let _states = lookaheads.automaton();
         let source = Source {
             lookaheads: &lookaheads,
             terminals,
             rules,
         };
         let rows = source.rows(alloc)?;
-        Ok(Table { lookaheads, rows })
+        let bound = bound_of(alloc, lookaheads.items().grammar())?;
+        Ok(Table {
+            lookaheads,
+            rows,
+            bound,
+        })
     }
 
     /// Returns the states, with the lookaheads of their items.
     pub fn lookaheads(&self) -> &Lookaheads<'a>
         ensures machine { result.now ≡ self.now.machine }
-        ensures sound { AreSound self.now.machine self.now.cells }
+        ensures sound { IsSound self.now }
     {
         &self.lookaheads
+    }
+
+    /// Returns how many reductions suffice for each sentence of so many tokens, or `usize::MAX` if no
+    /// number counts them.
+    pub fn most_reductions(&self, tokens: usize) -> usize
+        ensures { (result ≡ usize.MAX)
+            ⊎ Suffice self.now.machine.grammar.rules.items tokens result }
+    {
+        let more = self.bound.each.saturating_mul(tokens);
+        self.bound.base.saturating_add(more)
     }
 
     /// Returns what a parser may do in a state when a terminal is ahead, or `None` if there is no
@@ -131,43 +156,5 @@ impl<'a> Table<'a> {
         ensures { result ≡ action_at self.now.cells state terminal }
     {
         self.cell(state, terminal)?.action()
-    }
-
-    /// Returns whether there is more than one action in a state at a terminal.
-    fn is_conflict_at(&self, state: usize, terminal: usize) -> bool
-        ensures { IsTrue result
-            ↔ IsConflictAt self.now.cells (record { state = state; terminal = terminal }) }
-    {
-        match self.cell(state, terminal) {
-            Some(cell) => cell.is_conflict(),
-            None => false,
-        }
-    }
-
-    /// Adds the conflicts of a state to those of the states before it.
-    fn add_conflicts(&self, state: usize, found: &mut Vec<Conflict>) -> Result<(), AllocError>
-        requires { AreConflictsBefore self.now.cells (record { state = state; terminal = 0 })
-            found.old.items }
-        ensures { OnOk result (AreConflictsBefore self.now.cells
-            (record { state = state + 1; terminal = 0 }) found.new.items) }
-    {
-        for terminal in 0..self.lookaheads.items().grammar().terminals {
-            if self.is_conflict_at(state, terminal) {
-                found.push(Conflict { state, terminal })?;
-            }
-        }
-        Ok(())
-    }
-
-    /// Returns the states and terminals for which there is more than one action: state by state, and
-    /// of a state the lower terminal first.
-    pub fn conflicts(&self, alloc: Global) -> Result<Vec<Conflict>, AllocError>
-        ensures { IfOk result (λ found. AreConflicts self.now.cells found.items) }
-    {
-        let mut found = Vec::new(alloc);
-        for state in 0..self.rows.len() {
-            self.add_conflicts(state, &mut found)?;
-        }
-        Ok(found)
     }
 }

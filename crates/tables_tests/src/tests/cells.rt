@@ -3,7 +3,7 @@ use super::grammar::grammar_of;
 use super::support::same;
 use std::alloc::{AllocError, Global};
 use std::process::Abort;
-use vob_lr::{Associativity, Cell, Grammar, Lookaheads, Precedence, Table};
+use vob_lr::{Associativity, Cell, Conflict, Grammar, Lookaheads, Precedence, Table};
 
 /// The textbooks' grammar of two words `c* d`.
 const WORDS: [&str; 4] = ["A=S$", "S=CC", "C=cC", "C=d"];
@@ -97,6 +97,8 @@ fn cells_are_those_of_the_textbook(rt: HostRuntime) {
     );
     let conflicts = table.conflicts(rt.alloc()).expect(&rt, "memory");
     same(&rt, "conflicts", 0, conflicts.len(), 0);
+    let decided = table.decided(rt.alloc()).expect(&rt, "memory");
+    same(&rt, "decided cells", 0, decided.len(), 0);
 }
 
 /// A precedence.
@@ -107,34 +109,46 @@ fn binds(level: usize, associativity: Associativity) -> Option<Precedence> {
     })
 }
 
-/// Compares what state 5 of the sum does at `+`, and whether that is the one conflict.
+/// Compares what state 5 of the sum does at `+`, and what precedence left out there. That is the one
+/// conflict, or the one cell that was decided.
 fn check_sum(
     rt: &(impl Abort + AllocGlobal),
     terminal: Option<Precedence>,
     rule: Option<Precedence>,
     wanted: &str,
+    left_out: &str,
 ) {
     let grammar = grammar_of(rt, ("AE", "$+i"), &SUM);
     let table = table_of(rt, &grammar, &[None, terminal], &[None, rule]);
     check_cells(rt, &table, 5, 3, wanted);
+    let mut text = String::new(rt.alloc());
+    let left = table.left_out(rt.alloc(), 5, 1).expect(rt, "memory");
+    add_cell(rt.alloc(), &mut text, &left).expect(rt, "memory");
+    same(rt, "what is left out", 5, text.as_str(), left_out);
     let conflicts = table.conflicts(rt.alloc()).expect(rt, "memory");
-    let is_one = wanted == "r1 s4r1 .";
+    let decided = table.decided(rt.alloc()).expect(rt, "memory");
+    let here = Conflict {
+        state: 5,
+        terminal: 1,
+    };
+    let (one, none) = if left_out == "." {
+        (conflicts, decided)
+    } else {
+        (decided, conflicts)
+    };
     same(
         rt,
-        "how many conflicts",
+        "the place",
         5,
-        conflicts.len(),
-        if is_one { 1 } else { 0 },
+        one.as_slice() == [here].as_slice(),
+        true,
     );
-    for conflict in &conflicts {
-        same(rt, "its state", 5, conflict.state, 5);
-        same(rt, "its terminal", 1, conflict.terminal, 1);
-    }
+    same(rt, "no other", 5, none.len(), 0);
 }
 
 #[test]
 fn precedence_decides_between_a_shift_and_a_rule(rt: HostRuntime) {
-    check_sum(&rt, None, None, "r1 s4r1 .");
+    check_sum(&rt, None, None, "r1 s4r1 .", ".");
     for side in [
         Associativity::Left,
         Associativity::Right,
@@ -143,23 +157,47 @@ fn precedence_decides_between_a_shift_and_a_rule(rt: HostRuntime) {
     ] {
         let low = binds(1, side);
         let high = binds(2, side);
-        check_sum(&rt, low, None, "r1 s4r1 .");
-        check_sum(&rt, None, low, "r1 s4r1 .");
-        check_sum(&rt, low, high, "r1 r1 .");
-        check_sum(&rt, high, low, "r1 s4 .");
+        check_sum(&rt, low, None, "r1 s4r1 .", ".");
+        check_sum(&rt, None, low, "r1 s4r1 .", ".");
+        check_sum(&rt, low, high, "r1 r1 .", "s4");
+        check_sum(&rt, high, low, "r1 s4 .", "r1");
     }
 }
 
 #[test]
 fn associativity_decides_where_both_bind_alike(rt: HostRuntime) {
-    for (side, wanted) in [
-        (Associativity::Left, "r1 r1 ."),
-        (Associativity::Right, "r1 s4 ."),
-        (Associativity::Neither, "r1 . ."),
-        (Associativity::Unstated, "r1 s4r1 ."),
+    for (side, wanted, left_out) in [
+        (Associativity::Left, "r1 r1 .", "s4"),
+        (Associativity::Right, "r1 s4 .", "r1"),
+        (Associativity::Neither, "r1 . .", "s4r1"),
+        (Associativity::Unstated, "r1 s4r1 .", "."),
     ] {
         let alike = binds(1, side);
-        check_sum(&rt, alike, alike, wanted);
+        check_sum(&rt, alike, alike, wanted, left_out);
+    }
+}
+
+#[test]
+fn a_state_to_which_no_shift_leads_is_not_entered(rt: HostRuntime) {
+    // An else belongs to no if once the rule of the shorter if binds more tightly. In bison's
+    // numbers, 6 is behind the else and 7 behind what follows it.
+    let grammar = grammar_of(&rt, ("AS", "$ieo"), &["A=S$", "S=iS", "S=iSeS", "S=o"]);
+    let low = binds(1, Associativity::Left);
+    let high = binds(2, Associativity::Left);
+    for (rule, last) in [(high, 5usize), (low, 7)] {
+        let terminals = [None, None, binds(1, Associativity::Right)];
+        let table = table_of(&rt, &grammar, &terminals, &[None, rule]);
+        let entered = table.entered(rt.alloc()).expect(&rt, "memory");
+        same(&rt, "states", last, entered.len(), 8);
+        for state in 0..8usize {
+            same(
+                &rt,
+                "a state",
+                state,
+                entered.get(state),
+                Some(state <= last),
+            );
+        }
     }
 }
 

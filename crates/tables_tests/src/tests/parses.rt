@@ -64,7 +64,7 @@ fn parse(
     text: &str,
     steps: usize,
 ) -> Result<Vec<usize>, ParseError> {
-    table.parse(rt.alloc(), &tokens_of(rt, terminals, text), steps)
+    table.parse_within(rt.alloc(), &tokens_of(rt, terminals, text), steps)
 }
 
 /// Compares the rules of a text with these.
@@ -80,6 +80,12 @@ fn check_parsed(
     for (index, rule) in rules.iter().enumerate() {
         same(rt, "a rule", index, found.get(index), Some(rule));
     }
+    // They are as few as suffice for so many tokens, so that no number is wanted.
+    let tokens = tokens_of(rt, terminals, text);
+    let most = table.most_reductions(tokens.len());
+    same(rt, "few rules", rules.len(), rules.len() <= most, true);
+    let alone = table.parse(rt.alloc(), &tokens).expect(rt, "it is parsed");
+    same(rt, "the same", rules.len(), alone.as_slice() == rules, true);
     // One reduction less isn't enough.
     if let Some(fewer) = rules.len().checked_sub(1) {
         let refused = parse(rt, table, terminals, text, fewer).err();
@@ -99,6 +105,14 @@ fn texts_are_parsed_as_in_the_textbook(rt: HostRuntime) {
             let refused = parse(&rt, &table, row.names.1, text, 100).err();
             let wanted = Some(ParseError::Unexpected { at: *at });
             same(&rt, "a place", *at, refused, wanted);
+            let tokens = tokens_of(&rt, row.names.1, text);
+            same(
+                &rt,
+                "alone",
+                *at,
+                table.parse(rt.alloc(), &tokens).err(),
+                wanted,
+            );
         }
     }
 }
@@ -113,6 +127,8 @@ fn reductions_without_end_are_cut_off(rt: HostRuntime) {
         let refused = parse(&rt, &table, "$", "", steps).err();
         same(&rt, "steps", steps, refused, Some(ParseError::TooLong));
     }
+    let refused = table.parse(rt.alloc(), &[]).err();
+    same(&rt, "no steps", 0, refused, Some(ParseError::TooLong));
 }
 
 #[test]
@@ -139,7 +155,7 @@ fn a_parser_is_made_of_a_grammar_file(rt: HostRuntime) {
     let conflicts = table.conflicts(alloc).expect(&rt, "conflicts");
     assert_eq!(rt; conflicts.len(), 0);
     // The end is terminal 0, `error` is 1, NUMBER 2 and '-' 3. Rule 0 derives the start and the end.
-    let parsed = table.parse(alloc, &[2, 3, 2, 3, 2], 100);
+    let parsed = table.parse(alloc, &[2, 3, 2, 3, 2]);
     let rules = parsed.expect(&rt, "rules");
     // The operator groups to the left: by rule 1 the first difference comes before the third number.
     assert_eq!(rt; rules.as_slice(), [2, 2, 1, 2, 1].as_slice());

@@ -52,7 +52,7 @@ fn are_conflicts(rt: &(impl Abort + AllocGlobal), table: &Table<'_>) -> bool {
 
 /// Whether the rules by which no token is parsed were given, which then are rule 1 alone.
 fn is_parse(rt: &(impl Abort + AllocGlobal), table: &Table<'_>) -> bool {
-    let parsed = table.parse(rt.alloc(), &[], 1);
+    let parsed = table.parse(rt.alloc(), &[]);
     let Some(rules) = given(rt, parsed, ParseError::Memory) else {
         return false;
     };

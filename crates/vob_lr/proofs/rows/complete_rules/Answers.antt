@@ -1,25 +1,23 @@
--- One rule more, if the next item is complete.
-use Rattle.std.proofs.Common.{arith, refl}
-use Rattle.std.proofs.lemmas.Option.{none-some}
-use Rattle.vob_lr.proofs.CompletedLemmas.{completed_all, completed_with, completed_without}
-use Rattle.vob_lr.proofs.rows.complete_rules.Goals.{in-Some+in_ok-push, in_default}
+-- The set of the state rises, and there is none where there is no state.
+use Rattle.std.proofs.Common.{◌<◌, ◌∙◌, ℕ, Global, List, [], Vec, ap, arith, get_or, length, subst, sym}
+use Rattle.std.specs.List.{AllPairs}
+use Rattle.std.proofs.lemmas.List.{get_or-map, length-map}
+use Rattle.vob_lr.specs.Lookaheads.{Machine}
+use Rattle.vob_lr.proofs.StateLemmas.{state_rises}
 use Rattle.vob_lr.proofs.rows.complete_rules.Goals as goal
 
-pub loop-place-preserved : goal.loop-place-preserved
-loop-place-preserved c =
-    let rules = c.args.items.now.rules.items in
-    let k = c.loop-place.place in elim c.match-completed.branch [
-      | in-Some+in_ok-push w ↦
-          rw (w.rules-is, w.in_ok-push.ensures.items)
-          (completed_with rules c.args.set.now k c.loop-place.rules.items c.loop-place.invariant c.requires
-          (omega arith) w.in-Some.rule ((w.in-Some.ensures w.in-Some.rule).0 refl))
-      | in_default w ↦
-          rw w.rules-is
-          (completed_without rules c.args.set.now k c.loop-place.rules.items c.loop-place.invariant
-          (λ r done. none-some r ((w.in_default.ensures r).1 done)))
-    ]
-
-pub returns : goal.returns
-returns c =
-    completed_all c.args.items.now.rules.items c.args.set.now c.loop-place.place c.loop-place.rules.items
-    c.loop-place.invariant (omega arith)
+pub completed-requires : goal.completed-requires
+completed-requires c =
+    let m = c.args.lookaheads.now in
+    let q = c.args.state in
+    let states = c.automaton.ensures in
+    let sets = c.automaton.result.now.sets.items in
+    let lookup = rw c.deref.ensures.value at c.in-Some.ensures.lookup in
+    let count = length-map sets (λ (v : Vec ℕ Global). v.items) in
+    let less : q < length m.sets =
+    omega (arith, count, lookup.3.0, ap (λ (z : Machine). length z.sets) states.machine) in
+    let set = c.deref-in-Some.ensures.value ∙ ap (λ (v : Vec ℕ Global). v.items) lookup.1
+    ∙ sym (get_or-map (λ (v : Vec ℕ Global). v.items) sets q c.in-Some.set.now [] lookup.3.0)
+    ∙ ap (λ (z : Machine). get_or z.sets q []) states.machine in
+    subst (λ (xs : List ℕ). AllPairs (λ i j. i < j) xs) (sym set)
+    (state_rises m.grammar.rules.items (states.states.each q [] less))

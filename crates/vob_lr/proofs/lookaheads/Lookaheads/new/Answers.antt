@@ -1,7 +1,9 @@
 -- What the states refuse is refused, and nothing else but memory.
-use Rattle.std.proofs.Common.{◌≡◌, Err, ap}
+use Rattle.std.proofs.Common.{◌≡◌, ℕ, Err, Global, Vec, ap, subst, sym}
+use Rattle.std.proofs.lemmas.List.{length-map}
 use Rattle.std.proofs.lemmas.Result.{err_from_is_err_and}
 use Rattle.vob_flow.specs.Lists.{lists_of}
+use Rattle.vob_lr.specs.Nodes.{AreOffsets}
 use Rattle.vob_lr.specs.declared.grammar.GrammarError.TheVariants.{BadSymbol}
 use Rattle.vob_lr.proofs.StateLemmas.{AreRising-states}
 use Rattle.vob_lr.proofs.lookaheads.Lookaheads.new.Goals as goal
@@ -13,6 +15,19 @@ invariant_of-nodes c =
       AreRising-states c.args.grammar.now.rules.items (lists_of sets) c.in_ok-automaton.ensures.states.each,
       rw c.deref.ensures.value at c.in_ok-offsets.ensures,
     )
+
+pub invariant_of-result : goal.invariant_of-result
+invariant_of-result c =
+    let same = c.in_ok-items.ensures.grammar in
+    let sets = c.in_ok-automaton.automaton.sets.items in
+    let count = length-map sets (λ (v : Vec ℕ Global). v.items) in
+    rw same (record {
+      rules = c.in_ok-check_rules.ensures.ok;
+      states = c.in_ok-automaton.ensures.states;
+      offsets_of = subst (λ (n : ℕ). AreOffsets (lists_of sets) n c.in_ok-offsets.offsets.items) (sym count)
+          (rw c.deref.ensures.value at c.in_ok-offsets.ensures);
+      rows_of = rw same at c.in_ok-rows.ensures;
+    })
 
 pub returns-in_err-automaton-clause-bad_symbol : goal.returns-in_err-automaton-clause-bad_symbol
 returns-in_err-automaton-clause-bad_symbol c =
