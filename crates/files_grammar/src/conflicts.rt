@@ -1,6 +1,7 @@
 //! The conflicts of a table, counted as in bison.
 
 use crate::file::GrammarFile;
+use crate::states::States;
 use files_text::{end_line, put_next};
 use std::alloc::{AllocError, Global};
 use std::io;
@@ -72,15 +73,16 @@ fn left_by_error(
     Ok(rules)
 }
 
-/// Returns the conflict of a cell, if it has one.
+/// Returns the conflict of a cell, if it has one and a parser may enter its state.
 fn choice_of(
     alloc: Global,
     file: &GrammarFile,
     table: &Table<'_>,
+    states: &States,
     state: usize,
     terminal: usize,
 ) -> Result<Option<Choice>, AllocError> {
-    let Some(cell) = table.cell(state, terminal) else {
+    let (Some(cell), Some(number)) = (table.cell(state, terminal), states.number(state)) else {
         return Ok(None);
     };
     let next = table.lookaheads().next(state, Symbol::Terminal(terminal));
@@ -91,9 +93,9 @@ fn choice_of(
         cell.reduces.to_vec(alloc)?
     };
     let choice = Choice {
-        state,
+        state: number,
         terminal,
-        shift: cell.shift,
+        shift: cell.shift.and_then(|to| states.number(to)),
         is_error,
         rules,
     };
@@ -147,6 +149,7 @@ impl Conflicts {
         alloc: Global,
         file: &GrammarFile,
         table: &Table<'_>,
+        states: &States,
     ) -> Result<Conflicts, AllocError> {
         let mut conflicts = Conflicts {
             shift_reduce: 0,
@@ -154,7 +157,7 @@ impl Conflicts {
             choices: Vec::new(alloc),
         };
         for state in 0..table.lookaheads().automaton().sets.len() {
-            conflicts.add_state(alloc, file, table, state)?;
+            conflicts.add_state(alloc, file, table, states, state)?;
         }
         Ok(conflicts)
     }
@@ -165,10 +168,11 @@ impl Conflicts {
         alloc: Global,
         file: &GrammarFile,
         table: &Table<'_>,
+        states: &States,
         state: usize,
     ) -> Result<(), AllocError> {
         for terminal in 0..file.grammar.terminals {
-            if let Some(choice) = choice_of(alloc, file, table, state, terminal)? {
+            if let Some(choice) = choice_of(alloc, file, table, states, state, terminal)? {
                 self.add(choice)?;
             }
         }

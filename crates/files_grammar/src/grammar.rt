@@ -3,6 +3,7 @@
 use crate::conflicts::{Conflicts, put_actions};
 use crate::fault::GrammarFault;
 use crate::file::{GrammarFile, SymbolNames};
+use crate::states::States;
 use files_text::{put_name, put_next};
 use std::alloc::Global;
 use std::io;
@@ -170,13 +171,14 @@ fn put_items<W: Write>(
 }
 
 /// Writes what a parser may do if a terminal is ahead, the action that it takes first.
-fn put_cell<W: Write>(output: &mut W, name: &[u8], cell: &Cell) -> io::Result<()> {
+fn put_cell<W: Write>(output: &mut W, name: &[u8], states: &States, cell: &Cell) -> io::Result<()> {
     if cell.action().is_none() {
         return Ok(());
     }
     output.write_all(b" ")?;
     put_next(output, name)?;
-    put_actions(output, cell.shift, &cell.reduces, ",")
+    let shift = cell.shift.and_then(|to| states.number(to));
+    put_actions(output, shift, &cell.reduces, ",")
 }
 
 /// Writes what a parser may do in a state.
@@ -184,25 +186,32 @@ fn put_cells<W: Write>(
     output: &mut W,
     names: &SymbolNames,
     table: &Table<'_>,
+    states: &States,
     state: usize,
 ) -> io::Result<()> {
     for (terminal, name) in names.terminals.iter().enumerate() {
         if let Some(cell) = table.cell(state, terminal) {
-            put_cell(output, name, cell)?;
+            put_cell(output, name, states, cell)?;
         }
     }
     Ok(())
 }
 
 /// Writes the states that follow a state once a nonterminal is read.
-fn put_gotos<W: Write>(output: &mut W, names: &SymbolNames, moves: &[Move]) -> io::Result<()> {
+fn put_gotos<W: Write>(
+    output: &mut W,
+    names: &SymbolNames,
+    states: &States,
+    moves: &[Move],
+) -> io::Result<()> {
     for own in moves {
-        if let Symbol::Nonterminal(number) = own.symbol {
-            let state = own.state;
-            output.write_all(b" ")?;
-            put_next(output, names.nonterminal(number))?;
-            writeln!(output, " goto {state}")?;
-        }
+        let (Symbol::Nonterminal(number), Some(state)) = (own.symbol, states.number(own.state))
+        else {
+            continue;
+        };
+        output.write_all(b" ")?;
+        put_next(output, names.nonterminal(number))?;
+        writeln!(output, " goto {state}")?;
     }
     Ok(())
 }
@@ -217,16 +226,24 @@ fn put_rules<W: Write>(output: &mut W, names: &SymbolNames, rules: &[Rule]) -> i
     Ok(())
 }
 
-/// Writes the states: the items of each, and what a parser may do.
-fn put_states<W: Write>(output: &mut W, names: &SymbolNames, table: &Table<'_>) -> io::Result<()> {
-    let states = table.lookaheads();
-    let automaton = states.automaton();
+/// Writes the states that a parser may enter: the items of each, and what a parser may do.
+fn put_states<W: Write>(
+    output: &mut W,
+    names: &SymbolNames,
+    table: &Table<'_>,
+    states: &States,
+) -> io::Result<()> {
+    let lookaheads = table.lookaheads();
+    let automaton = lookaheads.automaton();
     for (state, set) in automaton.sets.iter().enumerate() {
-        writeln!(output, "\nstate {state}")?;
-        put_items(output, names, states, state, set)?;
-        put_cells(output, names, table, state)?;
+        let Some(number) = states.number(state) else {
+            continue;
+        };
+        writeln!(output, "\nstate {number}")?;
+        put_items(output, names, lookaheads, state, set)?;
+        put_cells(output, names, table, states, state)?;
         if let Some(moves) = automaton.moves.get(state) {
-            put_gotos(output, names, moves)?;
+            put_gotos(output, names, states, moves)?;
         }
     }
     Ok(())
@@ -245,16 +262,16 @@ pub fn print_grammar<W: Write>(
 ) -> Result<u8, GrammarFault> {
     let sets = GrammarSets::new(alloc, &file.grammar)?;
     let table = file.table(alloc)?;
-    let conflicts = Conflicts::of(alloc, file, &table)?;
-    let states = table.lookaheads().automaton().sets.len();
-    put_counts(output, &file.grammar, states, &conflicts)?;
+    let states = States::of(alloc, &table)?;
+    let conflicts = Conflicts::of(alloc, file, &table, &states)?;
+    put_counts(output, &file.grammar, states.count(), &conflicts)?;
     conflicts.put(output, file)?;
     for number in 0..file.grammar.nonterminals {
         put_nonterminal(output, &file.names, &sets, number)?;
     }
     if wants_states {
         put_rules(output, &file.names, &file.grammar.rules)?;
-        put_states(output, &file.names, &table)?;
+        put_states(output, &file.names, &table, &states)?;
     }
     Ok(if conflicts.are(file.expected) { 0 } else { 1 })
 }

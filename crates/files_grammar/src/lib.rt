@@ -7,6 +7,7 @@ mod fault;
 mod file;
 mod grammar;
 mod parse;
+mod states;
 
 pub use fault::GrammarFault;
 pub use file::GrammarFile;
