@@ -1,10 +1,10 @@
 #!/usr/bin/env bash
 # Shows how ./conthiral grows: bench/growth.sh [FILTER]. For each row whose name has FILTER in it, prints time and
 # memory at three sizes, a factor of ten apart, beside petgraph, tred, bison, sqlite3 or awk. A time is the median of
-# three runs, in seconds of the processor; memory is the most that was resident, in MB.
+# three runs, in seconds of the processor; memory is the most that was resident, in MB. So do slots beside slab.
 #
-# Wants ./build, cargo, and Debian's packages librust-petgraph-dev, graphviz, bison, sqlite3 and time. Nothing is
-# downloaded.
+# Wants ./build, cargo, and Debian's packages librust-petgraph-dev, graphviz, bison, sqlite3 and time; for slots
+# `CHECK=1 bench/run.sh` before. Nothing is downloaded.
 set -euo pipefail
 cd "$(dirname "$0")/.."
 filter=${1:-}
@@ -116,6 +116,18 @@ rows() {
         echo "| $name | $((size * scale)) | $mine | $theirs |"
     done
 }
+# arenas: a row for each size of a full arena, of which two slots are given back and taken, a million times.
+arenas() {
+    local name='a full arena, slots, beside slab' harness=bench/out/x86-64-v2/target/release/harness size row
+    [[ $name == *"$filter"* ]] || return 0
+    [ -x "$harness" ] || { echo "growth: no slots without $harness" >&2 && return; }
+    : >"$out/input"
+    for size in 10000 100000 1000000; do
+        row="a full arena of slots at $size bits"
+        echo "| $name | $size | $(cost "$harness" --alone conthiral 1000000 "$row") |" \
+            "$(cost "$harness" --alone slab 1000000 "$row") |"
+    done
+}
 echo '| | size | ours: seconds | MB | theirs: seconds | MB |'
 echo '|---|---|---|---|---|---|'
 rows 'closure, nodes, beside petgraph' edges 50 closure -- "$petgraph"
@@ -130,3 +142,4 @@ rows 'filter, rows, beside sqlite3' table 100000 filter - 'age<30 & height>170' 
     sqlite3 :memory: '.import --csv /dev/stdin t' "select * from t where age + 0 < 30 and height + 0 > 170"
 rows 'filter, rows, beside awk' table 100000 filter - 'age<30 & height>170' -- \
     awk -F , 'NR == 1 || ($1 < 30 && $2 > 170)'
+arenas

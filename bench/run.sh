@@ -7,7 +7,7 @@
 # files gives one of bench/results, whose readings took TURNS=3.
 #
 # Wants rt, cargo, g++ and Debian's packages librust-fixedbitset-dev librust-bit-vec-dev
-# librust-bit-set-dev librust-smallbitvec-dev librust-num-traits-dev libboost-dev. Nothing is
+# librust-bit-set-dev librust-slab-dev librust-smallbitvec-dev librust-num-traits-dev libboost-dev. Nothing is
 # downloaded. VOB_SOURCE names src/lib.rs of vob 4.0.1 (bench/vob/lib.rs), which isn't part
 # of this repository.
 set -euo pipefail

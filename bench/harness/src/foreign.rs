@@ -45,6 +45,7 @@ extern "C" {
     fn vob_bench_available(numbers: *const usize, count: usize, vars: usize, rounds: usize) -> u64;
     fn vob_bench_transpose(bytes: *const u8, len: usize, row_bytes: usize, rounds: usize) -> u64;
     fn vob_bench_slots(steps: *const usize, count: usize, slots: usize, rounds: usize) -> u64;
+    fn vob_bench_arena(slots: usize, rounds: usize) -> u64;
     fn vob_bench_columns(
         bytes: *const u8,
         len: usize,
@@ -122,6 +123,7 @@ pub fn conthiral(call: Call, input: &Input, rounds: usize) -> u64 {
         Call::Available => unsafe { vob_bench_available(indices, count, bit_count, rounds) },
         Call::Transpose => unsafe { vob_bench_transpose(bytes, len, input.row_bytes, rounds) },
         Call::Slots => unsafe { vob_bench_slots(indices, count, bit_count, rounds) },
+        Call::Arena => unsafe { vob_bench_arena(bit_count, rounds) },
         Call::Columns => unsafe { vob_bench_columns(bytes, len, others, other_len, rounds) },
         _ => unsafe { vob_bench_walk(name, name_len, bytes, len, rounds) },
     }

@@ -70,6 +70,15 @@ fn libraries() -> Vec<Library> {
             run: work::run::<vob::Vob>,
             most: usize::MAX,
         },
+        Library {
+            name: "slab",
+            offer: |call| match call {
+                Call::Arena => Offer::Same,
+                _ => Offer::None,
+            },
+            run: work::run::<vob::Vob>,
+            most: usize::MAX,
+        },
         rust::<vob::Vob>("vob 4.0.1"),
         rust::<fixedbitset::FixedBitSet>("fixedbitset"),
         rust::<bit_vec::BitVec>("bit-vec"),

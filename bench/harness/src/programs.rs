@@ -253,6 +253,23 @@ pub fn free_list(input: &Input, rounds: usize) -> u64 {
     (times << 32).wrapping_add(held.len() as u64)
 }
 
+/// An arena of slab's that is full: its first and last slot are given back, and two taken, a round.
+pub fn arena(input: &Input, rounds: usize) -> u64 {
+    let count = input.bits.len();
+    let mut slots = slab::Slab::with_capacity(count);
+    for _ in 0..count {
+        slots.insert(());
+    }
+    let mut sum = 0u64;
+    for _ in 0..rounds {
+        slots.remove(0);
+        slots.remove(count - 1);
+        sum = sum.wrapping_add(slots.insert(()) as u64);
+        sum = sum.wrapping_add(slots.insert(()) as u64);
+    }
+    sum
+}
+
 fn and(first: Option<bool>, second: Option<bool>) -> Option<bool> {
     match (first, second) {
         (Some(false), _) | (_, Some(false)) => Some(false),

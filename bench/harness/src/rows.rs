@@ -80,6 +80,7 @@ pub enum Call {
     Available,
     Transpose,
     Slots,
+    Arena,
     Columns,
 }
 
@@ -308,6 +309,9 @@ pub fn all() -> Vec<Row> {
         Row::over("available, 10000 nodes", Call::Available, 1000, Round),
         Row::over("transpose 1000 x 1000", Call::Transpose, 1_000_000, Round),
         Row::over("slots, a million steps", Call::Slots, 1_000_000, Round),
+        Row::over("a full arena of slots", Call::Arena, 10_000, Round),
+        Row::over("a full arena of slots", Call::Arena, 100_000, Round),
+        Row::over("a full arena of slots", Call::Arena, 1_000_000, Round),
         Row::over("condition on three columns", Call::Columns, 10_000_000, Round),
     ]);
     rows

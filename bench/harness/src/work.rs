@@ -2,7 +2,7 @@
 
 use crate::bits::{Bits, End};
 use crate::input::Input;
-use crate::programs::{available, closure, condition, filter, free_list, live, matrix, transpose};
+use crate::programs::{arena, available, closure, condition, filter, free_list, live, matrix, transpose};
 use crate::rows::{Call, INDICES};
 
 /// A digest looks at every bit of so many, and at every second, third .. one of more.
@@ -414,6 +414,7 @@ pub fn run<B: Bits>(call: Call, input: &Input, rounds: usize) -> u64 {
         Call::Available => available::<B>(input, rounds),
         Call::Transpose => transpose::<B>(input, rounds),
         Call::Slots => free_list(input, rounds),
+        Call::Arena => arena(input, rounds),
         Call::Columns => condition(input, rounds),
         Call::SetBits => walked(input, rounds, B::set_bits),
         Call::SetBitsBack => walked(input, rounds, B::set_bits_back),

@@ -147,6 +147,12 @@ pub extern "C" fn vob_bench_slots(
     slots::script(alloc, steps, slots, rounds).unwrap_or(NONE)
 }
 
+/// An arena of slots, of which two are given back and taken again.
+#[unsafe(no_mangle)]
+pub extern "C" fn vob_bench_arena(alloc: Global, slots: usize, rounds: usize) -> u64 {
+    slots::arena(alloc, slots, rounds).unwrap_or(NONE)
+}
+
 /// How many rows of three columns meet a condition.
 #[unsafe(no_mangle)]
 pub extern "C" fn vob_bench_columns(

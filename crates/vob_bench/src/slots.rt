@@ -1,4 +1,4 @@
-//! A workload on slots: taken and given back by a script.
+//! Workloads on slots: taken and given back by a script, and of an arena that is full.
 
 use crate::rounds::Missing;
 use std::alloc::{AllocError, Global};
@@ -48,4 +48,30 @@ pub(crate) fn script(
             .wrapping_mul(0x1_0000_0000)
             .wrapping_add(held.len() as u64),
     )
+}
+
+/// Returns so many slots, all taken.
+fn taken(alloc: Global, count: usize) -> Result<Slots, Missing> {
+    let mut slots = Slots::new(alloc, count)?;
+    for _ in 0..count {
+        slots.alloc();
+    }
+    Ok(slots)
+}
+
+/// Gives back the first and the last of so many slots that are taken, and takes two, a round. Returns
+/// the sum of the slots that were taken then.
+#[inline(never)]
+pub(crate) fn arena(alloc: Global, count: usize, rounds: usize) -> Result<u64, Missing> {
+    let mut slots = taken(alloc, count)?;
+    let last = count.saturating_sub(1);
+    let mut sum: u64 = 0;
+    for _ in 0..rounds {
+        slots.free(0);
+        slots.free(last);
+        let first = slots.alloc().unwrap_or(0) as u64;
+        let second = slots.alloc().unwrap_or(0) as u64;
+        sum = sum.wrapping_add(first).wrapping_add(second);
+    }
+    Ok(sum)
 }

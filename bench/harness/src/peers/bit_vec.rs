@@ -53,6 +53,7 @@ impl Bits for BitVec {
             | Call::FirstFree
             | Call::Transpose
             | Call::Slots
+            | Call::Arena
             | Call::Columns
             | Call::Filter => Offer::None,
             // Its split_off within a block can leave a block too many, which append takes in.

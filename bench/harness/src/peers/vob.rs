@@ -41,7 +41,7 @@ impl Bits for Vob {
             Call::Order | Call::ShiftUp | Call::Reverse | Call::Rotate | Call::InsertRemove => {
                 Offer::Other("bit by bit")
             }
-            Call::Slots | Call::Columns => Offer::None,
+            Call::Slots | Call::Arena | Call::Columns => Offer::None,
             _ => Offer::Same,
         }
     }
