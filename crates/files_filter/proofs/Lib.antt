@@ -1,5 +1,4 @@
 pub mod FilterTextLemmas
-mod WholeLemmas
 mod ReadingLemmas
 mod AnswersLemmas
 mod BlocksLemmas

@@ -7,7 +7,7 @@ use Rattle.csv.specs.declared.reader.Reader.{Reader}
 use Rattle.csv.specs.declared.reader.Trim.TheVariants as trim
 use Rattle.csv.proofs.ReadFacts.{rows-end, rows-more}
 use Rattle.files_filter.specs.Reading.{AreAllRows, Cells, ComeBefore, HasRead, ReadsNext}
-use Rattle.files_filter.specs.Whole.{unread}
+use Rattle.files_csv.specs.Whole.{unread}
 use Rattle.files_filter.specs.declared.table.Table.{Table}
 
 module _ {R : Type 0} (remaining : R → Option (List ℕ)) (old new : Reader R) (rows : List Cells) (cells : Cells)

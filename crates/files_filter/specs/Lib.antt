@@ -1,5 +1,4 @@
 pub mod FilterText
-pub mod Whole
 pub mod Reading
 pub mod Answers
 pub mod Blocks

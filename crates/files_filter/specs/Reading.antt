@@ -4,7 +4,7 @@ use Rattle.csv.specs.Reading.{AreRecords, Reached, Ready, default_config, reader
 use Rattle.csv.specs.declared.parser.State.{State}
 use Rattle.csv.specs.declared.parser.State.TheVariants as st
 use Rattle.csv.specs.declared.reader.Trim.TheVariants as trim
-use Rattle.files_filter.specs.Whole.{unread}
+use Rattle.files_csv.specs.Whole.{unread}
 use Rattle.files_filter.specs.declared.table.Table.{Table}
 
 -- a row: its cells

@@ -242,9 +242,9 @@ fn put_shown<R: Read + Drop, W: Write>(
 /// empty cell is missing, and so is each comparison with it. Returns the status: 1 if nothing is to
 /// be shown and no row is kept, else 0.
 ///
-/// Fails if the condition can't be read or names no column, if the text is no table, at the first
-/// cell that should be a number, or if numbers are compared with texts. The rows that are kept before
-/// the fault are written then. Fails too if memory runs out, or if the output can't be written.
+/// Fails if the condition can't be read or names no column, or if the text is no table. Fails at the
+/// first cell that should be a number, or if numbers are compared with texts: the rows that are kept
+/// before are written then. Fails too if memory runs out, or if the output can't be written.
 pub fn print_filter<R: Read + Drop, W: Write>(
     alloc: Global,
     input: R,

@@ -9,9 +9,7 @@ mod filter;
 mod guard;
 mod number;
 mod questions;
-mod quotes;
 mod table;
-mod whole;
 
 pub use fault::FilterFault;
 pub use filter::{Shows, print_filter};

@@ -5,8 +5,8 @@ ghost use Rattle.files_filter.specs.Reading.{Cells, HasRead, ReadsNext};
 
 use crate::condition::{Operand, is_word};
 use crate::fault::FilterFault;
-use crate::whole::WholeRows;
 use csv::{ByteRecord, ErrorKind, Position, Reader, ReaderBuilder};
+use files_csv::WholeRows;
 use files_text::{Fault, Names};
 use std::alloc::{AllocError, Global};
 use std::io;

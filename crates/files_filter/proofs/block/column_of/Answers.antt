@@ -7,8 +7,10 @@ use Rattle.files_filter.proofs.block.column_of.Goals as goal
 pub loop-number-preserved : goal.loop-number-preserved
 loop-number-preserved c =
     let less : c.loop-number.number < length c.args.rows.now = omega (arith, c.loop-number-test.true) in
-    let now = c.loop-number.invariant in record {
+    let now = c.loop-number.invariant in
+    let value = c.answer.ensures
+    ∙ ap (λ row. value_at row.answers.items c.args.comparison) c.index-rows-number.is in record {
       len = rw c.set.ensures (length_set c.loop-number.column c.loop-number.number c.answer.result _ now.len);
       each = rw c.set.ensures (value_more c.loop-number.column c.args.rows.now c.loop-number.number c.args.comparison _
-          c.index-rows-number.result now.len less (c.answer.ensures ∙ ap (λ row. value_at row.answers.items c.args.comparison) c.index-rows-number.is) now.each);
+          c.index-rows-number.result now.len less value now.each);
     }

@@ -1,7 +1,7 @@
 -- The header is the first row.
 use Rattle.std.proofs.Common.{◌≡◌, ◌∷◌, ◌∙◌, true, inr, refl, rules, []}
 use Rattle.csv.specs.Records.{fields_of}
-use Rattle.files_filter.specs.Whole.{unread}
+use Rattle.files_csv.specs.Whole.{unread}
 use Rattle.files_filter.specs.declared.table.Table.{Table}
 use Rattle.files_filter.proofs.ReadingLemmas.{begins, same_reader}
 use Rattle.files_filter.proofs.table.Table.read.Goals as goal

@@ -2,7 +2,7 @@
 ghost use Rattle.std.specs.Prelude.{◌≡◌, ◌≢◌, ◌+◌, ◌<◌, ◌≤◌, [], drop, length, take, true, false, IfOk, OnOk};
 ghost use Rattle.std.specs.Io.KnownBytes.{Consumes, IsAtEnd, Keeps, ReadConsumes};
 ghost use Rattle.std.specs.Io.{ReadsAtMost};
-ghost use Rattle.files_filter.specs.Whole.{IsFresh, KeepsText, LeavesText, rows_at_hand, unread};
+ghost use Rattle.files_csv.specs.Whole.{IsFresh, KeepsText, LeavesText, rows_at_hand, unread};
 
 use crate::quotes::{MARK, Part, cell_start, last_quote};
 use files_text::Fault;

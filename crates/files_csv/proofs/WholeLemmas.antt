@@ -2,8 +2,8 @@
 use Rattle.std.proofs.Common.{◌≡◌, ◌∙◌, take-add, ℕ, ◌+◌, ◌-◌, ◌≤◌, ◌++◌, List, append_assoc, None, Option, Some, inl, inr, refl, arith, ap, drop, length, min, sym, take}
 use Rattle.std.specs.Io.KnownBytes.{Consumes, Keeps, prepend_known}
 use Rattle.std.specs.List.{copy_within}
-use Rattle.files_filter.specs.Whole.{IsFresh, KeepsText, unread}
-use Rattle.files_filter.specs.declared.whole.WholeRows.{WholeRows}
+use Rattle.files_csv.specs.Whole.{IsFresh, KeepsText, unread}
+use Rattle.files_csv.specs.declared.whole.WholeRows.{WholeRows}
 use Rattle.std.proofs.Math.Seq.{take-append_seam}
 use Rattle.std.proofs.lemmas.Bool.{cases_lt}
 use Rattle.std.proofs.lemmas.List.{drop-drop, drop-take, drop_min, length-drop, length-take, length-take-le, take-append-drop, take-append-le, take-take, take_min}

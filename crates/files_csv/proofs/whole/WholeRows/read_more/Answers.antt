@@ -1,8 +1,8 @@
 -- The bytes that the read gave come after those at hand.
 use Rattle.std.proofs.Common.{◌≡◌, ◌<◌, ◌-◌, ◌∙◌, ap, arith, drop, length, take}
 use Rattle.std.proofs.lemmas.List.{length-drop}
-use Rattle.files_filter.proofs.WholeLemmas.{read_grows, written_over}
-use Rattle.files_filter.proofs.whole.WholeRows.read_more.Goals as goal
+use Rattle.files_csv.proofs.WholeLemmas.{read_grows, written_over}
+use Rattle.files_csv.proofs.whole.WholeRows.read_more.Goals as goal
 
 pub returns-clause-unread : goal.returns-clause-unread
 returns-clause-unread g c =

@@ -1,7 +1,7 @@
 -- No byte is lost.
 use Rattle.std.specs.Io.KnownBytes.{Keeps}
-use Rattle.files_filter.specs.Whole.{IsFresh, unread}
-use Rattle.files_filter.proofs.whole.WholeRows.fill.Given as goal
+use Rattle.files_csv.specs.Whole.{IsFresh, unread}
+use Rattle.files_csv.proofs.whole.WholeRows.fill.Given as goal
 
 abbrev pub invariant-loop : goal.invariant-loop
 invariant-loop g l = record {

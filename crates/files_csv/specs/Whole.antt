@@ -1,7 +1,7 @@
 -- What a reader of whole rows has left.
 use Rattle.std.specs.Prelude.{◌≡◌, ℕ, ◌≤◌, List, drop, length, min, Option, take}
 use Rattle.std.specs.Io.KnownBytes.{prepend_known}
-use Rattle.files_filter.specs.declared.whole.WholeRows.{WholeRows}
+use Rattle.files_csv.specs.declared.whole.WholeRows.{WholeRows}
 
 -- the bytes that a reader of whole rows has left: those that it read and didn't give, and then those of its input, if
 -- they are known

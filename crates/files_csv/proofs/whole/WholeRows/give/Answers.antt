@@ -1,8 +1,8 @@
 -- The rows that are given are bytes less.
 use Rattle.std.proofs.Common.{◌≡◌, ◌≤◌, arith, length}
-use Rattle.files_filter.specs.Whole.{rows_at_hand}
-use Rattle.files_filter.proofs.WholeLemmas.{gives}
-use Rattle.files_filter.proofs.whole.WholeRows.give.Goals as goal
+use Rattle.files_csv.specs.Whole.{rows_at_hand}
+use Rattle.files_csv.proofs.WholeLemmas.{gives}
+use Rattle.files_csv.proofs.whole.WholeRows.give.Goals as goal
 
 pub returns-clause-bytes : goal.returns-clause-bytes
 returns-clause-bytes g c =
