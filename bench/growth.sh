@@ -116,7 +116,7 @@ rows() {
         echo "| $name | $((size * scale)) | $mine | $theirs |"
     done
 }
-# arenas: a row for each size of a full arena, of which two slots are given back and taken, a million times.
+# arenas: a row for each size of a full arena, of which two slots are given back and taken, ten million times.
 arenas() {
     local name='a full arena, slots, beside slab' harness=bench/out/x86-64-v2/target/release/harness size row
     [[ $name == *"$filter"* ]] || return 0
@@ -124,8 +124,8 @@ arenas() {
     : >"$out/input"
     for size in 10000 100000 1000000; do
         row="a full arena of slots at $size bits"
-        echo "| $name | $size | $(cost "$harness" --alone conthiral 1000000 "$row") |" \
-            "$(cost "$harness" --alone slab 1000000 "$row") |"
+        echo "| $name | $size | $(cost "$harness" --alone conthiral 10000000 "$row") |" \
+            "$(cost "$harness" --alone slab 10000000 "$row") |"
     done
 }
 echo '| | size | ours: seconds | MB | theirs: seconds | MB |'
