@@ -20,8 +20,8 @@ pub struct GrammarSets {
     /// A row for each nonterminal, with a bit for each terminal: whether it can begin what the
     /// nonterminal becomes.
     pub first: BitRows,
-    /// The same of whether the terminal can follow the nonterminal where a nonterminal is derived from,
-    /// whichever that is.
+    /// The same: whether the terminal can stand right behind the nonterminal in what some nonterminal
+    /// derives.
     pub follow: BitRows,
 }
 

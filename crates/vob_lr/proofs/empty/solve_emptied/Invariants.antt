@@ -10,7 +10,8 @@ invariant-passes l =
     record {
       count : length l.emptied.nullable.bits ≡ l.grammar.nonterminals;
       sound : AreEmptied l.grammar.rules.items l.emptied.nullable.bits;
-      sized : length l.fn.sizes.items ≡ l.grammar.nonterminals → AreSized 18446744073709551615 l.grammar.rules.items l.emptied.nullable.bits l.emptied.sizes.items;
+      sized : length l.fn.sizes.items ≡ l.grammar.nonterminals →
+          AreSized 18446744073709551615 l.grammar.rules.items l.emptied.nullable.bits l.emptied.sizes.items;
     }
 
 abbrev pub decreases-passes : goal.decreases-passes
