@@ -2,7 +2,7 @@
 use Rattle.std.proofs.Common.{◌≡◌, ℕ, zero, suc, ◌+◌, ◌⊎◌, inl, inr, List, [], ◌∷◌, ◌++◌, length, get_or, drop, reverse, Some, slice_get, refl, sym, ap, ◌∙◌, subst, arith, add-one}
 use Rattle.std.proofs.lemmas.List.{append-nil, append_assoc, drop-drop, get_or_past, length-append, reverse-append}
 use Rattle.std.proofs.Math.Seq.{drop-append_seam}
-use Rattle.std.proofs.lemmas.Option.{get_or_from_slice_get, slice_get-get_or, slice_get_within}
+use Rattle.std.proofs.lemmas.Option.{get_or_from_slice_get, slice_get_within}
 use Rattle.vob_lr.specs.Becoming.{AreDone, Becomes}
 use Rattle.vob_lr.specs.Becoming.Becomes.{nothing, terminal, by_rule}
 use Rattle.vob_lr.specs.Grammar.{BecomesEmpty, BeginsWith, HasRule}
@@ -21,12 +21,11 @@ use Rattle.vob_lr.specs.declared.grammar.Rule.{Rule}
 use Rattle.vob_lr.specs.declared.grammar.Symbol.{Symbol}
 use Rattle.vob_lr.specs.declared.grammar.Symbol.TheVariants.{Terminal, Nonterminal}
 use Rattle.vob_lr.specs.declared.items.Item.{Item}
-use Rattle.vob_lr.specs.declared.state.Move.{Move}
 use Rattle.vob_lr.specs.declared.table.Action.TheVariants.{Reduce, Shift}
 use Rattle.vob_lr.proofs.EmptyLemmas.{BecomesEmpty-append}
 use Rattle.vob_lr.proofs.FirstLemmas.{BeginsWith-append}
-use Rattle.vob_lr.proofs.MemberLemmas.{member_advances, member_closed}
-use Rattle.vob_lr.proofs.SetLemmas.{set_inside}
+use Rattle.vob_lr.proofs.ItemLemmas.{drop_here, next_here}
+use Rattle.vob_lr.proofs.MemberLemmas.{member_advances, member_closed, moves_on}
 
 -- ---- what becomes nothing, and what begins
 
@@ -86,16 +85,6 @@ get_or-drop xs zero = refl
 get_or-drop [] (suc n) = refl
 get_or-drop (x ∷ xs) (suc n) = get_or-drop xs n
 
-drop_here : (A : Type 0) (xs : List A) (n : ℕ) (y : A) (ys : List A) → drop n xs ≡ y ∷ ys →
-    (slice_get xs n ≡ Some y) × (drop (suc n) xs ≡ ys)
-drop_here A [] zero y ys h = absurd (cc)
-drop_here A [] (suc n) y ys h = absurd (cc)
-drop_here A (x ∷ xs) zero y ys h =
-    let first : x ≡ y = cc in
-    let rest : xs ≡ ys = cc in
-    (ap Some first, rest)
-drop_here A (x ∷ xs) (suc n) y ys h = drop_here A xs n y ys h
-
 reverse_around : (rs : List ℕ) (r : ℕ) (ss more : List ℕ) →
     reverse ss ++ r ∷ (reverse rs ++ more) ≡ reverse (rs ++ r ∷ ss) ++ more
 reverse_around rs r ss more =
@@ -129,25 +118,6 @@ module _ (table : TableView) (tokens : List ℕ)
     pub reduced : config.reduced ≡ reverse rs ++ c.reduced
     pub goes : Goes config (i + length xs) t ys
 
-  -- a state moves by a symbol behind a dot
-  moves_on : (q i : ℕ) (x : Symbol) → HasItem m.sets q i → HasNext rules i x →
-      (p : ℕ) × HasMove m.moves q x p
-  moves_on q i x own next =
-      let row = get_or m.moves q [] in
-      let (k, move, less, read, named) = (states.moves_of q (set_inside m.sets q i own)).all x
-      (i, own, next) in
-      let to : Move = record { symbol = x; state = move.state } in
-      let same = ap (λ (y : Symbol). let one : Move = record { symbol = y; state = move.state } in one)
-      named in (
-        move.state,
-        (
-          k,
-          less,
-          get_or_from_slice_get row k move to (slice_get-get_or row k move less ∙ ap Some read)
-              ∙ same,
-        ),
-      )
-
   -- the item whose dot passes a symbol
   goes_on : (c d : Config) (i t p : ℕ) (ys : List Symbol) (x : Symbol) → Goes c i t ys →
       HasNext rules i x → HasMove m.moves (top c.states) x p → top d.states ≡ p → Goes d (i + 1) t ys
@@ -161,34 +131,13 @@ module _ (table : TableView) (tokens : List ℕ)
     ];
   }
 
-  -- what stands behind a dot
-  next_here : (i : ℕ) (item : Item) (is : IsItem rules i item) (x : Symbol) (rest : List Symbol) →
-      drop item.dot is.rule.right.items ≡ x ∷ rest →
-      HasNext rules i x
-      × (let after : Item = record { rule = item.rule; dot = item.dot + 1 } in
-      (own : IsItem rules (i + 1) after) × (drop (item.dot + 1) own.rule.right.items ≡ rest))
-  next_here i item is x rest h =
-      let both = drop_here Symbol is.rule.right.items item.dot x rest h in
-      let less = slice_get_within is.rule.right.items item.dot x both.0 in (
-        record { item = item; is = is; next = both.0 },
-        (
-          record {
-            rule = is.rule;
-            is = is.is;
-            dot = omega (arith, less);
-            number = omega (arith, is.number);
-          },
-          subst (λ (n : ℕ). drop n is.rule.right.items ≡ rest) (sym (add-one item.dot)) both.1,
-        ),
-      )
-
   -- a terminal is shifted
   shift_one : (c : Config) → IsReached table tokens c → (i t u : ℕ) (ys : List Symbol) → Goes c i t ys →
       HasNext rules i (Terminal u) → (rest : List ℕ) → drop c.read tokens ≡ u ∷ rest →
       (p : ℕ) × IsReached table tokens (shifted p c) × Goes (shifted p c) (i + 1) t ys
       × (drop (c.read + 1) tokens ≡ rest)
   shift_one c reached i t u ys g next rest h =
-      let (p, move) = moves_on (top c.states) i (Terminal u) g.there next in
+      let (p, move) = moves_on m states (top c.states) i (Terminal u) g.there next in
       let both = drop_here ℕ tokens c.read u rest h in
       let low = slice_get_within tokens c.read u both.0 in
       let token = get_or_from_slice_get tokens c.read u 0 both.0 in
@@ -271,7 +220,7 @@ module _ (table : TableView) (tokens : List ℕ)
     goes = subst (λ (k : ℕ). Goes c k (ahead v) ys) (let e : i ≡ i + 0 = omega arith in e) g;
   }
   becomes_gone (terminal {t = u} {xs} {ts} {rs} b) c reached i item is ys h v unread g =
-      let here = next_here i item is (Terminal u) (xs ++ ys) h in
+      let here = next_here rules i item is (Terminal u) (xs ++ ys) h in
       let (p, reached', g', left) = shift_one c reached i (ahead v) u ys g here.0 (ts ++ v) unread in
       let gone = becomes_gone b (shifted p c) reached' (i + 1) _ here.1.0 ys here.1.1 v left g' in
       record {
@@ -292,7 +241,7 @@ module _ (table : TableView) (tokens : List ℕ)
       let own : Item = record { rule = r; dot = 0 } in
       let own_is : IsItem rules first own =
       record { rule = rule; is = there; dot = omega arith; number = omega arith } in
-      let here = next_here i item is (Nonterminal rule.left) (xs ++ ys) h in
+      let here = next_here rules i item is (Nonterminal rule.left) (xs ++ ys) h in
       let both = drop_here Symbol is.rule.right.items item.dot (Nonterminal rule.left) (xs ++ ys) h in
       let rest = subst (λ (n : ℕ). drop n is.rule.right.items ≡ xs ++ ys) (sym (add-one item.dot))
       both.1 in
@@ -319,7 +268,7 @@ module _ (table : TableView) (tokens : List ℕ)
       ap (λ (n : ℕ). drop n tokens) gone.read ∙ sym (drop-drop (length ts) c.read tokens)
       ∙ ap (drop (length ts)) (unread ∙ append_assoc ts us v) ∙ drop-append_seam ts (us ++ v) in
       let token = get_or-drop tokens d.read ∙ ap ahead left in
-      let (p, move) = moves_on (top c.states) i (Nonterminal rule.left) g.there here.0 in
+      let (p, move) = moves_on m states (top c.states) i (Nonterminal rule.left) g.there here.0 in
       let (reached', at) = reduce_one c d gone.reached gone.pushed r rule there gone.states_of gone.many
       (first + length right) (ahead (us ++ v)) complete looked token p move in
       let e = replaced r (length right) p d in
@@ -365,7 +314,7 @@ module _ (table : TableView) (tokens : List ℕ)
         is = record { rule = rule; is = is; dot = omega (arith, less); number = refl };
         next = last.0;
       } in
-      let (p, move) = moves_on (top d.states) (0 + n) (Terminal 0) gone.goes.there next in
+      let (p, move) = moves_on m states (top d.states) (0 + n) (Terminal 0) gone.goes.there next in
       let token : get_or tokens d.read 0 ≡ 0 = get_or_past tokens d.read 0 (omega (arith, gone.read)) in
       let action = done.shifts (top d.states) (get_or tokens d.read 0) p
       (subst (λ (t : ℕ). HasMove m.moves (top d.states) (Terminal t) p) (sym token) move) in (

@@ -1,5 +1,6 @@
 -- Which items the states have.
-use Rattle.std.proofs.Common.{ℕ, ◌+◌, ◌<◌, List, [], get_or, length, refl, subst}
+use Rattle.std.proofs.Common.{ℕ, ◌+◌, ◌<◌, List, [], get_or, length, Some, refl, ap, ◌∙◌, subst}
+use Rattle.std.proofs.lemmas.Option.{get_or_from_slice_get, slice_get-get_or}
 use Rattle.std.specs.List.{Contains}
 use Rattle.vob_lr.specs.ItemSets.{HasItem, Opens}
 use Rattle.vob_lr.specs.ItemSets.InClosure.{inside, expands}
@@ -51,3 +52,22 @@ module _ (m : Machine) (states : AreStates m.grammar.rules.items m.sets m.moves)
   ahead_inside (passes {q} {j} {a} {i} l next empty opens) =
       member_closed q j a i (ahead_inside l) next.next opens
   ahead_inside (keeps {q} {j} {p} {x} l next move) = member_advances q j x p (ahead_inside l) next move
+
+  -- a state moves by a symbol behind a dot
+  pub moves_on : (q i : ℕ) (x : Symbol) → HasItem m.sets q i → HasNext m.grammar.rules.items i x →
+      (p : ℕ) × HasMove m.moves q x p
+  moves_on q i x own next =
+      let row = get_or m.moves q [] in
+      let (k, move, less, read, named) = (states.moves_of q (set_inside m.sets q i own)).all x
+      (i, own, next) in
+      let to : Move = record { symbol = x; state = move.state } in
+      let same = ap (λ (y : Symbol). let one : Move = record { symbol = y; state = move.state } in one)
+      named in (
+        move.state,
+        (
+          k,
+          less,
+          get_or_from_slice_get row k move to (slice_get-get_or row k move less ∙ ap Some read)
+              ∙ same,
+        ),
+      )
