@@ -5,7 +5,7 @@ use Rattle.std.proofs.Math.Seq.{drop-append_seam}
 use Rattle.std.proofs.lemmas.Option.{get_or_from_slice_get, slice_get_within}
 use Rattle.vob_lr.specs.Becoming.{AreDone, Becomes}
 use Rattle.vob_lr.specs.Becoming.Becomes.{nothing, terminal, by_rule}
-use Rattle.vob_lr.specs.Grammar.{BecomesEmpty, BeginsWith, HasRule}
+use Rattle.vob_lr.specs.Grammar.{BecomesEmpty, BeginsWith}
 use Rattle.vob_lr.specs.Grammar.BecomesEmpty.{nothing as empty_nothing, by_rule as empty_rule}
 use Rattle.vob_lr.specs.Grammar.BeginsWith.{here, by_rule as begins_rule, behind}
 use Rattle.vob_lr.specs.ItemSets.{HasItem, Opens}
@@ -22,21 +22,13 @@ use Rattle.vob_lr.specs.declared.grammar.Symbol.{Symbol}
 use Rattle.vob_lr.specs.declared.grammar.Symbol.TheVariants.{Terminal, Nonterminal}
 use Rattle.vob_lr.specs.declared.items.Item.{Item}
 use Rattle.vob_lr.specs.declared.table.Action.TheVariants.{Reduce, Shift}
+use Rattle.vob_lr.proofs.DerivationLemmas.{has_rule}
 use Rattle.vob_lr.proofs.EmptyLemmas.{BecomesEmpty-append}
 use Rattle.vob_lr.proofs.FirstLemmas.{BeginsWith-append}
 use Rattle.vob_lr.proofs.ItemLemmas.{drop_here, next_here}
 use Rattle.vob_lr.proofs.MemberLemmas.{member_advances, member_closed, moves_on}
 
 -- ---- what becomes nothing, and what begins
-
-has_rule : (rules : List Rule) (r : ℕ) (rule : Rule) → slice_get rules r ≡ Some rule →
-    HasRule rules rule.left rule.right.items
-has_rule rules r rule is = (
-  rule,
-  (r, slice_get_within rules r rule is, get_or_from_slice_get rules r rule rule is),
-  refl,
-  refl,
-)
 
 append_empty : (ts us : List ℕ) → ts ++ us ≡ [] → (ts ≡ []) × (us ≡ [])
 append_empty [] us h = (refl, h)
@@ -56,7 +48,7 @@ module _ (rules : List Rule) where
   first_of_parts [] us t rest h = inr (refl, h)
   first_of_parts (x ∷ ts) us t rest h = let first : x ≡ t = cc in inl (ts, ap (λ y. y ∷ ts) first)
 
-  first_becomes : {xs : List Symbol} {ts rs : List ℕ} → Becomes rules xs ts rs → (t : ℕ)
+  pub first_becomes : {xs : List Symbol} {ts rs : List ℕ} → Becomes rules xs ts rs → (t : ℕ)
       (rest : List ℕ) → ts ≡ t ∷ rest → BeginsWith rules t xs
   first_becomes nothing t rest h = absurd (cc)
   first_becomes (terminal {t = u} {xs} b) t rest h =

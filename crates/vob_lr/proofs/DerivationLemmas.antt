@@ -18,7 +18,7 @@ use Rattle.vob_lr.proofs.FirstLemmas.{BeginsWith-append}
 
 -- ---- where a symbol of two lists stands
 
-cut : {A : Type 0} (xs ys us : List A) (x : A) (vs : List A) → xs ++ ys ≡ us ++ x ∷ vs →
+pub cut : {A : Type 0} (xs ys us : List A) (x : A) (vs : List A) → xs ++ ys ≡ us ++ x ∷ vs →
     ((m : List A) × (xs ≡ us ++ x ∷ m) × (vs ≡ m ++ ys))
     ⊎ ((m : List A) × (us ≡ xs ++ m) × (ys ≡ m ++ x ∷ vs))
 cut [] ys us x vs h = inr (us, refl, h)
@@ -87,14 +87,14 @@ module _ {rules : List Rule} where
       after_that (by_one [] rest has)
       (after_that (between [] rest (empty_derives empty)) (empty_derives others))
 
-  empty_parts : (xs ys : List Symbol) → BecomesEmpty rules (xs ++ ys) →
+  pub empty_parts : (xs ys : List Symbol) → BecomesEmpty rules (xs ++ ys) →
       BecomesEmpty rules xs × BecomesEmpty rules ys
   empty_parts [] ys empty = (nothing, empty)
   empty_parts (x ∷ xs) ys (by_empty has empty others) =
       let parts = empty_parts xs ys others in
       (by_empty has empty parts.0, parts.1)
 
-  empty_before : {xs ys : List Symbol} → DerivesInOne rules xs ys → BecomesEmpty rules ys →
+  pub empty_before : {xs ys : List Symbol} → DerivesInOne rules xs ys → BecomesEmpty rules ys →
       BecomesEmpty rules xs
   empty_before {xs} {ys} (replaced {a} {right} before after has is becomes) empty =
       let outer = empty_parts before (right ++ after)
@@ -121,7 +121,7 @@ module _ {rules : List Rule} where
       (found.0, after_that (between [] rest (empty_derives empty)) found.1)
 
   -- the first of two lists begins so, or can become empty
-  begin_parts : {t : ℕ} (xs ys : List Symbol) → BeginsWith rules t (xs ++ ys) →
+  pub begin_parts : {t : ℕ} (xs ys : List Symbol) → BeginsWith rules t (xs ++ ys) →
       BeginsWith rules t xs ⊎ (BecomesEmpty rules xs × BeginsWith rules t ys)
   begin_parts [] ys begins = inr (nothing, begins)
   begin_parts (x ∷ xs) ys here = inl here
@@ -138,7 +138,7 @@ module _ {rules : List Rule} where
       behind (by_empty has empty nothing) (begin_behind ys others begins)
 
   -- a nonterminal in place of a right side
-  begin_replaced : {t a : ℕ} {right : List Symbol} (before after : List Symbol) →
+  pub begin_replaced : {t a : ℕ} {right : List Symbol} (before after : List Symbol) →
       HasRule rules a right → BeginsWith rules t (before ++ (right ++ after)) →
       BeginsWith rules t (before ++ Nonterminal a ∷ after)
   begin_replaced {t} {a} {right} before after has begins =
@@ -240,7 +240,7 @@ following_derived rules t a = (
 )
 
 -- a rule that is there is one of a nonterminal
-has_rule : (rules : List Rule) (r : ℕ) (rule : Rule) → slice_get rules r ≡ Some rule →
+pub has_rule : (rules : List Rule) (r : ℕ) (rule : Rule) → slice_get rules r ≡ Some rule →
     HasRule rules rule.left rule.right.items
 has_rule rules r rule is = (
   rule,

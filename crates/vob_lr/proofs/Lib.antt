@@ -1,6 +1,7 @@
 mod AheadLemmas
 mod BecomingLemmas
 mod BoundLemmas
+mod CanonicalLemmas
 mod ClosureLemmas
 mod CompleteLemmas
 mod CompletedLemmas
@@ -16,6 +17,7 @@ mod FirstLemmas
 mod FlowLemmas
 mod FollowLemmas
 mod GrowthLemmas
+mod HandleLemmas
 mod ItemLemmas
 mod KeptLemmas
 mod LanguageLemmas

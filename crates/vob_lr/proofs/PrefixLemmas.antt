@@ -18,9 +18,10 @@ use Rattle.vob_lr.specs.Items.{HasNext, IsItem}
 use Rattle.vob_lr.specs.Languages.{AreProductive, ErrorsAreLate}
 use Rattle.vob_lr.specs.Lookaheads.{Machine}
 use Rattle.vob_lr.specs.States.{AreStates}
+use Rattle.vob_lr.specs.declared.grammar.Grammar.{Grammar}
 use Rattle.vob_lr.specs.declared.grammar.Rule.{Rule}
 use Rattle.vob_lr.specs.declared.grammar.Symbol.{Symbol}
-use Rattle.vob_lr.specs.declared.grammar.Symbol.TheVariants.{Terminal, Nonterminal}
+use Rattle.vob_lr.specs.declared.grammar.Symbol.TheVariants.{Terminal}
 use Rattle.vob_lr.specs.declared.items.Item.{Item}
 use Rattle.vob_lr.proofs.BecomingLemmas.{derived_becomes, parts}
 use Rattle.vob_lr.proofs.DerivationLemmas.{after_that, between, by_one, rightmost_derived}
@@ -29,13 +30,13 @@ use Rattle.vob_lr.proofs.LinkLemmas.{AreLinked, move_inside}
 use Rattle.vob_lr.proofs.LinkLemmas.AreLinked.{bottom, above}
 use Rattle.vob_lr.proofs.MemberLemmas.{move_leads}
 use Rattle.vob_lr.proofs.ParseLemmas.{run_reached}
-use Rattle.vob_lr.proofs.RightmostLemmas.{becomes_derives, rightmost}
+use Rattle.vob_lr.proofs.RightmostLemmas.{becomes_derives, own_becomes, rightmost}
 
 -- what stands behind the dot of an item
-abbrev behind : {rules : List Rule} {i : ℕ} (item : Item) → IsItem rules i item → List Symbol
+abbrev pub behind : {rules : List Rule} {i : ℕ} (item : Item) → IsItem rules i item → List Symbol
 behind item is = drop item.dot is.rule.right.items
 
-behind_same : {rules : List Rule} {i : ℕ} (item other : Item) (is : IsItem rules i item)
+pub behind_same : {rules : List Rule} {i : ℕ} (item other : Item) (is : IsItem rules i item)
     (too : IsItem rules i other) → behind item is ≡ behind other too
 behind_same {rules} {i} item other is too =
     let same = one_item rules i item other is too in
@@ -45,13 +46,21 @@ behind_same {rules} {i} item other is too =
     ∙ ap (λ (r : Rule). drop other.dot r.right.items) rule
 
 -- and behind the symbol there
-behind_next : {rules : List Rule} {i : ℕ} {x : Symbol} (next : HasNext rules i x) →
+pub behind_next : {rules : List Rule} {i : ℕ} {x : Symbol} (next : HasNext rules i x) →
     behind next.item next.is ≡ x ∷ drop (next.item.dot + 1) next.is.rule.right.items
 behind_next {rules} {i} {x} next =
     let right = next.is.rule.right.items in
     drop_more right next.item.dot x (slice_get_within right next.item.dot x next.next)
     ∙ ap (λ (y : Symbol). y ∷ drop (next.item.dot + 1) right)
     (get_or_from_slice_get right next.item.dot x x next.next)
+
+-- the symbols there are those of the grammar
+pub tail_own : (grammar : Grammar) → IsWellFormed grammar → (i n : ℕ) (item : Item)
+    (is : IsItem grammar.rules.items i item) →
+    All (IsSymbol grammar.terminals grammar.nonterminals) (drop n is.rule.right.items)
+tail_own grammar sound i n item is =
+    let rule = all_at (IsRuleOf grammar) grammar.rules.items sound item.rule is.rule is.is in
+    All-drop (IsSymbol grammar.terminals grammar.nonterminals) n is.rule.right.items rule.1
 
 module _ (m : Machine) (sound : IsWellFormed m.grammar)
     (states : AreStates m.grammar.rules.items m.sets m.moves) (first : Rule)
@@ -61,11 +70,6 @@ module _ (m : Machine) (sound : IsWellFormed m.grammar)
 
   abbrev IsOwn : Symbol → Type 0
   IsOwn = IsSymbol m.grammar.terminals m.grammar.nonterminals
-
-  tail_own : (i : ℕ) (n : ℕ) (item : Item) (is : IsItem rules i item) →
-      All IsOwn (drop n is.rule.right.items)
-  tail_own i n item is =
-      All-drop IsOwn n is.rule.right.items (all_at (IsRuleOf m.grammar) rules sound item.rule is.rule is.is).1
 
   -- rule 0 derives some symbols, then what stands behind the dot of item i, and then others
   record IsAhead (xs : List Symbol) (i : ℕ) : Type 0 where
@@ -102,7 +106,7 @@ module _ (m : Machine) (sound : IsWellFormed m.grammar)
       ahead_by xs i (record { rule = r; dot = 0 })
       (record { rule = rule; is = at; dot = omega arith; number = omega (arith, number) })
       (rest ++ before.after)
-      (All-append IsOwn rest before.after (tail_own j (next.item.dot + 1) next.item next.is) before.own)
+      (All-append IsOwn rest before.after (tail_own m.grammar sound j (next.item.dot + 1) next.item next.is) before.own)
       (after_that d (by_one xs (rest ++ before.after) has))
 
   -- the symbols that link states are what rule 0 derives first
@@ -147,24 +151,6 @@ module _ (m : Machine) (sound : IsWellFormed m.grammar)
       let (j, own, next) = leads.ahead in
       (j + 1, (leads.goto.each (j + 1)).1 (inside (j, own, next, refl)))
 
-  -- symbols of the grammar derive tokens if each nonterminal does
-  own_derive : AreProductive m.grammar → (ys : List Symbol) → All IsOwn ys →
-      (ts : List ℕ) × Derives rules ys (map Terminal ts)
-  own_derive fruitful [] own = ([], itself)
-  own_derive fruitful (Terminal t ∷ ys) own =
-      let (ts, d) = own_derive fruitful ys (All-tail IsOwn (Terminal t) ys own) in
-      (t ∷ ts, simp append-nil at (between (Terminal t ∷ []) [] d))
-  own_derive fruitful (Nonterminal a ∷ ys) own =
-      let (ts, d) = own_derive fruitful ys (All-tail IsOwn (Nonterminal a) ys own) in
-      let (us, e) = fruitful a (All-head IsOwn (Nonterminal a) ys own) in
-      let one = between [] ys e in
-      let other : Derives rules (map Terminal us ++ ys) (map Terminal us ++ map Terminal ts) =
-      simp append-nil at (between (map Terminal us) [] d) in (
-        us ++ ts,
-        subst (λ (zs : List Symbol). Derives rules (Nonterminal a ∷ ys) zs)
-            (sym (map-append Terminal us ts)) (after_that one other),
-      )
-
   -- so what links the states derives more tokens
   pub linked_derives : AreProductive m.grammar → {qs : List ℕ} {xs : List Symbol} →
       AreLinked m.moves qs xs → (ts : List ℕ) → Derives rules (reverse xs) (map Terminal ts) →
@@ -175,8 +161,9 @@ module _ (m : Machine) (sound : IsWellFormed m.grammar)
       let item = ahead.own_item in
       let is = ahead.own_is in
       let rest = behind item is ++ ahead.after in
-      let own = All-append IsOwn (behind item is) ahead.after (tail_own i item.dot item is) ahead.own in
-      let (us, e) = own_derive fruitful rest own in
+      let own = All-append IsOwn (behind item is) ahead.after (tail_own m.grammar sound i item.dot item is) ahead.own in
+      let (us, rs, b) = own_becomes m.grammar fruitful rest own in
+      let e = rightmost_derived rules us rest (reverse rs) (becomes_derives rules b) in
       let one = between [] rest d in
       let other : Derives rules (map Terminal ts ++ rest) (map Terminal ts ++ map Terminal us) =
       simp append-nil at (between (map Terminal ts) [] e) in (

@@ -1,7 +1,8 @@
 -- What derives tokens derives them by a rightmost derivation.
 use Rattle.std.proofs.Common.{◌≡◌, ℕ, List, [], ◌∷◌, ◌++◌, map, reverse, Some, slice_get, refl, sym, ap, ◌∙◌, subst}
-use Rattle.std.specs.List.{Contains}
+use Rattle.std.specs.List.{All, Contains}
 use Rattle.std.proofs.lemmas.List.{append-nil, append_assoc, reverse-append, reverse-reverse}
+use Rattle.std.proofs.lemmas.List.Elements.{All-head, All-tail}
 use Rattle.std.proofs.lemmas.Option.{slice_get-get_or}
 use Rattle.vob_lr.specs.Becoming.{Becomes}
 use Rattle.vob_lr.specs.Becoming.Becomes.{nothing, terminal, by_rule}
@@ -9,15 +10,18 @@ use Rattle.vob_lr.specs.Derivations.{Derives, DerivesBy, DerivesInOne, DerivedIs
 use Rattle.vob_lr.specs.Derivations.Derives.{itself, further}
 use Rattle.vob_lr.specs.Derivations.DerivesBy.{nothing as last, further as then_by}
 use Rattle.vob_lr.specs.Derivations.DerivesInOne.{replaced}
+use Rattle.vob_lr.specs.Faults.{IsSymbol}
+use Rattle.vob_lr.specs.Languages.{AreProductive}
+use Rattle.vob_lr.specs.declared.grammar.Grammar.{Grammar}
 use Rattle.vob_lr.specs.declared.grammar.Rule.{Rule}
 use Rattle.vob_lr.specs.declared.grammar.Symbol.{Symbol}
 use Rattle.vob_lr.specs.declared.grammar.Symbol.TheVariants.{Terminal, Nonterminal}
-use Rattle.vob_lr.proofs.BecomingLemmas.{joined, parts, terminals_become}
+use Rattle.vob_lr.proofs.BecomingLemmas.{derived_becomes, joined, parts, terminals_become}
 use Rattle.vob_lr.proofs.DerivationLemmas.{rightmost_derived}
 
 module _ (rules : List Rule) where
   -- a rule that is there has a number
-  numbered : (rule : Rule) → Contains rules rule → (r : ℕ) × (slice_get rules r ≡ Some rule)
+  pub numbered : (rule : Rule) → Contains rules rule → (r : ℕ) × (slice_get rules r ≡ Some rule)
   numbered rule (r, less, is) = (r, slice_get-get_or rules r rule less ∙ ap Some is)
 
   -- a nonterminal in place of a rule's right side becomes the same
@@ -93,6 +97,25 @@ module _ (rules : List Rule) where
   rightmost {tokens} {xs} d =
       let (ss, b) = derived d (terminals_become rules tokens) in
       (reverse ss, becomes_derives b)
+
+-- symbols of a grammar become tokens if each nonterminal does
+pub own_becomes : (grammar : Grammar) → AreProductive grammar → (xs : List Symbol) →
+    All (IsSymbol grammar.terminals grammar.nonterminals) xs →
+    (ts : List ℕ) × (rs : List ℕ) × Becomes grammar.rules.items xs ts rs
+own_becomes grammar each [] own = ([], [], nothing)
+own_becomes grammar each (Terminal t ∷ xs) own =
+    let IsOwn = IsSymbol grammar.terminals grammar.nonterminals in
+    let (ts, rs, b) = own_becomes grammar each xs (All-tail IsOwn (Terminal t) xs own) in
+    (t ∷ ts, rs, terminal b)
+own_becomes grammar each (Nonterminal a ∷ xs) own =
+    let IsOwn = IsSymbol grammar.terminals grammar.nonterminals in
+    let (us, d) = each a (All-head IsOwn (Nonterminal a) xs own) in
+    let (by, r) = rightmost grammar.rules.items d in
+    let (ts, rs, b) = own_becomes grammar each xs (All-tail IsOwn (Nonterminal a) xs own) in (
+      us ++ ts,
+      reverse by ++ rs,
+      joined grammar.rules.items (derived_becomes grammar.rules.items r) b,
+    )
 
 pub derived_is_rightmost : DerivedIsRightmost
 derived_is_rightmost rules tokens xs =

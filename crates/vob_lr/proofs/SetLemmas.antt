@@ -37,7 +37,7 @@ module _ (x : ℕ) (xs : List ℕ) where
     tail_rises = λ i j d less low. rise (suc i) (suc j) d (omega (arith, less)) (omega (arith, low))
 
 -- lists that rise and have the same numbers are equal
-same_rising : (xs ys : List ℕ) → AllPairs (λ i j. i < j) xs → AllPairs (λ i j. i < j) ys →
+pub same_rising : (xs ys : List ℕ) → AllPairs (λ i j. i < j) xs → AllPairs (λ i j. i < j) ys →
     ((n : ℕ) → Contains xs n ↔ Contains ys n) → xs ≡ ys
 same_rising [] [] up other same = refl
 same_rising [] (y ∷ ys) up other same = absurd (none_there y ((same y).1 (at_head y ys)))

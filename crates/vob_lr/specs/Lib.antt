@@ -1,6 +1,7 @@
 pub mod Ahead
 pub mod Becoming
 pub mod Behind
+pub mod Canonical
 pub mod Conflicts
 pub mod Derivations
 pub mod Entered
@@ -9,6 +10,7 @@ pub mod Expansions
 pub mod Faults
 pub mod Flows
 pub mod Grammar
+pub mod Handles
 pub mod Heads
 pub mod ItemSets
 pub mod ItemTables

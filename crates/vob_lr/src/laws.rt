@@ -1,7 +1,9 @@
 //! What the sets and the tables of a grammar mean by derivations, and which item stands behind
 //! another. Each function does nothing: its contract is the law.
+ghost use Rattle.vob_lr.specs.Canonical.{LookaheadsAreMerged, StatesAreMerged};
 ghost use Rattle.vob_lr.specs.Derivations.{BeginningIsDerived, DerivedIsRightmost, EmptyIsDerived, FollowingIsDerived, ParsesAreOfSymbols, SentencesHaveParses};
 ghost use Rattle.vob_lr.specs.Entered.{OthersAreNotEntered};
+ghost use Rattle.vob_lr.specs.Handles.{ReductionsAreOfHandles};
 ghost use Rattle.vob_lr.specs.Items.{NextItemIsBehind};
 ghost use Rattle.vob_lr.specs.Languages.{AcceptedAreSentences, ErrorsAreEarly, ErrorsAreLate, SentencesHaveOneParse, TooLongIsNoSentence};
 
@@ -27,6 +29,24 @@ pub fn following_is_derived()
 /// dot of that one. So `goto` passes the dot.
 pub fn next_item_is_behind()
     ensures { NextItemIsBehind }
+{}
+
+/// The symbols that lead to a state are those after which canonical LR(1)'s state has its items, if
+/// each nonterminal derives some tokens. So `states` merges canonical LR(1)'s states.
+pub fn states_are_merged()
+    ensures { StatesAreMerged }
+{}
+
+/// The lookaheads of an item in a state are those of canonical LR(1)'s states with the same items, if
+/// each nonterminal derives some tokens. So `Lookaheads::of` gives their union.
+pub fn lookaheads_are_merged()
+    ensures { LookaheadsAreMerged }
+{}
+
+/// A parser may reduce by a rule where a handle of the rule ends, if the terminal behind that is ahead,
+/// and nowhere else, if each nonterminal derives some tokens. So `Lookaheads::reduces` tells of handles.
+pub fn reductions_are_of_handles()
+    ensures { ReductionsAreOfHandles }
 {}
 
 /// What derives tokens has a rightmost derivation of them, and only that does.
