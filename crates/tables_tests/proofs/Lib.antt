@@ -1,1 +1,2 @@
+mod WorkedCanonical
 mod WorkedGrammar

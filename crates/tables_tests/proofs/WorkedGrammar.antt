@@ -24,10 +24,10 @@ record HasSides (rule : Rule) (left : ℕ) (right : List Symbol) : Type 0 where
 
 -- what comes after or begins a terminal, by any rules
 module _ {rules : List Rule} where
-  terminal_stays : (t : ℕ) (rest : List Symbol) → BecomesEmpty rules (Terminal t ∷ rest) → ⊥
+  pub terminal_stays : (t : ℕ) (rest : List Symbol) → BecomesEmpty rules (Terminal t ∷ rest) → ⊥
   terminal_stays t rest empty = elim empty [ ]
 
-  begins_terminal : {t u : ℕ} {rest : List Symbol} → BeginsWith rules t (Terminal u ∷ rest) → t ≡ u
+  pub begins_terminal : {t u : ℕ} {rest : List Symbol} → BeginsWith rules t (Terminal u ∷ rest) → t ≡ u
   begins_terminal here = refl
   begins_terminal {t} {u} (behind empty begins) = absurd (terminal_stays u [] empty)
 
