@@ -29,6 +29,7 @@ mod NodeLemmas
 mod ParseLemmas
 mod PrecedenceLemmas
 mod PrefixLemmas
+mod ProductiveLemmas
 mod RightmostLemmas
 mod SetLemmas
 mod SidesLemmas

@@ -1,13 +1,14 @@
 -- The language of a grammar, and what a parser by its table accepts.
-use Rattle.std.specs.Prelude.{◌≡◌, ◌≢◌, ◌↔◌, ℕ, ◌+◌, ◌<◌, ◌≤◌, List, [], ◌∷◌, ◌++◌, length, map, slice_get, take, All, Some}
+use Rattle.std.specs.Prelude.{◌≡◌, ◌≢◌, ◌↔◌, ℕ, ◌+◌, ◌<◌, ◌≤◌, List, [], ◌∷◌, ◌++◌, length, slice_get, take, All, Some}
 use Rattle.vob_lr.specs.Conflicts.{AreConflicts, AreDecided}
-use Rattle.vob_lr.specs.Derivations.{Derives, IsParse, IsSentence}
+use Rattle.vob_lr.specs.Derivations.{IsParse, IsSentence}
+use Rattle.vob_lr.specs.Productive.{DerivesTokens}
 use Rattle.vob_lr.specs.Stops.{AcceptsBy, IsSound, IsTooLong, IsUnexpected}
 use Rattle.vob_lr.specs.Tables.{TableView}
 use Rattle.vob_lr.specs.declared.grammar.Grammar.{Grammar}
 use Rattle.vob_lr.specs.declared.grammar.Rule.{Rule}
 use Rattle.vob_lr.specs.declared.grammar.Symbol.{Symbol}
-use Rattle.vob_lr.specs.declared.grammar.Symbol.TheVariants.{Nonterminal, Terminal}
+use Rattle.vob_lr.specs.declared.grammar.Symbol.TheVariants.{Terminal}
 
 -- the table of an LALR(1) grammar: no cell has more than one action, and precedence left none out
 pub record IsLalr (table : TableView) : Type 0 where
@@ -38,8 +39,7 @@ ErrorsAreEarly = (table : TableView) → IsLalr table → (tokens : List ℕ) (n
 
 -- each nonterminal derives some tokens
 abbrev pub AreProductive : Grammar → Type 0
-AreProductive grammar = (a : ℕ) → a < grammar.nonterminals →
-    (ts : List ℕ) × Derives grammar.rules.items (Nonterminal a ∷ []) (map Terminal ts)
+AreProductive grammar = (a : ℕ) → a < grammar.nonterminals → DerivesTokens grammar.rules.items a
 
 -- rule 0 ends with the end
 abbrev pub HasEnd : List Rule → Type 0

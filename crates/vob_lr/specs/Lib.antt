@@ -22,6 +22,7 @@ pub mod Nodes
 pub mod Parses
 pub mod Passes
 pub mod Precedences
+pub mod Productive
 pub mod Rounds
 pub mod Sizes
 pub mod States

@@ -2,6 +2,7 @@
 #![tactic(auto)]
 
 mod ahead;
+mod bare;
 mod bound;
 mod cells;
 mod closure;
@@ -24,6 +25,7 @@ mod sets;
 mod state;
 mod table;
 
+pub use bare::productive;
 pub use closure::Closures;
 pub use empty::nullable;
 pub use grammar::{Grammar, GrammarError, Rule, Symbol};
