@@ -1,6 +1,7 @@
 //! Lookaheads beside a plain canonical LR(1), made of lists and then merged by its items.
 use super::grammar::grammar_of;
 use super::support::same;
+use crate::handles::has_handle;
 use std::process::Abort;
 use vob_lr::{Grammar, Item, Items, Lookaheads, Symbol};
 
@@ -268,4 +269,21 @@ fn lookaheads_are_those_of_canonical_states_with_the_same_items(rt: HostRuntime)
     for row in &GRAMMARS {
         check_grammar(&rt, row);
     }
+}
+
+#[test]
+fn handles_end_where_their_rules_are_reduced_by(rt: HostRuntime) {
+    let row = &GRAMMARS[0];
+    let grammar = grammar_of(&rt, row.names, row.rules);
+    let found = Lookaheads::new(rt.alloc(), &grammar).expect(&rt, "lookaheads");
+    // By rule 5 R becomes L. After L the end is next, and after * L also =.
+    for (state, terminal, wanted) in [(4, 0, true), (4, 1, false), (6, 1, true), (6, 2, false)] {
+        let ends = has_handle(rt.alloc(), &found, state, terminal, 5).expect(&rt, "an answer");
+        same(&rt, "a handle", state, ends, Some(wanted));
+    }
+    // B never ends.
+    let grammar = grammar_of(&rt, ("ZAB", "$a"), &["Z=A$", "A=a", "A=B", "B=aB"]);
+    let found = Lookaheads::new(rt.alloc(), &grammar).expect(&rt, "lookaheads");
+    let ends = has_handle(rt.alloc(), &found, 0, 0, 1).expect(&rt, "an answer");
+    same(&rt, "a handle", 0, ends, None);
 }

@@ -1,9 +1,9 @@
 //! Which nonterminals of grammars can become empty, which terminals can begin what they become, and
-//! which can follow them. Grammars worked by hand, a long chain, and rules with symbols that aren't
+//! which can follow them; and which derive tokens. Grammars worked by hand, a long chain, and rules with symbols that aren't
 //! there.
 use super::support::{check_bits, check_error, same};
 use std::process::Abort;
-use vob_lr::{Grammar, GrammarError, GrammarSets, Rule, Symbol, nullable};
+use vob_lr::{Grammar, GrammarError, GrammarSets, Rule, Symbol, nullable, productive};
 use vob_rows::BitRows;
 
 /// A grammar of these numbers of symbols, without a rule.
@@ -157,6 +157,35 @@ fn what_can_be_empty_or_begin_or_follow_is_found(rt: HostRuntime) {
     }
 }
 
+/// The names of nonterminals and of terminals, rules, and which nonterminals derive tokens.
+struct Productive {
+    names: (&'static str, &'static str),
+    rules: &'static [&'static str],
+    found: &'static str,
+}
+
+#[rattlefmt::skip]
+const PRODUCTIVE: [Productive; 5] = [
+    // C never ends, and B becomes it.
+    Productive { names: ("ABC", "ab"), rules: &["A=aA", "A=b", "B=Ca", "C=aC"], found: "100" },
+    // No token is a list of tokens too.
+    Productive { names: ("AB", "a"), rules: &["A=B", "B="], found: "11" },
+    // What A becomes is found after it.
+    Productive { names: ("ABC", "a"), rules: &["A=BC", "B=C", "C=a"], found: "111" },
+    // B has no rule.
+    Productive { names: ("AB", "a"), rules: &["A=Ba"], found: "00" },
+    Productive { names: ("", ""), rules: &[], found: "" },
+];
+
+#[test]
+fn what_derives_tokens_is_found(rt: HostRuntime) {
+    for row in &PRODUCTIVE {
+        let grammar = grammar_of(&rt, row.names, row.rules);
+        let found = productive(rt.alloc(), &grammar).expect(&rt, "a set");
+        check_bits(&rt, &found, row.found);
+    }
+}
+
 #[test]
 fn a_chain_longer_than_a_block_is_gone_up(rt: HostRuntime) {
     // Nonterminal n may become n + 1, or terminal n: it begins with terminal n and all after it.
@@ -186,6 +215,8 @@ fn check_bad(rt: &(impl Abort + AllocGlobal), grammar: &Grammar, rule: usize) {
     same(rt, "sets", rule, refused, Some(refusal));
     let refused = nullable(rt.alloc(), grammar).err();
     same(rt, "nullable", rule, refused, Some(refusal));
+    let refused = productive(rt.alloc(), grammar).err();
+    same(rt, "productive", rule, refused, Some(refusal));
 }
 
 #[test]
