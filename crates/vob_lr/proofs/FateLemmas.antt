@@ -17,7 +17,7 @@ use Rattle.vob_lr.proofs.LinkLemmas.{move_inside}
 use Rattle.vob_lr.proofs.MoveLemmas.{one_move}
 
 module _ (m : Machine) (states : AreStates m.grammar.rules.items m.sets m.moves) where
-  one_target : (q : ℕ) (x : Symbol) (p r : ℕ) → HasMove m.moves q x p → HasMove m.moves q x r → p ≡ r
+  pub one_target : (q : ℕ) (x : Symbol) (p r : ℕ) → HasMove m.moves q x p → HasMove m.moves q x r → p ≡ r
   one_target q x p r move other =
       let low = move_inside m states q x p move in
       let row = get_or m.moves q [] in

@@ -16,6 +16,7 @@ mod FaultLemmas
 mod FirstLemmas
 mod FlowLemmas
 mod FollowLemmas
+mod GrowingLemmas
 mod GrowthLemmas
 mod HandleLemmas
 mod ItemLemmas
@@ -25,7 +26,9 @@ mod LeftOutLemmas
 mod LinkLemmas
 mod MemberLemmas
 mod MoveLemmas
+mod NestingLemmas
 mod NodeLemmas
+mod OperatorLemmas
 mod ParseLemmas
 mod PrecedenceLemmas
 mod PrefixLemmas
@@ -38,5 +41,7 @@ mod SmallLemmas
 mod SolvedLemmas
 mod SoundLemmas
 mod StateLemmas
+mod StaysLemmas
 mod StepLemmas
 mod TableLemmas
+mod TreeLemmas

@@ -90,17 +90,17 @@ module _ (table : TableView) (tokens : List ℕ)
       }
 
   -- the symbols of a rule by which the table reduces are the newest
-  reduced_end : (c : Config) (r : ℕ) (rule : Rule) (h : IsRun m tokens c) →
-      action_in table tokens c ≡ Some (Reduce r) → slice_get rules r ≡ Some rule →
-      EndWith h.symbols rule.right.items (length rule.right.items)
-  reduced_end c r rule h action is =
+  pub reduced_end : (c : Config) (symbols : List Symbol) → AreLinked m.moves c.states symbols → (r : ℕ)
+      (rule : Rule) → action_in table tokens c ≡ Some (Reduce r) → slice_get rules r ≡ Some rule →
+      EndWith symbols rule.right.items (length rule.right.items)
+  reduced_end c symbols linked r rule action is =
       let (i, done, l) = sound.reduces (top c.states) (get_or tokens c.read 0) r action in
       let there = ahead_inside m states l in
-      let ends = dots_linked m states h.linked i (length done.is.rule.right.items) done.item done.is
+      let ends = dots_linked m states linked i (length done.is.rule.right.items) done.item done.is
       there done.dot in
       let own = subst (λ (n : ℕ). slice_get rules n ≡ Some done.is.rule) done.rule done.is.is in
       let same = same_Some done.is.rule rule (sym own ∙ is) in
-      subst (λ (x : Rule). EndWith h.symbols x.right.items (length x.right.items)) same ends
+      subst (λ (x : Rule). EndWith symbols x.right.items (length x.right.items)) same ends
 
   run_reduces : (c d : Config) (r : ℕ) → IsRun m tokens c →
       action_in table tokens c ≡ Some (Reduce r) → IsReplaced m r c d → IsRun m tokens d
@@ -109,7 +109,7 @@ module _ (table : TableView) (tokens : List ℕ)
       let right = to.rule.right.items in
       let n = length right in
       let rest = unread tokens c in
-      let ends = reduced_end c r to.rule h action to.is in
+      let ends = reduced_end c h.symbols h.linked r to.rule action to.is in
       let older = reverse (drop n h.symbols) in
       let whole = reverse_parts n h.symbols
       ∙ ap (λ (xs : List Symbol). older ++ xs) (ends.1 ∙ take_all n right (omega arith)) in
@@ -145,7 +145,7 @@ module _ (table : TableView) (tokens : List ℕ)
       let h = run_reached reached in
       let (i, done, l) = sound.reduces (top c.states) (get_or tokens c.read 0) r action in
       let is = subst (λ (n : ℕ). slice_get rules n ≡ Some done.is.rule) done.rule done.is.is in
-      let ends = reduced_end c r done.is.rule h action is in
+      let ends = reduced_end c h.symbols h.linked r done.is.rule action is in
       record {
         rule = done.is.rule;
         is = is;
@@ -153,21 +153,22 @@ module _ (table : TableView) (tokens : List ℕ)
       }
 
   -- all symbols are before the end in rule 0
-  accepted_is : (c : Config) (h : IsRun m tokens c) (a : IsAccepted table tokens c) →
-      a.last.completes.is.rule.right.items ≡ reverse h.symbols ++ Terminal 0 ∷ []
-  accepted_is c h a =
+  pub accepted_is : (c : Config) (symbols : List Symbol) → AreLinked m.moves c.states symbols →
+      (a : IsAccepted table tokens c) →
+      a.last.completes.is.rule.right.items ≡ reverse symbols ++ Terminal 0 ∷ []
+  accepted_is c symbols links a =
       let done = a.last.completes in
       let right = done.is.rule.right.items in
       let last = get_or_past tokens c.read 0 a.read in
       let move = subst (λ (t : ℕ). HasMove m.moves (top c.states) (Terminal t) a.state) last
       (sound.shifts (top c.states) (get_or tokens c.read 0) a.state a.is) in
-      let linked = linked_push m.moves h.linked (Terminal 0) a.state move in
+      let linked = linked_push m.moves links (Terminal 0) a.state move in
       let ends = dots_linked m states linked a.last.item done.item.dot done.item done.is a.last.there
       refl in
-      let count = linked_count m.moves h.linked in
-      let all = take_all done.item.dot (Terminal 0 ∷ h.symbols) (omega (arith, count, a.last.whole)) in
+      let count = linked_count m.moves links in
+      let all = take_all done.item.dot (Terminal 0 ∷ symbols) (omega (arith, count, a.last.whole)) in
       sym (take_all done.item.dot right (omega (arith, done.dot)))
-      ∙ sym ends.1 ∙ ap reverse all ∙ reverse-append (Terminal 0 ∷ []) h.symbols
+      ∙ sym ends.1 ∙ ap reverse all ∙ reverse-append (Terminal 0 ∷ []) symbols
 
   pub parse_accepted : (c : Config) → IsReached table tokens c → IsAccepted table tokens c →
       (parsed : List ℕ) → reverse parsed ≡ c.reduced → IsParse rules tokens parsed
@@ -179,7 +180,7 @@ module _ (table : TableView) (tokens : List ℕ)
         rule = done.is.rule;
         is = subst (λ (n : ℕ). slice_get rules n ≡ Some done.is.rule) done.rule done.is.is;
         symbols = reverse h.symbols;
-        then_end = accepted_is c h a;
+        then_end = accepted_is c h.symbols h.linked a;
         derives = subst (λ (rs : List ℕ). DerivesBy rules tokens (reverse h.symbols) rs) (sym same)
             (subst (λ (xs : List Symbol). DerivesBy rules tokens xs c.reduced) none h.derives);
       }

@@ -75,7 +75,7 @@ resolved_part which (Some p) rules = left_part which p rules
 
 -- ---- the action that is chosen
 
-chosen_shift : (shift : Option ℕ) (rules : List ℕ) (p : ℕ) → chosen shift rules ≡ Some (Shift p) →
+pub chosen_shift : (shift : Option ℕ) (rules : List ℕ) (p : ℕ) → chosen shift rules ≡ Some (Shift p) →
     shift ≡ Some p
 chosen_shift (Some q) rules p same = cc
 chosen_shift None [] p same = absurd (none-some (Shift p) same)
@@ -89,7 +89,7 @@ chosen_rule None (s ∷ rules) r same = (0, omega arith, cc)
 
 module _ (m : Machine) (terminals rules : List (Option Precedence)) (cells : List (List Cell))
     (h : AreRowsOfCells m terminals rules (length m.sets) cells) where
-  acts : (q t : ℕ) (action : Action) (cell : Option Cell) → action_of cell ≡ Some action →
+  pub acts : (q t : ℕ) (action : Action) (cell : Option Cell) → action_of cell ≡ Some action →
       slice_get (get_or cells q []) t ≡ cell →
       (own : Cell) × IsCell m terminals rules q t own
       × (chosen own.shift own.reduces.items ≡ Some action)

@@ -4,12 +4,14 @@ pub mod Behind
 pub mod Canonical
 pub mod Conflicts
 pub mod Derivations
+pub mod Edges
 pub mod Entered
 pub mod Equations
 pub mod Expansions
 pub mod Faults
 pub mod Flows
 pub mod Grammar
+pub mod Growing
 pub mod Handles
 pub mod Heads
 pub mod ItemSets
@@ -18,7 +20,9 @@ pub mod Items
 pub mod Kept
 pub mod Languages
 pub mod Lookaheads
+pub mod Nesting
 pub mod Nodes
+pub mod Operators
 pub mod Parses
 pub mod Passes
 pub mod Precedences
@@ -29,4 +33,5 @@ pub mod States
 pub mod Stops
 pub mod Tables
 pub mod Those
+pub mod Trees
 pub mod Walked

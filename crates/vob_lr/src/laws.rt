@@ -6,6 +6,9 @@ ghost use Rattle.vob_lr.specs.Entered.{OthersAreNotEntered};
 ghost use Rattle.vob_lr.specs.Handles.{ReductionsAreOfHandles};
 ghost use Rattle.vob_lr.specs.Items.{NextItemIsBehind};
 ghost use Rattle.vob_lr.specs.Languages.{AcceptedAreSentences, ErrorsAreEarly, ErrorsAreLate, SentencesHaveOneParse, TooLongIsNoSentence};
+ghost use Rattle.vob_lr.specs.Nesting.{OperatorsNest};
+ghost use Rattle.vob_lr.specs.Operators.{NestedTreesAreOne};
+ghost use Rattle.vob_lr.specs.Trees.{ParsesHaveTrees, TreesAreOfParses};
 
 /// Symbols can become empty exactly if they derive nothing. So `nullable` finds the nonterminals
 /// that derive nothing.
@@ -96,4 +99,30 @@ pub fn errors_are_late()
 /// sentence. So `parse` fails over a sentence for memory alone.
 pub fn too_long_is_no_sentence()
     ensures { TooLongIsNoSentence }
+{}
+
+/// Parses are what has trees: a leaf for each token, and a node for each rule. So what `parse` returns
+/// tells the trees.
+pub fn parses_have_trees()
+    ensures { ParsesHaveTrees }
+{}
+
+/// A parse has no other trees.
+pub fn trees_are_of_parses()
+    ensures { TreesAreOfParses }
+{}
+
+/// In the trees of what a parser accepts operators nest as their precedences say, in any grammar. A
+/// right operand begins with no operation that binds less tightly than the one before it, and with
+/// none that binds alike if its operator groups to the left. A left operand ends with no operation
+/// that binds less tightly than the operator behind it, and with none that binds alike if that
+/// groups to the right. So `a - b - c` is `(a - b) - c`, and `a + b * c` is `a + (b * c)`.
+pub fn operators_nest()
+    ensures { OperatorsNest }
+{}
+
+/// If all rules of a nonterminal are operations, and precedences decide between any two, one of the
+/// trees of a text nests so. So the tree of what a parser accepts is the one that they say.
+pub fn nested_trees_are_one()
+    ensures { NestedTreesAreOne }
 {}
