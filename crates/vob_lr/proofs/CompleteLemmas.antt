@@ -72,12 +72,12 @@ module _ (rules : List Rule) where
 abbrev ahead : List ℕ → ℕ
 ahead ts = get_or ts 0 0
 
-get_or-drop : (xs : List ℕ) (n : ℕ) → get_or xs n 0 ≡ get_or (drop n xs) 0 0
+pub get_or-drop : (xs : List ℕ) (n : ℕ) → get_or xs n 0 ≡ get_or (drop n xs) 0 0
 get_or-drop xs zero = refl
 get_or-drop [] (suc n) = refl
 get_or-drop (x ∷ xs) (suc n) = get_or-drop xs n
 
-reverse_around : (rs : List ℕ) (r : ℕ) (ss more : List ℕ) →
+pub reverse_around : (rs : List ℕ) (r : ℕ) (ss more : List ℕ) →
     reverse ss ++ r ∷ (reverse rs ++ more) ≡ reverse (rs ++ r ∷ ss) ++ more
 reverse_around rs r ss more =
     sym (ap (λ (ns : List ℕ). ns ++ more)

@@ -1,5 +1,5 @@
 -- A parser by a table grows the trees of its parse.
-use Rattle.std.proofs.Common.{◌≡◌, ℕ, zero, suc, ◌≤◌, List, [], ◌∷◌, ◌++◌, length, get_or, take, drop, reverse, Some, slice_get, refl, sym, ap, ◌∙◌, subst, arith}
+use Rattle.std.proofs.Common.{◌≡◌, ℕ, zero, suc, ◌<◌, ◌≤◌, List, [], ◌∷◌, ◌++◌, length, get_or, take, drop, reverse, Some, slice_get, refl, sym, ap, ◌∙◌, subst, arith}
 use Rattle.std.proofs.lemmas.List.{append-nil, append_assoc, reverse-append, reverse-reverse, take_all}
 use Rattle.std.proofs.lemmas.Option.{same_Some}
 use Rattle.vob_lr.specs.Growing.{Grows}
@@ -24,7 +24,7 @@ use Rattle.vob_lr.proofs.ParseLemmas.{accepted_is, reduced_end}
 use Rattle.vob_lr.proofs.TreeLemmas.{last_same, one_forest}
 
 -- trees, and others behind them
-abbrev join : Trees → Trees → Trees
+abbrev pub join : Trees → Trees → Trees
 join none g = g
 join (leaf t more) g = leaf t (join more g)
 join (node r below more) g = node r below (join more g)
@@ -45,16 +45,16 @@ module _ (table : TableView) (tokens : List ℕ)
   abbrev rules : List Rule
   rules = table.machine.grammar.rules.items
 
-  grows_on : {q p s n k l : ℕ} {xs ys : List Symbol} {f g : Trees} → Grows table tokens q xs f n k p →
+  pub grows_on : {q p s n k l : ℕ} {xs ys : List Symbol} {f g : Trees} → Grows table tokens q xs f n k p →
       Grows table tokens p ys g k l s → Grows table tokens q (xs ++ ys) (join f g) n l s
   grows_on nothing h = h
-  grows_on (shifts at action g) h = shifts at action (grows_on g h)
+  grows_on (shifts less at action g) h = shifts less at action (grows_on g h)
   grows_on (reduces is below action move g) h = reduces is below action move (grows_on g h)
 
   pub grown_trees : {q s n k : ℕ} {xs : List Symbol} {f : Trees} → Grows table tokens q xs f n k s →
       AreTrees rules xs f
   grown_trees nothing = no_trees
-  grown_trees (shifts at action g) = terminal (grown_trees g)
+  grown_trees (shifts less at action g) = terminal (grown_trees g)
   grown_trees (reduces is below action move g) = by_rule is (grown_trees below) (grown_trees g)
 
   -- the states on the stack, each pushed by a symbol above which trees are grown
@@ -69,9 +69,9 @@ module _ (table : TableView) (tokens : List ℕ)
   push bottom g = above bottom g
   push (above stack own) g = above (above stack own) g
 
-  moved : {q p n k : ℕ} {x : Symbol} {f : Trees} → Grows table tokens q (x ∷ []) f n k p →
+  pub moved : {q p n k : ℕ} {x : Symbol} {f : Trees} → Grows table tokens q (x ∷ []) f n k p →
       HasMove m.moves q x p
-  moved {q} (shifts {p = p} {t = t} at action nothing) = sound.shifts q t p action
+  moved {q} (shifts {p = p} {t = t} less at action nothing) = sound.shifts q t p action
   moved (reduces is below action move nothing) = move
 
   linked : {n : ℕ} {qs : List ℕ} {xs : List Symbol} {f : Trees} → IsStack qs xs f n →
@@ -134,12 +134,12 @@ module _ (table : TableView) (tokens : List ℕ)
   grown_begins = record { symbols = []; trees = none; stack = bottom; reduced = refl }
 
   grown_shifts : (c : Config) (p : ℕ) → IsGrown c → action_in table tokens c ≡ Some (Shift p) →
-      IsGrown (shifted p c)
-  grown_shifts c p h action =
+      c.read < length tokens → IsGrown (shifted p c)
+  grown_shifts c p h action low =
       let t = get_or tokens c.read 0 in record {
         symbols = Terminal t ∷ h.symbols;
         trees = join h.trees (leaf t none);
-        stack = push h.stack (shifts refl action nothing);
+        stack = push h.stack (shifts low refl action nothing);
         reduced = ap reverse (reductions-join h.trees (leaf t none) ∙ append-nil (reductions h.trees))
             ∙ h.reduced;
       }
@@ -170,7 +170,7 @@ module _ (table : TableView) (tokens : List ℕ)
   grown_takes : (c d : Config) (a : Action) → IsGrown c → action_in table tokens c ≡ Some a →
       IsTaken m tokens c a d → IsGrown d
   grown_takes c d (Shift p) h action (low, is) =
-      subst (λ (e : Config). IsGrown e) (sym is) (grown_shifts c p h action)
+      subst (λ (e : Config). IsGrown e) (sym is) (grown_shifts c p h action low)
   grown_takes c d (Reduce r) h action to = grown_reduces c d r h action to
 
   grown_reached : {c : Config} → IsReached table tokens c → IsGrown c

@@ -8,6 +8,7 @@ mod CompletedLemmas
 mod ConflictLemmas
 mod DerivationLemmas
 mod DoneLemmas
+mod DotLemmas
 mod EmptyLemmas
 mod EnteredLemmas
 mod EquationLemmas
@@ -16,11 +17,13 @@ mod FaultLemmas
 mod FirstLemmas
 mod FlowLemmas
 mod FollowLemmas
+mod FollowedLemmas
 mod GrowingLemmas
 mod GrowthLemmas
 mod HandleLemmas
 mod ItemLemmas
 mod KeptLemmas
+mod KernelLemmas
 mod LanguageLemmas
 mod LeftOutLemmas
 mod LinkLemmas
@@ -33,6 +36,7 @@ mod ParseLemmas
 mod PrecedenceLemmas
 mod PrefixLemmas
 mod ProductiveLemmas
+mod PushedLemmas
 mod RightmostLemmas
 mod SetLemmas
 mod SidesLemmas

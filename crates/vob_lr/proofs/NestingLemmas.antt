@@ -1,15 +1,14 @@
 -- How operators nest in the trees that a parser grows.
-use Rattle.std.proofs.Common.{◌≡◌, ℕ, suc, ◌+◌, List, [], ◌∷◌, ◌++◌, length, get_or, drop, Option, Some, slice_get, refl, sym, ap, ◌∙◌, subst, arith}
-use Rattle.std.proofs.lemmas.Option.{same_Some, slice_get_within}
+use Rattle.std.proofs.Common.{◌≡◌, ℕ, ◌+◌, List, [], ◌∷◌, ◌++◌, length, get_or, Option, Some, slice_get, refl, sym, ap, ◌∙◌, subst}
 use Rattle.vob_lr.specs.Grammar.BeginsWith.{here as first_of}
 use Rattle.vob_lr.specs.Growing.{Grows}
 use Rattle.vob_lr.specs.Growing.Grows.{nothing, shifts, reduces}
 use Rattle.vob_lr.specs.ItemSets.{HasItem, Opens}
-use Rattle.vob_lr.specs.Items.{Completes, HasNext, IsItem, first_item}
-use Rattle.vob_lr.specs.Lookaheads.{HasMove, HasNextThen, LooksAhead, Machine}
+use Rattle.vob_lr.specs.Items.{first_item}
+use Rattle.vob_lr.specs.Lookaheads.{HasMove, LooksAhead, Machine, Reduces}
 use Rattle.vob_lr.specs.Lookaheads.LooksAhead.{begins, keeps}
 use Rattle.vob_lr.specs.Edges.{BeginsLast, EndsFirst, HasNode, IsOnLeftEdge, IsOnRightEdge}
-use Rattle.vob_lr.specs.Nesting.{HasLeftOperand, HasRightOperand, OperatorsNest, Replaces, RuleStays, ShiftStays}
+use Rattle.vob_lr.specs.Nesting.{HasLeftOperand, HasRightOperand, OperatorsNest, RuleStays, ShiftStays}
 use Rattle.vob_lr.specs.Edges.BeginsLast.{last, behind_leaf as last_past_leaf, behind_node as last_past_node}
 use Rattle.vob_lr.specs.Edges.EndsFirst.{first}
 use Rattle.vob_lr.specs.Edges.HasNode.{here, inside, behind_leaf, behind_node}
@@ -21,12 +20,11 @@ use Rattle.vob_lr.specs.Trees.{Trees}
 use Rattle.vob_lr.specs.declared.grammar.Rule.{Rule}
 use Rattle.vob_lr.specs.declared.grammar.Symbol.{Symbol}
 use Rattle.vob_lr.specs.declared.grammar.Symbol.TheVariants.{Terminal, Nonterminal}
-use Rattle.vob_lr.specs.declared.items.Item.{Item}
 use Rattle.vob_lr.specs.declared.precedence.Precedence.{Precedence}
 use Rattle.vob_lr.specs.declared.table.Action.TheVariants.{Reduce, Shift}
 use Rattle.vob_lr.proofs.FateLemmas.{one_target}
 use Rattle.vob_lr.proofs.GrowingLemmas.{accepted_grows}
-use Rattle.vob_lr.proofs.ItemLemmas.{next_here}
+use Rattle.vob_lr.proofs.DotLemmas.{IsBefore, complete_of, next_of, next_then, opening, opens, past, same_sides}
 use Rattle.vob_lr.proofs.LinkLemmas.{move_inside}
 use Rattle.vob_lr.proofs.MemberLemmas.{member_advances, member_closed, move_leads, moves_on}
 use Rattle.vob_lr.proofs.StaysLemmas.{rule_left, shift_left}
@@ -51,7 +49,7 @@ module _ (table : TableView) (tokens : List ℕ)
   grown_leads : {q s n k : ℕ} {xs : List Symbol} {f : Trees} → Grows table tokens q xs f n k s →
       Leads s q xs
   grown_leads nothing = there
-  grown_leads {q} (shifts {p = p} {t = t} at action g) = moves (sound.shifts q t p action) (grown_leads g)
+  grown_leads {q} (shifts {p = p} {t = t} less at action g) = moves (sound.shifts q t p action) (grown_leads g)
   grown_leads (reduces is below action move g) = moves move (grown_leads g)
 
   -- the last of them
@@ -65,16 +63,12 @@ module _ (table : TableView) (tokens : List ℕ)
   last_move (moves {xs = ys} move leads) (u ∷ us) x same =
       let rest : ys ≡ us ++ x ∷ [] = cc in last_move leads us x rest
 
-  -- lookaheads are kept on the way
-  ahead_along : {s q t : ℕ} {xs : List Symbol} → Leads s q xs → (i : ℕ) (item : Item)
-      (is : IsItem rules i item) → drop item.dot is.rule.right.items ≡ xs → LooksAhead m t q i →
-      LooksAhead m t s (i + length xs)
-  ahead_along {s} {q} {t} there i item is rest ahead =
-      subst (λ (k : ℕ). LooksAhead m t s k) (let e : i ≡ i + 0 = omega arith in e) ahead
-  ahead_along {s} {q} {t} (moves {p = p} {x = x} {xs = xs} move leads) i item is rest ahead =
-      let (next, after) = next_here rules i item is x xs rest in
-      subst (λ (k : ℕ). LooksAhead m t s k) (let e : i + 1 + length xs ≡ i + suc (length xs) = omega arith in e)
-      (ahead_along leads (i + 1) _ after.0 after.1 (keeps ahead next move))
+  -- lookaheads are kept on the way to the end of a rule
+  reduces_there : {s q t i r : ℕ} {xs : List Symbol} → Leads s q xs → IsBefore rules i r xs →
+      LooksAhead m t q i → Reduces m s t r
+  reduces_there {i = i} there dot ahead = (i, complete_of rules dot, ahead)
+  reduces_there (moves move leads) dot ahead =
+      reduces_there leads (past rules dot) (keeps ahead (next_of rules dot) move)
 
   -- ---- nodes as they are grown
 
@@ -107,7 +101,7 @@ module _ (table : TableView) (tokens : List ℕ)
   )
   node_grown (inside h) (reduces is below action move g) = node_grown h below
   node_grown (behind_node h) (reduces is below action move g) = node_grown h g
-  node_grown (behind_leaf h) (shifts at action g) = node_grown h g
+  node_grown (behind_leaf h) (shifts less at action g) = node_grown h g
 
   -- on the left edge from the same state
   left_grown : {r : ℕ} {f : Trees} → IsOnLeftEdge r f → {q s n k : ℕ} {xs : List Symbol} →
@@ -147,7 +141,7 @@ module _ (table : TableView) (tokens : List ℕ)
   )
   right_grown (right_inside h) (reduces is below action move nothing) = right_grown h below
   right_grown (right_past_node h) (reduces is below action move g) = right_grown h g
-  right_grown (right_past_leaf h) (shifts at action g) = right_grown h g
+  right_grown (right_past_leaf h) (shifts less at action g) = right_grown h g
 
   -- where the last of some trees begins, a node on its left edge does
   record LastFrom (xs : List Symbol) (s v : ℕ) : Type 0 where
@@ -187,146 +181,85 @@ module _ (table : TableView) (tokens : List ℕ)
       }
   last_grown (last_past_node h) (reduces {rule = rule} is below action move g) =
       last_behind (Nonterminal rule.left) (last_grown h g)
-  last_grown (last_past_leaf h) (shifts {t = t} at action g) = last_behind (Terminal t) (last_grown h g)
+  last_grown (last_past_leaf h) (shifts {t = t} less at action g) = last_behind (Terminal t) (last_grown h g)
 
-  -- ---- what a rule with an operand is
-
-  -- rule r replaces e by these symbols
-  record Replacing (r e : ℕ) (right : List Symbol) (rule : Rule) : Type 0 where
-    left : rule.left ≡ e
-    same : rule.right.items ≡ right
-
-  replacing : (r e : ℕ) (right : List Symbol) (rule : Rule) → Replaces rules r e right →
-      slice_get rules r ≡ Some rule → Replacing r e right rule
-  replacing r e right rule (own, at, left, symbols) is =
-      let same = same_Some own rule (sym at ∙ is) in record {
-        left = ap (λ (x : Rule). x.left) (sym same) ∙ left;
-        same = ap (λ (x : Rule). x.right.items) (sym same) ∙ symbols;
-      }
+  -- ---- both sides of an operator
 
   -- the operator behind a left operand is shifted
   shifted_behind : {q s n k e t : ℕ} {more : List Symbol} {f : Trees} →
       Grows table tokens q (Nonterminal e ∷ Terminal t ∷ more) f n k s →
       (p : ℕ) × (o : ℕ) × HasMove m.moves q (Nonterminal e) p × (action_at table.cells p t ≡ Some (Shift o))
-  shifted_behind (reduces {p = p} is below action move (shifts {p = o} at shift g)) = (p, o, move, shift)
+  shifted_behind (reduces {p = p} is below action move (shifts {p = o} less at shift g)) = (p, o, move, shift)
 
   -- a node on the right edge of a left operand is reduced by with the operator ahead
   reduced_before : {q s n k e t v : ℕ} {more : List Symbol} {f : Trees} → EndsFirst v f →
       Grows table tokens q (Nonterminal e ∷ Terminal t ∷ more) f n k s →
       (k : ℕ) × (p : ℕ) × (below : Trees) × IsGrown p k v below × (get_or tokens k 0 ≡ t)
-  reduced_before (first edge) (reduces {k = k} is below action move (shifts at shift g)) =
+  reduced_before (first edge) (reduces {k = k} is below action move (shifts less at shift g)) =
       let (p, trees, own) = right_grown edge (reduces is below action move nothing) in
       (k, p, trees, own, at)
 
-  -- ---- the items of a rule that replaces a nonterminal
-
-  opening : (r e : ℕ) (right : List Symbol) (rule : Rule) → slice_get rules r ≡ Some rule →
-      Replacing r e right rule → Opens rules e (first_item rules r)
-  opening r e right rule is own = (r, rule, is, own.left, refl)
-
-  -- the symbol with index d is behind that dot
-  next_at : (r d : ℕ) (x : Symbol) (rule : Rule) → slice_get rules r ≡ Some rule →
-      slice_get rule.right.items d ≡ Some x → HasNext rules (first_item rules r + d) x
-  next_at r d x rule is at =
-      let less = slice_get_within rule.right.items d x at in record {
-        item = record { rule = r; dot = d };
-        is = record { rule = rule; is = is; dot = omega (arith, less); number = refl };
-        next = at;
-      }
-
   -- a state that moves by a nonterminal has the first items of its rules
   opened : (q e p i : ℕ) → HasMove m.moves q (Nonterminal e) p → Opens rules e i → HasItem m.sets q i
-  opened q e p i move opens =
+  opened q e p i move new =
       let (j, own, next) =
       (move_leads m states q (Nonterminal e) p (move_inside m states q (Nonterminal e) p move) move).ahead in
-      member_closed m states q j e i own next opens
-
-  -- ---- both sides of an operator
+      member_closed m states q j e i own next new
 
   module _ (terminals precedences : List (Option Precedence))
       (cells : AreRowsOfCells m terminals precedences (length m.sets) table.cells) where
-    -- an operator behind a rule's first operand can follow the nonterminal
-    ahead_of : (q p r v e t : ℕ) (more : List Symbol) → HasMove m.moves q (Nonterminal e) p →
-        Opens rules e (first_item rules r) → Replaces rules v e (Nonterminal e ∷ Terminal t ∷ more) →
-        LooksAhead m t q (first_item rules r)
-    ahead_of q p r v e t more move opens (rule, is, left, right) =
-        let first = first_item rules v in
-        let there = opened q e p first move (v, rule, is, left, refl) in
-        let at : slice_get rule.right.items 0 ≡ Some (Nonterminal e) = ap (λ ys. slice_get ys 0) right in
-        let next : HasNextThen rules first e (Terminal t ∷ more) = record {
-          next = record {
-            item = record { rule = v; dot = 0 };
-            is = record { rule = rule; is = is; dot = omega arith; number = omega arith };
-            next = at;
-          };
-          then_rest = ap (drop 1) right;
-        } in
-        begins there next first_of opens
-
     -- where it is shifted behind the last operand of a rule
     right_binds : (q n r v e t : ℕ) (below : Trees) → IsGrown q n r below → HasRightOperand rules r e →
         HasLeftOperand rules v e t → BeginsLast v below → ShiftStays (stays_at terminals precedences t r)
     right_binds q n r v e t below g (before, own) (more, other) edge =
-        let mine = replacing r e _ g.rule own g.is in
+        let (left, right) = same_sides rules r e _ g.rule own g.is in
         let l = last_grown edge g.grown in
         let one : Nonterminal l.left ≡ Nonterminal e =
-        (last_same l.before before (Nonterminal l.left) (Nonterminal e) (sym l.symbols ∙ mine.same)).1 in
+        (last_same l.before before (Nonterminal l.left) (Nonterminal e) (sym l.symbols ∙ right)).1 in
         let named : l.left ≡ e = cc in
         let h = l.node_of in
-        let theirs = replacing v e _ h.rule other h.is in
+        let symbols = (same_sides rules v e _ h.rule other h.is).1 in
         let (p, o, move, shift) = shifted_behind
-        (subst (λ (ys : List Symbol). Grows table tokens l.start ys l.below h.from l.to h.state) theirs.same
-        h.grown) in
+        (subst (λ (ys : List Symbol). Grows table tokens l.start ys l.below h.from l.to h.state) symbols h.grown) in
         let target = one_target m states l.start (Nonterminal e) p g.state move
         (subst (λ (a : ℕ). HasMove m.moves l.start (Nonterminal a) g.state) named l.move) in
-        let goto = subst (λ (a : ℕ). HasMove m.moves q (Nonterminal a) g.after) mine.left g.move in
-        let first = first_item rules r in
-        let long = length g.rule.right.items in
-        let ahead = ahead_of q g.after r v e t more goto (opening r e _ g.rule g.is mine) other in
-        let last = ahead_along (grown_leads g.grown) first (record { rule = r; dot = 0 })
-        (record { rule = g.rule; is = g.is; dot = omega arith; number = omega arith }) refl ahead in
-        let complete : Completes rules r (first + long) = record {
-          item = record { rule = r; dot = long };
-          is = record { rule = g.rule; is = g.is; dot = omega arith; number = refl };
-          rule = refl;
-          dot = refl;
-        } in
+        let goto = subst (λ (a : ℕ). HasMove m.moves q (Nonterminal a) g.after) left g.move in
+        let begun = opened q e g.after (first_item rules v) goto (opens rules v e _ other) in
+        let next = next_then rules (opening rules v e _ other) in
+        let ahead = begins begun next first_of (opens rules r e _ own) in
+        let leads = subst (λ (ys : List Symbol). Leads g.state q ys) right (grown_leads g.grown) in
         shift_left m terminals precedences table.cells cells g.state t o r
         (subst (λ (s : ℕ). action_at table.cells s t ≡ Some (Shift o)) target shift)
-        (first + long, complete, last)
+        (reduces_there leads (opening rules r e _ own) ahead)
 
     -- where a rule at the end of the first operand is reduced by before it
     left_binds : (q n r v e t : ℕ) (below : Trees) → IsGrown q n r below → HasLeftOperand rules r e t →
         HasRightOperand rules v e → EndsFirst v below → RuleStays (stays_at terminals precedences t v)
     left_binds q n r v e t below g (more, own) (before, other) edge =
-        let mine = replacing r e _ g.rule own g.is in
+        let right = (same_sides rules r e _ g.rule own g.is).1 in
         let (k, start, trees, h, at) = reduced_before edge
-        (subst (λ (ys : List Symbol). Grows table tokens q ys below g.from n g.state) mine.same g.grown) in
-        let theirs = replacing v e _ h.rule other h.is in
-        let (p, move) = last_move (grown_leads h.grown) before (Nonterminal e) theirs.same in
+        (subst (λ (ys : List Symbol). Grows table tokens q ys below g.from n g.state) right g.grown) in
+        let (p, move) = last_move (grown_leads h.grown) before (Nonterminal e)
+        (same_sides rules v e _ h.rule other h.is).1 in
         let first = first_item rules r in
-        let there = opened p e h.state first move (opening r e _ g.rule g.is mine) in
-        let here : HasNext rules (first + 0) (Nonterminal e) =
-        next_at r 0 (Nonterminal e) g.rule g.is (ap (λ ys. slice_get ys 0) mine.same) in
-        let behind : HasNext rules (first + 1) (Terminal t) =
-        next_at r 1 (Terminal t) g.rule g.is (ap (λ ys. slice_get ys 1) mine.same) in
-        let zero : first + 0 ≡ first = omega arith in
-        let past = member_advances m states p first (Nonterminal e) h.state there
-        (subst (λ (i : ℕ). HasNext rules i (Nonterminal e)) zero here) move in
-        let (o, shift) = moves_on m states h.state (first + 1) (Terminal t) past behind in
+        let dot = opening rules r e _ own in
+        let there = opened p e h.state first move (opens rules r e _ own) in
+        let behind = member_advances m states p first (Nonterminal e) h.state there (next_of rules dot) move in
+        let (o, shift) = moves_on m states h.state (first + 1) (Terminal t) behind (next_of rules (past rules dot)) in
         rule_left m terminals precedences table.cells cells h.state t v o
         (subst (λ (u : ℕ). action_at table.cells h.state u ≡ Some (Reduce v)) at h.action) shift
 
 pub operators_nest : OperatorsNest
-operators_nest table terminals precedences sound cells tokens parsed a trees own =
-    let (xs, n, s, grown) = accepted_grows table tokens sound.states sound.actions parsed trees a own in
-    record {
+operators_nest table terminals precedences by tokens parsed a trees own =
+    let states = by.sound.states in
+    let sound = by.sound.actions in
+    let (xs, n, s, grown) = accepted_grows table tokens states sound parsed trees a own in record {
       right = λ r v e t below there right left edge.
-          let (q, k, g) = node_grown table tokens sound.states sound.actions there grown in
-          right_binds table tokens sound.states sound.actions terminals precedences cells q k r v e t below g
-          right left edge;
+          let (q, k, g) = node_grown table tokens states sound there grown in
+          right_binds table tokens states sound terminals precedences by.cells q k r v e t below g right left
+          edge;
       left = λ r v e t below there left right edge.
-          let (q, k, g) = node_grown table tokens sound.states sound.actions there grown in
-          left_binds table tokens sound.states sound.actions terminals precedences cells q k r v e t below g
-          left right edge;
+          let (q, k, g) = node_grown table tokens states sound there grown in
+          left_binds table tokens states sound terminals precedences by.cells q k r v e t below g left right
+          edge;
     }

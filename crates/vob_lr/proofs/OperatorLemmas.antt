@@ -1,5 +1,5 @@
 -- Trees that nest as precedences say are read from their leaves in one way.
-use Rattle.std.proofs.Common.{◌≡◌, ℕ, List, [], ◌∷◌, ◌++◌, None, Option, Some, refl, sym, ap, ◌∙◌, subst}
+use Rattle.std.proofs.Common.{◌≡◌, ◌≢◌, ℕ, List, [], ◌∷◌, ◌++◌, None, Option, Some, refl, sym, ap, ◌∙◌, subst}
 use Rattle.std.proofs.lemmas.List.{append-nil, append_assoc}
 use Rattle.std.proofs.lemmas.Option.{same_Some}
 use Rattle.vob_lr.specs.Edges.{BeginsLast, HasNode, IsOnLeftEdge, IsOnRightEdge}
@@ -27,6 +27,12 @@ both_stay OneRule shift rule = absurd shift
 both_stay Nothing shift rule = absurd rule
 both_stay Both shift rule = refl
 
+pub rule_alone : (s : Stays) → RuleStays s → s ≢ Both → s ≡ OneRule
+rule_alone Shift stays other = absurd stays
+rule_alone OneRule stays other = refl
+rule_alone Nothing stays other = absurd stays
+rule_alone Both stays other = absurd (other refl)
+
 -- the first of some trees, with others behind it
 abbrev before : Trees → Trees → Trees
 before none g = g
@@ -35,23 +41,23 @@ before (node r below more) g = node r below g
 
 module _ (rules : List Rule) (e : ℕ) (which : ℕ → ℕ → Stays) where
   -- behind an operand that is the last of rule r, or is enclosed, an operator goes on
-  abbrev Takes : Option ℕ → ℕ → Type 0
+  abbrev pub Takes : Option ℕ → ℕ → Type 0
   Takes None t = Unit {0}
   Takes (Some r) t = HasRightOperand rules r e × ShiftStays (which t r)
 
   -- no operator goes on
-  abbrev Stops : Option ℕ → List ℕ → Type 0
+  abbrev pub Stops : Option ℕ → List ℕ → Type 0
   Stops None ts = (t : ℕ) (us : List ℕ) → ts ≡ t ∷ us → ¬ IsOperator rules e t
   Stops (Some r) ts = (t : ℕ) (us : List ℕ) → ts ≡ t ∷ us → IsOperator rules e t → RuleStays (which t r)
 
   -- what is read: an operand, what goes on behind a tree, or symbols of rule r
-  data Task : Type 0 where
+  pub data Task : Type 0 where
     operand : (c : Option ℕ) → Task
     more : (c : Option ℕ) (so_far : Trees) → Task
     symbols : (r : ℕ) (xs : List Symbol) → Task
 
   -- of tokens trees are read, and other tokens are left
-  data Reads : Task → List ℕ → Trees → List ℕ → Type 0 where
+  pub data Reads : Task → List ℕ → Trees → List ℕ → Type 0 where
     head : {c : Option ℕ} {r t : ℕ} {xs : List Symbol} {ts us vs : List ℕ} {f z : Trees} →
         Replaces rules r e (Terminal t ∷ xs) → Reads (symbols r xs) ts f us →
         Reads (more c (node r (leaf t f) none)) us z vs → Reads (operand c) (t ∷ ts) z vs
@@ -64,7 +70,8 @@ module _ (rules : List Rule) (e : ℕ) (which : ℕ → ℕ → Stays) where
     token : {r t u : ℕ} {xs : List Symbol} {ts us : List ℕ} {f : Trees} → t ≡ u →
         Reads (symbols r xs) ts f us → Reads (symbols r (Terminal t ∷ xs)) (u ∷ ts) (leaf u f) us
     enclosed : {r s t a : ℕ} {xs : List Symbol} {ts us vs : List ℕ} {below f : Trees} →
-        Reads (operand None) ts (node s below none) (t ∷ us) → Reads (symbols r xs) us f vs →
+        ¬ IsOperator rules e t → Reads (operand None) ts (node s below none) (t ∷ us) →
+        Reads (symbols r xs) us f vs →
         Reads (symbols r (Nonterminal a ∷ Terminal t ∷ xs)) ts (node s below (leaf t f)) vs
     last : {r a : ℕ} {ts us : List ℕ} {z : Trees} → Reads (operand (Some r)) ts z us →
         Reads (symbols r (Nonterminal a ∷ [])) ts z us
@@ -116,8 +123,8 @@ module _ (rules : List Rule) (e : ℕ) (which : ℕ → ℕ → Stays) where
     reads_once nothing nothing = (refl, refl)
     reads_once (token {u = t} is reads) (token also reads') =
         let (same, left) = reads_once reads reads' in (ap (leaf t) same, left)
-    reads_once (enclosed {r} {s} {t} {xs} {us = us} {below = below} {f = f} one reads)
-        (enclosed {s = p} {us = us'} {vs = vs'} {below = below'} {f = f'} other reads') =
+    reads_once (enclosed {r} {s} {t} {xs = xs} {us = us} {below = below} {f = f} not one reads)
+        (enclosed {s = p} {us = us'} {vs = vs'} {below = below'} {f = f'} also other reads') =
         let (same, left) = reads_once one other in
         let rest : us ≡ us' = cc in
         let (behind, end) = reads_once reads
@@ -244,7 +251,7 @@ module _ (rules : List Rule) (e : ℕ) (which : ℕ → ℕ → Stays) where
           } in
           subst (λ (ws : List ℕ). Reads (symbols r (Nonterminal e ∷ Terminal t ∷ xs)) ws
           (node s below (leaf t f)) ts) (sym (append_assoc (leaves below) (t ∷ leaves f) ts))
-          (enclosed (reads_node (ops.each s rule.right.items one) a s one None (t ∷ vs) inner
+          (enclosed other (reads_node (ops.each s rule.right.items one) a s one None (t ∷ vs) inner
           (node s below none) (t ∷ vs) (stop ends)) (reads_rest own b r ts (past_node h)))
       reads_rest one_last (by_rule {r = s} {rule = rule} {below = below} at a no_trees) r ts h =
           let one : Replaces rules s e rule.right.items = (rule, at, refl, refl) in
@@ -260,7 +267,7 @@ module _ (rules : List Rule) (e : ℕ) (which : ℕ → ℕ → Stays) where
           (stop (h.ends right))))
 
     -- all of an operand's leaves
-    reads_all : {f : Trees} → AreTrees rules (Nonterminal e ∷ []) f → AreNested rules which f →
+    pub reads_all : {f : Trees} → AreTrees rules (Nonterminal e ∷ []) f → AreNested rules which f →
         Reads (operand None) (leaves f) f []
     reads_all (by_rule {r = r} {rule = rule} {below = below} at a no_trees) nested =
         let one : Replaces rules r e rule.right.items = (rule, at, refl, refl) in

@@ -1,5 +1,5 @@
 -- How a parser by a table grows trees. No public clause cites this page.
-use Rattle.std.specs.Prelude.{◌≡◌, ℕ, ◌+◌, List, [], ◌∷◌, slice_get, slice_index_or, Some}
+use Rattle.std.specs.Prelude.{◌≡◌, ℕ, ◌+◌, ◌<◌, List, [], ◌∷◌, length, slice_get, slice_index_or, Some}
 use Rattle.vob_lr.specs.Lookaheads.{HasMove}
 use Rattle.vob_lr.specs.Tables.{TableView, action_at}
 use Rattle.vob_lr.specs.Trees.{Trees}
@@ -14,7 +14,7 @@ use Rattle.vob_lr.specs.declared.table.Action.TheVariants.{Reduce, Shift}
 pub data Grows (table : TableView) (tokens : List ℕ) : ℕ → List Symbol → Trees → ℕ → ℕ → ℕ → Type 0 where
   nothing : {q n : ℕ} → Grows table tokens q [] none n n q
   shifts : {q p s n m t : ℕ} {xs : List Symbol} {more : Trees} →
-      slice_index_or tokens n 0 ≡ t → action_at table.cells q t ≡ Some (Shift p) →
+      n < length tokens → slice_index_or tokens n 0 ≡ t → action_at table.cells q t ≡ Some (Shift p) →
       Grows table tokens p xs more (n + 1) m s →
       Grows table tokens q (Terminal t ∷ xs) (leaf t more) n m s
   reduces : {q o p s n k m r : ℕ} {rule : Rule} {xs : List Symbol} {below more : Trees} →

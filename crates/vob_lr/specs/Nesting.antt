@@ -49,10 +49,14 @@ pub record AreNested (rules : List Rule) (which : ℕ → ℕ → Stays) (trees 
   pub left : (r s e t : ℕ) (below : Trees) → HasNode r below trees → HasLeftOperand rules r e t →
       HasRightOperand rules s e → EndsFirst s below → RuleStays (which t s)
 
--- so they do in the trees of what a parser accepts
+-- a table by these precedences of terminals and of rules
+pub record IsByPrecedences (table : TableView) (terminals rules : List (Option Precedence)) : Type 0 where
+  pub sound : IsSound table
+  pub cells : AreRowsOfCells table.machine terminals rules (length table.machine.sets) table.cells
+
+-- so operators do in the trees of what a parser accepts
 abbrev pub OperatorsNest : Type 0
-OperatorsNest = (table : TableView) (terminals rules : List (Option Precedence)) → IsSound table →
-    AreRowsOfCells table.machine terminals rules (length table.machine.sets) table.cells →
-    (tokens parsed : List ℕ) → AcceptsBy table tokens parsed → (trees : Trees) →
-    AreTreesOf (rules_of table) tokens parsed trees →
+OperatorsNest = (table : TableView) (terminals rules : List (Option Precedence)) →
+    IsByPrecedences table terminals rules → (tokens parsed : List ℕ) → AcceptsBy table tokens parsed →
+    (trees : Trees) → AreTreesOf (rules_of table) tokens parsed trees →
     AreNested (rules_of table) (stays_at terminals rules) trees

@@ -7,7 +7,7 @@ ghost use Rattle.vob_lr.specs.Handles.{ReductionsAreOfHandles};
 ghost use Rattle.vob_lr.specs.Items.{NextItemIsBehind};
 ghost use Rattle.vob_lr.specs.Languages.{AcceptedAreSentences, ErrorsAreEarly, ErrorsAreLate, SentencesHaveOneParse, TooLongIsNoSentence};
 ghost use Rattle.vob_lr.specs.Nesting.{OperatorsNest};
-ghost use Rattle.vob_lr.specs.Operators.{NestedTreesAreOne};
+ghost use Rattle.vob_lr.specs.Operators.{AcceptedAreNested, NestedTreesAreOne};
 ghost use Rattle.vob_lr.specs.Trees.{ParsesHaveTrees, TreesAreOfParses};
 
 /// Symbols can become empty exactly if they derive nothing. So `nullable` finds the nonterminals
@@ -121,8 +121,14 @@ pub fn operators_nest()
     ensures { OperatorsNest }
 {}
 
-/// If all rules of a nonterminal are operations, and precedences decide between any two, one of the
-/// trees of a text nests so. So the tree of what a parser accepts is the one that they say.
+/// If all rules of a nonterminal are operations, and precedences decide between each two, one of the
+/// trees of a text at most nests so.
 pub fn nested_trees_are_one()
     ensures { NestedTreesAreOne }
+{}
+
+/// By the table of a grammar of operations, between which precedences decide, a parser accepts
+/// exactly the texts of which a tree nests so. So what `parse` returns is the tree that they say.
+pub fn accepted_are_nested()
+    ensures { AcceptedAreNested }
 {}
