@@ -11,5 +11,6 @@ mod rules;
 mod support;
 mod tables;
 mod text;
+mod trees;
 mod useful;
 mod words;

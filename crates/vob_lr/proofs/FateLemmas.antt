@@ -54,7 +54,7 @@ module _ (table : TableView) (tokens : List ℕ)
       (subst (λ (a : Action). IsTaken table.machine tokens c a d) same one.taken) other.taken
 
   -- steps from one to another
-  data Leads (c : Config) : Config → Type 0 where
+  pub data Leads (c : Config) : Config → Type 0 where
     here : Leads c c
     further : {d e : Config} → Leads c d → Steps table tokens d e → Leads c e
 
@@ -67,7 +67,7 @@ module _ (table : TableView) (tokens : List ℕ)
   from_start (then_steps reached step) = further (from_start reached) step
 
   -- no step, or a first one
-  begun : {c e : Config} → Leads c e → (c ≡ e) ⊎ ((d : Config) × Steps table tokens c d × Leads d e)
+  pub begun : {c e : Config} → Leads c e → (c ≡ e) ⊎ ((d : Config) × Steps table tokens c d × Leads d e)
   begun here = inl refl
   begun {c} (further {d} {e} leads step) = elim (begun leads) [
     | inl same ↦ inr (e, subst (λ (x : Config). Steps table tokens x e) (sym same) step, here)
@@ -75,7 +75,7 @@ module _ (table : TableView) (tokens : List ℕ)
   ]
 
   -- of two that are reached, one leads to the other
-  one_way : {c d : Config} → IsReached table tokens c → IsReached table tokens d →
+  pub one_way : {c d : Config} → IsReached table tokens c → IsReached table tokens d →
       Leads c d ⊎ Leads d c
   one_way {c} {d} reached (begins is) = inr (subst (λ (x : Config). Leads x c) (sym is) (from_start reached))
   one_way {c} {d} reached (then_steps {c = e} other step) = elim (one_way reached other) [
@@ -88,13 +88,13 @@ module _ (table : TableView) (tokens : List ℕ)
   ]
 
   -- one that accepts takes no step
-  accepted_stays : (c : Config) → IsAccepted table tokens c → (d : Config) → ¬ Steps table tokens c d
+  pub accepted_stays : (c : Config) → IsAccepted table tokens c → (d : Config) → ¬ Steps table tokens c d
   accepted_stays c a d step =
       let same = same_Some step.action (Shift a.state) (sym step.is ∙ a.is) in
       let taken = subst (λ (x : Action). IsTaken table.machine tokens c x d) same step.taken in
       omega (arith, taken.0, a.read)
 
-  stays : {c d : Config} → Leads c d → ((e : Config) → ¬ Steps table tokens c e) → c ≡ d
+  pub stays : {c d : Config} → Leads c d → ((e : Config) → ¬ Steps table tokens c e) → c ≡ d
   stays leads none = elim (begun leads) [
     | inl same ↦ same
     | inr more ↦ absurd (none more.0 more.1)

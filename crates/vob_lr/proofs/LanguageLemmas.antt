@@ -36,7 +36,7 @@ module _ (table : TableView) (h : IsLalr table) where
       sym (reverse-reverse parsed)
       ∙ ap reverse (sym reduced ∙ ap (λ (x : Config). x.reduced) same ∙ by) ∙ reverse-reverse other
 
-  accepts : (tokens : List ℕ) → IsSentence (rules_of table) tokens →
+  pub accepts : (tokens : List ℕ) → IsSentence (rules_of table) tokens →
       (parsed : List ℕ) × AcceptsBy table tokens parsed
   accepts tokens s =
       let (parsed, p) = (rightmost.sentences_have_parses (rules_of table) tokens).0 s in
@@ -57,6 +57,14 @@ module _ (table : TableView) (h : IsLalr table) where
       let (parsed, a) = accepts tokens s in
       never_stuck table tokens h.sound.states a.config a.reached a.accepted n stuck
 
+-- a step reads one token at most
+pub step_reads : (table : TableView) (ts : List ℕ) (c d : Config) (a : Action) → IsTaken table.machine ts c a d →
+    (c.read ≤ d.read) × (d.read ≤ c.read + 1)
+step_reads table ts c d (Shift p) taken =
+    let read = ap (λ (e : Config). e.read) taken.1 in (omega (arith, read), omega (arith, read))
+step_reads table ts c d (Reduce r) taken =
+    let read = ap (λ (e : Config). e.read) taken.after in (omega (arith, read), omega (arith, read))
+
 -- ---- a parser sees no token behind the one that is ahead
 
 module _ (table : TableView) (n : ℕ) (ts us : List ℕ) (low : n < length ts) (high : n < length us)
@@ -66,21 +74,17 @@ module _ (table : TableView) (n : ℕ) (ts us : List ℕ) (low : n < length ts) 
   taken_same c d (Shift p) less taken = (omega (arith, less, high), taken.1)
   taken_same c d (Reduce r) less taken = taken
 
-  step_same : (c d : Config) → c.read ≤ n → Steps table ts c d → Steps table us c d
+  pub step_same : (c d : Config) → c.read ≤ n → Steps table ts c d → Steps table us c d
   step_same c d less step = record {
     action = step.action;
     is = ap (λ (t : ℕ). action_at table.cells (get_or c.states 0 0) t) (sym (same c.read less)) ∙ step.is;
     taken = taken_same c d step.action less step.taken;
   }
 
-  taken_reads : (c d : Config) (a : Action) → IsTaken table.machine ts c a d → c.read ≤ d.read
-  taken_reads c d (Shift p) taken = omega (arith, ap (λ (e : Config). e.read) taken.1)
-  taken_reads c d (Reduce r) taken = omega (arith, ap (λ (e : Config). e.read) taken.after)
-
-  reached_same : {c : Config} → IsReached table ts c → c.read ≤ n → IsReached table us c
+  pub reached_same : {c : Config} → IsReached table ts c → c.read ≤ n → IsReached table us c
   reached_same (begins is) less = begins is
   reached_same (then_steps {c} {d} reached step) less =
-      let before : c.read ≤ n = omega (arith, taken_reads c d step.action step.taken, less) in
+      let before : c.read ≤ n = omega (arith, (step_reads table ts c d step.action step.taken).0, less) in
       then_steps (reached_same reached before) (step_same c d before step)
 
 -- so it is stuck there whatever stands behind

@@ -12,6 +12,7 @@ mod DotLemmas
 mod EmptyLemmas
 mod EnteredLemmas
 mod EquationLemmas
+mod ExpectedLemmas
 mod FateLemmas
 mod FaultLemmas
 mod FirstLemmas
@@ -37,15 +38,19 @@ mod PrecedenceLemmas
 mod PrefixLemmas
 mod ProductiveLemmas
 mod PushedLemmas
+mod ReplayLemmas
 mod RightmostLemmas
+mod RootLemmas
 mod SetLemmas
 mod SidesLemmas
 mod SizeLemmas
 mod SmallLemmas
 mod SolvedLemmas
 mod SoundLemmas
+mod StandLemmas
 mod StateLemmas
 mod StaysLemmas
 mod StepLemmas
 mod TableLemmas
 mod TreeLemmas
+mod UnwindLemmas

@@ -8,6 +8,7 @@ pub mod Edges
 pub mod Entered
 pub mod Equations
 pub mod Expansions
+pub mod Expected
 pub mod Faults
 pub mod Flows
 pub mod Grammar
@@ -27,11 +28,13 @@ pub mod Parses
 pub mod Passes
 pub mod Precedences
 pub mod Productive
+pub mod Replays
 pub mod Rounds
 pub mod Sizes
 pub mod States
 pub mod Stops
 pub mod Tables
 pub mod Those
+pub mod TreeNodes
 pub mod Trees
 pub mod Walked

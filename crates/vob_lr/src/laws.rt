@@ -3,6 +3,7 @@
 ghost use Rattle.vob_lr.specs.Canonical.{LookaheadsAreMerged, StatesAreMerged};
 ghost use Rattle.vob_lr.specs.Derivations.{BeginningIsDerived, DerivedIsRightmost, EmptyIsDerived, FollowingIsDerived, ParsesAreOfSymbols, SentencesHaveParses};
 ghost use Rattle.vob_lr.specs.Entered.{OthersAreNotEntered};
+ghost use Rattle.vob_lr.specs.Expected.{ExpectedAreAll};
 ghost use Rattle.vob_lr.specs.Handles.{ReductionsAreOfHandles};
 ghost use Rattle.vob_lr.specs.Items.{NextItemIsBehind};
 ghost use Rattle.vob_lr.specs.Languages.{AcceptedAreSentences, ErrorsAreEarly, ErrorsAreLate, SentencesHaveOneParse, TooLongIsNoSentence};
@@ -131,4 +132,10 @@ pub fn nested_trees_are_one()
 /// exactly the texts of which a tree nests so. So what `parse` returns is the tree that they say.
 pub fn accepted_are_nested()
     ensures { AcceptedAreNested }
+{}
+
+/// Whatever can stand behind tokens is what `Table::expected` returns, and more at most, if the grammar
+/// is LALR(1): each terminal with which they begin a sentence, and the end if they are one.
+pub fn expected_are_all()
+    ensures { ExpectedAreAll }
 {}

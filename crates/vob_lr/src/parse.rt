@@ -1,6 +1,7 @@
 //! A parser by a table.
 ghost use Rattle.std.specs.Prelude.{◌≡◌, ◌↔◌, ℕ, ◌<◌, ◌≤◌, drop, length, reverse, slice_get, slice_index, Err, IfErr, IfOk, IsTrue, OnOk, Some};
 ghost use Rattle.vob_lr.specs.Derivations.{IsParse};
+ghost use Rattle.vob_lr.specs.Expected.{HasRead};
 ghost use Rattle.vob_lr.specs.Languages.{MoreThanSuffice};
 ghost use Rattle.vob_lr.specs.Parses.{IsAccepted, IsLast, IsReached, IsReplaced, Steps, beginning, replaced, shifted, top};
 ghost use Rattle.vob_lr.specs.Stops.{AcceptsBy, CanReplace, IsSound, IsStop, IsTooLong, IsUnexpected};
@@ -79,7 +80,7 @@ fn token_at(tokens: &[usize], index: usize) -> usize
 /// A parser under way: the states on its stack, how many tokens it has read, and the rules by which
 /// it reduced. The newest state and the newest rule are last. A contract sees them first.
 #[derive(Drop)]
-struct Run {
+pub(crate) struct Run {
     states: Vec<usize>,
     read: usize,
     reduced: Vec<usize>,
@@ -113,7 +114,7 @@ impl Run {
     }
 
     /// Returns the newest state.
-    fn state(&self) -> usize
+    pub(crate) fn state(&self) -> usize
         ensures { result ≡ top self.now.states }
     {
         match self.states.last() {
@@ -259,6 +260,30 @@ impl Table<'_> {
             _ => return Err(ParseError::Unexpected { at: run.read() }),
         }
         Ok(())
+    }
+
+    /// Runs a parser until it has read all tokens, and no further.
+    ///
+    /// Fails as `parse_within` does.
+    pub(crate) fn run_over(
+        &self,
+        alloc: Global,
+        tokens: &[usize],
+        reductions: usize,
+    ) -> Result<Run, ParseError>
+        ensures read { IfOk result (HasRead self.now tokens.now) }
+        ensures unexpected { (n : ℕ) → result ≡ Err (ParseError.Unexpected n)
+            → IsUnexpected self.now tokens.now n }
+        ensures too_long { result ≡ Err ParseError.TooLong
+            → IsTooLong self.now tokens.now reductions }
+    {
+        // A proof knows from this call that the actions are those of the states.
+        let _states = self.lookaheads();
+        let mut run = Run::new(alloc)?;
+        'steps: while run.read() < tokens.len() {
+            self.step(tokens, reductions, &mut run)?;
+        }
+        Ok(run)
     }
 
     /// Parses tokens as `parse` does, but by so many reductions at most: a table with conflicts may

@@ -43,7 +43,7 @@ const GRAMMARS: [Row; 4] = [
 ];
 
 /// The numbers of a text's terminals: as many as there are for a letter that is none.
-fn tokens_of(rt: &(impl Abort + AllocGlobal), terminals: &str, text: &str) -> Vec<usize> {
+pub fn tokens_of(rt: &(impl Abort + AllocGlobal), terminals: &str, text: &str) -> Vec<usize> {
     let mut tokens = Vec::new(rt.alloc());
     for letter in text.as_bytes() {
         let token = terminals

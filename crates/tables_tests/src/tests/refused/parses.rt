@@ -1,9 +1,9 @@
-//! The lookaheads of a grammar, its table, the conflicts and a parse: each request for memory is
-//! refused in turn, or they are whole.
-use crate::tests::support::{FIRST, given, request, same_list, tell};
+//! The lookaheads of a grammar, its table, the conflicts, a parse with its tree, and what is expected:
+//! each request for memory is refused in turn, or they are whole.
+use crate::tests::support::{FIRST, given, request, same, same_list, tell};
 use std::alloc::{AllocError, Global};
 use std::process::Abort;
-use vob_lr::{Conflict, Grammar, GrammarError, Lookaheads, ParseError, Rule, Symbol, Table};
+use vob_lr::{Conflict, Grammar, GrammarError, Lookaheads, ParseError, Rule, Symbol, Table, Tree};
 
 /// Nonterminal 0 becomes nonterminal 1 and the end. By either of two rules nonterminal 1 becomes
 /// nothing, which is a conflict. It takes two requests.
@@ -50,13 +50,31 @@ fn are_conflicts(rt: &(impl Abort + AllocGlobal), table: &Table<'_>) -> bool {
     true
 }
 
-/// Whether the rules by which no token is parsed were given, which then are rule 1 alone.
+/// Whether the rules by which no token is parsed were given, which then are rule 1 alone, and their tree.
 fn is_parse(rt: &(impl Abort + AllocGlobal), table: &Table<'_>) -> bool {
-    let parsed = table.parse(rt.alloc(), &[]);
-    let Some(rules) = given(rt, parsed, ParseError::Memory) else {
+    let parsed = match table.parse(rt.alloc(), &[]) {
+        Ok(parsed) => parsed,
+        Err(error) => {
+            same(rt, "refused", 0, error, ParseError::Memory);
+            return false;
+        }
+    };
+    same_list(rt, "the rules", &parsed, &[1]);
+    let rules = &table.lookaheads().items().grammar().rules;
+    let Some(tree) = given(rt, Tree::of(rt.alloc(), rules, &[], &parsed), AllocError) else {
         return false;
     };
-    same_list(rt, "the rules", &rules, &[1]);
+    same(rt, "nodes", 0, tree.nodes.len(), 1);
+    true
+}
+
+/// Whether what is expected before all tokens was given, which then is the end.
+fn is_expected(rt: &(impl Abort + AllocGlobal), table: &Table<'_>) -> bool {
+    let expected = table.expected(rt.alloc(), &[]);
+    let Some(set) = given(rt, expected, ParseError::Memory) else {
+        return false;
+    };
+    same(rt, "the end", 0, set.get(0), Some(true));
     true
 }
 
@@ -71,7 +89,7 @@ fn are_whole(rt: &(impl Abort + AllocGlobal), behind: usize) -> bool {
         return false;
     };
     let conflicts = are_conflicts(rt, &table);
-    is_parse(rt, &table) && conflicts
+    is_parse(rt, &table) && is_expected(rt, &table) && conflicts
 }
 
 #[test]
