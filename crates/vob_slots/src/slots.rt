@@ -10,6 +10,7 @@ ghost use Rattle.vob_block.specs.Packing.{item};
 ghost use Rattle.vob_walk.specs.Matches.{matches};
 ghost use Rattle.vob_walk.specs.Walk.{GivesFirst, GivesLast};
 
+use crate::search::Search;
 use crate::summary::Summarized;
 use std::alloc::{AllocError, Global};
 use std::marker::Model;
@@ -88,8 +89,15 @@ impl Slots {
         slot < self.taken.len() && self.taken.bits().get_unchecked(slot)
     }
 
-    /// Takes the first free slot and returns it, or `None` if none is free. The search is that of
-    /// `Search::first_unset`, which reads two blocks, and one for each 2^18 slots, at most.
+    /// Returns a search for the first free slot, whose reads contracts count: see `Search::first_unset`.
+    pub fn search(&self) -> Search<'_>
+        ensures slots { result.bits ≡ self.now }
+        ensures reads { result.reads ≡ 0 }
+    {
+        self.taken.search()
+    }
+
+    /// Takes the first free slot and returns it, or `None` if none is free. It is found by `search`.
     pub fn alloc(&mut self) -> Option<usize>
         ensures first { IsNext false self.old 0 result }
         ensures taken { MatchOption result (self.new ≡ self.old)
