@@ -9,7 +9,9 @@ use vob_yacc::{GrammarText, LeftNonterminal, LeftOut, LeftRule, Useless, grammar
 #[derive(Drop)]
 pub struct SymbolNames {
     pub terminals: Vec<Vec<u8>>,
-    nonterminals: Vec<Vec<u8>>,
+    /// The names of terminals without their texts in quotes.
+    pub identifiers: Vec<Vec<u8>>,
+    pub nonterminals: Vec<Vec<u8>>,
 }
 
 /// A grammar file as it was read.
@@ -90,6 +92,7 @@ impl GrammarFile {
         let GrammarText {
             grammar,
             terminals,
+            identifiers,
             nonterminals,
             precedences,
             rule_precedences,
@@ -100,6 +103,7 @@ impl GrammarFile {
             grammar,
             names: SymbolNames {
                 terminals,
+                identifiers,
                 nonterminals,
             },
             expected,

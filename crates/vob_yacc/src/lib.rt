@@ -11,6 +11,7 @@ mod text;
 mod text_error;
 mod useful;
 
+pub use literal::character_of;
 pub use text::{GrammarText, grammar_of};
 pub use text_error::{TextError, TextFault};
 pub use useful::{LeftNonterminal, LeftOut, LeftRule, Useless};

@@ -157,8 +157,8 @@ pub(crate) fn is_right(word: &[u8]) -> bool {
     characters_of(word).is_some()
 }
 
-/// Returns the character that a quoted word is, if it is one.
-pub(crate) fn character_of(word: &[u8]) -> Option<u8> {
+/// Returns the character that a word is between its quotes, if it is one: that of `'+'` or of `'\n'`.
+pub fn character_of(word: &[u8]) -> Option<u8> {
     let characters = characters_of(word)?;
     if characters.count == 1 {
         Some(characters.last)

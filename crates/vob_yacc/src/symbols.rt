@@ -17,12 +17,13 @@ enum Class {
     Nonterminal,
 }
 
-/// A symbol: the name by which it is shown, where it is declared or else named first, and what the file
-/// says of it. One
+/// A symbol: the name by which it is shown, the one that this replaced, if there is one, where it is declared
+/// or else named first, and what the file says of it. One
 /// with two names may have had two entries: then `same` is the number of the one that counts.
 #[derive(Drop)]
 struct Entry {
     name: Vec<u8>,
+    replaced: Option<Vec<u8>>,
     at: usize,
     class: Class,
     same: usize,
@@ -45,12 +46,13 @@ pub(crate) struct Symbols<'a> {
     end: usize,
 }
 
-/// The symbols of a whole file: what each entry is, the names of terminals and of nonterminals, where
-/// each nonterminal is named first, and the precedences of terminals.
+/// The symbols of a whole file: what each entry is, the names of terminals, those without texts in quotes,
+/// the names of nonterminals, where each is named first, and the precedences of terminals.
 #[derive(Drop)]
 pub(crate) struct Numbered {
     symbols: Vec<Option<Symbol>>,
     pub terminals: Vec<Vec<u8>>,
+    pub identifiers: Vec<Vec<u8>>,
     pub nonterminals: Vec<Vec<u8>>,
     pub places: Vec<usize>,
     pub precedences: Vec<Option<Precedence>>,
@@ -94,6 +96,7 @@ impl<'a> Symbols<'a> {
         let number = self.entries.len();
         self.entries.push(Entry {
             name,
+            replaced: None,
             at,
             class: Class::Unknown,
             same: number,
@@ -275,7 +278,7 @@ impl<'a> Symbols<'a> {
         let Some(own) = self.entries.get_mut(entry) else {
             return Ok(());
         };
-        own.name = name;
+        own.replaced = Some(std::mem::replace(&mut own.name, name));
         own.has_text = true;
         own.precedence = match (own.precedence, precedence) {
             (Some((_, at)), Some((_, other_at))) => {
@@ -326,6 +329,7 @@ impl<'a> Symbols<'a> {
         let mut numbered = Numbered {
             symbols: Vec::new(alloc),
             terminals: Vec::new(alloc),
+            identifiers: Vec::new(alloc),
             nonterminals: Vec::new(alloc),
             places: Vec::new(alloc),
             precedences: Vec::new(alloc),
@@ -374,7 +378,9 @@ impl Numbered {
         let name = entry.name.to_vec(alloc)?;
         let symbol = if entry.class == Class::Terminal {
             let precedence = entry.precedence.map(|(precedence, _)| precedence);
+            let identifier = entry.replaced.as_ref().unwrap_or(&entry.name);
             self.precedences.push(precedence)?;
+            self.identifiers.push(identifier.to_vec(alloc)?)?;
             self.terminals.push(name)?;
             Symbol::Terminal(self.terminals.len().saturating_sub(1))
         } else {

@@ -17,6 +17,8 @@ pub struct GrammarText {
     pub grammar: Grammar,
     /// The name of each terminal: its text in quotes if it has one.
     pub terminals: Vec<Vec<u8>>,
+    /// The name of each terminal without its text: the one by which code calls it, if it has one.
+    pub identifiers: Vec<Vec<u8>>,
     /// The name of each nonterminal. That of an action within a rule is `$@` and a number.
     pub nonterminals: Vec<Vec<u8>>,
     /// The precedence of each terminal, if the file gives it one.
@@ -138,6 +140,7 @@ fn finish(alloc: Global, text: &[u8], reader: Reader<'_>) -> Result<GrammarText,
     Ok(GrammarText {
         grammar,
         terminals,
+        identifiers: numbered.identifiers,
         nonterminals,
         precedences: numbered.precedences,
         rule_precedences,
