@@ -5,6 +5,7 @@ use clap::builder::ValueParser;
 use clap::{Arg, ArgAction, ArgMatches, Command};
 use files_filter::Shows;
 use files_flow::{ANALYSES, Analysis};
+use files_grammar::{FORMS, Form};
 use files_graph::Part;
 use std::alloc::{AllocError, Global};
 
@@ -13,7 +14,10 @@ pub const STANDARD_INPUT: &str = "-";
 
 /// What the help of `grammar` says of its states and of the exit status.
 const GRAMMAR_HELP: &str = "\
-The states are those of the LALR(1) parser that bison makes by default.
+The states are those of the LALR(1) parser that bison makes by default. With
+--output they are tables with a short parser, whose head says how it is used:
+  c      a file to include in C or C++
+  rust   a module of Rust
 
 Exit status: 0; 1 if there are other conflicts than %expect and %expect-rr say,
 or any without them; 2 after a fault.
@@ -80,10 +84,11 @@ Example: ./conthiral filter examples/files/cities.csv 'elevation>5 | city=Oslo'"
 /// What the words ask for. Each task names the file that it reads.
 #[derive(Clone, Copy)]
 pub enum Task<'a> {
-    /// The sets of a grammar, and its states if they are asked for.
+    /// The sets of a grammar, and its states if they are asked for; or the grammar in another form.
     Grammar {
         file: &'a str,
         states: bool,
+        form: Option<Form>,
     },
     /// The derivation of the tokens in a file by a grammar in another.
     Parse {
@@ -136,10 +141,18 @@ fn grammar_command<'a>(alloc: Global) -> Result<Command<'a>, AllocError> {
         "states",
         "Print the rules, and the states with what a parser does",
     );
+    let output = Arg::new(alloc, "output")
+        .long("output")
+        .value_name("FORM")
+        .value_parser(FORMS.as_slice())
+        .hide_possible_values(true)
+        .help("Print a parser, in one of the forms below")
+        .conflicts_with("states")?;
     Command::new(alloc, "grammar")
         .about("Print the sets of a grammar: nullable, FIRST and FOLLOW")
         .after_help(GRAMMAR_HELP)
         .arg(states)?
+        .arg(output)?
         .arg(file)
 }
 
@@ -229,6 +242,11 @@ fn filter_command<'a>(alloc: Global) -> Result<Command<'a>, AllocError> {
         .arg(condition)
 }
 
+/// Returns the form in which a grammar is to be printed, if one is asked for.
+fn form_of(matches: &ArgMatches<'_>) -> Option<Form> {
+    Form::of(matches.get_str("output")?)
+}
+
 /// Returns what of a closure is to be printed.
 fn part_of<'a>(matches: &ArgMatches<'a>) -> Part<'a> {
     if matches.get_flag("reduce") {
@@ -281,6 +299,7 @@ pub fn task_of<'a>(matches: &ArgMatches<'a>) -> Option<Task<'a>> {
         "grammar" => Some(Task::Grammar {
             file,
             states: own.get_flag("states"),
+            form: form_of(own),
         }),
         "parse" => Some(Task::Parse {
             file,

@@ -5,7 +5,7 @@ use crate::fault::{Fault, Report};
 use crate::progress::Watched;
 use files_filter::{Shows, print_filter};
 use files_flow::print_flow;
-use files_grammar::{GrammarFile, print_grammar, print_parse};
+use files_grammar::{Form, GrammarFile, print_form, print_grammar, print_parse};
 use files_graph::print_closure;
 use std::fs::File;
 use std::io::{BufWriter, Read, Write};
@@ -41,6 +41,22 @@ fn read_grammar<R: Eprint + AllocGlobal>(
     Ok(grammar)
 }
 
+/// Writes a grammar in a form for other programs. Returns the status, and says on standard error why it
+/// isn't 0, as what is written is mostly read by a program alone.
+fn write_form<R: Eprint + AllocGlobal, W: Write>(
+    rt: &R,
+    grammar: &GrammarFile,
+    file: &str,
+    form: Form,
+    output: &mut W,
+) -> Result<u8, Fault> {
+    let status = print_form(rt.alloc(), grammar, file, form, output)?;
+    if status != 0 {
+        let _ = eprintln!(rt; "conthiral: {file}: other conflicts than %expect says: run it without --output to see them");
+    }
+    Ok(status)
+}
+
 /// Writes the rows of a table of which a condition is true, as they are read. Returns the status.
 fn filter<R: Files + Input + AllocGlobal, W: Write>(
     rt: &R,
@@ -66,9 +82,12 @@ fn write_task<R: Files + Input + Eprint + AllocGlobal, W: Write>(
 ) -> Result<u8, Fault> {
     let alloc = rt.alloc();
     match task {
-        Task::Grammar { file, states } => {
+        Task::Grammar { file, states, form } => {
             let grammar = read_grammar(rt, text, file)?;
-            Ok(print_grammar(alloc, &grammar, *states, output)?)
+            match form {
+                Some(form) => write_form(rt, &grammar, shown_name(file), *form, output),
+                None => Ok(print_grammar(alloc, &grammar, *states, output)?),
+            }
         }
         Task::Parse { grammar, .. } => {
             let read = fs::read(rt, grammar).map_err(Fault::GrammarInput)?;

@@ -2,14 +2,14 @@
 
 /// How the parser is used, as comments, and the type of values.
 pub const USE: &str = "\
-// Include this file, and before it define PARSER_VALUE as the type of your values, unless that is int.
+// Define PARSER_VALUE as the type of your values, if that isn't int, and include this file. Then
 //     struct parser parser;
 //     parser_begin(&parser);
 //     do status = parser_push(&parser, token, value, reduce, data); while (status == PARSER_MORE);
 //     if (status == PARSER_ACCEPTED) use(parser.values[0]);
 //     parser_end(&parser);
-// A token is TOKEN_.. or parser_character('+'), and 0 at the end. `reduce` gets RULE_.. with the values of its
-// right side, and returns the value of its left side.
+// parses a text: its tokens, each TOKEN_.. or parser_character('+'), and 0 after the last. For each rule that ends
+// your function reduce(rule, values, data) gets RULE_.. and the values of its right side, and returns that of its left.
 
 #include <stdlib.h>
 
@@ -98,7 +98,7 @@ static inline int parser_grow(struct parser *parser)
 
 /// How a parser takes tokens.
 pub const PUSH: &str = "
-// Returns the action of a state at a symbol, or 0 if there is none.
+// Returns the action of a state at a symbol: 0 if there is none.
 static inline int parser_find(int state, int symbol)
 {
     int low = parser_row[state], end = parser_row[state + 1], high = end;
@@ -112,10 +112,25 @@ static inline int parser_find(int state, int symbol)
     return low < end && parser_symbol[low] == symbol ? parser_action[low] : 0;
 }
 
-// Returns whether a parser may take a token: it takes no others. This tells what was expected.
-static inline int parser_expects(const struct parser *parser, int token)
+// Returns 1 if a parser would take a token, and 0 if not, or -1 without memory. Nothing is reduced: the states that
+// would be entered stand above the newest one for a while.
+static inline int parser_takes(struct parser *parser, int token)
 {
-    return parser_find(parser->room ? parser->states[parser->depth] : 0, token) != 0;
+    size_t kept = parser->depth, above = 0, length;
+    for (;;) {
+        int action;
+        if (parser->depth + above == parser->room && !parser_grow(parser))
+            return -1;
+        action = parser_find(parser->states[above ? parser->depth + above : kept], token);
+        if (action >= 0)
+            return action > 0;
+        length = (size_t)parser_length[-action];
+        kept -= length > above ? length - above : 0;
+        above -= length > above ? above : length;
+        action = parser_find(parser->states[above ? parser->depth + above : kept],
+                             PARSER_TERMINALS + parser_left[-action]);
+        parser->states[parser->depth + ++above] = action;
+    }
 }
 
 // Enters a state by a symbol, for which there is room.
@@ -126,26 +141,20 @@ static inline void parser_enter(struct parser *parser, int state, PARSER_VALUE v
 }
 
 // Takes a token and its value. The end is token 0, and its value isn't used. After PARSER_ACCEPTED values[0] is the
-// value of the whole text, and the parser begins anew. After PARSER_MEMORY the same token may be pushed again.
-// After PARSER_UNEXPECTED the token isn't taken, but symbols before it may be reduced, as if another came.
+// value of the whole text, and the parser begins anew. After PARSER_UNEXPECTED or PARSER_MEMORY all is as before.
 static inline enum parser_status parser_push(struct parser *parser, int token, PARSER_VALUE value,
                                              parser_reduce *reduce, void *data)
 {
-    int action = -1;
-    while (action < 0) {
-        if (parser->depth == parser->room && !parser_grow(parser))
-            return PARSER_MEMORY;
-        action = parser_find(parser->states[parser->depth], token);
-        if (action < 0) {
-            PARSER_VALUE left;
-            parser->depth -= (size_t)parser_length[-action];
-            left = reduce(-action, parser->values + parser->depth, data);
-            parser_enter(parser, parser_find(parser->states[parser->depth],
-                                             PARSER_TERMINALS + parser_left[-action]), left);
-        }
+    int action, takes = parser_takes(parser, token);
+    if (takes <= 0)
+        return takes < 0 ? PARSER_MEMORY : PARSER_UNEXPECTED;
+    while ((action = parser_find(parser->states[parser->depth], token)) < 0) {
+        PARSER_VALUE left;
+        parser->depth -= (size_t)parser_length[-action];
+        left = reduce(-action, parser->values + parser->depth, data);
+        action = parser_find(parser->states[parser->depth], PARSER_TERMINALS + parser_left[-action]);
+        parser_enter(parser, action, left);
     }
-    if (action == 0)
-        return PARSER_UNEXPECTED;
     if (token == 0) {
         parser->depth = 0;
         return PARSER_ACCEPTED;

@@ -32,7 +32,7 @@ fn put_head<W: Write>(
     states: usize,
     conflicts: &Conflicts,
 ) -> io::Result<()> {
-    output.write_all(b"// The parser of ")?;
+    output.write_all(b"// The parser of the grammar in ")?;
     put_comment(output, base_name(name))?;
     let word = match form {
         Form::C => "c",
@@ -56,7 +56,7 @@ fn put_head<W: Write>(
     )?;
     write!(
         output,
-        "// Decided by default: {shift_reduce} conflicts for a shift, {reduce_reduce} for the lower rule.\n//\n"
+        "// Conflicts decided by default: {shift_reduce} for a shift, {reduce_reduce} for the lower rule.\n//\n"
     )
 }
 

@@ -2,19 +2,20 @@
 
 /// How the parser is used, as comments.
 pub const USE: &str = "\
+// Make this file a module, as by `mod tables; use tables::{Parser, rules::*, tokens::*};`. Then
 //     let mut parser = Parser::new();
 //     for (token, value) in tokens {
-//         parser.push(token, value, reduce)?;
+//         parser.push(token, value, &mut reduce)?;
 //     }
-//     let value = parser.finish(reduce)?;
-// A token is TOKEN_.. of `tokens` or `character(b'+')`. `reduce` gets RULE_.. of `rules` with the values of its
-// right side, and returns the value of its left side.
+//     let value = parser.finish(&mut reduce)?;
+// parses a text: its tokens are TOKEN_.. or `tables::character(b'+')`. For each rule that ends your closure `reduce`
+// gets RULE_.. and the values of its right side, and returns that of its left.
 
 ";
 
 /// What begins the constants of terminals.
 pub const TOKENS: &str = "
-/// The terminals that are called by words, and in comments the others.
+/// The terminals. One that isn't called by a word has its number in a comment.
 #[allow(dead_code, non_upper_case_globals)]
 pub mod tokens {
 ";
@@ -22,7 +23,7 @@ pub mod tokens {
 /// What begins the constants of rules.
 pub const RULES: &str = "}
 
-/// The rules of nonterminals that are called by words, and in comments the others.
+/// The rules of each nonterminal. If it isn't called by a word, their numbers are in comments.
 #[allow(dead_code, non_upper_case_globals)]
 pub mod rules {
 ";
@@ -79,7 +80,7 @@ impl<V> Default for Parser<V> {
     }
 }
 
-// Returns the action of a state at a symbol, or 0 if there is none.
+// Returns the action of a state at a symbol: 0 if there is none.
 fn find(state: usize, symbol: usize) -> isize {
     let (start, end) = (ROW[state] as usize, ROW[state + 1] as usize);
     match SYMBOL[start..end].binary_search_by(|own| (*own as usize).cmp(&symbol)) {
@@ -98,42 +99,54 @@ impl<V> Parser<V> {
         Self::default()
     }
 
-    /// Returns whether the parser may take a token: it takes no others. This tells what was expected.
-    pub fn expects(&self, token: usize) -> bool {
-        find(self.states[self.values.len()], token) != 0
+    /// Returns whether the parser would take a token. Nothing is reduced.
+    pub fn takes(&self, token: usize) -> bool {
+        let (mut kept, mut above) = (self.values.len(), Vec::new());
+        loop {
+            let action = find(*above.last().unwrap_or(&self.states[kept]), token);
+            if action >= 0 {
+                return action > 0;
+            }
+            let rule = action.unsigned_abs();
+            let length = LENGTH[rule] as usize;
+            kept -= length.saturating_sub(above.len());
+            above.truncate(above.len().saturating_sub(length));
+            let state = *above.last().unwrap_or(&self.states[kept]);
+            above.push(find(state, TERMINALS + LEFT[rule] as usize) as usize);
+        }
     }
 
-    /// Takes a token and its value. If it doesn't fit it isn't taken, but symbols before it may be reduced,
-    /// as if another came. The end, 0, isn't pushed.
+    /// Takes a token and its value. If it doesn't fit, nothing changes. The end, 0, isn't pushed.
     pub fn push(
         &mut self,
         token: usize,
         value: V,
         reduce: impl FnMut(usize, Vec<V>) -> V,
     ) -> Result<(), Unexpected> {
-        let state = self.reduce_before(token, reduce)?;
+        if token == 0 || !self.takes(token) {
+            return Err(Unexpected);
+        }
+        let state = self.reduce_before(token, reduce);
         self.enter(state, value);
         Ok(())
     }
 
-    /// Ends the text, and returns its value. The parser begins anew then. If the text can't end here, symbols
-    /// may be reduced.
+    /// Ends the text, and returns its value; the parser begins anew. If it can't end here, nothing changes.
     pub fn finish(&mut self, reduce: impl FnMut(usize, Vec<V>) -> V) -> Result<V, Unexpected> {
-        self.reduce_before(0, reduce)?;
+        if !self.takes(0) {
+            return Err(Unexpected);
+        }
+        self.reduce_before(0, reduce);
         self.states.truncate(1);
         self.values.pop().ok_or(Unexpected)
     }
 
-    // Reduces what ends before a token. Returns the state that the token leads to.
-    fn reduce_before(
-        &mut self,
-        token: usize,
-        mut reduce: impl FnMut(usize, Vec<V>) -> V,
-    ) -> Result<usize, Unexpected> {
+    // Reduces what ends before a token that fits. Returns the state that the token leads to.
+    fn reduce_before(&mut self, token: usize, mut reduce: impl FnMut(usize, Vec<V>) -> V) -> usize {
         loop {
             let action = find(self.states[self.values.len()], token);
             if action >= 0 {
-                return if action > 0 { Ok(action as usize) } else { Err(Unexpected) };
+                return action as usize;
             }
             let rule = action.unsigned_abs();
             let depth = self.values.len() - LENGTH[rule] as usize;
