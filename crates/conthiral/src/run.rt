@@ -52,7 +52,9 @@ fn write_form<R: Eprint + AllocGlobal, W: Write>(
 ) -> Result<u8, Fault> {
     let status = print_form(rt.alloc(), grammar, file, form, output)?;
     if status != 0 {
-        let _ = eprintln!(rt; "conthiral: {file}: other conflicts than %expect says: run it without --output to see them");
+        let _ = eprintln!(rt;
+            "conthiral: {file}: other conflicts than %expect says: run it without --output to see them"
+        );
     }
     Ok(status)
 }

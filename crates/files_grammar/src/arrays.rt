@@ -108,12 +108,7 @@ fn rows_of(
 }
 
 /// Writes a number of an array, after a sign. Each of some numbers begins a line.
-fn put_number<W: Write>(
-    output: &mut W,
-    place: usize,
-    sign: &str,
-    number: usize,
-) -> io::Result<()> {
+fn put_number<W: Write>(output: &mut W, place: usize, sign: &str, number: usize) -> io::Result<()> {
     let before = match place % ON_A_LINE {
         0 if place == 0 => "    ",
         0 => "\n    ",
@@ -182,10 +177,10 @@ impl Head {
             ..
         } = *self;
         let kind = self.kind(form);
-        write!(output, "\n// {says}\n")?;
+        writeln!(output, "\n// {says}")?;
         match form {
-            Form::C => write!(output, "static const {kind} parser_{c}[] = {{\n"),
-            Form::Rust => write!(output, "static {rust}: [{kind}; {count}] = [\n"),
+            Form::C => writeln!(output, "static const {kind} parser_{c}[] = {{"),
+            Form::Rust => writeln!(output, "static {rust}: [{kind}; {count}] = ["),
         }
     }
 }

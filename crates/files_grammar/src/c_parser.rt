@@ -1,7 +1,21 @@
 //! The parts of a parser in C that are the same for each grammar.
 
-/// How the parser is used, as comments, and the type of values.
-pub const USE: &str = "\
+use crate::form::Parts;
+
+/// The parts. Tokens and rules are members of one `enum`.
+pub static PARTS: Parts = Parts {
+    usage: USAGE,
+    tokens: "\n",
+    rules: "\n",
+    characters: CHARACTERS,
+    names: NAMES,
+    arrays: NAMES_END,
+    parser: PARSER,
+    push: PUSH,
+};
+
+/// How the parser is used, the type of values, and what begins the constants.
+const USAGE: &str = "\
 // Define PARSER_VALUE as the type of your values, if that isn't int, and include this file. Then
 //     struct parser parser;
 //     parser_begin(&parser);
@@ -21,7 +35,7 @@ enum {
 ";
 
 /// What begins the function of characters.
-pub const CHARACTERS: &str = "\
+const CHARACTERS: &str = "\
 };
 
 // Returns the token that is a character in quotes, or -1 if there is none.
@@ -31,7 +45,7 @@ static inline int parser_character(int character)
 ";
 
 /// What ends the function of characters, and begins that of names.
-pub const NAMES: &str = "    default: return -1;
+const NAMES: &str = "    default: return -1;
     }
 }
 
@@ -42,13 +56,13 @@ static inline const char *parser_name(int symbol)
 ";
 
 /// What ends the function of names.
-pub const NAMES_END: &str = "    };
+const NAMES_END: &str = "    };
     return names[symbol];
 }
 ";
 
 /// What a parser is, how it begins and how it ends.
-pub const PARSER: &str = "
+const PARSER: &str = "
 // What becomes of a token.
 enum parser_status { PARSER_MORE, PARSER_ACCEPTED, PARSER_UNEXPECTED, PARSER_MEMORY };
 
@@ -97,7 +111,7 @@ static inline int parser_grow(struct parser *parser)
 ";
 
 /// How a parser takes tokens.
-pub const PUSH: &str = "
+const PUSH: &str = "
 // Returns the action of a state at a symbol: 0 if there is none.
 static inline int parser_find(int state, int symbol)
 {

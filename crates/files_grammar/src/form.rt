@@ -1,4 +1,6 @@
-//! The forms in which a grammar is written for other programs.
+//! The forms in which a grammar is written for other programs, and what parsers in all of them have.
+
+use crate::{c_parser, rust_parser};
 
 /// A form in which a grammar is written for other programs.
 #[derive(Clone, Copy, PartialEq, Eq)]
@@ -9,10 +11,40 @@ pub enum Form {
     Rust,
 }
 
+/// The parts of a parser that are the same for each grammar, by what comes after them: its first words and
+/// the numbers of symbols, the constants of tokens and of rules, the characters, the names, and the arrays. The
+/// last two have the parser itself.
+pub struct Parts {
+    pub usage: &'static str,
+    pub tokens: &'static str,
+    pub rules: &'static str,
+    pub characters: &'static str,
+    pub names: &'static str,
+    pub arrays: &'static str,
+    pub parser: &'static str,
+    pub push: &'static str,
+}
+
 /// The names of the forms.
 pub static FORMS: [&str; 2] = ["c", "rust"];
 
 impl Form {
+    /// Returns the parts of a parser in the form.
+    pub fn parts(self) -> &'static Parts {
+        match self {
+            Form::C => &c_parser::PARTS,
+            Form::Rust => &rust_parser::PARTS,
+        }
+    }
+
+    /// Returns the name of the form.
+    pub fn name(self) -> &'static str {
+        match self {
+            Form::C => "c",
+            Form::Rust => "rust",
+        }
+    }
+
     /// Returns the form with a name, one of `FORMS`, or `None` if there is none.
     pub fn of(name: &str) -> Option<Form> {
         match name {

@@ -88,8 +88,7 @@ pub fn put_rules<W: Write>(
     let mut counts = Vec::new(alloc);
     counts.resize(constants.len(), 0usize)?;
     for (value, rule) in file.grammar.rules.iter().enumerate() {
-        let (Some(name), Some(count)) = (constants.get(rule.left), counts.get_mut(rule.left))
-        else {
+        let (Some(name), Some(count)) = (constants.get(rule.left), counts.get_mut(rule.left)) else {
             continue;
         };
         *count = count.saturating_add(1);
@@ -125,11 +124,7 @@ fn put_character<W: Write>(
 }
 
 /// Writes the cases of the characters in quotes.
-pub fn put_characters<W: Write>(
-    output: &mut W,
-    form: Form,
-    names: &SymbolNames,
-) -> io::Result<()> {
+pub fn put_characters<W: Write>(output: &mut W, form: Form, names: &SymbolNames) -> io::Result<()> {
     for (token, identifier) in names.identifiers.iter().enumerate() {
         put_character(output, form, names, identifier, token)?;
     }

@@ -8,7 +8,6 @@ use crate::file::GrammarFile;
 use crate::form::Form;
 use crate::listing::{put_characters, put_names, put_rules, put_tokens};
 use crate::states::States;
-use crate::{c_parser, rust_parser};
 use std::alloc::Global;
 use std::io;
 use std::io::Write;
@@ -23,21 +22,24 @@ fn base_name(name: &str) -> &[u8] {
     }
 }
 
-/// Writes what a parser is of.
+/// Writes of which grammar a parser is, and in which form.
+fn put_title<W: Write>(output: &mut W, name: &str, form: Form) -> io::Result<()> {
+    output.write_all(b"// The parser of the grammar in ")?;
+    put_comment(output, base_name(name))?;
+    let word = form.name();
+    writeln!(
+        output,
+        ", as `conthiral grammar --output {word}` writes it."
+    )
+}
+
+/// Writes how large a parser is, and how many conflicts were decided.
 fn put_head<W: Write>(
     output: &mut W,
-    name: &str,
-    form: Form,
     grammar: &Grammar,
     states: usize,
     conflicts: &Conflicts,
 ) -> io::Result<()> {
-    output.write_all(b"// The parser of the grammar in ")?;
-    put_comment(output, base_name(name))?;
-    let word = match form {
-        Form::C => "c",
-        Form::Rust => "rust",
-    };
     let Grammar {
         terminals,
         nonterminals,
@@ -49,83 +51,61 @@ fn put_head<W: Write>(
         reduce_reduce,
         ..
     } = conflicts;
-    write!(output, ", as `conthiral grammar --output {word}` writes it.\n")?;
-    write!(
+    writeln!(
         output,
-        "// {terminals} terminals, {nonterminals} nonterminals, {rules} rules, {states} states.\n"
+        "// {terminals} terminals, {nonterminals} nonterminals, {rules} rules, {states} states."
     )?;
-    write!(
+    writeln!(
         output,
-        "// Conflicts decided by default: {shift_reduce} for a shift, {reduce_reduce} for the lower rule.\n//\n"
+        "// Conflicts decided by default: {shift_reduce} for a shift, {reduce_reduce} for the lower rule.\n//"
     )
 }
 
-/// Writes how many symbols and rules there are, as constants of C.
-fn put_c_counts<W: Write>(output: &mut W, grammar: &Grammar) -> io::Result<()> {
+/// Writes how many symbols and rules there are, as constants.
+fn put_counts<W: Write>(output: &mut W, form: Form, grammar: &Grammar) -> io::Result<()> {
     let terminals = grammar.terminals;
     let nonterminals = grammar.nonterminals;
     let rules = grammar.rules.len();
-    write!(output, "    PARSER_TERMINALS = {terminals},\n")?;
-    write!(output, "    PARSER_NONTERMINALS = {nonterminals},\n")?;
-    write!(output, "    PARSER_RULES = {rules},\n\n")
+    match form {
+        Form::C => {
+            writeln!(output, "    PARSER_TERMINALS = {terminals},")?;
+            writeln!(output, "    PARSER_NONTERMINALS = {nonterminals},")?;
+            writeln!(output, "    PARSER_RULES = {rules},")
+        }
+        Form::Rust => {
+            writeln!(output, "pub const TERMINALS: usize = {terminals};")?;
+            writeln!(output, "pub const NONTERMINALS: usize = {nonterminals};")?;
+            writeln!(
+                output,
+                "#[allow(dead_code)]\npub const RULES: usize = {rules};"
+            )
+        }
+    }
 }
 
-/// Writes how many symbols and rules there are, as constants of Rust.
-fn put_rust_counts<W: Write>(output: &mut W, grammar: &Grammar) -> io::Result<()> {
-    let terminals = grammar.terminals;
-    let nonterminals = grammar.nonterminals;
-    let rules = grammar.rules.len();
-    write!(output, "pub const TERMINALS: usize = {terminals};\n")?;
-    write!(output, "pub const NONTERMINALS: usize = {nonterminals};\n")?;
-    write!(output, "#[allow(dead_code)]\npub const RULES: usize = {rules};\n")
-}
-
-/// Writes a parser in C.
-fn put_c<W: Write>(
+/// Writes a parser.
+fn put_parser<W: Write>(
     alloc: Global,
     output: &mut W,
+    form: Form,
     file: &GrammarFile,
     arrays: &Arrays,
 ) -> Result<(), GrammarFault> {
-    let form = Form::C;
-    output.write_all(c_parser::USE.as_bytes())?;
-    put_c_counts(output, &file.grammar)?;
+    let parts = form.parts();
+    output.write_all(parts.usage.as_bytes())?;
+    put_counts(output, form, &file.grammar)?;
+    output.write_all(parts.tokens.as_bytes())?;
     put_tokens(alloc, output, form, &file.names)?;
-    output.write_all(b"\n")?;
+    output.write_all(parts.rules.as_bytes())?;
     put_rules(alloc, output, form, file)?;
-    output.write_all(c_parser::CHARACTERS.as_bytes())?;
+    output.write_all(parts.characters.as_bytes())?;
     put_characters(output, form, &file.names)?;
-    output.write_all(c_parser::NAMES.as_bytes())?;
+    output.write_all(parts.names.as_bytes())?;
     put_names(alloc, output, form, &file.names)?;
-    output.write_all(c_parser::NAMES_END.as_bytes())?;
+    output.write_all(parts.arrays.as_bytes())?;
     arrays.put(alloc, output, form, file)?;
-    output.write_all(c_parser::PARSER.as_bytes())?;
-    output.write_all(c_parser::PUSH.as_bytes())?;
-    Ok(())
-}
-
-/// Writes a parser in Rust.
-fn put_rust<W: Write>(
-    alloc: Global,
-    output: &mut W,
-    file: &GrammarFile,
-    arrays: &Arrays,
-) -> Result<(), GrammarFault> {
-    let form = Form::Rust;
-    output.write_all(rust_parser::USE.as_bytes())?;
-    put_rust_counts(output, &file.grammar)?;
-    output.write_all(rust_parser::TOKENS.as_bytes())?;
-    put_tokens(alloc, output, form, &file.names)?;
-    output.write_all(rust_parser::RULES.as_bytes())?;
-    put_rules(alloc, output, form, file)?;
-    output.write_all(rust_parser::CHARACTERS.as_bytes())?;
-    put_characters(output, form, &file.names)?;
-    output.write_all(rust_parser::NAMES.as_bytes())?;
-    put_names(alloc, output, form, &file.names)?;
-    output.write_all(rust_parser::NAMES_END.as_bytes())?;
-    arrays.put(alloc, output, form, file)?;
-    output.write_all(rust_parser::PARSER.as_bytes())?;
-    output.write_all(rust_parser::PUSH.as_bytes())?;
+    output.write_all(parts.parser.as_bytes())?;
+    output.write_all(parts.push.as_bytes())?;
     Ok(())
 }
 
@@ -145,10 +125,8 @@ pub fn print_form<W: Write>(
     let states = States::of(alloc, &table)?;
     let conflicts = Conflicts::of(alloc, file, &table, &states)?;
     let arrays = Arrays::of(alloc, file, &table, &states)?;
-    put_head(output, name, form, &file.grammar, states.count(), &conflicts)?;
-    match form {
-        Form::C => put_c(alloc, output, file, &arrays)?,
-        Form::Rust => put_rust(alloc, output, file, &arrays)?,
-    }
+    put_title(output, name, form)?;
+    put_head(output, &file.grammar, states.count(), &conflicts)?;
+    put_parser(alloc, output, form, file, &arrays)?;
     Ok(if conflicts.are(file.expected) { 0 } else { 1 })
 }

@@ -1,7 +1,21 @@
 //! The parts of a parser in Rust that are the same for each grammar.
 
+use crate::form::Parts;
+
+/// The parts. Tokens and rules are modules.
+pub static PARTS: Parts = Parts {
+    usage: USAGE,
+    tokens: TOKENS,
+    rules: RULES,
+    characters: CHARACTERS,
+    names: NAMES,
+    arrays: NAMES_END,
+    parser: PARSER,
+    push: PUSH,
+};
+
 /// How the parser is used, as comments.
-pub const USE: &str = "\
+const USAGE: &str = "\
 // Make this file a module, as by `mod tables; use tables::{Parser, rules::*, tokens::*};`. Then
 //     let mut parser = Parser::new();
 //     for (token, value) in tokens {
@@ -14,14 +28,14 @@ pub const USE: &str = "\
 ";
 
 /// What begins the constants of terminals.
-pub const TOKENS: &str = "
+const TOKENS: &str = "
 /// The terminals. One that isn't called by a word has its number in a comment.
 #[allow(dead_code, non_upper_case_globals)]
 pub mod tokens {
 ";
 
 /// What begins the constants of rules.
-pub const RULES: &str = "}
+const RULES: &str = "}
 
 /// The rules of each nonterminal. If it isn't called by a word, their numbers are in comments.
 #[allow(dead_code, non_upper_case_globals)]
@@ -29,7 +43,7 @@ pub mod rules {
 ";
 
 /// What begins the function of characters.
-pub const CHARACTERS: &str = "}
+const CHARACTERS: &str = "}
 
 /// Returns the token that is a character in quotes, if there is one.
 #[allow(dead_code)]
@@ -38,7 +52,7 @@ pub fn character(character: u8) -> Option<usize> {
 ";
 
 /// What ends the function of characters, and begins that of names.
-pub const NAMES: &str = "        _ => None,
+const NAMES: &str = "        _ => None,
     }
 }
 
@@ -49,13 +63,13 @@ pub fn name(symbol: usize) -> &'static str {
 ";
 
 /// What ends the function of names.
-pub const NAMES_END: &str = "    ];
+const NAMES_END: &str = "    ];
     NAMES[symbol]
 }
 ";
 
 /// What a parser is.
-pub const PARSER: &str = "
+const PARSER: &str = "
 /// A token that doesn't fit, or the end of a text that can't end there.
 #[derive(Clone, Copy, Debug, PartialEq, Eq)]
 pub struct Unexpected;
@@ -91,7 +105,7 @@ fn find(state: usize, symbol: usize) -> isize {
 ";
 
 /// How a parser takes tokens.
-pub const PUSH: &str = "
+const PUSH: &str = "
 #[allow(dead_code)]
 impl<V> Parser<V> {
     /// Returns a parser that has read nothing.
