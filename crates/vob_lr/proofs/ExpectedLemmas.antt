@@ -1,22 +1,21 @@
 -- Whatever can stand behind tokens is expected.
-use Rattle.std.proofs.Common.{◌≡◌, ℕ, ◌+◌, ◌<◌, ◌≤◌, ◌⊎◌, ◌≢◌, ◌↔◌, inl, inr, Bool, true, false, List, [], ◌∷◌, ◌++◌, get_or, length, refl, sym, ap, ◌∙◌, subst, arith, None, Option, Some}
+use Rattle.std.proofs.Common.{◌≡◌, ℕ, ◌+◌, ◌<◌, ◌≤◌, ◌≢◌, ◌↔◌, inl, inr, Bool, true, false, List, [], ◌∷◌, ◌++◌, get_or, length, refl, sym, ap, ◌∙◌, subst, arith, None, Option, Some}
 use Rattle.std.proofs.lemmas.List.{get_or_append_left, get_or_past, get_or-append-add, length-append, nil_from_length}
 use Rattle.std.proofs.lemmas.Option.{slice_get_past}
 use Rattle.std.proofs.lemmas.Bool.{cases_eq, cases_lt}
 use Rattle.std.specs.Option.{is_some}
 use Rattle.vob.specs.Bits.{IsWritten}
 use Rattle.vob_block.specs.Packing.{item}
-use Rattle.vob_lr.specs.Derivations.{IsSentence}
 use Rattle.vob_lr.specs.Expected.{Acts, AreTerminals, ExpectedAreAll, HasRead}
 use Rattle.vob_lr.specs.Expected.HasRead.{nothing, shifts}
-use Rattle.vob_lr.specs.Languages.{IsLalr, rules_of}
-use Rattle.vob_lr.specs.Parses.{Config, IsAccepted, IsReached, IsTaken, Steps, action_in, beginning, top}
+use Rattle.vob_lr.specs.Languages.{IsLalr}
+use Rattle.vob_lr.specs.Parses.{Config, IsAccepted, IsReached, Steps, beginning, top}
 use Rattle.vob_lr.specs.Parses.IsReached.{begins, then_steps}
 use Rattle.vob_lr.specs.Stops.{IsSound}
 use Rattle.vob_lr.specs.Tables.{TableView, action_at, action_of}
 use Rattle.vob_lr.specs.declared.table.Action.{Action}
 use Rattle.vob_lr.specs.declared.table.Cell.{Cell}
-use Rattle.vob_lr.specs.declared.table.Action.TheVariants.{Reduce, Shift}
+use Rattle.vob_lr.specs.declared.table.Action.TheVariants.{Shift}
 use Rattle.vob_lr.proofs.FateLemmas.{accepted_stays, begun, one_way, stays}
 use Rattle.vob_lr.proofs.LanguageLemmas.{accepts, reached_same, step_reads, step_same}
 

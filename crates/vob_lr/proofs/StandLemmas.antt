@@ -1,9 +1,9 @@
 -- Roots stand for trees.
-use Rattle.std.proofs.Common.{◌≡◌, ℕ, ◌+◌, List, [], ◌∷◌, ◌++◌, drop, length, refl, sym, ap, ◌∙◌, subst, Some}
+use Rattle.std.proofs.Common.{◌≡◌, ℕ, ◌+◌, List, ◌∷◌, ◌++◌, drop, length, refl, sym, ap, ◌∙◌, subst, Some}
 use Rattle.vob_lr.specs.Derivations.{IsParse}
 use Rattle.vob_lr.specs.Replays.{AreRoots}
 use Rattle.vob_lr.specs.Replays.AreRoots.{nothing, token, by_rule}
-use Rattle.vob_lr.specs.TreeNodes.{IsTree, Stand, nodes_at}
+use Rattle.vob_lr.specs.TreeNodes.{IsTree, Stand}
 use Rattle.vob_lr.specs.TreeNodes.Stand.{nothing as no_roots, token as token_root, by_rule as rule_root}
 use Rattle.vob_lr.specs.Trees.{AreTrees, Trees, leaves, reductions}
 use Rattle.vob_lr.specs.Trees.AreTrees.{nothing as no_trees, terminal, by_rule as tree_by}

@@ -1,5 +1,5 @@
 -- Each terminal so far is told.
-use Rattle.std.proofs.Common.{◌≡◌, ◌∙◌, ap, arith, length, rules, subst, ℕ}
+use Rattle.std.proofs.Common.{◌≡◌, ◌∙◌, arith, rules, subst, ℕ}
 use Rattle.vob_lr.specs.Expected.{Acts}
 use Rattle.vob_lr.proofs.ExpectedLemmas.{TellBelow, some_acts, tell_all, tell_next}
 use Rattle.vob_lr.proofs.table.Table.acted.Goals as goal

@@ -1,5 +1,5 @@
 -- What steps led to is what the table says.
-use Rattle.std.proofs.Common.{◌≡◌, ap, arith, length, refl, subst}
+use Rattle.std.proofs.Common.{◌≡◌, ap, arith, length, subst}
 use Rattle.std.proofs.lemmas.Result.{err_from_is_err_and}
 use Rattle.vob_lr.specs.Parses.{Config, Steps}
 use Rattle.vob_lr.specs.Parses.IsReached.{begins, then_steps}
