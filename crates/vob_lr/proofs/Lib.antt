@@ -54,3 +54,4 @@ mod StepLemmas
 mod TableLemmas
 mod TreeLemmas
 mod UnwindLemmas
+mod WorkedOperators

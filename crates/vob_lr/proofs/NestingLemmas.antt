@@ -83,22 +83,24 @@ module _ (table : TableView) (tokens : List ℕ)
     action : action_at table.cells state (get_or tokens n 0) ≡ Some (Reduce r)
     move : HasMove m.moves q (Nonterminal rule.left) after
 
+  one_grown : {q o p n k r : ℕ} {rule : Rule} {below : Trees} → slice_get rules r ≡ Some rule →
+      Grows table tokens q rule.right.items below n k o →
+      action_at table.cells o (get_or tokens k 0) ≡ Some (Reduce r) →
+      HasMove m.moves q (Nonterminal rule.left) p → IsGrown q k r below
+  one_grown {o = o} {p = p} {n = n} {rule = rule} is grown action move = record {
+    rule = rule;
+    is = is;
+    from = n;
+    state = o;
+    after = p;
+    grown = grown;
+    action = action;
+    move = move;
+  }
+
   node_grown : {r : ℕ} {below f : Trees} → HasNode r below f → {q s n k : ℕ} {xs : List Symbol} →
       Grows table tokens q xs f n k s → (p : ℕ) × (l : ℕ) × IsGrown p l r below
-  node_grown here (reduces {q} {o} {p} {n = n} {k} {rule = rule} is below action move g) = (
-    q,
-    k,
-    record {
-      rule = rule;
-      is = is;
-      from = n;
-      state = o;
-      after = p;
-      grown = below;
-      action = action;
-      move = move;
-    },
-  )
+  node_grown here (reduces {q} {k = k} is below action move g) = (q, k, one_grown is below action move)
   node_grown (inside h) (reduces is below action move g) = node_grown h below
   node_grown (behind_node h) (reduces is below action move g) = node_grown h g
   node_grown (behind_leaf h) (shifts less at action g) = node_grown h g
@@ -106,39 +108,15 @@ module _ (table : TableView) (tokens : List ℕ)
   -- on the left edge from the same state
   left_grown : {r : ℕ} {f : Trees} → IsOnLeftEdge r f → {q s n k : ℕ} {xs : List Symbol} →
       Grows table tokens q xs f n k s → (l : ℕ) × (below : Trees) × IsGrown q l r below
-  left_grown left_here (reduces {q} {o} {p} {n = n} {k} {rule = rule} {below = f} is below action move g) = (
-    k,
-    f,
-    record {
-      rule = rule;
-      is = is;
-      from = n;
-      state = o;
-      after = p;
-      grown = below;
-      action = action;
-      move = move;
-    },
-  )
+  left_grown left_here (reduces {k = k} {below = f} is below action move g) =
+      (k, f, one_grown is below action move)
   left_grown (left_inside h) (reduces is below action move g) = left_grown h below
 
   -- and on the right edge until as many tokens are read
   right_grown : {r : ℕ} {f : Trees} → IsOnRightEdge r f → {q s n k : ℕ} {xs : List Symbol} →
       Grows table tokens q xs f n k s → (p : ℕ) × (below : Trees) × IsGrown p k r below
-  right_grown right_here (reduces {q} {o} {p} {n = n} {rule = rule} {below = f} is below action move nothing) = (
-    q,
-    f,
-    record {
-      rule = rule;
-      is = is;
-      from = n;
-      state = o;
-      after = p;
-      grown = below;
-      action = action;
-      move = move;
-    },
-  )
+  right_grown right_here (reduces {q} {below = f} is below action move nothing) =
+      (q, f, one_grown is below action move)
   right_grown (right_inside h) (reduces is below action move nothing) = right_grown h below
   right_grown (right_past_node h) (reduces is below action move g) = right_grown h g
   right_grown (right_past_leaf h) (shifts less at action g) = right_grown h g

@@ -5,7 +5,7 @@ use Rattle.std.proofs.lemmas.Option.{same_Some}
 use Rattle.vob_lr.specs.Becoming.{Becomes}
 use Rattle.vob_lr.specs.Becoming.Becomes.{nothing as no_symbols, terminal as one_terminal, by_rule as one_rule}
 use Rattle.vob_lr.specs.Derivations.{DerivesBy}
-use Rattle.vob_lr.specs.Trees.{AreTrees, ParsesHaveTrees, Trees, TreesAreOfParses, leaves, reductions}
+use Rattle.vob_lr.specs.Trees.{AreTrees, ParsesHaveTrees, Trees, ParsesHaveOneTree, leaves, reductions}
 use Rattle.vob_lr.specs.Trees.AreTrees.{nothing, terminal, by_rule}
 use Rattle.vob_lr.specs.Trees.Trees.{none, leaf, node}
 use Rattle.vob_lr.specs.declared.grammar.Rule.{Rule}
@@ -111,8 +111,8 @@ parses_have_trees rules tokens parsed = (
       }),
 )
 
-pub trees_are_of_parses : TreesAreOfParses
-trees_are_of_parses rules tokens parsed trees others own other =
+pub parses_have_one_tree : ParsesHaveOneTree
+parses_have_one_tree rules tokens parsed trees others own other =
     let same = same_Some own.rule other.rule (sym own.is ∙ other.is) in
     let right = sym own.then_end ∙ ap (λ (x : Rule). x.right.items) same ∙ other.then_end in
     let xs = (last_same own.symbols other.symbols (Terminal 0) (Terminal 0) right).0 in

@@ -47,7 +47,7 @@ abbrev pub ParsesHaveTrees : Type 0
 ParsesHaveTrees = (rules : List Rule) (tokens parsed : List ℕ) →
     IsParse rules tokens parsed ↔ ((trees : Trees) × AreTreesOf rules tokens parsed trees)
 
--- and no parse has others
-abbrev pub TreesAreOfParses : Type 0
-TreesAreOfParses = (rules : List Rule) (tokens parsed : List ℕ) (trees others : Trees) →
+-- and each parse has one tree, or a list of trees if more symbols stand before the end
+abbrev pub ParsesHaveOneTree : Type 0
+ParsesHaveOneTree = (rules : List Rule) (tokens parsed : List ℕ) (trees others : Trees) →
     AreTreesOf rules tokens parsed trees → AreTreesOf rules tokens parsed others → trees ≡ others

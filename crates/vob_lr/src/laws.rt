@@ -9,7 +9,7 @@ ghost use Rattle.vob_lr.specs.Items.{NextItemIsBehind};
 ghost use Rattle.vob_lr.specs.Languages.{AcceptedAreSentences, ErrorsAreEarly, ErrorsAreLate, SentencesHaveOneParse, TooLongIsNoSentence};
 ghost use Rattle.vob_lr.specs.Nesting.{OperatorsNest};
 ghost use Rattle.vob_lr.specs.Operators.{AcceptedAreNested, NestedTreesAreOne};
-ghost use Rattle.vob_lr.specs.Trees.{ParsesHaveTrees, TreesAreOfParses};
+ghost use Rattle.vob_lr.specs.Trees.{ParsesHaveOneTree, ParsesHaveTrees};
 
 /// Symbols can become empty exactly if they derive nothing. So `nullable` finds the nonterminals
 /// that derive nothing.
@@ -103,21 +103,21 @@ pub fn too_long_is_no_sentence()
 {}
 
 /// Parses are what has trees: a leaf for each token, and a node for each rule. So what `parse` returns
-/// tells the trees.
+/// tells them.
 pub fn parses_have_trees()
     ensures { ParsesHaveTrees }
 {}
 
 /// A parse has no other trees.
-pub fn trees_are_of_parses()
-    ensures { TreesAreOfParses }
+pub fn parses_have_one_tree()
+    ensures { ParsesHaveOneTree }
 {}
 
 /// In the trees of what a parser accepts operators nest as their precedences say, in any grammar. A
-/// right operand begins with no operation that binds less tightly than the one before it, and with
-/// none that binds alike if its operator groups to the left. A left operand ends with no operation
-/// that binds less tightly than the operator behind it, and with none that binds alike if that
-/// groups to the right. So `a - b - c` is `(a - b) - c`, and `a + b * c` is `a + (b * c)`.
+/// right operand begins with no operation that binds less tightly than the rule that it ends, nor
+/// alike, unless its operator groups to the right or nothing is said. A left operand ends with no
+/// operation that binds less tightly than the operator behind it, nor alike, unless that groups to
+/// the left or nothing is said. So `a - b - c` is `(a - b) - c`, and `a + b * c` is `a + (b * c)`.
 pub fn operators_nest()
     ensures { OperatorsNest }
 {}

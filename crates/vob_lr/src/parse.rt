@@ -325,7 +325,8 @@ impl Table<'_> {
     /// is the end. Fails if there are more reductions than suffice for a sentence of so many tokens: a
     /// grammar with a cycle may need them without end. Fails if memory runs out. If the table has no
     /// conflict and precedence decided none, it fails over a sentence for memory alone: see
-    /// `laws::accepted_are_sentences`.
+    /// `laws::accepted_are_sentences`. Where precedence decided, `laws::operators_nest` says how
+    /// operators nest.
     pub fn parse(&self, alloc: Global, tokens: &[usize]) -> Result<Vec<usize>, ParseError>
         ensures derives { IfOk result (λ rules.
             IsParse self.now.machine.grammar.rules.items tokens.now rules.items) }
