@@ -10,7 +10,18 @@ use Rattle.vob_lr.specs.declared.grammar.Rule.{Rule}
 use Rattle.vob_lr.specs.declared.grammar.Symbol.{Symbol}
 use Rattle.vob_lr.specs.declared.grammar.Symbol.TheVariants.{Nonterminal}
 use Rattle.vob_lr.specs.declared.items.Item.{Item}
-use Rattle.vob_lr.proofs.ItemLemmas.{drop_here, next_is, one_item}
+use Rattle.vob_lr.proofs.ItemLemmas.{next_is, one_item}
+
+-- the element before which a list is cut
+pub drop_here : (A : Type 0) (xs : List A) (n : ℕ) (y : A) (ys : List A) → drop n xs ≡ y ∷ ys →
+    (slice_get xs n ≡ Some y) × (drop (suc n) xs ≡ ys)
+drop_here A [] zero y ys h = absurd (cc)
+drop_here A [] (suc n) y ys h = absurd (cc)
+drop_here A (x ∷ xs) zero y ys h =
+    let first : x ≡ y = cc in
+    let rest : xs ≡ ys = cc in
+    (ap Some first, rest)
+drop_here A (x ∷ xs) (suc n) y ys h = drop_here A xs n y ys h
 
 slice_get-drop : (xs : List Symbol) (n : ℕ) → slice_get xs n ≡ slice_get (drop n xs) 0
 slice_get-drop xs zero = refl

@@ -1,6 +1,6 @@
 -- A parser of operations follows each tree that nests as precedences say.
-use Rattle.std.proofs.Common.{◌≡◌, ◌⊎◌, ℕ, ◌+◌, ◌≤◌, inl, inr, List, [], ◌∷◌, ◌++◌, length, get_or, drop, take, reverse, None, Option, Some, refl, sym, ap, ◌∙◌, subst, arith}
-use Rattle.std.proofs.lemmas.List.{append-nil, get_or_past, length-append, take-append-drop}
+use Rattle.std.proofs.Common.{◌≡◌, ◌⊎◌, ℕ, ◌+◌, inl, inr, List, [], ◌∷◌, ◌++◌, get_or, drop, take, None, Option, Some, refl, sym, ap, ◌∙◌, subst}
+use Rattle.std.proofs.lemmas.List.{take-append-drop}
 use Rattle.std.proofs.lemmas.Option.{same_Some}
 use Rattle.vob_lr.specs.Grammar.BecomesEmpty.{nothing as empty_nothing}
 use Rattle.vob_lr.specs.Grammar.BeginsWith.{here as first_of}
@@ -14,8 +14,6 @@ use Rattle.vob_lr.specs.Lookaheads.{HasMove, HasNextThen, LooksAhead, Machine, R
 use Rattle.vob_lr.specs.Lookaheads.LooksAhead.{begins, passes, keeps}
 use Rattle.vob_lr.specs.Nesting.{IsByPrecedences, HasRightOperand, Replaces, ShiftStays}
 use Rattle.vob_lr.specs.Operators.{AreDecisive, IsOfOperations, IsOperator, AcceptedAreNested}
-use Rattle.vob_lr.specs.Parses.{beginning}
-use Rattle.vob_lr.specs.Parses.IsReached.{begins as begun}
 use Rattle.vob_lr.specs.States.{AreStates}
 use Rattle.vob_lr.specs.Stops.{AcceptsBy}
 use Rattle.vob_lr.specs.Tables.{TableView, action_at, stays_at}
@@ -28,7 +26,6 @@ use Rattle.vob_lr.specs.declared.precedence.Precedence.{Precedence}
 use Rattle.vob_lr.specs.declared.precedence.Stays.{Stays}
 use Rattle.vob_lr.specs.declared.precedence.Stays.TheVariants.{Rule as OneRule}
 use Rattle.vob_lr.specs.declared.table.Action.TheVariants.{Shift}
-use Rattle.vob_lr.proofs.CompleteLemmas.{get_or-drop}
 use Rattle.vob_lr.proofs.DoneLemmas.{ahead_terminal, move_terminal}
 use Rattle.vob_lr.proofs.DotLemmas.{IsBefore, complete_not, complete_of, complete_rule, next_none, next_of, next_same, next_then, opening, opens, past, same_sides}
 use Rattle.vob_lr.proofs.GrowingLemmas.{grows_on, join, moved}
@@ -39,7 +36,7 @@ use Rattle.vob_lr.proofs.OperatorLemmas.Reads.{head, stop, further, nothing, tok
 use Rattle.vob_lr.proofs.OperatorLemmas.Task.{operand, more, symbols}
 use Rattle.vob_lr.proofs.NestingLemmas.{operators_nest}
 use Rattle.vob_lr.proofs.ParseLemmas.{parse_accepted}
-use Rattle.vob_lr.proofs.PushedLemmas.{IsToken, all_read, first_ahead, pushed_of, token_at}
+use Rattle.vob_lr.proofs.PushedLemmas.{IsToken, accepted_of, first_ahead, get_or-drop, token_at}
 use Rattle.vob_lr.proofs.TreeLemmas.{last_same, parses_have_trees}
 use Rattle.vob_lr.proofs.SetLemmas.{set_inside}
 use Rattle.vob_lr.proofs.StaysLemmas.{rule_chosen, shift_chosen}
@@ -425,33 +422,8 @@ module _ (table : TableView) (tokens : List ℕ) (terminals precedences : List (
       let h = follow reads 0 0 0 0 (Terminal 0 ∷ []) start (0, [], refl, of.no_end, refl) refl in
       let goto = moved table tokens states by.sound.actions h.grown in
       let end = entered_enclosing 0 h.state 0 0 0 [] start of.no_end goto in
-      let run = pushed_of table tokens h.grown beginning (begun refl) refl refl in
-      let d = run.config in
-      let past_all : length tokens ≤ d.read = omega (arith, all_read tokens h.to h.left, run.read) in
-      let token = get_or_past tokens d.read 0 past_all in
-      let long : length rule.right.items ≡ 2 = ap length right in
-      record {
-        config = d;
-        reached = run.reached;
-        accepted = record {
-          read = past_all;
-          state = end.state;
-          is = ap (λ (q : ℕ). action_at table.cells q (get_or tokens d.read 0)) run.at_top
-              ∙ ap (λ (t : ℕ). action_at table.cells h.state t) token ∙ end.action;
-          last = record {
-            item = 0 + 1 + 1;
-            completes = record {
-              item = record { rule = 0; dot = 2 };
-              is = record { rule = rule; is = is; dot = omega (arith, long); number = refl };
-              rule = refl;
-              dot = sym long;
-            };
-            there = end.place.there;
-            whole = omega (arith, run.many, ap length run.states_of, length-append run.pushed (0 ∷ []));
-          };
-        };
-        rules_of = sym (run.reduced ∙ append-nil (reverse (reductions trees)));
-      }
+      accepted_of table tokens rule is (Nonterminal e ∷ []) right h.grown h.left end.state (0 + 1 + 1) end.action
+      end.place.dot end.place.there
 
 -- a tree of a text is one of e
 operation_trees : (rules : List Rule) (e : ℕ) (of : IsOfOperations rules e) (tokens parsed : List ℕ)

@@ -1,5 +1,5 @@
 -- The items of a grammar, by their numbers.
-use Rattle.std.proofs.Common.{◌≡◌, ◌↔◌, ℕ, zero, suc, add-one, drop, ◌+◌, ◌<◌, ◌≤◌, inl, inr, List, [], ◌∷◌, ◌++◌, length, get_or, take, None, Option, Some, slice_get, refl, sym, ap, ◌∙◌, subst, arith}
+use Rattle.std.proofs.Common.{◌≡◌, ◌↔◌, ℕ, ◌+◌, ◌<◌, ◌≤◌, inl, inr, List, [], ◌∷◌, ◌++◌, length, get_or, take, None, Option, Some, slice_get, refl, sym, ap, ◌∙◌, subst, arith}
 use Rattle.std.specs.List.{sum_by}
 use Rattle.std.proofs.lemmas.Bool.{cases_lt}
 use Rattle.std.proofs.lemmas.List.{get_or_append_left, get_or_push, length_push, take_all, take-take}
@@ -241,35 +241,3 @@ AreFirsts-push rules n firsts first h is = record {
         get_or_push firsts first d r here ∙ is ∙ ap (first_item rules) (sym h.total ∙ here)
   ];
 }
-
--- ---- what stands behind a dot
-
-pub drop_here : (A : Type 0) (xs : List A) (n : ℕ) (y : A) (ys : List A) → drop n xs ≡ y ∷ ys →
-    (slice_get xs n ≡ Some y) × (drop (suc n) xs ≡ ys)
-drop_here A [] zero y ys h = absurd (cc)
-drop_here A [] (suc n) y ys h = absurd (cc)
-drop_here A (x ∷ xs) zero y ys h =
-    let first : x ≡ y = cc in
-    let rest : xs ≡ ys = cc in
-    (ap Some first, rest)
-drop_here A (x ∷ xs) (suc n) y ys h = drop_here A xs n y ys h
-
-pub next_here : (rules : List Rule) (i : ℕ) (item : Item) (is : IsItem rules i item) (x : Symbol)
-    (rest : List Symbol) → drop item.dot is.rule.right.items ≡ x ∷ rest →
-    HasNext rules i x
-    × (let after : Item = record { rule = item.rule; dot = item.dot + 1 } in
-    (own : IsItem rules (i + 1) after) × (drop (item.dot + 1) own.rule.right.items ≡ rest))
-next_here rules i item is x rest h =
-    let both = drop_here Symbol is.rule.right.items item.dot x rest h in
-    let less = slice_get_within is.rule.right.items item.dot x both.0 in (
-      record { item = item; is = is; next = both.0 },
-      (
-        record {
-          rule = is.rule;
-          is = is.is;
-          dot = omega (arith, less);
-          number = omega (arith, is.number);
-        },
-        subst (λ (n : ℕ). drop n is.rule.right.items ≡ rest) (sym (add-one item.dot)) both.1,
-      ),
-    )

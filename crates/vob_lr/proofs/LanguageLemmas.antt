@@ -1,9 +1,9 @@
 -- By the table of an LALR(1) grammar a parser accepts exactly the sentences, and errors are early.
-use Rattle.std.proofs.Common.{◌≡◌, ℕ, ◌+◌, ◌<◌, ◌≤◌, List, ◌++◌, length, get_or, take, reverse, sym, ap, ◌∙◌, arith, refl}
+use Rattle.std.proofs.Common.{◌≡◌, ℕ, ◌+◌, ◌<◌, ◌≤◌, List, ◌++◌, length, get_or, take, reverse, sym, ap, ◌∙◌, subst, arith, refl}
 use Rattle.std.proofs.lemmas.List.{get_or-take, get_or_append_left, length-append, length-reverse, length-take, reverse-reverse}
 use Rattle.vob_lr.specs.Derivations.{IsParse, IsSentence}
 use Rattle.vob_lr.specs.Languages.{AcceptedAreSentences, ErrorsAreEarly, IsLalr, SentencesHaveOneParse, TooLongIsNoSentence, rules_of}
-use Rattle.vob_lr.specs.Parses.{Config, IsAccepted, IsReached, IsTaken, Steps}
+use Rattle.vob_lr.specs.Parses.{Config, IsReached, IsTaken, Steps}
 use Rattle.vob_lr.specs.Parses.IsReached.{begins, then_steps}
 use Rattle.vob_lr.specs.Stops.{AcceptsBy, IsUnexpected}
 use Rattle.vob_lr.specs.Tables.{TableView, action_at}
@@ -19,29 +19,27 @@ use Rattle.vob_lr.proofs.RightmostLemmas as rightmost
 module _ (table : TableView) (h : IsLalr table) where
   -- the parser accepts by a parse of the tokens
   parse_found : (tokens parsed : List ℕ) → IsParse (rules_of table) tokens parsed →
-      (c : Config) × IsReached table tokens c × IsAccepted table tokens c
-      × (c.reduced ≡ reverse parsed)
+      AcceptsBy table tokens parsed
   parse_found tokens parsed p =
-      let b = derived_becomes (rules_of table) p.derives in
-      let found = becomes_accepted table tokens h.sound.states (AreDone-of table h) p.rule p.is p.symbols
-      p.then_end (reverse (reverse parsed)) b in
-      (found.0, found.1, found.2, found.3 ∙ ap reverse (reverse-reverse parsed))
+      subst (λ (rs : List ℕ). AcceptsBy table tokens rs) (reverse-reverse parsed)
+      (becomes_accepted table tokens h.sound.states (AreDone-of table h) p.rule p.is p.symbols p.then_end
+      (reverse (reverse parsed)) (derived_becomes (rules_of table) p.derives))
 
   one_parse : (tokens parsed other : List ℕ) → IsParse (rules_of table) tokens parsed →
       IsParse (rules_of table) tokens other → parsed ≡ other
   one_parse tokens parsed other p q =
-      let (c, reached, accepted, reduced) = parse_found tokens parsed p in
-      let (d, there, also, by) = parse_found tokens other q in
-      let same = accepts_once table tokens h.sound.states reached accepted there also in
+      let a = parse_found tokens parsed p in
+      let b = parse_found tokens other q in
+      let same = accepts_once table tokens h.sound.states a.reached a.accepted b.reached b.accepted in
       sym (reverse-reverse parsed)
-      ∙ ap reverse (sym reduced ∙ ap (λ (x : Config). x.reduced) same ∙ by) ∙ reverse-reverse other
+      ∙ ap reverse (a.rules_of ∙ ap (λ (x : Config). x.reduced) same ∙ sym b.rules_of)
+      ∙ reverse-reverse other
 
   pub accepts : (tokens : List ℕ) → IsSentence (rules_of table) tokens →
       (parsed : List ℕ) × AcceptsBy table tokens parsed
   accepts tokens s =
       let (parsed, p) = (rightmost.sentences_have_parses (rules_of table) tokens).0 s in
-      let (c, reached, accepted, reduced) = parse_found tokens parsed p in
-      (parsed, record { config = c; reached = reached; accepted = accepted; rules_of = sym reduced })
+      (parsed, parse_found tokens parsed p)
 
   accepted : (tokens parsed : List ℕ) → AcceptsBy table tokens parsed → IsSentence (rules_of table) tokens
   accepted tokens parsed a =
@@ -128,11 +126,11 @@ errors_are_early table h tokens n stuck = (
 pub too_long_is_no_sentence : TooLongIsNoSentence
 too_long_is_no_sentence table h tokens (reductions, enough, long) s =
     let (parsed, p, short) = enough tokens refl s in
-    let (c, reached, accepted, reduced) = parse_found table h tokens parsed p in
+    let a = parse_found table h tokens parsed p in
     omega (
       arith,
-      never_longer table tokens h.sound.states c reached accepted reductions long,
-      ap length reduced,
+      never_longer table tokens h.sound.states a.config a.reached a.accepted reductions long,
+      ap length a.rules_of,
       length-reverse parsed,
       short,
     )

@@ -1,20 +1,22 @@
 -- A parser by a table reaches what grows.
-use Rattle.std.proofs.Common.{◌≡◌, ◌≤◌, add-one, ℕ, ◌+◌, ◌<◌, List, [], ◌∷◌, ◌++◌, length, get_or, drop, reverse, refl, sym, ap, ◌∙◌, subst, arith}
-use Rattle.std.proofs.lemmas.List.{append_assoc, length-append, length-drop}
-use Rattle.std.proofs.lemmas.Option.{get_or_from_slice_get, slice_get_within}
-use Rattle.vob_lr.proofs.ItemLemmas.{drop_here}
+use Rattle.std.proofs.Common.{◌≡◌, ◌≤◌, add-one, ℕ, ◌+◌, ◌<◌, List, [], ◌∷◌, ◌++◌, length, get_or, drop, reverse, Some, refl, sym, ap, ◌∙◌, subst, arith, zero, suc, slice_get}
+use Rattle.std.proofs.lemmas.List.{append-nil, get_or_past, reverse-append, append_assoc, length-append, length-drop}
+use Rattle.std.proofs.lemmas.Option.{same_Some, get_or_from_slice_get, slice_get_within}
+use Rattle.vob_lr.proofs.DotLemmas.{IsBefore, complete_of, drop_here}
 use Rattle.std.proofs.Math.Seq.{drop-append_seam}
 use Rattle.vob_lr.specs.Growing.{Grows}
 use Rattle.vob_lr.specs.Growing.Grows.{nothing, shifts, reduces}
 use Rattle.vob_lr.specs.Lookaheads.{HasMove}
-use Rattle.vob_lr.specs.Parses.{Config, IsReached, IsReplaced, Steps, replaced, shifted, top}
-use Rattle.vob_lr.specs.Parses.IsReached.{then_steps}
+use Rattle.vob_lr.specs.Parses.{Config, beginning, IsReached, IsReplaced, Steps, replaced, shifted, top}
+use Rattle.vob_lr.specs.Parses.IsReached.{begins, then_steps}
+use Rattle.vob_lr.specs.ItemSets.{HasItem}
+use Rattle.vob_lr.specs.Stops.{AcceptsBy}
+use Rattle.vob_lr.specs.declared.grammar.Rule.{Rule}
 use Rattle.vob_lr.specs.Tables.{TableView, action_at}
 use Rattle.vob_lr.specs.Trees.{Trees, reductions}
 use Rattle.vob_lr.specs.declared.grammar.Symbol.{Symbol}
-use Rattle.vob_lr.specs.declared.grammar.Symbol.TheVariants.{Nonterminal}
+use Rattle.vob_lr.specs.declared.grammar.Symbol.TheVariants.{Terminal, Nonterminal}
 use Rattle.vob_lr.specs.declared.table.Action.TheVariants.{Reduce, Shift}
-use Rattle.vob_lr.proofs.CompleteLemmas.{reverse_around}
 
 -- the first of some tokens, or the end
 abbrev pub first_ahead : List ℕ → ℕ
@@ -37,6 +39,19 @@ token_at tokens n t ts left =
 -- all tokens are read
 pub all_read : (ts : List ℕ) (n : ℕ) → drop n ts ≡ [] → length ts ≤ n
 all_read ts n empty = omega (arith, ap length empty, length-drop n ts)
+
+pub get_or-drop : (xs : List ℕ) (n : ℕ) → get_or xs n 0 ≡ get_or (drop n xs) 0 0
+get_or-drop xs zero = refl
+get_or-drop [] (suc n) = refl
+get_or-drop (x ∷ xs) (suc n) = get_or-drop xs n
+
+reverse_around : (rs : List ℕ) (r : ℕ) (ss more : List ℕ) →
+    reverse ss ++ r ∷ (reverse rs ++ more) ≡ reverse (rs ++ r ∷ ss) ++ more
+reverse_around rs r ss more =
+    sym (ap (λ (ns : List ℕ). ns ++ more)
+    (reverse-append rs (r ∷ ss) ∙ ap (λ (ns : List ℕ). ns ++ reverse rs) (reverse-append (r ∷ []) ss))
+    ∙ append_assoc (reverse ss ++ r ∷ []) (reverse rs) more
+    ∙ append_assoc (reverse ss) (r ∷ []) (reverse rs ++ more))
 
 module _ (table : TableView) (tokens : List ℕ) where
   -- the parser has pushed as many states as there are symbols, and reduced by the rules of the trees
@@ -114,4 +129,46 @@ module _ (table : TableView) (tokens : List ℕ) where
         reduced = on.reduced
             ∙ ap (λ (rs : List ℕ). reverse (reductions more) ++ r ∷ rs) gone.reduced
             ∙ reverse_around (reductions below) r (reductions more) c.reduced;
+      }
+
+  -- and accepts it, if all tokens are read and it stands before the end in rule 0
+  pub accepted_of : (rule : Rule) → slice_get table.machine.grammar.rules.items 0 ≡ Some rule →
+      (xs : List Symbol) → rule.right.items ≡ xs ++ Terminal 0 ∷ [] → {f : Trees} {k s : ℕ} →
+      Grows table tokens 0 xs f 0 k s → drop k tokens ≡ [] → (p i : ℕ) →
+      action_at table.cells s 0 ≡ Some (Shift p) → IsBefore table.machine.grammar.rules.items i 0 [] →
+      HasItem table.machine.sets p i → AcceptsBy table tokens (reductions f)
+  accepted_of rule is xs right {f} {k} {s} g left p i action dot there =
+      let rules = table.machine.grammar.rules.items in
+      let run = pushed_of g beginning (begins refl) refl refl in
+      let d = run.config in
+      let past : length tokens ≤ d.read = omega (arith, all_read tokens k left, run.read) in
+      let token = get_or_past tokens d.read 0 past in
+      let done = complete_of rules dot in
+      let own = subst (λ (r : ℕ). slice_get rules r ≡ Some done.is.rule) done.rule done.is.is in
+      let same = ap (λ (x : Rule). length x.right.items) (same_Some done.is.rule rule (sym own ∙ is)) in
+      record {
+        config = d;
+        reached = run.reached;
+        accepted = record {
+          read = past;
+          state = p;
+          is = ap (λ (q : ℕ). action_at table.cells q (get_or tokens d.read 0)) run.at_top
+              ∙ ap (λ (t : ℕ). action_at table.cells s t) token ∙ action;
+          last = record {
+            item = i;
+            completes = done;
+            there = there;
+            whole = omega (
+              arith,
+              done.dot,
+              same,
+              ap length right,
+              length-append xs (Terminal 0 ∷ []),
+              run.many,
+              ap length run.states_of,
+              length-append run.pushed (0 ∷ []),
+            );
+          };
+        };
+        rules_of = sym (run.reduced ∙ append-nil (reverse (reductions f)));
       }
