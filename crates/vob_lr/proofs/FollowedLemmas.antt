@@ -1,6 +1,6 @@
 -- A parser of operations follows each tree that nests as precedences say.
-use Rattle.std.proofs.Common.{◌≡◌, ◌⊎◌, ℕ, ◌+◌, inl, inr, List, [], ◌∷◌, ◌++◌, get_or, drop, take, None, Option, Some, refl, sym, ap, ◌∙◌, subst}
-use Rattle.std.proofs.lemmas.List.{take-append-drop}
+use Rattle.std.proofs.Common.{◌≡◌, ◌⊎◌, ℕ, ◌+◌, inl, inr, List, [], ◌∷◌, ◌++◌, get_or, drop, take, None, Option, Some, refl, sym, ap, ◌∙◌, subst, arith, length}
+use Rattle.std.proofs.lemmas.List.{take-append-drop, length-reverse}
 use Rattle.std.proofs.lemmas.Option.{same_Some}
 use Rattle.vob_lr.specs.Grammar.BecomesEmpty.{nothing as empty_nothing}
 use Rattle.vob_lr.specs.Grammar.BeginsWith.{here as first_of}
@@ -13,7 +13,8 @@ use Rattle.vob_lr.specs.Languages.{rules_of}
 use Rattle.vob_lr.specs.Lookaheads.{HasMove, HasNextThen, LooksAhead, Machine, Reduces}
 use Rattle.vob_lr.specs.Lookaheads.LooksAhead.{begins, passes, keeps}
 use Rattle.vob_lr.specs.Nesting.{IsByPrecedences, HasRightOperand, Replaces, ShiftStays}
-use Rattle.vob_lr.specs.Operators.{AreDecisive, IsOfOperations, IsOperator, AcceptedAreNested}
+use Rattle.vob_lr.specs.Operations.{AreDecisive, IsOperator}
+use Rattle.vob_lr.specs.OperatorTables.{AcceptedAreNested, IsOperatorGrammar, NestedAreParsed}
 use Rattle.vob_lr.specs.States.{AreStates}
 use Rattle.vob_lr.specs.Stops.{AcceptsBy}
 use Rattle.vob_lr.specs.Tables.{TableView, action_at, stays_at}
@@ -28,10 +29,12 @@ use Rattle.vob_lr.specs.declared.precedence.Stays.TheVariants.{Rule as OneRule}
 use Rattle.vob_lr.specs.declared.table.Action.TheVariants.{Shift}
 use Rattle.vob_lr.proofs.DoneLemmas.{ahead_terminal, move_terminal}
 use Rattle.vob_lr.proofs.DotLemmas.{IsBefore, complete_not, complete_of, complete_rule, next_none, next_of, next_same, next_then, opening, opens, past, same_sides}
+use Rattle.vob_lr.specs.Operations.AreOperands.{last as last_operand}
+use Rattle.vob_lr.proofs.FateLemmas.{never_longer, never_stuck}
 use Rattle.vob_lr.proofs.GrowingLemmas.{grows_on, join, moved}
 use Rattle.vob_lr.proofs.KernelLemmas.{IsAt, IsBehind, at_behind, at_reduces, at_stays, behind_moves, behind_reduces, goto_enclosing, goto_first, goto_next, goto_operand, goto_operator, no_terminal, only_e, start_at}
 use Rattle.vob_lr.proofs.MemberLemmas.{ahead_inside, member_advances, member_closed, moves_on}
-use Rattle.vob_lr.proofs.OperatorLemmas.{rule_alone, Reads, Stops, Takes, Task, reads_all}
+use Rattle.vob_lr.proofs.OperatorLemmas.{fewer, rule_alone, Reads, Stops, Takes, Task, reads_all}
 use Rattle.vob_lr.proofs.OperatorLemmas.Reads.{head, stop, further, nothing, token, enclosed, last}
 use Rattle.vob_lr.proofs.OperatorLemmas.Task.{operand, more, symbols}
 use Rattle.vob_lr.proofs.NestingLemmas.{operators_nest}
@@ -43,7 +46,7 @@ use Rattle.vob_lr.proofs.StaysLemmas.{rule_chosen, shift_chosen}
 
 module _ (table : TableView) (tokens : List ℕ) (terminals precedences : List (Option Precedence)) (e : ℕ)
     (by : IsByPrecedences table terminals precedences)
-    (of : IsOfOperations table.machine.grammar.rules.items e)
+    (of : IsOperatorGrammar table.machine.grammar.rules.items e)
     (decisive : AreDecisive table.machine.grammar.rules.items e (stays_at terminals precedences)) where
   abbrev m : Machine
   m = table.machine
@@ -426,7 +429,7 @@ module _ (table : TableView) (tokens : List ℕ) (terminals precedences : List (
       end.place.dot end.place.there
 
 -- a tree of a text is one of e
-operation_trees : (rules : List Rule) (e : ℕ) (of : IsOfOperations rules e) (tokens parsed : List ℕ)
+operation_trees : (rules : List Rule) (e : ℕ) (of : IsOperatorGrammar rules e) (tokens parsed : List ℕ)
     (trees : Trees) → AreTreesOf rules tokens parsed trees → AreTrees rules (Nonterminal e ∷ []) trees
 operation_trees rules e of tokens parsed trees own =
     let right = (same_sides rules 0 of.start _ own.rule of.begins own.is).1 in
@@ -436,17 +439,40 @@ operation_trees rules e of tokens parsed trees own =
     (last_same own.symbols (Nonterminal e ∷ []) (Terminal 0) (Terminal 0) whole).0 own.trees_of
 
 pub accepted_are_nested : AcceptedAreNested
-accepted_are_nested table terminals precedences by e of decisive tokens parsed = (
-  (λ a.
-      let p = parse_accepted table tokens by.sound.states by.sound.actions a.config a.reached a.accepted parsed
-      a.rules_of in
-      let (trees, own) = (parses_have_trees (rules_of table) tokens parsed).0 p in
-      (trees, own, operators_nest table terminals precedences by tokens parsed a trees own)),
-  (λ (trees, own, nested).
-      let are = operation_trees (rules_of table) e of tokens parsed trees own in
-      let reads = reads_all (rules_of table) e (stays_at terminals precedences) of.operations are nested in
-      subst (λ (rs : List ℕ). AcceptsBy table tokens rs) own.reduced
-      (accepts table tokens terminals precedences e by of decisive trees
-      (subst (λ (ts : List ℕ). Reads (rules_of table) e (stays_at terminals precedences) (operand None) ts trees [])
-      own.tokens_of reads))),
-)
+accepted_are_nested table terminals precedences e of tokens parsed =
+    let rules = rules_of table in
+    let by = of.by in (
+      (λ a.
+          let p = parse_accepted table tokens by.sound.states by.sound.actions a.config a.reached a.accepted parsed
+          a.rules_of in
+          let (trees, own) = (parses_have_trees rules tokens parsed).0 p in
+          (trees, (own, operators_nest table terminals precedences by tokens parsed a trees own))),
+      (λ (trees, (own, nested)).
+          let are = operation_trees rules e of.operations tokens parsed trees own in
+          let reads = reads_all rules e (stays_at terminals precedences) of.operations.operations are nested in
+          subst (λ (rs : List ℕ). AcceptsBy table tokens rs) own.reduced
+          (accepts table tokens terminals precedences e by of.operations of.decisive trees
+          (subst (λ (ts : List ℕ). Reads rules e (stays_at terminals precedences) (operand None) ts trees [])
+          own.tokens_of reads))),
+    )
+
+pub nested_are_parsed : NestedAreParsed
+nested_are_parsed table terminals precedences e of tokens parsed trees (own, nested) =
+    let rules = rules_of table in
+    let states = of.by.sound.states in
+    let a = (accepted_are_nested table terminals precedences e of tokens parsed).1 (trees, (own, nested)) in
+    let few = fewer rules e (stays_at terminals precedences) of.operations.operations last_operand
+    (operation_trees rules e of.operations tokens parsed trees own) in (
+      (λ n stuck. never_stuck table tokens states a.config a.reached a.accepted n stuck),
+      (λ steps enough long.
+          omega (
+            arith,
+            never_longer table tokens states a.config a.reached a.accepted steps long,
+            ap length a.rules_of,
+            length-reverse parsed,
+            ap length own.reduced,
+            ap length own.tokens_of,
+            few,
+            enough,
+          )),
+    )

@@ -7,9 +7,10 @@ use Rattle.vob_lr.specs.ItemSets.InClosure.{inside, expands}
 use Rattle.vob_lr.specs.Items.{Completes, HasNext, first_item}
 use Rattle.vob_lr.specs.Lookaheads.{HasMove, Machine, Reduces}
 use Rattle.vob_lr.specs.Nesting.{HasLeftOperand, Replaces}
-use Rattle.vob_lr.specs.Operators.{AreOperands, IsOfOperations, IsOperation, IsOperator}
-use Rattle.vob_lr.specs.Operators.AreOperands.{nothing, token, enclosed, last}
-use Rattle.vob_lr.specs.Operators.IsOperation.{begins, goes_on}
+use Rattle.vob_lr.specs.Operations.{AreOperands, IsOperation, IsOperator}
+use Rattle.vob_lr.specs.OperatorTables.{IsOperatorGrammar}
+use Rattle.vob_lr.specs.Operations.AreOperands.{nothing, token, enclosed, last}
+use Rattle.vob_lr.specs.Operations.IsOperation.{begins, goes_on}
 use Rattle.vob_lr.specs.States.{AreStates}
 use Rattle.vob_lr.specs.declared.grammar.Rule.{Rule}
 use Rattle.vob_lr.specs.declared.grammar.Symbol.{Symbol}
@@ -22,7 +23,7 @@ pub no_terminal : (t a : ℕ) → Terminal t ≡ Nonterminal a → ⊥
 no_terminal t a same = cc
 
 module _ (m : Machine) (e : ℕ) (states : AreStates m.grammar.rules.items m.sets m.moves)
-    (of : IsOfOperations m.grammar.rules.items e) where
+    (of : IsOperatorGrammar m.grammar.rules.items e) where
   abbrev rules : List Rule
   rules = m.grammar.rules.items
 

@@ -1,6 +1,6 @@
 -- Trees that nest as precedences say are read from their leaves in one way.
-use Rattle.std.proofs.Common.{◌≡◌, ◌≢◌, ℕ, List, [], ◌∷◌, ◌++◌, None, Option, Some, refl, sym, ap, ◌∙◌, subst}
-use Rattle.std.proofs.lemmas.List.{append-nil, append_assoc}
+use Rattle.std.proofs.Common.{◌≡◌, ◌≢◌, ℕ, List, [], ◌∷◌, ◌++◌, None, Option, Some, refl, sym, ap, ◌∙◌, subst, ◌<◌, ◌≤◌, length, arith}
+use Rattle.std.proofs.lemmas.List.{append-nil, append_assoc, length-append}
 use Rattle.std.proofs.lemmas.Option.{same_Some}
 use Rattle.vob_lr.specs.Edges.{BeginsLast, HasNode, IsOnLeftEdge, IsOnRightEdge}
 use Rattle.vob_lr.specs.Nesting.{AreNested, HasLeftOperand, HasRightOperand, Replaces, RuleStays, ShiftStays}
@@ -9,10 +9,10 @@ use Rattle.vob_lr.specs.Edges.EndsFirst.{first}
 use Rattle.vob_lr.specs.Edges.HasNode.{here, inside, behind_leaf, behind_node}
 use Rattle.vob_lr.specs.Edges.IsOnLeftEdge.{here as left_here, inside as left_inside}
 use Rattle.vob_lr.specs.Edges.IsOnRightEdge.{here as right_here, inside as right_inside, behind_leaf as right_past_leaf, behind_node as right_past_node}
-use Rattle.vob_lr.specs.Operators.{AreDecisive, AreOperands, AreOperations, IsOperation, IsOperator, NestedTreesAreOne}
-use Rattle.vob_lr.specs.Operators.AreOperands.{nothing as no_operands, token as one_token, enclosed as one_enclosed, last as one_last}
-use Rattle.vob_lr.specs.Operators.IsOperation.{begins, goes_on}
-use Rattle.vob_lr.specs.Trees.{AreTrees, Trees, leaves}
+use Rattle.vob_lr.specs.Operations.{AreDecisive, AreOperands, AreOperations, IsOperation, IsOperator, NestedTreesAreOne}
+use Rattle.vob_lr.specs.Operations.AreOperands.{nothing as no_operands, token as one_token, enclosed as one_enclosed, last as one_last}
+use Rattle.vob_lr.specs.Operations.IsOperation.{begins, goes_on}
+use Rattle.vob_lr.specs.Trees.{AreTrees, Trees, leaves, reductions}
 use Rattle.vob_lr.specs.Trees.AreTrees.{nothing as no_trees, terminal, by_rule}
 use Rattle.vob_lr.specs.Trees.Trees.{none, leaf, node}
 use Rattle.vob_lr.specs.declared.grammar.Rule.{Rule}
@@ -265,6 +265,43 @@ module _ (rules : List Rule) (e : ℕ) (which : ℕ → ℕ → Stays) where
           (sym (append-nil (leaves below)))
           (last (reads_node (ops.each s rule.right.items one) a s one (Some r) ts inner (node s below none) ts
           (stop (h.ends right))))
+
+    -- ---- each node has a leaf of its own
+
+    mutual
+      fewer_below : {xs : List Symbol} {f : Trees} → IsOperation rules e xs → AreTrees rules xs f →
+          length (reductions f) < length (leaves f)
+      fewer_below (begins own) (terminal a) = omega (arith, fewer own a)
+      fewer_below (goes_on own)
+          (by_rule {r = s} {rule = rule} {below = below} at a (terminal {t = t} {more = f} b)) =
+          omega (
+            arith,
+            fewer_below (ops.each s rule.right.items (rule, at, refl, refl)) a,
+            fewer own b,
+            length-append (reductions below) (s ∷ reductions f),
+            length-append (leaves below) (t ∷ leaves f),
+          )
+
+      pub fewer : {xs : List Symbol} {f : Trees} → AreOperands rules e xs → AreTrees rules xs f →
+          length (reductions f) ≤ length (leaves f)
+      fewer no_operands no_trees = omega arith
+      fewer (one_token own) (terminal a) = omega (arith, fewer own a)
+      fewer (one_enclosed other own)
+          (by_rule {r = s} {rule = rule} {below = below} at a (terminal {t = t} {more = f} b)) =
+          omega (
+            arith,
+            fewer_below (ops.each s rule.right.items (rule, at, refl, refl)) a,
+            fewer own b,
+            length-append (reductions below) (s ∷ reductions f),
+            length-append (leaves below) (t ∷ leaves f),
+          )
+      fewer one_last (by_rule {r = s} {rule = rule} {below = below} at a no_trees) =
+          omega (
+            arith,
+            fewer_below (ops.each s rule.right.items (rule, at, refl, refl)) a,
+            length-append (reductions below) (s ∷ []),
+            length-append (leaves below) [],
+          )
 
     -- all of an operand's leaves
     pub reads_all : {f : Trees} → AreTrees rules (Nonterminal e ∷ []) f → AreNested rules which f →

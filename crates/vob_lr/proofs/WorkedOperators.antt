@@ -10,9 +10,10 @@ use Rattle.vob_lr.specs.Edges.HasNode.{here}
 use Rattle.vob_lr.specs.Edges.IsOnLeftEdge.{here as left_here}
 use Rattle.vob_lr.specs.Edges.IsOnRightEdge.{here as right_here}
 use Rattle.vob_lr.specs.Nesting.{AreNested, HasLeftOperand, Replaces}
-use Rattle.vob_lr.specs.Operators.{AreDecisive, AreOperations, IsOfOperations, IsOperation, IsOperator}
-use Rattle.vob_lr.specs.Operators.AreOperands.{nothing, enclosed, last}
-use Rattle.vob_lr.specs.Operators.IsOperation.{begins, goes_on}
+use Rattle.vob_lr.specs.Operations.{AreDecisive, AreOperations, IsOperation, IsOperator}
+use Rattle.vob_lr.specs.OperatorTables.{IsOperatorGrammar}
+use Rattle.vob_lr.specs.Operations.AreOperands.{nothing, enclosed, last}
+use Rattle.vob_lr.specs.Operations.IsOperation.{begins, goes_on}
 use Rattle.vob_lr.specs.Tables.{stays_at}
 use Rattle.vob_lr.specs.Trees.{Trees}
 use Rattle.vob_lr.specs.Trees.Trees.{none, leaf, node}
@@ -198,7 +199,7 @@ module _ (a b c d f g : Rule) (a_is : HasSides a 0 right_0) (b_is : HasSides b 1
     | inr two ↦ omega (arith, two)
   ]
 
-  of_operations : IsOfOperations rules 1
+  of_operations : IsOperatorGrammar rules 1
   of_operations = record {
     start = 0;
     begins = (a, refl, a_is.on_left, a_is.on_right);

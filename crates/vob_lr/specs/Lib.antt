@@ -23,7 +23,8 @@ pub mod Languages
 pub mod Lookaheads
 pub mod Nesting
 pub mod Nodes
-pub mod Operators
+pub mod Operations
+pub mod OperatorTables
 pub mod Parses
 pub mod Passes
 pub mod Precedences

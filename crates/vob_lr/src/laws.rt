@@ -8,7 +8,8 @@ ghost use Rattle.vob_lr.specs.Handles.{ReductionsAreOfHandles};
 ghost use Rattle.vob_lr.specs.Items.{NextItemIsBehind};
 ghost use Rattle.vob_lr.specs.Languages.{AcceptedAreSentences, ErrorsAreEarly, ErrorsAreLate, SentencesHaveOneParse, TooLongIsNoSentence};
 ghost use Rattle.vob_lr.specs.Nesting.{OperatorsNest};
-ghost use Rattle.vob_lr.specs.Operators.{AcceptedAreNested, NestedTreesAreOne};
+ghost use Rattle.vob_lr.specs.OperatorTables.{AcceptedAreNested, NestedAreParsed};
+ghost use Rattle.vob_lr.specs.Operations.{NestedTreesAreOne};
 ghost use Rattle.vob_lr.specs.Trees.{ParsesHaveOneTree, ParsesHaveTrees};
 
 /// Symbols can become empty exactly if they derive nothing. So `nullable` finds the nonterminals
@@ -128,8 +129,8 @@ pub fn nested_trees_are_one()
     ensures { NestedTreesAreOne }
 {}
 
-/// By the table of a grammar of operations, between which precedences decide, a parser accepts
-/// exactly the texts of which a tree nests so. So what `parse` returns is the tree that they say.
+/// By the table of an operator grammar, between whose operations precedences decide, a parser accepts
+/// exactly the texts of which a tree nests so. So what `parse` returns tells the tree that they say.
 pub fn accepted_are_nested()
     ensures { AcceptedAreNested }
 {}
@@ -138,4 +139,10 @@ pub fn accepted_are_nested()
 /// is LALR(1): each terminal with which they begin a sentence, and the end if they are one.
 pub fn expected_are_all()
     ensures { ExpectedAreAll }
+{}
+
+/// Over such a text a parser is nowhere stuck, and needs no more reductions than there are tokens. So
+/// `parse_within` fails over it for memory alone, if it may reduce as often.
+pub fn nested_are_parsed()
+    ensures { NestedAreParsed }
 {}

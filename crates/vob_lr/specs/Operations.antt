@@ -1,15 +1,10 @@
--- Nonterminals whose rules are operations, and grammars of one: a parser accepts what has a tree that
--- nests as the precedences say, and each text has one such tree at most.
-use Rattle.std.specs.Prelude.{◌≡◌, ◌≢◌, ◌↔◌, ℕ, List, [], ◌∷◌, slice_get, Option, Some}
-use Rattle.vob_lr.specs.Languages.{rules_of}
-use Rattle.vob_lr.specs.Nesting.{AreNested, HasLeftOperand, HasRightOperand, IsByPrecedences, Replaces}
-use Rattle.vob_lr.specs.Stops.{AcceptsBy}
-use Rattle.vob_lr.specs.Tables.{TableView, stays_at}
-use Rattle.vob_lr.specs.Trees.{AreTrees, AreTreesOf, Trees, leaves}
+-- Nonterminals whose rules are operations: each text has one tree at most that nests as precedences say.
+use Rattle.std.specs.Prelude.{◌≡◌, ◌≢◌, ℕ, List, [], ◌∷◌}
+use Rattle.vob_lr.specs.Nesting.{AreNested, HasLeftOperand, HasRightOperand, Replaces}
+use Rattle.vob_lr.specs.Trees.{AreTrees, Trees, leaves}
 use Rattle.vob_lr.specs.declared.grammar.Rule.{Rule}
 use Rattle.vob_lr.specs.declared.grammar.Symbol.{Symbol}
 use Rattle.vob_lr.specs.declared.grammar.Symbol.TheVariants.{Terminal, Nonterminal}
-use Rattle.vob_lr.specs.declared.precedence.Precedence.{Precedence}
 use Rattle.vob_lr.specs.declared.precedence.Stays.{Stays}
 use Rattle.vob_lr.specs.declared.precedence.Stays.TheVariants.{Both}
 
@@ -50,20 +45,3 @@ NestedTreesAreOne = (rules : List Rule) (e : ℕ) (which : ℕ → ℕ → Stays
     AreTrees rules (Nonterminal e ∷ []) trees → AreTrees rules (Nonterminal e ∷ []) others →
     AreNested rules which trees → AreNested rules which others → leaves trees ≡ leaves others →
     trees ≡ others
-
--- rule 0 is e and the end, which is no operator, and the other rules are the operations of e
-pub record IsOfOperations (rules : List Rule) (e : ℕ) : Type 0 where
-  pub start : ℕ
-  pub begins : Replaces rules 0 start (Nonterminal e ∷ Terminal 0 ∷ [])
-  pub start_is : start ≢ e
-  pub others : (r : ℕ) (rule : Rule) → slice_get rules r ≡ Some rule → r ≢ 0 → rule.left ≡ e
-  pub operations : AreOperations rules e
-  pub no_end : ¬ IsOperator rules e 0
-
--- then a parser accepts exactly what has a tree that nests so
-abbrev pub AcceptedAreNested : Type 0
-AcceptedAreNested = (table : TableView) (terminals rules : List (Option Precedence)) →
-    IsByPrecedences table terminals rules → (e : ℕ) → IsOfOperations (rules_of table) e →
-    AreDecisive (rules_of table) e (stays_at terminals rules) → (tokens parsed : List ℕ) →
-    AcceptsBy table tokens parsed ↔ ((trees : Trees) × AreTreesOf (rules_of table) tokens parsed trees
-    × AreNested (rules_of table) (stays_at terminals rules) trees)
