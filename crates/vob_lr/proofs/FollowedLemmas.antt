@@ -155,17 +155,6 @@ module _ (table : TableView) (tokens : List ℕ) (terminals precedences : List (
 
   -- ---- actions
 
-  shift_at : (q j t : ℕ) → HasItem m.sets q j → HasNext rules j (Terminal t) →
-      ((r : ℕ) → Reduces m q t r → ShiftStays (which t r)) →
-      (p : ℕ) × HasMove m.moves q (Terminal t) p × (action_at table.cells q t ≡ Some (Shift p))
-  shift_at q j t there next stays =
-      let (p, move) = moves_on m states q j (Terminal t) there next in (
-        p,
-        move,
-        shift_chosen m terminals precedences table.cells by.cells q t p (set_inside m.sets q j there)
-            (move_terminal m states by.sound.rules q t p move) move stays,
-      )
-
   -- a node by rule r
   closed : {q p n r : ℕ} {right : List Symbol} {f : Trees} {us : List ℕ} → Replaces rules r e right →
       HasMove m.moves q (Nonterminal e) p → (h : HasEnd q n r right f us) →
@@ -173,7 +162,8 @@ module _ (table : TableView) (tokens : List ℕ) (terminals precedences : List (
   closed {q} {p} {n} {r} {right} {f} {us} (rule, is, left, same) move h =
       let t = first_ahead us in
       let action = rule_chosen m terminals precedences table.cells by.cells h.state t r
-      (set_inside m.sets h.state h.item (ahead_inside m states h.ahead)) (ahead_terminal m states by.sound.rules h.ahead)
+      (set_inside m.sets h.state h.item (ahead_inside m states h.ahead))
+      (ahead_terminal m states by.sound.rules h.ahead)
       (h.item, complete_of rules h.dot, h.ahead)
       (λ s reduce. complete_rule rules h.dot
       (behind_reduces m e states of h.state h.item t s h.behind reduce)) h.stays in
@@ -215,43 +205,40 @@ module _ (table : TableView) (tokens : List ℕ) (terminals precedences : List (
     action : action_at table.cells q t ≡ Some (Shift state)
     place : IsPlace state j v ys
 
+  entered : (q j v t : ℕ) (ys : List Symbol) → IsBefore rules j v (Terminal t ∷ ys) → HasItem m.sets q j →
+      ((r : ℕ) → Reduces m q t r → ShiftStays (which t r)) →
+      ((p : ℕ) → HasMove m.moves q (Terminal t) p → IsAt m e states of p (j + 1)) → IsEntered q t (j + 1) v ys
+  entered q j v t ys dot there stays at =
+      let next = next_of rules dot in
+      let (p, move) = moves_on m states q j (Terminal t) there next in record {
+        state = p;
+        move = move;
+        action = shift_chosen m terminals precedences table.cells by.cells q t p (set_inside m.sets q j there)
+            (move_terminal m states by.sound.rules q t p move) move stays;
+        place = record {
+          at = at p move;
+          there = member_advances m states q j (Terminal t) p there next move;
+          dot = past rules dot;
+        };
+      }
+
   -- the first token of a rule of e
   entered_first : (q i r v t : ℕ) (xs ys : List Symbol) → IsPlace q i r (Nonterminal e ∷ xs) →
       Replaces rules v e (Terminal t ∷ ys) → IsEntered q t (first_item rules v + 1) v ys
   entered_first q i r v t xs ys place own =
-      let first = first_item rules v in
-      let dot = opening rules v e _ own in
-      let there = member_closed m states q i e first place.there (next_of rules place.dot)
-      (opens rules v e _ own) in
-      let (p, move, action) = shift_at q first t there (next_of rules dot)
-      (λ s reduce. absurd (at_reduces m e states of q i r t s (Nonterminal e) xs place.at place.dot reduce)) in
-      record {
-        state = p;
-        move = move;
-        action = action;
-        place = record {
-          at = goto_first m e states of q p i v t ys place.at (next_of rules place.dot) own move;
-          there = member_advances m states q first (Terminal t) p there (next_of rules dot) move;
-          dot = past rules dot;
-        };
-      }
+      let next = next_of rules place.dot in
+      entered q (first_item rules v) v t ys (opening rules v e _ own)
+      (member_closed m states q i e (first_item rules v) place.there next (opens rules v e _ own))
+      (λ s reduce. absurd (at_reduces m e states of q i r t s (Nonterminal e) xs place.at place.dot reduce))
+      (λ p move. goto_first m e states of q p i v t ys place.at next own move)
 
   -- the token behind a dot
   entered_next : (q i r t : ℕ) (xs : List Symbol) → IsPlace q i r (Terminal t ∷ xs) →
       IsEntered q t (i + 1) r xs
   entered_next q i r t xs place =
-      let (p, move, action) = shift_at q i t place.there (next_of rules place.dot)
-      (λ s reduce. absurd (at_reduces m e states of q i r t s (Terminal t) xs place.at place.dot reduce)) in
-      record {
-        state = p;
-        move = move;
-        action = action;
-        place = record {
-          at = goto_next m e states of q p i t place.at (next_of rules place.dot) move;
-          there = member_advances m states q i (Terminal t) p place.there (next_of rules place.dot) move;
-          dot = past rules place.dot;
-        };
-      }
+      entered q i r t xs place.dot place.there
+      (λ s reduce. absurd (at_reduces m e states of q i r t s (Terminal t) xs place.at place.dot reduce))
+      (λ p move. goto_next m e states of q p i t place.at (next_of rules place.dot) move)
 
   -- the operator behind an operand
   entered_operator : (c : Option ℕ) (q p i r v t : ℕ) (xs ys : List Symbol) (us : List ℕ) →
@@ -261,49 +248,29 @@ module _ (table : TableView) (tokens : List ℕ) (terminals precedences : List (
   entered_operator c q p i r v t xs ys us place comes takes own goto =
       let first = first_item rules v in
       let dot = opening rules v e _ own in
+      let on = past rules place.dot in
       let there = member_closed m states q i e first place.there (next_of rules place.dot)
       (opens rules v e _ own) in
-      let on = past rules place.dot in
       let behind = goto_operand m e states of q p i place.at (comes_operand c q i r xs us comes on) goto in
-      let reached = member_advances m states q first (Nonterminal e) p there (next_of rules dot) goto in
-      let (o, move, action) = shift_at p (first + 1) t reached (next_of rules (past rules dot))
+      entered p (first + 1) v t ys (past rules dot)
+      (member_advances m states q first (Nonterminal e) p there (next_of rules dot) goto)
       (λ w reduce. comes_rule c q i r t w xs us comes on takes
-      (behind_reduces m e states of p (i + 1) t w behind reduce)) in
-      record {
-        state = o;
-        move = move;
-        action = action;
-        place = record {
-          at = goto_operator m e states of p o (i + 1) v t behind
-              (comes_token c q i r t xs us comes on (v, (ys, own))) (ys, own) move;
-          there = member_advances m states p (first + 1) (Terminal t) o reached (next_of rules (past rules dot))
-              move;
-          dot = past rules (past rules dot);
-        };
-      }
+      (behind_reduces m e states of p (i + 1) t w behind reduce))
+      (λ o move. goto_operator m e states of p o (i + 1) v t behind
+      (comes_token c q i r t xs us comes on (v, (ys, own))) (ys, own) move)
 
   -- another token behind an operand
   entered_enclosing : (q p i r t : ℕ) (xs : List Symbol) →
       IsPlace q i r (Nonterminal e ∷ Terminal t ∷ xs) → ¬ IsOperator rules e t →
       HasMove m.moves q (Nonterminal e) p → IsEntered p t (i + 1 + 1) r xs
   entered_enclosing q p i r t xs place not goto =
-      let dot = place.dot in
-      let on = past rules dot in
+      let on = past rules place.dot in
       let behind = goto_operand m e states of q p i place.at
       (λ a next. no_terminal t a (next_same rules on (Nonterminal a) next)) goto in
-      let reached = member_advances m states q i (Nonterminal e) p place.there (next_of rules dot) goto in
-      let (o, move, action) = shift_at p (i + 1) t reached (next_of rules on)
-      (λ w reduce. absurd (complete_not rules on (behind_reduces m e states of p (i + 1) t w behind reduce))) in
-      record {
-        state = o;
-        move = move;
-        action = action;
-        place = record {
-          at = goto_enclosing m e states of p o (i + 1) t behind not move;
-          there = member_advances m states p (i + 1) (Terminal t) o reached (next_of rules on) move;
-          dot = past rules on;
-        };
-      }
+      entered p (i + 1) r t xs on
+      (member_advances m states q i (Nonterminal e) p place.there (next_of rules place.dot) goto)
+      (λ w reduce. absurd (complete_not rules on (behind_reduces m e states of p (i + 1) t w behind reduce)))
+      (λ o move. goto_enclosing m e states of p o (i + 1) t behind not move)
 
   -- what ends behind symbols ends behind more
   longer : {q p n k r : ℕ} {xs ys : List Symbol} {f g : Trees} {us : List ℕ} → (h : HasEnd p k r ys g us) →
