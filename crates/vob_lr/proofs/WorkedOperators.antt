@@ -4,18 +4,23 @@
 -- tightly than -, and the prefix - more tightly than both.
 use Rattle.std.proofs.Common.{◌≡◌, ◌≢◌, ◌==◌, if◌then◌else◌, arith, ◌⊎◌, ℕ, zero, suc, inl, inr, List, [], ◌∷◌, ◌++◌, None, Option, Some, slice_get, refl, sym, ap, ◌∙◌, subst}
 use Rattle.std.proofs.lemmas.Option.{none-some, same_Some}
+use Rattle.vob_lr.specs.Edges.{BeginsLast, EndsFirst, HasNode, IsOnRightEdge}
 use Rattle.vob_lr.specs.Edges.BeginsLast.{last as last_here, behind_leaf as past_leaf, behind_node as past_node}
 use Rattle.vob_lr.specs.Edges.EndsFirst.{first}
-use Rattle.vob_lr.specs.Edges.HasNode.{here}
-use Rattle.vob_lr.specs.Edges.IsOnLeftEdge.{here as left_here}
-use Rattle.vob_lr.specs.Edges.IsOnRightEdge.{here as right_here}
-use Rattle.vob_lr.specs.Nesting.{AreNested, HasLeftOperand, Replaces}
+use Rattle.vob_lr.specs.Edges.HasNode.{here, inside, behind_leaf, behind_node}
+use Rattle.vob_lr.specs.Edges.IsOnLeftEdge.{here as left_here, inside as left_inside}
+use Rattle.vob_lr.specs.Edges.IsOnRightEdge.{here as right_here, inside as right_inside, behind_leaf as right_past_leaf, behind_node as right_past_node}
+use Rattle.vob_lr.specs.Nesting.{AreNested, HasLeftOperand, HasRightOperand, IsByPrecedences, RuleStays, Replaces}
 use Rattle.vob_lr.specs.Operations.{AreDecisive, AreOperations, IsOperation, IsOperator}
 use Rattle.vob_lr.specs.OperatorTables.{IsOperatorGrammar}
 use Rattle.vob_lr.specs.Operations.AreOperands.{nothing, enclosed, last}
 use Rattle.vob_lr.specs.Operations.IsOperation.{begins, goes_on}
-use Rattle.vob_lr.specs.Tables.{stays_at}
-use Rattle.vob_lr.specs.Trees.{Trees}
+use Rattle.vob_lr.specs.Tables.{TableView, stays_at}
+use Rattle.vob_lr.specs.Languages.{rules_of}
+use Rattle.vob_lr.specs.Stops.{AcceptsBy}
+use Rattle.vob_lr.specs.Trees.{AreTrees, AreTreesOf, Trees}
+use Rattle.vob_lr.specs.Trees.AreTrees.{nothing as no_trees, terminal, by_rule}
+use Rattle.vob_lr.proofs.FollowedLemmas.{accepted_are_nested}
 use Rattle.vob_lr.specs.Trees.Trees.{none, leaf, node}
 use Rattle.vob_lr.specs.declared.grammar.Rule.{Rule}
 use Rattle.vob_lr.specs.declared.grammar.Symbol.{Symbol}
@@ -234,3 +239,133 @@ module _ (a b c d f g : Rule) (a_is : HasSides a 0 right_0) (b_is : HasSides b 1
   negative_product h =
       h.right 3 2 1 2 (leaf 1 (two 2 none)) here (Terminal 1 ∷ [], negative_is) (Nonterminal 1 ∷ [], times_is)
       (past_leaf (last_here left_here))
+
+  -- ---- a - b - c is parsed as (a - b) - c
+
+  -- the difference of two numbers, minus a number
+  abbrev outer : Trees
+  outer = two 1 (leaf 1 (number_then none))
+
+  abbrev inner : Trees
+  inner = number_then (leaf 1 (number_then none))
+
+  abbrev to_the_left : Trees
+  to_the_left = node 1 outer none
+
+  numbers : {r : ℕ} {below : Trees} → HasNode r below inner → r ≡ 5
+  numbers here = refl
+  numbers (inside (behind_leaf h)) = elim h [ ]
+  numbers (behind_node (behind_leaf here)) = refl
+  numbers (behind_node (behind_leaf (inside (behind_leaf h)))) = elim h [ ]
+  numbers (behind_node (behind_leaf (behind_node h))) = elim h [ ]
+
+  nodes : {r : ℕ} {below : Trees} → HasNode r below to_the_left →
+      (r ≡ 5) ⊎ ((r ≡ 1) × ((below ≡ outer) ⊎ (below ≡ inner)))
+  nodes here = inr (refl, inl refl)
+  nodes (inside here) = inr (refl, inr refl)
+  nodes (inside (inside h)) = inl (numbers h)
+  nodes (inside (behind_node (behind_leaf h))) = inl (numbers (behind_node (behind_leaf h)))
+  nodes (behind_node h) = elim h [ ]
+
+  last_number : {s k : ℕ} {below : Trees} → BeginsLast s (node k below (leaf 1 (number_then none))) → s ≡ 5
+  last_number (past_node (past_leaf (last_here left_here))) = refl
+  last_number (past_node (past_leaf (last_here (left_inside h)))) = elim h [ ]
+  last_number (past_node (past_leaf (past_node h))) = elim h [ ]
+
+  number_ends : {s : ℕ} → IsOnRightEdge s (number_then none) → s ≡ 5
+  number_ends right_here = refl
+  number_ends (right_inside (right_past_leaf h)) = elim h [ ]
+  number_ends (right_past_node h) = elim h [ ]
+
+  difference_ends : {s : ℕ} → IsOnRightEdge s (two 1 none) → (s ≡ 1) ⊎ (s ≡ 5)
+  difference_ends right_here = inl refl
+  difference_ends (right_inside (right_past_node (right_past_leaf h))) = inr (number_ends h)
+  difference_ends (right_past_node h) = elim h [ ]
+
+  inner_ends : {s : ℕ} → EndsFirst s inner → s ≡ 5
+  inner_ends (first h) = number_ends h
+
+  outer_ends : {s : ℕ} → EndsFirst s outer → (s ≡ 1) ⊎ (s ≡ 5)
+  outer_ends (first h) = difference_ends h
+
+  no_left : (e t : ℕ) → HasLeftOperand rules 5 e t → ⊥
+  no_left e t (more, (rule, is, left, same)) =
+      let wrong = items g rule _ right_5 g_is.on_right is same in cc
+
+  no_right : (e : ℕ) → HasRightOperand rules 5 e → ⊥
+  no_right e (more, (rule, is, left, same)) =
+      let named : 1 ≡ e = sym g_is.on_left ∙ ap (λ (x : Rule). x.left) (same_Some g rule is) ∙ left in
+      not_behind_5 more (subst (λ (n : ℕ). more ++ Nonterminal n ∷ [] ≡ right_5) (sym named)
+      (sym (items g rule _ right_5 g_is.on_right is same)))
+
+  minus_behind : (e t : ℕ) → HasLeftOperand rules 1 e t → t ≡ 1
+  minus_behind e t (more, (rule, is, left, same)) =
+      let whole = items b rule _ right_1 b_is.on_right is same in cc
+
+  nested_to_the_left : AreNested rules which to_the_left
+  nested_to_the_left = record {
+    right = λ r s e t below there right left begins. elim (nodes there) [
+      | inl one ↦ absurd (no_right e (subst (λ (n : ℕ). HasRightOperand rules n e) one right))
+      | inr both ↦
+          let five : s ≡ 5 = elim both.1 [
+            | inl same ↦ last_number (subst (λ (f : Trees). BeginsLast s f) same begins)
+            | inr same ↦ last_number (subst (λ (f : Trees). BeginsLast s f) same begins)
+          ] in
+          absurd (no_left e t (subst (λ (n : ℕ). HasLeftOperand rules n e t) five left))
+    ];
+    left = λ r s e t below there left right ends. elim (nodes there) [
+      | inl one ↦ absurd (no_left e t (subst (λ (n : ℕ). HasLeftOperand rules n e t) one left))
+      | inr both ↦
+          let minus = minus_behind e t (subst (λ (n : ℕ). HasLeftOperand rules n e t) both.0 left) in
+          let ended : (s ≡ 1) ⊎ (s ≡ 5) = elim both.1 [
+            | inl same ↦ outer_ends (subst (λ (f : Trees). EndsFirst s f) same ends)
+            | inr same ↦ inr (inner_ends (subst (λ (f : Trees). EndsFirst s f) same ends))
+          ] in
+          elim ended [
+            | inl one ↦
+                subst (λ (n : ℕ). RuleStays (which n s)) (sym minus)
+                (subst (λ (n : ℕ). RuleStays (which 1 n)) (sym one) tt)
+            | inr five ↦ absurd (no_right e (subst (λ (n : ℕ). HasRightOperand rules n e) five right))
+          ]
+    ];
+  }
+
+  a_node : {r e : ℕ} {right xs : List Symbol} {below more : Trees} → Replaces rules r e right →
+      AreTrees rules right below → AreTrees rules xs more → AreTrees rules (Nonterminal e ∷ xs) (node r below more)
+  a_node {r} {e} {right} {xs} {below} {more} (rule, is, left, same) under beside =
+      subst (λ (n : ℕ). AreTrees rules (Nonterminal n ∷ xs) (node r below more)) left
+      (by_rule is (subst (λ (ys : List Symbol). AreTrees rules ys below) (sym same) under) beside)
+
+  a_number : {xs : List Symbol} {more : Trees} → AreTrees rules xs more →
+      AreTrees rules (Nonterminal 1 ∷ xs) (number_then more)
+  a_number behind = a_node (g, refl, g_is.on_left, g_is.on_right) (terminal no_trees) behind
+
+  trees_to_the_left : AreTreesOf rules (5 ∷ 1 ∷ 5 ∷ 1 ∷ 5 ∷ []) (5 ∷ 5 ∷ 1 ∷ 5 ∷ 1 ∷ []) to_the_left
+  trees_to_the_left = record {
+    rule = a;
+    is = refl;
+    symbols = Nonterminal 1 ∷ [];
+    then_end = a_is.on_right;
+    trees_of = a_node minus_is
+        (a_node minus_is (a_number (terminal (a_number no_trees))) (terminal (a_number no_trees))) no_trees;
+    tokens_of = refl;
+    reduced = refl;
+  }
+
+  -- by any table of these rules and precedences
+  parsed_to_the_left : (table : TableView) → rules ≡ rules_of table →
+      IsByPrecedences table terminals precedences →
+      AcceptsBy table (5 ∷ 1 ∷ 5 ∷ 1 ∷ 5 ∷ []) (5 ∷ 5 ∷ 1 ∷ 5 ∷ 1 ∷ [])
+  parsed_to_the_left table own by =
+      (accepted_are_nested table terminals precedences 1 (record {
+        by = by;
+        operations = subst (λ (rs : List Rule). IsOperatorGrammar rs 1) own of_operations;
+        decisive = subst (λ (rs : List Rule). AreDecisive rs 1 which) own decisive;
+      }) _ _).1 (
+        to_the_left,
+        (
+          subst (λ (rs : List Rule). AreTreesOf rs (5 ∷ 1 ∷ 5 ∷ 1 ∷ 5 ∷ []) (5 ∷ 5 ∷ 1 ∷ 5 ∷ 1 ∷ []) to_the_left)
+              own trees_to_the_left,
+          subst (λ (rs : List Rule). AreNested rs which to_the_left) own nested_to_the_left,
+        ),
+      )

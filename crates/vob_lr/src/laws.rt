@@ -114,9 +114,9 @@ pub fn parses_have_one_tree()
     ensures { ParsesHaveOneTree }
 {}
 
-/// In the trees of what a parser accepts operators nest as their precedences say, in any grammar. A
-/// right operand begins with no operation that binds less tightly than the rule that it ends, nor
-/// alike, unless its operator groups to the right or nothing is said. A left operand ends with no
+/// In the trees of what a parser accepts the operations of each nonterminal nest as their precedences
+/// say. A right operand begins with no operation that binds less tightly than the rule that it ends,
+/// nor alike, unless its operator groups to the right or nothing is said. A left operand ends with no
 /// operation that binds less tightly than the operator behind it, nor alike, unless that groups to
 /// the left or nothing is said. So `a - b - c` is `(a - b) - c`, and `a + b * c` is `a + (b * c)`.
 pub fn operators_nest()
