@@ -6,7 +6,9 @@
 
 #include <ctype.h>
 #include <stdio.h>
-#include <string.h>
+
+// The column of the character that was read last.
+static int column = 0;
 
 // Returns the value of the left side of a rule from those of its right side. That of a whole line is printed.
 static double reduce(int rule, double *values, void *data)
@@ -25,60 +27,93 @@ static double reduce(int rule, double *values, void *data)
     }
 }
 
-// Returns the token at the beginning of a text, 0 at the end of the line, or -1 if there is none such. Goes past it.
-static int next_token(const char **text, double *value)
+// Returns the next character, which isn't read yet.
+static int peek(void)
 {
-    char *end;
-    if (**text == '\0' || **text == '\n')
+    int character = getchar();
+    return character == EOF ? EOF : ungetc(character, stdin);
+}
+
+// Reads the next character.
+static int next(void)
+{
+    column++;
+    return getchar();
+}
+
+// Reads digits, and those behind a point.
+static double number(void)
+{
+    double value = 0, unit = 1;
+    while (isdigit(peek()))
+        value = 10 * value + (next() - '0');
+    if (peek() == '.')
+        for (next(); isdigit(peek()); value += (next() - '0') * unit)
+            unit /= 10;
+    return value;
+}
+
+// Reads a token and its value: 0 at the end of the line, which stays, and -1 for a character that is none.
+static int token(double *value)
+{
+    if (peek() == '\n' || peek() == EOF)
         return 0;
-    if (!isdigit((unsigned char)**text))
-        return parser_character((unsigned char)*(*text)++);
-    *value = strtod(*text, &end);
-    *text = end;
+    if (!isdigit(peek()))
+        return parser_character(next());
+    *value = number();
     return TOKEN_NUMBER;
 }
 
-// Prints what was expected in the place of a text of some bytes.
-static void complain(struct parser *parser, int column, const char *text, int length)
+// Prints what was expected in the place of a token, which a character begins.
+static void complain(struct parser *parser, int start, int unexpected, int character)
 {
     const char *before = "; expected";
-    int token;
-    printf("column %d: unexpected %.*s", column, length ? length : 3, length ? text : "end");
-    for (token = 0; token < PARSER_TERMINALS; token++)
-        if (parser_takes(parser, token) > 0) {
-            printf("%s %s", before, token ? parser_name(token) : "end");
+    int other;
+    printf("column %d: unexpected ", start);
+    if (unexpected >= 0)
+        printf("%s", unexpected ? parser_name(unexpected) : "end");
+    else
+        printf(isprint(character) ? "'%c'" : "byte %d", character);
+    for (other = 0; other < PARSER_TERMINALS; other++)
+        if (parser_takes(parser, other) > 0) {
+            printf("%s %s", before, other ? parser_name(other) : "end");
             before = ",";
         }
     printf("\n");
 }
 
 // Computes a line. Returns whether it is right.
-static int compute(struct parser *parser, const char *line)
+static int compute(struct parser *parser)
 {
-    const char *start, *text = line;
     enum parser_status status;
+    int start, character, read;
+    column = 0;
     do {
         double value = 0;
-        int token;
-        start = text += strspn(text, " \t");
-        token = next_token(&text, &value);
-        status = parser_push(parser, token, value, reduce, NULL);
+        while (peek() != '\n' && isspace(peek()))
+            next();
+        start = column + 1;
+        character = peek();
+        read = token(&value);
+        status = parser_push(parser, read, value, reduce, NULL);
     } while (status == PARSER_MORE);
     if (status == PARSER_UNEXPECTED)
-        complain(parser, (int)(start - line) + 1, start, (int)(text - start));
+        complain(parser, start, read, character);
     if (status == PARSER_MEMORY)
-        printf("out of memory\n");
+        printf("column %d: out of memory\n", start);
+    while (peek() != '\n' && peek() != EOF)
+        next();
+    next();
     return status == PARSER_ACCEPTED;
 }
 
 int main(void)
 {
-    static char line[4096];
     struct parser parser;
     int failed = 0;
     parser_begin(&parser);
-    while (fgets(line, sizeof line, stdin))
-        if (!compute(&parser, line)) {
+    while (peek() != EOF)
+        if (!compute(&parser)) {
             failed = 1;
             parser_end(&parser);
         }
