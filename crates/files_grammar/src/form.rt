@@ -11,9 +11,8 @@ pub enum Form {
     Rust,
 }
 
-/// The parts of a parser that are the same for each grammar, by what comes after them: its first words and
-/// the numbers of symbols, the constants of tokens and of rules, the characters, the names, and the arrays. The
-/// last two have the parser itself.
+/// The parts of a parser that are the same for each grammar. Each is named by what comes after it: `usage` by
+/// how many symbols and rules there are. The last two are the parser itself.
 pub struct Parts {
     pub usage: &'static str,
     pub tokens: &'static str,

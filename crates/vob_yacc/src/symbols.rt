@@ -17,9 +17,9 @@ enum Class {
     Nonterminal,
 }
 
-/// A symbol: the name by which it is shown, the one that this replaced, if there is one, where it is declared
-/// or else named first, and what the file says of it. One
-/// with two names may have had two entries: then `same` is the number of the one that counts.
+/// A symbol: the name by which it is shown, and what the file says of it. `replaced` is the name that a text
+/// took the place of. `at` is where it is declared, or else named first. One with two names may have had two
+/// entries: then `same` is the number of the one that counts.
 #[derive(Drop)]
 struct Entry {
     name: Vec<u8>,
