@@ -3,7 +3,7 @@
 use crate::text_error::{Stop, place_of};
 use std::alloc::Global;
 use vob::Vob;
-use vob_lr::{Grammar, Precedence, Rule, Symbol, nullable};
+use vob_lr::{Grammar, Precedence, Rule, Symbol, productive};
 
 /// Why a nonterminal is of no use.
 #[derive(Clone, Copy, Debug, PartialEq, Eq)]
@@ -73,28 +73,21 @@ struct Useful {
     reached: Vob,
 }
 
-/// Returns the nonterminals that derive some text of terminals: those that derive the empty text once
-/// terminals are taken for nothing.
-fn productive(alloc: Global, whole: &Whole) -> Result<Vob, Stop> {
+/// Returns the nonterminals that derive some text of terminals.
+fn productive_of(alloc: Global, whole: &Whole) -> Result<Vob, Stop> {
     let mut rules = Vec::new(alloc);
     for own in whole.rules.iter() {
-        let right = own.rule.right.iter().copied();
         rules.push(Rule {
             left: own.rule.left,
-            right: right.filter(is_nonterminal).collect(alloc)?,
+            right: own.rule.right.to_vec(alloc)?,
         })?;
     }
     let grammar = Grammar {
-        terminals: 0,
+        terminals: whole.terminals.len(),
         nonterminals: whole.nonterminals.len(),
         rules,
     };
-    Ok(nullable(alloc, &grammar)?)
-}
-
-/// Whether a symbol is a nonterminal.
-fn is_nonterminal(symbol: &Symbol) -> bool {
-    matches!(symbol, Symbol::Nonterminal(_))
+    Ok(productive(alloc, &grammar)?)
 }
 
 /// Whether a set has a symbol, as it has each terminal.
@@ -109,7 +102,7 @@ impl Useful {
     /// Finds them.
     fn new(alloc: Global, whole: &Whole) -> Result<Useful, Stop> {
         let mut useful = Useful {
-            productive: productive(alloc, whole)?,
+            productive: productive_of(alloc, whole)?,
             reached: Vob::from_elem(alloc, false, whole.nonterminals.len())?,
         };
         useful.reach(&Symbol::Nonterminal(0));
