@@ -11,9 +11,10 @@ use Rattle.vob_lr.specs.declared.grammar.Rule.{Rule}
 use Rattle.vob_lr.specs.declared.grammar.Symbol.{Symbol}
 use Rattle.vob_lr.specs.declared.state.Move.{Move}
 
--- after some symbols item i is valid, with a terminal ahead, or with nothing, as item 0 is. An item
--- with nonterminal a behind its dot gives the first items of a's rules what can begin the symbols
--- behind a, or what is ahead of it if these can become empty. And the dot passes a symbol
+-- item i is in canonical LR(1)'s state after some symbols, with a terminal ahead, or with nothing, as
+-- item 0 is. An item with nonterminal a behind its dot gives the first items of a's rules what can
+-- begin the symbols behind a, or what is ahead of itself if these can become empty. And an item keeps
+-- what is ahead as its dot passes a symbol, which stands last then
 pub data IsValid (rules : List Rule) : List Symbol → ℕ → Option ℕ → Type 0 where
   start : IsValid rules [] 0 None
   begins : {xs rest : List Symbol} {j a i t : ℕ} {ahead : Option ℕ} → IsValid rules xs j ahead →
@@ -32,7 +33,7 @@ pub record IsProductive (m : Machine) : Type 0 where
   pub states : AreStates m.grammar.rules.items m.sets m.moves
   pub each : AreProductive m.grammar
 
--- state q has the items of canonical LR(1)'s state after some symbols, whatever is ahead of them
+-- state q has the same items as canonical LR(1)'s state after some symbols, whatever is ahead there
 abbrev pub HasSameItems : Machine → ℕ → List Symbol → Type 0
 HasSameItems m q xs = (i : ℕ) →
     HasItem m.sets q i ↔ ((ahead : Option ℕ) × IsValid m.grammar.rules.items xs i ahead)
