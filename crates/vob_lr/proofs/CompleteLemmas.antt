@@ -23,6 +23,7 @@ use Rattle.vob_lr.specs.Trees.Trees.{none, leaf, node}
 use Rattle.vob_lr.specs.declared.grammar.Rule.{Rule}
 use Rattle.vob_lr.specs.declared.grammar.Symbol.{Symbol}
 use Rattle.vob_lr.specs.declared.grammar.Symbol.TheVariants.{Terminal, Nonterminal}
+use Rattle.vob_lr.proofs.DerivationLemmas.{has_rule}
 use Rattle.vob_lr.proofs.DotLemmas.{IsBefore, complete_of, next_of, next_then, opening, opens, past}
 use Rattle.vob_lr.proofs.EmptyLemmas.{BecomesEmpty-append}
 use Rattle.vob_lr.proofs.FirstLemmas.{BeginsWith-append}
@@ -30,15 +31,6 @@ use Rattle.vob_lr.proofs.MemberLemmas.{member_advances, member_closed, moves_on}
 use Rattle.vob_lr.proofs.PushedLemmas.{accepted_of, first_ahead, get_or-drop, token_at}
 
 -- ---- what becomes nothing, and what begins
-
-has_rule : (rules : List Rule) (r : ℕ) (rule : Rule) → slice_get rules r ≡ Some rule →
-    HasRule rules rule.left rule.right.items
-has_rule rules r rule is = (
-  rule,
-  (r, slice_get_within rules r rule is, get_or_from_slice_get rules r rule rule is),
-  refl,
-  refl,
-)
 
 append_empty : (ts us : List ℕ) → ts ++ us ≡ [] → (ts ≡ []) × (us ≡ [])
 append_empty [] us h = (refl, h)
@@ -58,7 +50,7 @@ module _ (rules : List Rule) where
   first_of_parts [] us t rest h = inr (refl, h)
   first_of_parts (x ∷ ts) us t rest h = let first : x ≡ t = cc in inl (ts, ap (λ y. y ∷ ts) first)
 
-  first_becomes : {xs : List Symbol} {ts rs : List ℕ} → Becomes rules xs ts rs → (t : ℕ)
+  pub first_becomes : {xs : List Symbol} {ts rs : List ℕ} → Becomes rules xs ts rs → (t : ℕ)
       (rest : List ℕ) → ts ≡ t ∷ rest → BeginsWith rules t xs
   first_becomes nothing t rest h = absurd (cc)
   first_becomes (terminal {t = u} {xs} b) t rest h =

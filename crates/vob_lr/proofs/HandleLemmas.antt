@@ -27,7 +27,8 @@ use Rattle.vob_lr.specs.declared.items.Item.{Item}
 use Rattle.vob_lr.proofs.BecomingLemmas.{derived_becomes, joined}
 use Rattle.vob_lr.proofs.CanonicalLemmas.{ahead_valid, valid_ahead}
 use Rattle.vob_lr.proofs.DerivationLemmas.{begin_parts, begin_replaced, cut, empty_before, empty_derived, empty_parts, has_rule}
-use Rattle.vob_lr.proofs.ItemLemmas.{drop_here, next_is, one_item}
+use Rattle.vob_lr.proofs.DotLemmas.{drop_here}
+use Rattle.vob_lr.proofs.ItemLemmas.{next_is, one_item}
 use Rattle.vob_lr.proofs.PrefixLemmas.{behind_next, behind_same, tail_own}
 use Rattle.vob_lr.proofs.RightmostLemmas.{numbered, own_becomes, rightmost}
 
