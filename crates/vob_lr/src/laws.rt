@@ -135,8 +135,8 @@ pub fn accepted_are_nested()
     ensures { AcceptedAreNested }
 {}
 
-/// Whatever can stand behind tokens is what `Table::expected` returns, and more at most, if the grammar
-/// is LALR(1): each terminal with which they begin a sentence, and the end if they are one.
+/// By the table of an LALR(1) grammar all that can stand behind tokens is expected: each terminal with
+/// which they begin a sentence, and the end if they are one. So `Table::expected` has it.
 pub fn expected_are_all()
     ensures { ExpectedAreAll }
 {}
