@@ -1,8 +1,7 @@
 -- What can be empty, begin and follow in a grammar of three rules, worked out by hand and then from
 -- the definitions. The nonterminal 0 becomes the nonterminal 1 and then the terminal 1, and the
 -- nonterminal 1 becomes the terminal 0 or nothing.
-use Rattle.std.proofs.Common.{◌≡◌, ◌≢◌, ℕ, zero, suc, ◌<◌, ◌⊎◌, inl, inr, List, [], ◌∷◌, ◌++◌, refl, sym, ◌∙◌, ap, subst, arith, lit<}
-use Rattle.std.specs.List.{Contains}
+use Rattle.std.proofs.Common.{◌≡◌, ◌≢◌, ℕ, zero, suc, ◌⊎◌, inl, inr, List, [], ◌∷◌, ◌++◌, refl, sym, ◌∙◌, ap, subst, arith, lit<}
 use Rattle.vob_lr.specs.Grammar.{BecomesEmpty, BeginsWith, Follows, HasRule}
 use Rattle.vob_lr.specs.Grammar.BecomesEmpty.{nothing, by_rule as by_empty}
 use Rattle.vob_lr.specs.Grammar.BeginsWith.{here, by_rule, behind}
