@@ -5,7 +5,7 @@ use clap::builder::ValueParser;
 use clap::{Arg, ArgAction, ArgMatches, Command};
 use files_filter::Shows;
 use files_flow::{ANALYSES, Analysis};
-use files_grammar::{FORMS, Form};
+use files_grammar::{FORMS, Form, TREE_FORMS, TreeForm};
 use files_graph::Part;
 use std::alloc::{AllocError, Global};
 
@@ -28,7 +28,10 @@ Example:
 /// What the help of `parse` says of its input, of its output and of the exit status.
 const PARSE_HELP: &str = "\
 White space separates tokens. A quoted character may stand without its quotes.
-The rules of the rightmost derivation are printed, that of the start first.
+The rules of the rightmost derivation are printed, that of the start first, or:
+  tree   its tree, a node a line
+  dot    its tree, a graph in DOT
+  json   its tree, nodes in JSON
 Conflicts that precedence leaves are decided for the shift, or else for the
 rule that comes first, as in bison.
 
@@ -90,8 +93,9 @@ pub enum Task<'a> {
         states: bool,
         form: Option<Form>,
     },
-    /// The derivation of the tokens in a file by a grammar in another.
+    /// The derivation of the tokens in a file by a grammar in another, as its rules or as a tree.
     Parse {
+        form: Option<TreeForm>,
         file: &'a str,
         grammar: &'a str,
     },
@@ -163,9 +167,16 @@ fn parse_command<'a>(alloc: Global) -> Result<Command<'a>, AllocError> {
         .required(true)
         .help("A grammar of yacc or bison");
     let file = file_argument(alloc, "Names of tokens; - or none: standard input");
+    let output = Arg::new(alloc, "output")
+        .long("output")
+        .value_name("FORM")
+        .value_parser(TREE_FORMS.as_slice())
+        .hide_possible_values(true)
+        .help("Print the tree, in one of the forms below");
     Command::new(alloc, "parse")
         .about("Print how a grammar derives tokens")
         .after_help(PARSE_HELP)
+        .arg(output)?
         .arg(grammar)?
         .arg(file)
 }
@@ -247,6 +258,11 @@ fn form_of(matches: &ArgMatches<'_>) -> Option<Form> {
     Form::of(matches.get_str("output")?)
 }
 
+/// Returns the form in which a tree is to be printed, if one is asked for.
+fn tree_form_of(matches: &ArgMatches<'_>) -> Option<TreeForm> {
+    TreeForm::of(matches.get_str("output")?)
+}
+
 /// Returns what of a closure is to be printed.
 fn part_of<'a>(matches: &ArgMatches<'a>) -> Part<'a> {
     if matches.get_flag("reduce") {
@@ -302,6 +318,7 @@ pub fn task_of<'a>(matches: &ArgMatches<'a>) -> Option<Task<'a>> {
             form: form_of(own),
         }),
         "parse" => Some(Task::Parse {
+            form: tree_form_of(own),
             file,
             grammar: own.get_str("grammar")?,
         }),

@@ -91,10 +91,10 @@ fn write_task<R: Files + Input + Eprint + AllocGlobal, W: Write>(
                 None => Ok(print_grammar(alloc, &grammar, *states, output)?),
             }
         }
-        Task::Parse { grammar, .. } => {
+        Task::Parse { grammar, form, .. } => {
             let read = fs::read(rt, grammar).map_err(Fault::GrammarInput)?;
             let grammar = read_grammar(rt, &read, grammar)?;
-            Ok(print_parse(alloc, &grammar, text, output)?)
+            Ok(print_parse(alloc, &grammar, text, *form, output)?)
         }
         Task::Closure { part, .. } => Ok(print_closure(alloc, text, *part, output)?),
         Task::Flow { analysis, .. } => Ok(print_flow(alloc, text, *analysis, output)?),

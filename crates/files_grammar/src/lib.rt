@@ -16,6 +16,7 @@ mod output;
 mod parse;
 mod rust_parser;
 mod states;
+mod tree;
 
 pub use fault::GrammarFault;
 pub use file::GrammarFile;
@@ -23,3 +24,4 @@ pub use form::{FORMS, Form};
 pub use grammar::print_grammar;
 pub use output::print_form;
 pub use parse::print_parse;
+pub use tree::{TREE_FORMS, TreeForm};

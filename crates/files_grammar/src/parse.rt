@@ -1,15 +1,25 @@
-//! The derivation of tokens by a grammar, as text.
+//! The derivation of tokens by a grammar, and its tree.
+ghost use Rattle.std.specs.Prelude.{IfOk};
+ghost use Rattle.vob_lr.specs.Derivations.{IsParse};
 
 use crate::expected::{END, endless_at, expected_after};
 use crate::fault::GrammarFault;
 use crate::file::GrammarFile;
 use crate::grammar::put_rule;
+use crate::tree::{TreeForm, WordTree};
 use files_text::{Fault, Word, Words};
 use indexmap::IndexMap;
 use std::alloc::{AllocError, Global};
 use std::io;
 use std::io::Write;
-use vob_lr::{ParseError, Table};
+use vob_lr::{ParseError, Table, Tree};
+
+/// Tokens, and the rules by which a parser reduces them.
+#[derive(Drop)]
+struct Derivation {
+    tokens: Vec<usize>,
+    rules: Vec<usize>,
+}
 
 /// Returns the terminals of a grammar file by their names. Those of one quoted character also go by
 /// the character.
@@ -99,6 +109,19 @@ fn expected_at(
     expected_after(alloc, table, &file.names, taken)
 }
 
+/// Returns the fault of tokens that a parser refuses.
+fn refused(
+    alloc: Global,
+    file: &GrammarFile,
+    table: &Table<'_>,
+    words: &[Word<'_>],
+    tokens: &[usize],
+    error: ParseError,
+) -> Result<GrammarFault, AllocError> {
+    let expected = expected_at(alloc, file, table, tokens, &error)?;
+    not_parsed(alloc, words, error, expected)
+}
+
 /// Returns the rules by which a parser reduces tokens. Fails at the first that doesn't fit, or before
 /// which it reduces without end.
 fn parsed(
@@ -106,7 +129,10 @@ fn parsed(
     file: &GrammarFile,
     table: &Table<'_>,
     words: &[Word<'_>],
-) -> Result<Vec<usize>, GrammarFault> {
+) -> Result<Derivation, GrammarFault>
+    ensures { IfOk result (λ parsed. IsParse table.now.machine.grammar.rules.items
+        parsed.tokens.items parsed.rules.items) }
+{
     let tokens = tokens_of(alloc, file, words)?;
     // Few tokens need more. If some do, the parser may reduce without end.
     let steps = tokens
@@ -114,20 +140,18 @@ fn parsed(
         .saturating_add(1)
         .saturating_mul(file.grammar.rules.len())
         .saturating_mul(8);
-    let mut parsed = table.parse_within(alloc, &tokens, steps);
-    if matches!(parsed, Err(ParseError::TooLong)) {
-        if let Some(at) = endless_at(alloc, table, &tokens)? {
-            let (line, column) = place_of(words, at);
-            return Err(GrammarFault::Endless { line, column });
-        }
-        parsed = table.parse_within(alloc, &tokens, usize::MAX);
+    match table.parse_within(alloc, &tokens, steps) {
+        Ok(rules) => return Ok(Derivation { tokens, rules }),
+        Err(ParseError::TooLong) => {}
+        Err(error) => return Err(refused(alloc, file, table, words, &tokens, error)?),
     }
-    match parsed {
-        Ok(rules) => Ok(rules),
-        Err(error) => {
-            let expected = expected_at(alloc, file, table, &tokens, &error)?;
-            Err(not_parsed(alloc, words, error, expected)?)
-        }
+    if let Some(at) = endless_at(alloc, table, &tokens)? {
+        let (line, column) = place_of(words, at);
+        return Err(GrammarFault::Endless { line, column });
+    }
+    match table.parse_within(alloc, &tokens, usize::MAX) {
+        Ok(rules) => Ok(Derivation { tokens, rules }),
+        Err(error) => Err(refused(alloc, file, table, words, &tokens, error)?),
     }
 }
 
@@ -141,9 +165,17 @@ fn put_derivation<W: Write>(output: &mut W, file: &GrammarFile, rules: &[usize])
     Ok(())
 }
 
-/// Writes the rules of the rightmost derivation of tokens from the start symbol of a grammar, one a
-/// line. Conflicts that precedence leaves are decided as in bison: for the shift, or else for the
-/// rule that comes first. Returns the status, 0.
+/// Returns the tree of tokens that were parsed by a table.
+fn tree_of(alloc: Global, table: &Table<'_>, parsed: &Derivation) -> Result<Tree, AllocError>
+    requires { IsParse table.now.machine.grammar.rules.items parsed.now.tokens.items parsed.now.rules.items }
+{
+    let rules = &table.lookaheads().items().grammar().rules;
+    Tree::of(alloc, rules, &parsed.tokens, &parsed.rules)
+}
+
+/// Writes how a grammar derives tokens: the rules of the rightmost derivation from its start symbol, or the tree in a form.
+/// Conflicts that precedence leaves are decided as in bison: for the shift, or else for the rule that comes first.
+/// Returns the status, 0.
 ///
 /// Fails at the first token that is no terminal, doesn't fit, or before which the parser would reduce
 /// without end. Nothing is written then. Fails too if memory runs out, or if the output can't be written.
@@ -151,11 +183,23 @@ pub fn print_parse<W: Write>(
     alloc: Global,
     file: &GrammarFile,
     text: &[u8],
+    form: Option<TreeForm>,
     output: &mut W,
 ) -> Result<u8, GrammarFault> {
     let table = file.table(alloc)?;
     let words = Words::new(text, b"").collect(alloc)?;
-    let rules = parsed(alloc, file, &table, &words)?;
-    put_derivation(output, file, &rules)?;
+    let parsed = parsed(alloc, file, &table, &words)?;
+    let Some(form) = form else {
+        put_derivation(output, file, &parsed.rules)?;
+        return Ok(0);
+    };
+    let tree = tree_of(alloc, &table, &parsed)?;
+    let named = WordTree {
+        file,
+        words: &words,
+        tokens: &parsed.tokens,
+        tree: &tree,
+    };
+    named.put(alloc, output, form)?;
     Ok(0)
 }
