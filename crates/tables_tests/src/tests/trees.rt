@@ -20,7 +20,7 @@ const GRAMMARS: [Row; 4] = [
     Row { names: ("AETF", "$+*()i"), rules: &["A=E$", "E=E+T", "E=T", "T=T*F", "T=F", "F=(E)", "F=i"],
         trees: &[("i", "E0-1(T0-1(F0-1(i)))"),
             ("i+i*i", "E0-5(E0-1(T0-1(F0-1(i)))+T2-5(T2-3(F2-3(i))*F4-5(i)))"),
-            ("(i)", "E0-3(T0-3(F0-3((E1-2(T1-2(F1-2(i))))))")] },
+            ("(i)", "E0-3(T0-3(F0-3((E1-2(T1-2(F1-2(i)))))))")] },
     Row { names: ("AS", "$ieo"), rules: &["A=S$", "S=iS", "S=iSeS", "S=o"],
         trees: &[("iioeo", "S0-5(iS1-5(iS2-3(o)eS4-5(o)))")] },
     // A rule without symbols spans no token.
