@@ -1,3 +1,4 @@
 pub mod ListLemmas
-pub mod PrintedLemmas
 pub mod NamesLemmas
+pub mod PrintedLemmas
+pub mod WordsLemmas

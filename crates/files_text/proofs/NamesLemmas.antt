@@ -1,8 +1,15 @@
 -- Where a name stands among others.
-use Rattle.std.specs.Prelude.{IfSome, slice_get, position, nat_eq}
+use Rattle.std.specs.Prelude.{IfSome, slice_get, position, nat_eq, Contains}
+use Rattle.std.specs.List.{list_any}
+use Rattle.indexmap.specs.IndexSet.{insert_key}
+use Rattle.files_text.specs.Names.{IsNumbered}
+use Rattle.files_text.proofs.ListLemmas.{Contains-map, first_or_later, nothing}
+use Rattle.std.proofs.lemmas.Grind.{common_steps}
+use Rattle.std.proofs.lemmas.Bool.{true≢false}
+use Rattle.std.proofs.lemmas.List.{map-append}
 use Rattle.std.specs.Option.{option_map}
 use Rattle.std.specs.Cmp.Lexicographic.{pointwise}
-use Rattle.std.proofs.Common.{Option, None, Some, ◌≡◌, ℕ, zero, suc, ◌<◌, true, List, [], ◌∷◌, length, get_or, map, refl, sym, ap, ◌∙◌, arith, Bor}
+use Rattle.std.proofs.Common.{Option, None, Some, ◌≡◌, ℕ, zero, suc, ◌<◌, true, List, [], ◌∷◌, length, get_or, map, cond, ◌++◌, refl, sym, ap, ◌∙◌, arith, Bor, Bool, false, ◌⊎◌, inl, inr}
 use Rattle.std.proofs.lemmas.List.Quantifiers.{position-Some}
 use Rattle.std.proofs.lemmas.Option.{slice_get-map}
 use Rattle.std.proofs.lemmas.Slice.Eq.{bytes_eq-Decides}
@@ -25,3 +32,40 @@ found_name keys name (Some number) is =
     (λ d. let there = position-Some test keys number d (sym is) in (there.0, there.1)) name in
     slice_get-map (λ key. key.now) keys number
     ∙ ap (option_map (λ (key : Bor (List ℕ)). key.now)) item.1 ∙ ap Some (sym ((bytes_eq-Decides name.now item.0.now).0 item.2))
+
+abbrev pub same : Bor (List ℕ) → Bor (List ℕ) → Bool
+same name key = pointwise nat_eq name.now key.now
+
+none_passes : {X : Type 0} (p : X → Bool) (xs : List X) → list_any p xs ≡ false → (x : X) → Contains xs x → p x ≡ false
+none_passes p [] none x there = absurd (nothing x there)
+none_passes p (y ∷ ys) none x there = elim (first_or_later y ys x there) [
+  | inl first ↦ ap p (sym first) ∙ or_none.0
+  | inr later ↦ none_passes p ys or_none.1 x later
+]
+  where
+    or_none : (p y ≡ false) × (list_any p ys ≡ false)
+    or_none = grind (arith, common_steps)
+
+pub absent_name : (keys : List (Bor (List ℕ))) (name : Bor (List ℕ)) → list_any (same name) keys ≡ false →
+    ¬ Contains (map (λ key. key.now) keys) name.now
+absent_name keys name none there =
+    let found = Contains-map (λ (key : Bor (List ℕ)). key.now) keys name.now there in
+    true≢false (sym ((bytes_eq-Decides name.now found.0.now).1 (sym found.2)) ∙ none_passes (same name) keys none found.0 found.1)
+
+pub numbered_name : (keys after : List (Bor (List ℕ))) (name : Bor (List ℕ)) (number : ℕ) →
+    after ≡ insert_key same keys name →
+    ((k : Bor (List ℕ)) × (slice_get after number ≡ Some k) × (same name k ≡ true)) →
+    IsNumbered (map (λ key. key.now) keys) name.now number (map (λ key. key.now) after)
+numbered_name keys after name number is stored = record {
+  at = slice_get-map (λ (key : Bor (List ℕ)). key.now) after number
+      ∙ ap (option_map (λ (key : Bor (List ℕ)). key.now)) stored.1
+      ∙ ap Some (sym ((bytes_eq-Decides name.now stored.0.now).0 stored.2));
+  grown = by (list_any (same name) keys) refl;
+}
+  where
+    by : (b : Bool) → list_any (same name) keys ≡ b →
+        (map (λ key. key.now) after ≡ map (λ key. key.now) keys)
+        ⊎ ((map (λ key. key.now) after ≡ map (λ key. key.now) keys ++ name.now ∷ [])
+        × ¬ Contains (map (λ key. key.now) keys) name.now)
+    by true has = inl (ap (map (λ (key : Bor (List ℕ)). key.now)) (is ∙ ap (λ b. cond b keys (keys ++ name ∷ [])) has))
+    by false has = inr (ap (map (λ (key : Bor (List ℕ)). key.now)) (is ∙ ap (λ b. cond b keys (keys ++ name ∷ [])) has) ∙ map-append (λ (key : Bor (List ℕ)). key.now) keys (name ∷ []), absent_name keys name has)

@@ -1,1 +1,4 @@
+pub mod Faults
+pub mod Names
 pub mod Printed
+pub mod Words

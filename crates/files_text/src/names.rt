@@ -1,5 +1,6 @@
 //! Names that are numbered as they first come.
-ghost use Rattle.std.specs.Prelude.{◌≡◌, [], Some, length, slice_get, slice_index_or, IfSome};
+ghost use Rattle.std.specs.Prelude.{◌≡◌, [], Some, length, slice_get, slice_index_or, Contains, IfNone, IfOk, IfSome};
+ghost use Rattle.files_text.specs.Names.{IsNumbered};
 
 use indexmap::IndexSet;
 use std::alloc::{AllocFailed, Global};
@@ -38,14 +39,17 @@ impl<'a> Names<'a> {
 
     /// Returns the number of a name, counted from 0, or `None` if it isn't there.
     pub fn find(&self, name: &[u8]) -> Option<usize>
-        ensures { IfSome result (λ number. slice_get self.now number ≡ Some name.now) }
+        ensures some { IfSome result (λ number. slice_get self.now number ≡ Some name.now) }
+        ensures none { IfNone result (¬ Contains self.now name.now) }
     {
         self.names.get_index_of(name)
     }
 
     /// Returns the number of a name, counted from 0. A new name is added as the last one. Fails if
     /// memory runs out.
-    pub fn number(&mut self, name: &'a [u8]) -> Result<usize, AllocFailed<&'a [u8]>> {
+    pub fn number(&mut self, name: &'a [u8]) -> Result<usize, AllocFailed<&'a [u8]>>
+        ensures { IfOk result (λ number. IsNumbered self.old name.now number self.new) }
+    {
         let (number, _) = self.names.insert_full(name)?;
         Ok(number)
     }
