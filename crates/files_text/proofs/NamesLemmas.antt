@@ -2,14 +2,14 @@
 use Rattle.std.specs.Prelude.{IfSome, slice_get, position, nat_eq, Contains}
 use Rattle.std.specs.List.{list_any}
 use Rattle.indexmap.specs.IndexSet.{insert_key}
-use Rattle.files_text.specs.Names.{IsNumbered}
+use Rattle.files_text.specs.Names.{IsNumbered, with_name}
 use Rattle.files_text.proofs.ListLemmas.{Contains-map, first_or_later, nothing}
 use Rattle.std.proofs.lemmas.Grind.{common_steps}
 use Rattle.std.proofs.lemmas.Bool.{true≢false}
 use Rattle.std.proofs.lemmas.List.{map-append}
 use Rattle.std.specs.Option.{option_map}
 use Rattle.std.specs.Cmp.Lexicographic.{pointwise}
-use Rattle.std.proofs.Common.{Option, None, Some, ◌≡◌, ℕ, zero, suc, ◌<◌, true, List, [], ◌∷◌, length, get_or, map, cond, ◌++◌, refl, sym, ap, ◌∙◌, arith, Bor, Bool, false, ◌⊎◌, inl, inr}
+use Rattle.std.proofs.Common.{Option, None, Some, ◌≡◌, ℕ, zero, suc, ◌<◌, true, List, [], ◌∷◌, length, get_or, map, if◌then◌else◌, ◌||◌, ◌++◌, refl, sym, ap, ◌∙◌, arith, Bor, Bool, false, ◌⊎◌, inl, inr}
 use Rattle.std.proofs.lemmas.List.Quantifiers.{position-Some}
 use Rattle.std.proofs.lemmas.Option.{slice_get-map}
 use Rattle.std.proofs.lemmas.Slice.Eq.{bytes_eq-Decides}
@@ -52,6 +52,11 @@ absent_name keys name none there =
     let found = Contains-map (λ (key : Bor (List ℕ)). key.now) keys name.now there in
     true≢false (sym ((bytes_eq-Decides name.now found.0.now).1 (sym found.2)) ∙ none_passes (same name) keys none found.0 found.1)
 
+any_name : (name : Bor (List ℕ)) (keys : List (Bor (List ℕ))) →
+    list_any (pointwise nat_eq name.now) (map (λ key. key.now) keys) ≡ list_any (same name) keys
+any_name name [] = refl
+any_name name (key ∷ keys) = ap (λ b. pointwise nat_eq name.now key.now || b) (any_name name keys)
+
 pub numbered_name : (keys after : List (Bor (List ℕ))) (name : Bor (List ℕ)) (number : ℕ) →
     after ≡ insert_key same keys name →
     ((k : Bor (List ℕ)) × (slice_get after number ≡ Some k) × (same name k ≡ true)) →
@@ -60,12 +65,27 @@ numbered_name keys after name number is stored = record {
   at = slice_get-map (λ (key : Bor (List ℕ)). key.now) after number
       ∙ ap (option_map (λ (key : Bor (List ℕ)). key.now)) stored.1
       ∙ ap Some (sym ((bytes_eq-Decides name.now stored.0.now).0 stored.2));
-  grown = by (list_any (same name) keys) refl;
+  added = ap (map (λ (key : Bor (List ℕ)). key.now)) is ∙ by (list_any (same name) keys)
+      ∙ ap (λ b. if b then map (λ (key : Bor (List ℕ)). key.now) keys
+      else map (λ (key : Bor (List ℕ)). key.now) keys ++ name.now ∷ []) (sym (any_name name keys));
 }
   where
-    by : (b : Bool) → list_any (same name) keys ≡ b →
-        (map (λ key. key.now) after ≡ map (λ key. key.now) keys)
-        ⊎ ((map (λ key. key.now) after ≡ map (λ key. key.now) keys ++ name.now ∷ [])
-        × ¬ Contains (map (λ key. key.now) keys) name.now)
-    by true has = inl (ap (map (λ (key : Bor (List ℕ)). key.now)) (is ∙ ap (λ b. cond b keys (keys ++ name ∷ [])) has))
-    by false has = inr (ap (map (λ (key : Bor (List ℕ)). key.now)) (is ∙ ap (λ b. cond b keys (keys ++ name ∷ [])) has) ∙ map-append (λ (key : Bor (List ℕ)). key.now) keys (name ∷ []), absent_name keys name has)
+    by : (b : Bool) → map (λ (key : Bor (List ℕ)). key.now) (if b then keys else keys ++ name ∷ [])
+        ≡ (if b then map (λ (key : Bor (List ℕ)). key.now) keys
+        else map (λ (key : Bor (List ℕ)). key.now) keys ++ name.now ∷ [])
+    by true = refl
+    by false = map-append (λ (key : Bor (List ℕ)). key.now) keys (name ∷ [])
+
+-- names with one more: the same, or a new one behind them
+pub grown : (names : List (List ℕ)) (name : List ℕ) → (with_name names name ≡ names)
+    ⊎ ((with_name names name ≡ names ++ name ∷ []) × ¬ Contains names name)
+grown names name = by (list_any (pointwise nat_eq name) names) refl
+  where
+    by : (b : Bool) → list_any (pointwise nat_eq name) names ≡ b → ((if b then names else names ++ name ∷ []) ≡ names)
+        ⊎ (((if b then names else names ++ name ∷ []) ≡ names ++ name ∷ []) × ¬ Contains names name)
+    by true has = inl refl
+    by false has = inr (
+      refl,
+      λ there. true≢false (sym ((bytes_eq-Decides name name).1 refl)
+          ∙ none_passes (pointwise nat_eq name) names has name there),
+    )

@@ -7,6 +7,7 @@ use Rattle.std.proofs.lemmas.Bool.{true≢false, false≢true}
 use Rattle.std.proofs.lemmas.Option.{same_Some, none-some}
 use Rattle.std.proofs.lemmas.List.{take-append-drop}
 use Rattle.std.proofs.lemmas.List.Folds.{length-prefix_len}
+use Rattle.std.proofs.lemmas.List.Sums.{prefix_len-le-length}
 use Rattle.std.proofs.lemmas.Grind.{common_steps}
 use Rattle.files_text.specs.Words.{AreLeft, AreWords, BeginsWord, EndsLine, EndsName, IsMarkOrName, Rest, Token, is_letter, is_mark}
 use Rattle.files_text.specs.Words.AreWords.{none, white, line_feed, comment, word}
@@ -157,3 +158,58 @@ module _ (old rest new : Rest) (n : ℕ) (same : rest ≡ old) where
       rw same (rw after at left) in
       subst (λ r. AreLeft r (record { text = take n rest.text; line = rest.line; column = rest.column } ∷ words)) same
       (word_left rest.text n begun named within left_is)
+
+-- each text has words
+some_letters : (marks after : List ℕ) (k : ℕ) (text : List ℕ) → IsMarkOrName marks (take k text) after → 0 < k
+some_letters marks after zero text named = absurd named
+some_letters marks after (suc k) text named = omega arith
+
+module _ {marks : List ℕ} (x : ℕ) (text : List ℕ) (l c : ℕ)
+    (later : (l c k : ℕ) → 0 < k → (words : List Token) × AreWords marks l c (drop k (x ∷ text)) words) where
+  abbrev Words-here : Type 0
+  Words-here = (words : List Token) × AreWords marks l c (x ∷ text) words
+
+  white_here : is_ascii_whitespace x ≡ true → (b : Bool) → (x == 10) ≡ b → Words-here
+  white_here is true feed =
+      let found = later (l + 1) 1 1 (omega arith) in
+      (found.0, line_feed_left (x ∷ text) x refl (grind (arith, common_steps)) found.1)
+  white_here is false feed =
+      let found = later l (c + 1) 1 (omega arith) in
+      (found.0, white_left (x ∷ text) x refl is (λ same. grind (arith, common_steps)) found.1)
+
+  comment_here : x ≡ 35 → Words-here
+  comment_here hash =
+      let n = prefix_len in_line (x ∷ text) in
+      let n_is : n ≡ suc (prefix_len in_line text) = ap (λ b. prefix_len in_line (b ∷ text)) hash ∙ omega arith in
+      let found = later l (c + n) n (omega (arith, n_is)) in
+      (found.0, comment_left (x ∷ text) x n refl hash refl found.1)
+
+  word_here : BeginsWord (x ∷ text) → (k : ℕ) → k ≤ length (x ∷ text) →
+      IsMarkOrName marks (take k (x ∷ text)) (drop k (x ∷ text)) → Words-here
+  word_here begins k within named =
+      let found = later l (c + k) k (some_letters marks _ k (x ∷ text) named) in
+      (_, word_left (x ∷ text) k begins named within found.1)
+
+  dark_here : is_ascii_whitespace x ≡ false → (b : Bool) → (x == 35) ≡ b → (m : Bool) → is_mark marks x ≡ m → Words-here
+  dark_here dark true hash m mark = comment_here (grind (arith, common_steps))
+  dark_here dark false hash true mark =
+      let begins : BeginsWord (x ∷ text) = (λ same. grind (arith, common_steps), dark) in
+      word_here begins 1 (omega arith) (mark_is_word marks (x ∷ text) begins (sym mark))
+  dark_here dark false hash false mark =
+      let begins : BeginsWord (x ∷ text) = (λ same. grind (arith, common_steps), dark) in
+      let k = prefix_len (is_letter marks) (x ∷ text) in
+      word_here begins k (prefix_len-le-length (is_letter marks) (x ∷ text)) (letters_are_word marks (x ∷ text) k refl begins (sym mark))
+
+  words_here : (b : Bool) → is_ascii_whitespace x ≡ b → Words-here
+  words_here true is = white_here is (x == 10) refl
+  words_here false is = dark_here is (x == 35) refl (is_mark marks x) refl
+
+words_by : {marks : List ℕ} (n : ℕ) (l c : ℕ) (text : List ℕ) → length text ≤ n → (words : List Token) × AreWords marks l c text words
+words_by n l c [] within = ([], none)
+words_by zero l c (x ∷ text) within = absurd (omega (arith, within))
+words_by (suc n) l c (x ∷ text) within =
+    words_here x text l c (λ l' c' k some. words_by n l' c' (drop k (x ∷ text)) (grind (arith, common_steps)))
+    (is_ascii_whitespace x) refl
+
+pub words_exist : (rest : Rest) → (words : List Token) × AreLeft rest words
+words_exist rest = words_by (length rest.text) rest.line rest.column rest.text (omega arith)
