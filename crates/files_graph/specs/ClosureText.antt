@@ -1,7 +1,11 @@
 -- What is printed of the closure of a graph.
-use Rattle.std.specs.Prelude.{◌≡◌, ◌↔◌, ◌⊎◌, ℕ, ◌<◌, Bool, List, [], ◌++◌, map, codes, slice_index_or, AllPairs, Contains}
+use Rattle.std.specs.Prelude.{◌≡◌, ◌↔◌, ◌⊎◌, ℕ, ◌<◌, Bool, List, [], ◌++◌, map, codes, slice_get, slice_index_or, Some, AllPairs, Contains}
 use Rattle.std.specs.List.{flat_map, range_with_len}
+use Rattle.vob_flow.specs.Closure.{Leads}
 use Rattle.files_text.specs.Printed.{line_end, members, name_at, name_line}
+use Rattle.files_graph.specs.declared.closure.Part.{Part}
+use Rattle.files_graph.specs.declared.closure.Part.TheVariants.{Edges, From, Fewest}
+use Rattle.files_graph.specs.Reduction.{IsReduced}
 
 -- the line of an edge from one node to another
 abbrev pub edge_line : List (List ℕ) → ℕ × ℕ → List ℕ
@@ -24,6 +28,13 @@ pub record ListsNodes (names : List (List ℕ)) (P : ℕ → Type 0) (text : Lis
   pub lines : text ≡ flat_map (name_line names) nodes
   pub each : (n : ℕ) → Contains nodes n ↔ P n
   pub order : AllPairs (λ n m. n < m) nodes
+
+-- a part of the closure of a graph
+abbrev pub ListsPart : (names next : List (List ℕ)) → Part → List ℕ → Type 0
+ListsPart names next Edges text = ListsEdges names (Leads next) text
+ListsPart names next (From name) text =
+    (node : ℕ) × (slice_get names node ≡ Some name.now) × ListsNodes names (Leads next node) text
+ListsPart names next Fewest text = ListsEdges names (IsReduced next) text
 
 -- the edges from one node to those in its set
 abbrev pub edges_from : ℕ → List Bool → List (ℕ × ℕ)

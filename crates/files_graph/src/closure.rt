@@ -1,12 +1,16 @@
 //! The closure of a graph: its edges, what one node leads to, and the fewest edges with the same
 //! closure.
-ghost use Rattle.std.specs.Prelude.{◌≡◌, ◌↔◌, ℕ, true, length, slice_get, Some, IfOk, OnOk};
+ghost use Rattle.std.specs.Prelude.{◌≡◌, ◌↔◌, ◌⊎◌, ℕ, true, length, slice_get, Some, Contains, IfErr, IfOk, OnOk};
 ghost use Rattle.std.specs.List.{flat_map};
 ghost use Rattle.std.specs.Io.KnownBytes.{Appends};
 ghost use Rattle.vob_block.specs.Packing.{item};
 ghost use Rattle.vob_flow.specs.Closure.{Leads};
 ghost use Rattle.files_text.specs.Printed.{Writes, members, name_line};
-ghost use Rattle.files_graph.specs.ClosureText.{ListsEdges, ListsNodes, edge_line, edges_from, edges_of};
+ghost use Rattle.files_text.specs.declared.fault.Fault.TheVariants.{Memory};
+ghost use Rattle.files_graph.specs.Closures.{FailsBy, FailsOn, IsNamed, WritesPart};
+ghost use Rattle.files_graph.specs.ClosureText.{ListsEdges, ListsNodes, ListsPart, edge_line, edges_from, edges_of};
+ghost use Rattle.files_graph.specs.declared.closure.Part.TheVariants.{Edges, Fewest, From};
+ghost use Rattle.files_graph.specs.declared.fault.GraphFault.TheVariants.{Text};
 ghost use Rattle.files_graph.specs.Reduction.{IsReduced};
 
 use crate::fault::GraphFault;
@@ -88,6 +92,8 @@ fn print_edges<W: Write>(
 ) -> Result<(), GraphFault>
     ensures { OnOk result (Writes (W.contents output.old) (W.contents output.new)
         (ListsEdges graph.now.names (Leads graph.now.next))) }
+    ensures err { IfErr result (λ fault. FailsOn graph.now.names Edges fault
+        (W.contents output.old) (W.contents output.new)) }
 {
     let sets = closure(alloc, &graph.next)?;
     put_sets(output, &graph.names, &sets)?;
@@ -95,22 +101,23 @@ fn print_edges<W: Write>(
 }
 
 /// Returns the fault of a name that no node has.
-fn no_node(alloc: Global, name: &str) -> Result<GraphFault, AllocError> {
+fn no_node(alloc: Global, name: &str) -> Result<GraphFault, AllocError>
+    ensures { IfOk result (IsNamed name.now) }
+{
     Ok(GraphFault::Name(String::from_str(alloc, name)?))
 }
 
 /// Returns the nodes to which a path of one edge or more leads from the node with a name.
 fn nodes_from(alloc: Global, graph: &NamedGraph<'_>, from: &str) -> Result<Vob, GraphFault>
-    ensures { IfOk result (λ set. (node : ℕ) × (slice_get graph.now.names node ≡ Some from.now)
-        × ((n : ℕ) → (item set.bits n ≡ true)
-        ↔ Leads graph.now.next node n)) }
+    requires { length graph.now.next ≡ length graph.now.names }
+    ensures ok { IfOk result (λ set. (node : ℕ) × (slice_get graph.now.names node ≡ Some from.now)
+        × ((n : ℕ) → (item set.bits n ≡ true) ↔ Leads graph.now.next node n)) }
+    ensures err { IfErr result (λ fault. (fault ≡ Text Memory)
+        ⊎ ((¬ Contains graph.now.names from.now) × IsNamed from.now fault)) }
 {
     let Some(node) = graph.names.find(from.as_bytes()) else {
         return Err(no_node(alloc, from)?);
     };
-    if node >= graph.next.nodes() {
-        return Err(no_node(alloc, from)?);
-    }
     Ok(reach(alloc, &graph.next, graph.next.next(node))?)
 }
 
@@ -121,9 +128,12 @@ fn print_nodes<W: Write>(
     from: &str,
     output: &mut W,
 ) -> Result<(), GraphFault>
+    requires { length graph.now.next ≡ length graph.now.names }
     ensures { OnOk result ((node : ℕ) × (slice_get graph.now.names node ≡ Some from.now)
         × Writes (W.contents output.old) (W.contents output.new) (ListsNodes graph.now.names
         (Leads graph.now.next node))) }
+    ensures err { IfErr result (λ fault. FailsOn graph.now.names (From from) fault
+        (W.contents output.old) (W.contents output.new)) }
 {
     let nodes = nodes_from(alloc, graph, from)?;
     put_nodes(output, &graph.names, &nodes)?;
@@ -153,27 +163,52 @@ fn print_fewest<W: Write>(
 ) -> Result<(), GraphFault>
     ensures { OnOk result (Writes (W.contents output.old) (W.contents output.new)
         (ListsEdges graph.now.names (IsReduced graph.now.next))) }
+    ensures err { IfErr result (λ fault. FailsOn graph.now.names Fewest fault
+        (W.contents output.old) (W.contents output.new)) }
 {
     let edges = reduction(alloc, &graph.next)?;
     put_listed(output, &graph.names, &edges)?;
     Ok(())
 }
 
-/// Reads a graph, and writes a part of its closure. Returns the status, 0.
+/// Writes a part of the closure of a graph.
+fn print_part<W: Write>(
+    alloc: Global,
+    graph: &NamedGraph<'_>,
+    part: Part<'_>,
+    output: &mut W,
+) -> Result<(), GraphFault>
+    requires { length graph.now.next ≡ length graph.now.names }
+    ensures ok { OnOk result (Writes (W.contents output.old) (W.contents output.new)
+        (ListsPart graph.now.names graph.now.next part)) }
+    ensures err { IfErr result (λ fault. FailsOn graph.now.names part fault
+        (W.contents output.old) (W.contents output.new)) }
+{
+    match part {
+        Part::Edges => print_edges(alloc, graph, output),
+        Part::From(from) => print_nodes(alloc, graph, from, output),
+        Part::Fewest => print_fewest(alloc, graph, output),
+    }
+}
+
+/// Reads a graph, and writes a part of its closure. Returns the status, 0. Equal texts give equal
+/// bytes.
 ///
-/// Fails at the first line that isn't an edge, or if the graph has no node with the name. Nothing
-/// is written then. Fails too if memory runs out, or if the output can't be written.
+/// Fails at the first line that isn't an edge, if the graph has no node with the name, or if memory
+/// runs out. Nothing is written then. Fails too if the output can't be written.
 pub fn print_closure<W: Write>(
     alloc: Global,
     text: &[u8],
     part: Part<'_>,
     output: &mut W,
-) -> Result<u8, GraphFault> {
+) -> Result<u8, GraphFault>
+    ensures status { IfOk result (λ status. status ≡ 0) }
+    ensures ok { OnOk result
+        (WritesPart text.now part (W.contents output.old) (W.contents output.new)) }
+    ensures err { IfErr result (λ fault. FailsBy text.now part fault
+        (W.contents output.old) (W.contents output.new)) }
+{
     let graph = read_graph(alloc, text)?;
-    match part {
-        Part::Edges => print_edges(alloc, &graph, output)?,
-        Part::From(from) => print_nodes(alloc, &graph, from, output)?,
-        Part::Fewest => print_fewest(alloc, &graph, output)?,
-    }
+    print_part(alloc, &graph, part, output)?;
     Ok(0)
 }

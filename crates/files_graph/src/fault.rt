@@ -3,7 +3,6 @@
 use files_text::Fault;
 use std::alloc::AllocError;
 use std::{fmt, io};
-use vob_rows::GraphError;
 
 /// Why no closure is written.
 #[derive(Debug, Drop)]
@@ -12,8 +11,6 @@ pub enum GraphFault {
     Text(Fault),
     /// The graph has no node with this name.
     Name(String),
-    /// The graph wasn't made.
-    Graph(GraphError),
 }
 
 impl GraphFault {
@@ -22,34 +19,41 @@ impl GraphFault {
         match self {
             GraphFault::Text(fault) => fault.write(f, file),
             GraphFault::Name(name) => write!(f, "{file}: no node is called {name}"),
-            GraphFault::Graph(error) => write!(f, "{file}: {error}"),
         }
     }
 }
 
 impl From<Fault> for GraphFault {
+    ghost use Rattle.std.specs.Prelude.{◌≡◌};
+    ghost use Rattle.files_graph.specs.declared.fault.GraphFault.TheVariants.{Text};
+
+    ghost from_gives = { λ fault result. result ≡ Text fault };
+
     fn from(fault: Fault) -> GraphFault {
         GraphFault::Text(fault)
     }
 }
 
 impl From<AllocError> for GraphFault {
+    ghost use Rattle.std.specs.Prelude.{◌≡◌};
+    ghost use Rattle.files_graph.specs.declared.fault.GraphFault.TheVariants.{Text};
+    ghost use Rattle.files_text.specs.declared.fault.Fault.TheVariants.{Memory};
+
+    ghost from_gives = { λ _ result. result ≡ Text Memory };
+
     fn from(_: AllocError) -> GraphFault {
         GraphFault::Text(Fault::Memory)
     }
 }
 
 impl From<io::Error> for GraphFault {
+    ghost use Rattle.std.specs.Prelude.{◌≡◌};
+    ghost use Rattle.files_graph.specs.declared.fault.GraphFault.TheVariants.{Text};
+    ghost use Rattle.files_text.specs.declared.fault.Fault.TheVariants.{Output};
+
+    ghost from_gives = { λ error result. result ≡ Text (Output error) };
+
     fn from(error: io::Error) -> GraphFault {
         GraphFault::Text(Fault::Output(error))
-    }
-}
-
-impl From<GraphError> for GraphFault {
-    fn from(error: GraphError) -> GraphFault {
-        match error {
-            GraphError::Memory => GraphFault::Text(Fault::Memory),
-            _ => GraphFault::Graph(error),
-        }
     }
 }

@@ -1,8 +1,11 @@
-//! Graphs whose edges stand in a text, one a line.
+//! Graphs whose edges stand in a text.
+ghost use Rattle.std.specs.Prelude.{◌↔◌, ◌≡◌, ◌<◌, ℕ, length, slice_index_or, Contains, IfErr, IfOk};
+ghost use Rattle.files_graph.specs.Graphs.{IsGraphOf};
+ghost use Rattle.files_graph.specs.Edges.{IsUnread};
 
-use crate::fault::GraphFault;
-use files_text::{Fault, Names, Word, Words};
-use std::alloc::Global;
+use crate::edges::read_edges;
+use files_text::{Fault, Names};
+use std::alloc::{AllocError, Global};
 use vob_rows::Graph;
 
 /// A graph whose nodes have names.
@@ -12,67 +15,35 @@ pub struct NamedGraph<'a> {
     pub next: Graph,
 }
 
-/// A graph as it is read: its edges, the first name of the edge at hand, and the line of the last
-/// edge.
-#[derive(Drop)]
-struct Reader<'a> {
-    names: Names<'a>,
-    edges: Vec<(usize, usize)>,
-    from: Option<Word<'a>>,
-    line: usize,
-}
-
-/// The fault of a line with one name.
-fn no_second(from: &Word<'_>) -> Fault {
-    Fault::Line {
-        line: from.line,
-        column: from.end(),
-        expected: "a second name, of the node to which the edge leads",
+/// Makes the graph of edges that join nodes. Fails if memory runs out.
+pub(crate) fn graph_of(
+    alloc: Global,
+    nodes: usize,
+    edges: &[(usize, usize)],
+) -> Result<Graph, AllocError>
+    requires { (n m : ℕ) → Contains edges.now (n, m) → (n < nodes) × (m < nodes) }
+    ensures nodes { IfOk result (λ graph. length graph ≡ nodes) }
+    ensures each { IfOk result (λ graph. (n m : ℕ) → n < nodes →
+        Contains (slice_index_or graph n []) m ↔ Contains edges.now (n, m)) }
+{
+    match Graph::from_edges(alloc, nodes, edges) {
+        Ok(graph) => Ok(graph),
+        // Each edge joins nodes.
+        Err(_) => Err(AllocError),
     }
 }
 
-impl<'a> Reader<'a> {
-    /// Takes a word: the first or the second name of a line.
-    fn take(&mut self, word: &Word<'a>) -> Result<(), Fault> {
-        match self.from {
-            Some(from) if from.line != word.line => return Err(no_second(&from)),
-            _ => word.check_no_comma()?,
-        }
-        match self.from {
-            Some(from) => {
-                let node = self.names.number(from.text)?;
-                self.edges.push((node, self.names.number(word.text)?))?;
-                self.from = None;
-                self.line = word.line;
-            }
-            None if self.line == word.line => return Err(word.unexpected(
-                "the end of the line after two names",
-            )),
-            None => self.from = Some(*word),
-        }
-        Ok(())
-    }
-}
-
-/// Reads a graph: two names a line, the nodes from which and to which an edge leads. Fails at the
-/// first word that can't stand where it does, as a comma, or at the end of a line with one name.
-pub fn read_graph(alloc: Global, text: &[u8]) -> Result<NamedGraph<'_>, GraphFault> {
-    let mut words = Words::new(text, b",");
-    let mut reader = Reader {
-        names: Names::new(alloc),
-        edges: Vec::new(alloc),
-        from: None,
-        line: 0,
-    };
-    'words: while let Some(word) = words.next() {
-        reader.take(&word)?;
-    }
-    if let Some(from) = reader.from {
-        return Err(no_second(&from).into());
-    }
-    let next = Graph::from_edges(alloc, reader.names.len(), &reader.edges)?;
+/// Reads a graph: two names a line, of the nodes from which and to which an edge leads.
+///
+/// Fails at the first line that has a comma, one name or more than two, or if memory runs out.
+pub fn read_graph(alloc: Global, text: &[u8]) -> Result<NamedGraph<'_>, Fault>
+    ensures ok { IfOk result (λ graph. IsGraphOf text.now graph.names graph.next) }
+    ensures err { IfErr result (λ fault. IsUnread text.now fault) }
+{
+    let read = read_edges(alloc, text)?;
+    let next = graph_of(alloc, read.names.len(), &read.edges)?;
     Ok(NamedGraph {
-        names: reader.names,
+        names: read.names,
         next,
     })
 }

@@ -3,6 +3,7 @@
 
 mod closure;
 mod direct;
+mod edges;
 mod fault;
 mod graph;
 mod parts;

@@ -11,10 +11,11 @@ ghost use Rattle.files_graph.specs.Parts.{AreDirect, AreFirsts, AreLasts, AreLin
 ghost use Rattle.files_graph.specs.Reduction.{IsReduced};
 
 use crate::direct::direct_edges;
+use crate::graph::graph_of;
 use crate::parts::{firsts_of, numbers_of};
 use std::alloc::{AllocError, Global};
 use vob_flow::strong_components;
-use vob_rows::{Graph, GraphError};
+use vob_rows::Graph;
 
 /// Appends the edges from the component of a node to others to which its edges lead.
 fn put_links(
@@ -40,7 +41,7 @@ fn put_links(
 }
 
 /// Returns the edges between components, in numbers.
-fn links_of(alloc: Global, graph: &Graph, numbers: &[usize]) -> Result<Graph, GraphError>
+fn links_of(alloc: Global, graph: &Graph, numbers: &[usize]) -> Result<Graph, AllocError>
     requires { AreNumbered graph.now numbers.now }
     ensures links { IfOk result (AreLinks graph.now numbers.now) }
     ensures down { IfOk result LeadsDown }
@@ -50,7 +51,7 @@ fn links_of(alloc: Global, graph: &Graph, numbers: &[usize]) -> Result<Graph, Gr
     for node in 0..graph.nodes() {
         put_links(graph, numbers, node, &mut links)?;
     }
-    let made = Graph::from_edges(alloc, graph.nodes(), &links)?;
+    let made = graph_of(alloc, graph.nodes(), &links)?;
     Ok(made)
 }
 
@@ -174,7 +175,7 @@ fn edges_of(
 }
 
 /// Returns the edges of a reduction of a graph, in their order: the fewest that have its closure.
-pub fn reduction(alloc: Global, graph: &Graph) -> Result<Vec<(usize, usize)>, GraphError>
+pub fn reduction(alloc: Global, graph: &Graph) -> Result<Vec<(usize, usize)>, AllocError>
     ensures order { IfOk result (λ edges. AllPairs IsBefore edges.items) }
     ensures each { IfOk result (λ edges.
         (a b : ℕ) → Contains edges.items (a, b) ↔ IsReduced graph.now a b) }
