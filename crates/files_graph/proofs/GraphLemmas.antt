@@ -1,14 +1,21 @@
 -- Edges by numbers are those by names.
-use Rattle.std.specs.Prelude.{slice_get, Contains, ◌↔◌}
-use Rattle.std.proofs.Common.{◌≡◌, ◌⊎◌, inl, inr, ℕ, zero, suc, ◌+◌, ◌<◌, Some, List, [], ◌∷◌, ◌++◌, length, arith, refl, sym, ap, subst, ◌∙◌}
+use Rattle.std.specs.Prelude.{slice_get, slice_index_or, Contains, ◌↔◌, Option}
+use Rattle.std.proofs.Common.{◌≡◌, ◌⊎◌, inl, inr, ℕ, zero, suc, ◌<◌, Some, List, [], ◌∷◌, ◌++◌, length, arith, refl, sym, ap, subst, ◌∙◌}
 use Rattle.std.specs.List.{fold}
 use Rattle.std.proofs.lemmas.Option.{same_Some, none-some}
-use Rattle.std.proofs.lemmas.List.Elements.{Contains-get_or}
 use Rattle.files_text.specs.Names.{names_in, with_name}
 use Rattle.files_text.proofs.ListLemmas.{nothing, first, first_or_later, later}
 use Rattle.files_text.proofs.NamesLemmas.{grown}
 use Rattle.files_graph.specs.Edges.{AreNumbers}
-use Rattle.files_graph.specs.Graphs.{JoinsNames}
+use Rattle.files_graph.specs.Graphs.{IsGraphOf, JoinsNames}
+use Rattle.files_graph.specs.Closures.{FailsBy, FailsOn}
+use Rattle.files_graph.specs.declared.closure.Part.{Part}
+use Rattle.files_graph.specs.declared.fault.GraphFault.{GraphFault}
+use Rattle.files_graph.specs.declared.fault.GraphFault.TheVariants.{Text, Name}
+use Rattle.files_text.specs.declared.fault.Fault.TheVariants.{Memory, Input, Output, Line}
+use Rattle.vob_flow.specs.Closure.{IsEdge}
+use Rattle.std.proofs.lemmas.Bool.{cases_lt}
+use Rattle.std.proofs.lemmas.List.{get_or_past}
 
 abbrev Distinct : List (List ℕ) → Type 0
 Distinct names = (i j : ℕ) (x : List ℕ) → slice_get names i ≡ Some x → slice_get names j ≡ Some x → i ≡ j
@@ -98,8 +105,43 @@ module _ (words names : List (List ℕ)) (edges : List (List ℕ × List ℕ)) (
   distinct_names = subst Distinct (sym named) (names_distinct words)
 
   pub pairs_join : (n m : ℕ) → Contains pairs (n, m) ↔ JoinsNames names edges n m
-  pairs_join n m = (edge_of names edges pairs numbers n m, λ joins.
-      let found = pair_of names edges pairs numbers (joins.0, joins.1) joins.2 in
-      let from : found.0.0 ≡ n = distinct_names found.0.0 n joins.0 found.2 joins.3 in
-      let to : found.0.1 ≡ m = distinct_names found.0.1 m joins.1 found.3 joins.4 in
-      subst (λ k. Contains pairs (n, k)) to (subst (λ k. Contains pairs (k, found.0.1)) from found.1))
+  pairs_join n m = (
+    edge_of names edges pairs numbers n m,
+    λ joins.
+        let found = pair_of names edges pairs numbers (joins.0, joins.1) joins.2 in
+        let from : found.0.0 ≡ n = distinct_names found.0.0 n joins.0 found.2 joins.3 in
+        let to : found.0.1 ≡ m = distinct_names found.0.1 m joins.1 found.3 joins.4 in
+        subst (λ k. Contains pairs (n, k)) to (subst (λ k. Contains pairs (k, found.0.1)) from found.1),
+  )
+
+  pub graph_edges : (next : List (List ℕ)) → ((n m : ℕ) → n < length names →
+      Contains (slice_index_or next n []) m ↔ Contains pairs (n, m)) → length next ≡ length names →
+      (n m : ℕ) → IsEdge next n m ↔ JoinsNames names edges n m
+  graph_edges next each nodes n m = (
+    (λ edge. elim (cases_lt n (length names)) [
+      | inl less ↦ (pairs_join n m).0 ((each n m less).0 edge)
+      | inr past ↦ absurd (nothing m (subst (λ (xs : List ℕ). Contains xs m)
+          (get_or_past next n [] (omega (arith, past, nodes))) edge))
+    ]),
+    (λ joins. (each n m (inside names n joins.0 joins.3)).1 ((pairs_join n m).1 joins)),
+  )
+
+-- a fault of a graph that was read is one of its text
+pub fails_by : (text : List ℕ) (names next : List (List ℕ)) → IsGraphOf text names next → (part : Part)
+    (old new : Option (List ℕ)) (fault : GraphFault) → FailsOn names part fault old new →
+    FailsBy text part fault old new
+fails_by text names next graph part old new (Text Memory) fails =
+    ((graph.words, graph.are_words, inl refl), fails)
+fails_by text names next graph part old new (Text (Output error)) fails = tt
+fails_by text names next graph part old new (Text (Input error)) fails = absurd fails
+fails_by text names next graph part old new (Text (Line l c e)) fails = absurd fails
+fails_by text names next graph part old new (Name name) fails = (
+  record {
+    names = names;
+    next = next;
+    graph = graph;
+    absent = fails.0;
+    asked = fails.1;
+  },
+  fails.2,
+)

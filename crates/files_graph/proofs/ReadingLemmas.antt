@@ -1,11 +1,10 @@
 -- Edges as they are read, a word after another.
 use Rattle.std.specs.Prelude.{slice_get, Contains, Result, Ok, Err, IfErr}
-use Rattle.std.specs.List.{fold}
 use Rattle.std.proofs.Common.{◌≡◌, ◌≢◌, ℕ, zero, suc, ◌⊎◌, inl, inr, Option, None, Some, List, [], ◌∷◌, ◌++◌, map, true, eqb, arith, refl, sym, ap, ◌∙◌}
 use Rattle.std.specs.Option.{option_eq}
 use Rattle.std.proofs.lemmas.Bool.{true≢false}
 use Rattle.std.proofs.lemmas.Grind.{common_steps}
-use Rattle.std.proofs.lemmas.Option.{same_Some, none-some}
+use Rattle.std.proofs.lemmas.Option.{none-some}
 use Rattle.std.proofs.lemmas.List.{append_assoc, append-nil, map-append}
 use Rattle.std.proofs.lemmas.List.Sums.{fold-append}
 use Rattle.files_text.specs.Faults.{IsLine}
@@ -46,14 +45,20 @@ pub stopped : (reader : Reader) (words tail : List Token) → HasRead reader wor
     IsFaulty reader.line (at_hand reader.from ++ tail) line column expected →
     IsLine fault line column expected → IsFaultOf (words ++ tail) fault
 stopped reader words tail read line column expected fault faulty is =
-    inr (line, column, expected, record {
-      before = read.before;
-      rest = at_hand reader.from ++ tail;
-      cut = ap (λ l. l ++ tail) read.words_are ∙ append_assoc read.before (at_hand reader.from) tail;
-      edges = read.edges;
-      are_edges = read.are_edges;
-      faulty = rw (← read.last) faulty;
-    }, is)
+    inr (
+      line,
+      column,
+      expected,
+      record {
+        before = read.before;
+        rest = at_hand reader.from ++ tail;
+        cut = ap (λ l. l ++ tail) read.words_are ∙ append_assoc read.before (at_hand reader.from) tail;
+        edges = read.edges;
+        are_edges = read.are_edges;
+        faulty = rw (← read.last) faulty;
+      },
+      is,
+    )
 
 get_kept : (names : List (List ℕ)) (name : List ℕ) (k : ℕ) (x : List ℕ) → slice_get names k ≡ Some x →
     slice_get (names ++ name ∷ []) k ≡ Some x
@@ -104,7 +109,7 @@ module _ (old new : Reader) (from word : Word) (n m : ℕ) (between : List (List
       IsName (token_of word) → (words : List Token) → HasRead old words → HasRead new (words ++ token_of word ∷ [])
   second_read at_from none line same name words read =
       let whole : words ≡ read.before ++ token_of from ∷ [] =
-          read.words_are ∙ ap (λ f. read.before ++ at_hand f) at_from in
+      read.words_are ∙ ap (λ f. read.before ++ at_hand f) at_from in
       let fresh = rw at_from at read.fresh in
       record {
         before = read.before ++ token_of from ∷ token_of word ∷ [];

@@ -11,7 +11,7 @@ use Rattle.vob_flow.specs.Reach.{HasWay}
 use Rattle.vob_flow.specs.Reach.Reaches.{at_start, along}
 use Rattle.vob_rows.specs.Graph.{LeadToNodes}
 use Rattle.files_graph.specs.Direct.{IsDirect, LeadsDown}
-use Rattle.files_graph.specs.Parts.{AreFirsts, AreLasts, AreLinks, AreNumbered, IsLastOf, IsNextOf, JoinsFirsts, at}
+use Rattle.files_graph.specs.Parts.{AreFirsts, AreLasts, AreLinks, AreNumbered, IsLastOf, IsLinkOf, IsNextOf, JoinsFirsts, at}
 use Rattle.files_graph.specs.Reduction.{IsBack, IsBetween, IsFirst, IsNext}
 use Rattle.files_graph.proofs.DirectLemmas.{way_down, way_none}
 
@@ -78,6 +78,10 @@ module _ (next : List (List ℕ)) (ends : LeadToNodes next (length next)) where
   leads_from {n} (through {k = k} edge rest) = edge_from n k edge
 
   module _ (numbers : List ℕ) (h : AreNumbered next numbers) where
+    pub link_inside : (n p q : ℕ) → IsLinkOf next numbers n p q → (p < length next) × (q < length next)
+    link_inside n p q (m, e, n_is, m_is, apart) =
+        (omega (arith, h.inside n (edge_from n m e), n_is), omega (arith, h.inside m (edge_to n m e), m_is))
+
     -- ---- ways between numbers
 
     module _ (links : List (List ℕ)) (l : AreLinks next numbers links) where

@@ -3,7 +3,6 @@ use Rattle.std.specs.Prelude.{◌≡◌, ℕ, List, Option, Contains, ⊤}
 use Rattle.std.specs.Io.KnownBytes.{Keeps}
 use Rattle.std.specs.String.{string_bytes}
 use Rattle.files_text.specs.Printed.{Writes}
-use Rattle.files_text.specs.declared.fault.Fault.{Fault}
 use Rattle.files_text.specs.declared.fault.Fault.TheVariants.{Memory, Output}
 use Rattle.files_graph.specs.ClosureText.{ListsPart}
 use Rattle.files_graph.specs.Edges.{IsUnread}

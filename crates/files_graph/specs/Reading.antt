@@ -1,5 +1,5 @@
 -- Edges as they are read. No public clause cites this page.
-use Rattle.std.specs.Prelude.{◌≡◌, ◌≢◌, ◌⊎◌, ℕ, List, [], ◌∷◌, ◌++◌, Option, None, Some, map, IfSome}
+use Rattle.std.specs.Prelude.{◌≡◌, ◌≢◌, ℕ, List, [], ◌∷◌, ◌++◌, Option, None, Some, map, IfSome}
 use Rattle.files_text.specs.Names.{names_in}
 use Rattle.files_text.specs.Words.{Token, token_of}
 use Rattle.files_text.specs.declared.words.Word.{Word}

@@ -90,7 +90,7 @@ fn print_edges<W: Write>(
     graph: &NamedGraph<'_>,
     output: &mut W,
 ) -> Result<(), GraphFault>
-    ensures { OnOk result (Writes (W.contents output.old) (W.contents output.new)
+    ensures ok { OnOk result (Writes (W.contents output.old) (W.contents output.new)
         (ListsEdges graph.now.names (Leads graph.now.next))) }
     ensures err { IfErr result (λ fault. FailsOn graph.now.names Edges fault
         (W.contents output.old) (W.contents output.new)) }
@@ -129,10 +129,10 @@ fn print_nodes<W: Write>(
     output: &mut W,
 ) -> Result<(), GraphFault>
     requires { length graph.now.next ≡ length graph.now.names }
-    ensures { OnOk result ((node : ℕ) × (slice_get graph.now.names node ≡ Some from.now)
+    ensures ok { OnOk result ((node : ℕ) × (slice_get graph.now.names node ≡ Some from.now)
         × Writes (W.contents output.old) (W.contents output.new) (ListsNodes graph.now.names
         (Leads graph.now.next node))) }
-    ensures err { IfErr result (λ fault. FailsOn graph.now.names (From from) fault
+    ensures err { IfErr result (λ fault. FailsOn graph.now.names (From from.entry) fault
         (W.contents output.old) (W.contents output.new)) }
 {
     let nodes = nodes_from(alloc, graph, from)?;
@@ -161,7 +161,7 @@ fn print_fewest<W: Write>(
     graph: &NamedGraph<'_>,
     output: &mut W,
 ) -> Result<(), GraphFault>
-    ensures { OnOk result (Writes (W.contents output.old) (W.contents output.new)
+    ensures ok { OnOk result (Writes (W.contents output.old) (W.contents output.new)
         (ListsEdges graph.now.names (IsReduced graph.now.next))) }
     ensures err { IfErr result (λ fault. FailsOn graph.now.names Fewest fault
         (W.contents output.old) (W.contents output.new)) }
@@ -180,8 +180,8 @@ fn print_part<W: Write>(
 ) -> Result<(), GraphFault>
     requires { length graph.now.next ≡ length graph.now.names }
     ensures ok { OnOk result (Writes (W.contents output.old) (W.contents output.new)
-        (ListsPart graph.now.names graph.now.next part)) }
-    ensures err { IfErr result (λ fault. FailsOn graph.now.names part fault
+        (ListsPart graph.now.names graph.now.next part.entry)) }
+    ensures err { IfErr result (λ fault. FailsOn graph.now.names part.entry fault
         (W.contents output.old) (W.contents output.new)) }
 {
     match part {
@@ -204,8 +204,8 @@ pub fn print_closure<W: Write>(
 ) -> Result<u8, GraphFault>
     ensures status { IfOk result (λ status. status ≡ 0) }
     ensures ok { OnOk result
-        (WritesPart text.now part (W.contents output.old) (W.contents output.new)) }
-    ensures err { IfErr result (λ fault. FailsBy text.now part fault
+        (WritesPart text.now part.entry (W.contents output.old) (W.contents output.new)) }
+    ensures err { IfErr result (λ fault. FailsBy text.now part.entry fault
         (W.contents output.old) (W.contents output.new)) }
 {
     let graph = read_graph(alloc, text)?;

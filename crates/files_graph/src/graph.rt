@@ -1,5 +1,5 @@
 //! Graphs whose edges stand in a text.
-ghost use Rattle.std.specs.Prelude.{◌↔◌, ◌≡◌, ◌<◌, ℕ, length, slice_index_or, Contains, IfErr, IfOk};
+ghost use Rattle.std.specs.Prelude.{◌↔◌, ◌≡◌, ◌<◌, ℕ, [], length, slice_index_or, Contains, IfErr, IfOk};
 ghost use Rattle.files_graph.specs.Graphs.{IsGraphOf};
 ghost use Rattle.files_graph.specs.Edges.{IsUnread};
 

@@ -1,4 +1,5 @@
 pub mod ListLemmas
 pub mod NamesLemmas
+mod OneLemmas
 pub mod PrintedLemmas
 pub mod WordsLemmas

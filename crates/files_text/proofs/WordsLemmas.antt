@@ -54,12 +54,6 @@ line_ends : (text : List ℕ) → Stops in_line text → EndsLine text
 line_ends [] stop = tt
 line_ends (x ∷ text) stop = grind (arith, common_steps)
 
-begins_cut : (marks after : List ℕ) (n : ℕ) (text : List ℕ) → BeginsWord text →
-    IsMarkOrName marks (take n text) after → BeginsWord (take n text)
-begins_cut marks after zero text begins is = absurd is
-begins_cut marks after (suc n) [] begins is = absurd is
-begins_cut marks after (suc n) (x ∷ text) begins is = begins
-
 module _ {marks : List ℕ} {l c : ℕ} {words : List Token} where
   pub white_left : (text : List ℕ) (byte : ℕ) → Some byte ≡ slice_get text 0 → is_ascii_whitespace byte ≡ true →
       byte ≢ 10 → AreWords marks l (c + 1) (drop 1 text) words → AreWords marks l c text words
@@ -97,11 +91,13 @@ module _ {marks : List ℕ} {l c : ℕ} {words : List Token} where
       IsMarkOrName marks (take n text) (drop n text) → n ≤ length text →
       AreWords marks l (c + n) (drop n text) words →
       AreWords marks l c text (record { text = take n text; line = l; column = c } ∷ words)
-  word_left text n begins named within left =
-      let long : c + n ≡ c + length (take n text) = grind (arith, common_steps) in
-      let begun : BeginsWord (take n text) = begins_cut marks (drop n text) n text begins named in
-      let all : AreWords marks l c (take n text ++ drop n text) (record { text = take n text; line = l; column = c } ∷ words) =
-      word (take n text) begun named (rw long at left) in
+  word_left [] n begins named within left = absurd begins
+  word_left (x ∷ text) zero begins named within left = absurd named
+  word_left (x ∷ text) (suc n) begins named within left =
+      let long : c + suc n ≡ c + length (x ∷ take n text) = grind (arith, common_steps) in
+      let all : AreWords marks l c ((x ∷ take n text) ++ drop n text)
+      (record { text = x ∷ take n text; line = l; column = c } ∷ words) =
+      word x (take n text) begins named (rw long at left) in
       rw (take-append-drop n text) at all
 
 module _ (marks : List ℕ) where

@@ -53,9 +53,11 @@ pub data AreWords (marks : List ℕ) : (line column : ℕ) → List ℕ → List
   comment : {l c : ℕ} (note : List ℕ) {text : List ℕ} {words : List Token} → All (λ byte. byte ≢ 10) note →
       EndsLine text → AreWords marks l (c + length (35 ∷ note)) text words →
       AreWords marks l c ((35 ∷ note) ++ text) words
-  word : {l c : ℕ} (word : List ℕ) {text : List ℕ} {words : List Token} →
-      BeginsWord word → IsMarkOrName marks word text → AreWords marks l (c + length word) text words →
-      AreWords marks l c (word ++ text) (record { text = word; line = l; column = c } ∷ words)
+  word : {l c : ℕ} (first : ℕ) (others : List ℕ) {text : List ℕ} {words : List Token} →
+      BeginsWord (first ∷ others) → IsMarkOrName marks (first ∷ others) text →
+      AreWords marks l (c + length (first ∷ others)) text words →
+      AreWords marks l c ((first ∷ others) ++ text)
+      (record { text = first ∷ others; line = l; column = c } ∷ words)
 
 -- a rest of a text, and the line and the column where it begins
 pub record Rest : Type 0 where

@@ -3,8 +3,8 @@ use Rattle.std.proofs.Common.{length, refl}
 use Rattle.files_graph.proofs.ClosureTextLemmas.{lists_edges}
 use Rattle.files_graph.proofs.closure.print_edges.Goals as goal
 
-pub returns : goal.returns
-returns g c =
+pub returns-clause-ok : goal.returns-clause-ok
+returns-clause-ok g c =
     let sets = c.in_ok-sets.sets.rows in (
       _,
       c.in_ok-put_sets.ensures,

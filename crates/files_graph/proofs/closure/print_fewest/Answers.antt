@@ -4,8 +4,8 @@ use Rattle.std.specs.List.{flat_map}
 use Rattle.files_graph.specs.ClosureText.{edge_line}
 use Rattle.files_graph.proofs.closure.print_fewest.Goals as goal
 
-pub returns : goal.returns
-returns g c =
+pub returns-clause-ok : goal.returns-clause-ok
+returns-clause-ok g c =
     let edges = c.in_ok-edges.edges.items in (
       _,
       c.in_ok-put_listed.ensures,

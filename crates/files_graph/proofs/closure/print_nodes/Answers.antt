@@ -2,9 +2,9 @@
 use Rattle.files_graph.proofs.ClosureTextLemmas.{lists_nodes}
 use Rattle.files_graph.proofs.closure.print_nodes.Goals as goal
 
-pub returns : goal.returns
-returns g c =
-    let found = c.in_ok-nodes.ensures in (
+pub returns-clause-ok : goal.returns-clause-ok
+returns-clause-ok g c =
+    let found = c.in_ok-nodes.ensures.ok in (
       found.0,
       found.1,
       (

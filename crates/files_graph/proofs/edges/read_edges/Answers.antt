@@ -1,7 +1,7 @@
-use Rattle.std.proofs.Common.{◌∷◌, ◌++◌, List, [], sym, refl, ap, ◌∙◌}
+use Rattle.std.proofs.Common.{◌∷◌, ◌++◌, [], refl}
 use Rattle.std.proofs.lemmas.Result.{err_from_is_err_and}
 use Rattle.std.proofs.lemmas.List.{append_assoc, append-nil}
-use Rattle.files_text.specs.Words.{AreLeft, Token, token_of}
+use Rattle.files_text.specs.Words.{token_of}
 use Rattle.files_graph.proofs.ReadingLemmas.{end_unread, nothing_read, unread}
 use Rattle.files_graph.proofs.edges.read_edges.Goals as goal
 
@@ -10,10 +10,13 @@ words-init c = ([], nothing_read _ c.new.ensures c.new-2.ensures.items refl refl
 
 pub words-preserved : goal.words-preserved
 words-preserved c =
-    let before = c.words.invariant in
-    (before.0 ++ token_of c.in-Some.word ∷ [], c.in_ok-take.ensures.ok before.0 before.1, λ rest left.
-    rw (append_assoc before.0 (token_of c.in-Some.word ∷ []) rest)
-    (before.2 (token_of c.in-Some.word ∷ rest) (c.in-Some.ensures.some rest left)))
+    let before = c.words.invariant in (
+      before.0 ++ token_of c.in-Some.word ∷ [],
+      c.in_ok-take.ensures.ok before.0 before.1,
+      λ rest left.
+          rw (append_assoc before.0 (token_of c.in-Some.word ∷ []) rest)
+          (before.2 (token_of c.in-Some.word ∷ rest) (c.in-Some.ensures.some rest left)),
+    )
 
 pub returns-in_err-take-clause-err : goal.returns-in_err-take-clause-err
 returns-in_err-take-clause-err c =

@@ -1,11 +1,11 @@
 -- The edges of a node more, and those of all nodes.
-use Rattle.std.proofs.Common.{ℕ, List, [], length, subst, arith, inl, inr}
+use Rattle.std.proofs.Common.{ℕ, List, [], length, subst, sym, ◌<◌, arith, inl, inr}
 use Rattle.std.specs.List.{Contains}
 use Rattle.std.proofs.lemmas.Bool.{cases_eq, cases_lt}
 use Rattle.std.proofs.lemmas.List.{get_or_past}
 use Rattle.vob_rows.specs.Graph.{LeadToNodes}
 use Rattle.files_graph.specs.Parts.{IsLinkOf}
-use Rattle.files_graph.proofs.ReductionLemmas.{leads_down}
+use Rattle.files_graph.proofs.ReductionLemmas.{leads_down, link_inside}
 use Rattle.files_graph.proofs.reduction.links_of.Goals as goal
 
 pub loop-node-preserved : goal.loop-node-preserved
@@ -25,6 +25,14 @@ loop-node-preserved c =
         | inr apart ↦ inl (h.1 (one.0, omega (arith, one.1, apart), one.2))
       ])),
     )
+
+pub graph_of-requires : goal.graph_of-requires
+graph_of-requires c n m there =
+    let next = c.args.graph.now in
+    let ends = subst (LeadToNodes next) c.nodes.ensures.count c.nodes.ensures.inside in
+    let link = (c.loop-node.invariant n m).0 (rw c.deref.ensures.value at there) in
+    subst (λ count. (n < count) × (m < count)) (sym c.nodes.ensures.count)
+    (link_inside next ends c.args.numbers.now c.requires link.0 n m link.2)
 
 pub returns-clause-links : goal.returns-clause-links
 returns-clause-links c =

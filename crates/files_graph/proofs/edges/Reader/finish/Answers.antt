@@ -1,6 +1,5 @@
-use Rattle.std.proofs.Common.{[], sym}
+use Rattle.std.proofs.Common.{[]}
 use Rattle.std.proofs.lemmas.List.{append-nil}
-use Rattle.files_graph.specs.Edges.{IsFaultOf}
 use Rattle.files_graph.specs.Edges.IsFaulty.{alone}
 use Rattle.files_graph.proofs.ReadingLemmas.{stopped}
 use Rattle.files_graph.proofs.edges.Reader.finish.Goals as goal

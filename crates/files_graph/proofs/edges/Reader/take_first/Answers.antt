@@ -1,4 +1,4 @@
-use Rattle.std.proofs.Common.{◌∷◌, ℕ}
+use Rattle.std.proofs.Common.{◌∷◌}
 use Rattle.std.proofs.lemmas.Result.{err_from_is_err_and}
 use Rattle.files_text.specs.Words.{token_of}
 use Rattle.files_graph.specs.Edges.IsFaulty.{comma_first, third}
