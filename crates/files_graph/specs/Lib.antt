@@ -6,3 +6,4 @@ pub mod Graphs
 pub mod Parts
 pub mod Reading
 pub mod Reduction
+pub mod ReductionLaws

@@ -6,6 +6,7 @@ mod direct;
 mod edges;
 mod fault;
 mod graph;
+pub mod laws;
 mod parts;
 mod reduction;
 
