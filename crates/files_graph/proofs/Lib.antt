@@ -2,7 +2,9 @@ pub mod ClosureTextLemmas
 mod DirectLemmas
 mod EdgeLemmas
 mod GraphLemmas
+mod KeepsLemmas
 mod LeastLemmas
+mod OrderLemmas
 mod PartLemmas
 pub mod PathLemmas
 mod ReadingLemmas

@@ -17,6 +17,11 @@ HaveClosure next edges = (n m : ℕ) → LeadsBy edges n m ↔ Leads next n m
 abbrev pub AreReduced : List (List ℕ) → List (ℕ × ℕ) → Type 0
 AreReduced next edges = (n m : ℕ) → Contains edges (n, m) ↔ IsReduced next n m
 
+-- the edges of a graph's reduction have the closure of the graph
+abbrev pub ReductionKeepsClosure : Type 0
+ReductionKeepsClosure = (next : List (List ℕ)) (edges : List (ℕ × ℕ)) →
+    AreReduced next edges → HaveClosure next edges
+
 -- if those edges stand there once each, no edges with the closure of the graph are fewer
 abbrev pub ReductionIsLeast : Type 0
 ReductionIsLeast = (next : List (List ℕ)) (edges others : List (ℕ × ℕ)) →
