@@ -11,3 +11,4 @@ mod ReadingLemmas
 mod ReductionLemmas
 mod SortLemmas
 mod WayLemmas
+mod WorkedEdges
