@@ -166,7 +166,7 @@ fn parse_command<'a>(alloc: Global) -> Result<Command<'a>, AllocError> {
         .value_name("GRAMMAR")
         .required(true)
         .help("A grammar of yacc or bison");
-    let file = file_argument(alloc, "Names of tokens; - or none: standard input");
+    let file = file_argument(alloc, "Names or texts of tokens; - or none: standard input");
     let output = Arg::new(alloc, "output")
         .long("output")
         .value_name("FORM")

@@ -4,7 +4,7 @@ ghost use Rattle.vob_lr.specs.Derivations.{IsParse};
 
 use crate::expected::{END, endless_at, expected_after};
 use crate::fault::GrammarFault;
-use crate::file::GrammarFile;
+use crate::file::{GrammarFile, SymbolNames};
 use crate::grammar::put_rule;
 use crate::tree::{TreeForm, WordTree};
 use files_text::{Fault, Word, Words};
@@ -21,21 +21,28 @@ struct Derivation {
     rules: Vec<usize>,
 }
 
-/// Returns the terminals of a grammar file by their names. Those of one quoted character also go by
-/// the character.
-fn terminals_of<'a>(
-    alloc: Global,
-    names: &'a [Vec<u8>],
-) -> Result<IndexMap<&'a [u8], usize>, GrammarFault> {
-    let mut terminals = IndexMap::new(alloc);
+/// Terminals by the words that name them.
+type Terminals<'a> = IndexMap<&'a [u8], usize>;
+
+/// Adds terminals by their names, each in place of another terminal that goes by that word.
+fn add_names<'a>(terminals: &mut Terminals<'a>, names: &'a [Vec<u8>]) -> Result<(), GrammarFault> {
     for (number, name) in names.iter().enumerate() {
+        terminals.insert(name.as_slice(), number)?;
+    }
+    Ok(())
+}
+
+/// Returns the terminals of a grammar file by their names and by their texts in quotes. Those of one
+/// quoted character also go by the character.
+fn terminals_of<'a>(alloc: Global, names: &'a SymbolNames) -> Result<Terminals<'a>, GrammarFault> {
+    let mut terminals = IndexMap::new(alloc);
+    for (number, name) in names.identifiers.iter().enumerate() {
         if let [b'\'', character, b'\''] = name.as_slice() {
             terminals.insert(std::slice::from_ref(character), number)?;
         }
     }
-    for (number, name) in names.iter().enumerate() {
-        terminals.insert(name.as_slice(), number)?;
-    }
+    add_names(&mut terminals, &names.identifiers)?;
+    add_names(&mut terminals, &names.terminals)?;
     Ok(terminals)
 }
 
@@ -45,7 +52,7 @@ fn tokens_of(
     file: &GrammarFile,
     words: &[Word<'_>],
 ) -> Result<Vec<usize>, GrammarFault> {
-    let terminals = terminals_of(alloc, &file.names.terminals)?;
+    let terminals = terminals_of(alloc, &file.names)?;
     let mut tokens = Vec::with_capacity(alloc, words.len())?;
     for word in words.iter() {
         match terminals.get(word.text) {
