@@ -2,7 +2,7 @@
 
 use crate::fault::GrammarFault;
 use std::alloc::{AllocError, Global};
-use vob_lr::{Grammar, Lookaheads, Precedence, Symbol, Table};
+use vob_lr::{Grammar, Lookaheads, Precedence, Symbol, Table, cycle};
 use vob_yacc::{GrammarText, LeftNonterminal, LeftOut, LeftRule, Useless, grammar_of};
 
 /// How the file calls the symbols.
@@ -80,6 +80,14 @@ fn rule_note(alloc: Global, file: &str, own: &LeftRule) -> Result<String, AllocE
     format!(in alloc; "{file}:{line}:{column}: rule left out: {text}")
 }
 
+/// Returns the note on a nonterminal that derives itself.
+fn cycle_note(alloc: Global, file: &str, name: &[u8]) -> Result<String, AllocError> {
+    let name = String::from_utf8_lossy(alloc, name)?;
+    format!(in alloc;
+        "{file}: nonterminal {name} derives itself, so its texts have parses without end"
+    )
+}
+
 /// Returns a count with its noun.
 fn counted(alloc: Global, count: usize, noun: &str) -> Result<String, AllocError> {
     let end = if count == 1 { "" } else { "s" };
@@ -129,8 +137,9 @@ impl GrammarFile {
         Ok(Table::new(alloc, states, &self.precedences, &self.rule_precedences)?)
     }
 
-    /// Returns lines on what is left out, and how much remains: none if nothing is. `file` is what the
-    /// file is called. Fails if memory runs out.
+    /// Returns lines on what is left out, and how much remains: none if nothing is. Then one on the first
+    /// nonterminal that derives itself, if there is one. `file` is what the file is called. Fails if
+    /// memory runs out.
     pub fn notes(&self, alloc: Global, file: &str) -> Result<Vec<String>, GrammarFault> {
         let mut notes = Vec::new(alloc);
         for own in self.left_out.nonterminals.iter() {
@@ -141,6 +150,9 @@ impl GrammarFile {
         }
         if !notes.is_empty() {
             notes.push(self.sum(alloc, file)?)?;
+        }
+        if let Some(number) = cycle(alloc, &self.grammar)? {
+            notes.push(cycle_note(alloc, file, self.names.nonterminal(number))?)?;
         }
         Ok(notes)
     }

@@ -6,6 +6,7 @@ mod ClosureLemmas
 mod CompleteLemmas
 mod CompletedLemmas
 mod ConflictLemmas
+mod CycleLemmas
 mod DerivationLemmas
 mod DoneLemmas
 mod DotLemmas
@@ -53,5 +54,6 @@ mod StaysLemmas
 mod StepLemmas
 mod TableLemmas
 mod TreeLemmas
+mod UnitLemmas
 mod UnwindLemmas
 mod WorkedOperators

@@ -3,6 +3,7 @@ pub mod Becoming
 pub mod Behind
 pub mod Canonical
 pub mod Conflicts
+pub mod Cycles
 pub mod Derivations
 pub mod Edges
 pub mod Entered
@@ -38,4 +39,5 @@ pub mod Tables
 pub mod Those
 pub mod TreeNodes
 pub mod Trees
+pub mod Units
 pub mod Walked

@@ -36,7 +36,7 @@ pub(crate) struct Emptied {
 }
 
 /// Returns the number at a place, or 0 behind the end.
-fn number_at(numbers: &[usize], place: usize) -> usize
+pub(crate) fn number_at(numbers: &[usize], place: usize) -> usize
     ensures { result ≡ slice_index_or numbers.now place 0 }
 {
     match numbers.get(place) {

@@ -7,6 +7,7 @@ mod bound;
 mod cells;
 mod closure;
 mod conflicts;
+mod cycles;
 mod empty;
 mod entered;
 mod equations;
@@ -29,6 +30,7 @@ mod tree;
 
 pub use bare::productive;
 pub use closure::Closures;
+pub use cycles::cycle;
 pub use empty::nullable;
 pub use grammar::{Grammar, GrammarError, Rule, Symbol};
 pub use items::{Item, Items};

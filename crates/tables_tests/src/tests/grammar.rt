@@ -1,9 +1,9 @@
 //! Which nonterminals of grammars can become empty, which terminals can begin what they become, and
-//! which can follow them; and which derive tokens. Grammars worked by hand, a long chain, and rules with symbols that aren't
-//! there.
+//! which can follow them; which derive tokens, and which themselves. Grammars worked by hand, a long
+//! chain, and rules with symbols that aren't there.
 use super::support::{check_bits, check_error, same};
 use std::process::Abort;
-use vob_lr::{Grammar, GrammarError, GrammarSets, Rule, Symbol, nullable, productive};
+use vob_lr::{Grammar, GrammarError, GrammarSets, Rule, Symbol, cycle, nullable, productive};
 use vob_rows::BitRows;
 
 /// A grammar of these numbers of symbols, without a rule.
@@ -186,6 +186,42 @@ fn what_derives_tokens_is_found(rt: HostRuntime) {
     }
 }
 
+/// The names of nonterminals and of terminals, rules, and the lowest nonterminal that derives itself.
+struct Cyclic {
+    names: (&'static str, &'static str),
+    rules: &'static [&'static str],
+    found: Option<usize>,
+}
+
+#[rattlefmt::skip]
+const CYCLIC: [Cyclic; 9] = [
+    // The textbooks' cycle: A => B => A. B derives itself too.
+    Cyclic { names: ("AB", "a"), rules: &["A=B", "A=a", "B=A"], found: Some(0) },
+    // S => SE => S, as E becomes empty; on either side of S.
+    Cyclic { names: ("SE", "s"), rules: &["S=SE", "S=s", "E="], found: Some(0) },
+    Cyclic { names: ("SE", "s"), rules: &["S=ESE", "S=s", "E="], found: Some(0) },
+    // S isn't on the cycle that it leads to, and C is.
+    Cyclic { names: ("SBC", "a"), rules: &["S=B", "B=C", "C=C", "B=a"], found: Some(2) },
+    // A becomes A beside itself: A => AA => A.
+    Cyclic { names: ("SA", "a"), rules: &["S=aA", "A=AA", "A="], found: Some(1) },
+    // A token always stays beside S, and so does A, which doesn't become empty.
+    Cyclic { names: ("SA", "sa"), rules: &["S=SA", "S=Ss", "S=s", "A=a"], found: None },
+    // The grammar of sums: each step down to F and up again adds a token.
+    Cyclic { names: ("ETF", "+*()i"), rules: &["E=E+T", "E=T", "T=T*F", "T=F", "F=(E)", "F=i"], found: None },
+    // What becomes empty alone derives no more than that.
+    Cyclic { names: ("SE", "s"), rules: &["S=EE", "S=s", "E="], found: None },
+    Cyclic { names: ("", ""), rules: &[], found: None },
+];
+
+#[test]
+fn what_derives_itself_is_found(rt: HostRuntime) {
+    for (place, row) in CYCLIC.iter().enumerate() {
+        let grammar = grammar_of(&rt, row.names, row.rules);
+        let found = cycle(rt.alloc(), &grammar).expect(&rt, "a search");
+        same(&rt, "a nonterminal", place, found, row.found);
+    }
+}
+
 #[test]
 fn a_chain_longer_than_a_block_is_gone_up(rt: HostRuntime) {
     // Nonterminal n may become n + 1, or terminal n: it begins with terminal n and all after it.
@@ -217,6 +253,8 @@ fn check_bad(rt: &(impl Abort + AllocGlobal), grammar: &Grammar, rule: usize) {
     same(rt, "nullable", rule, refused, Some(refusal));
     let refused = productive(rt.alloc(), grammar).err();
     same(rt, "productive", rule, refused, Some(refusal));
+    let refused = cycle(rt.alloc(), grammar).err();
+    same(rt, "cycle", rule, refused, Some(refusal));
 }
 
 #[test]
