@@ -2,10 +2,11 @@
 use Rattle.std.proofs.Common.{◌≡◌, ℕ, ◌+◌, ◌<◌, ◌≤◌, List, [], ◌∷◌, ◌++◌, drop, length, take, get_or, Option, None, Some, slice_get, refl, sym, ap, ◌∙◌, subst, arith}
 use Rattle.std.proofs.lemmas.List.{append_assoc, append-nil, drop_at, drop_more, length-append, length-drop, length-take-le, take_all, take_at, take_more}
 use Rattle.std.proofs.lemmas.Option.{slice_get_within}
-use Rattle.vob_lr.specs.Replays.{AreRoots, CanReplay, Finishes, IsJoined, IsRedone, IsReplayed, start_of}
-use Rattle.vob_lr.specs.Replays.Finishes.{done, reads, reduces}
+use Rattle.vob_lr.specs.Replays.{AreRoots, CanReplay, IsJoined, IsRedone, IsReplayed, start_of}
 use Rattle.vob_lr.specs.TreeNodes.{leaf_at, nodes_at}
 use Rattle.vob_lr.specs.Replays.AreRoots.{nothing, token, by_rule}
+use Rattle.vob_lr.specs.Unwinding.{Finishes}
+use Rattle.vob_lr.specs.Unwinding.Finishes.{done, reads, reduces}
 use Rattle.vob_lr.specs.declared.grammar.Rule.{Rule}
 use Rattle.vob_lr.specs.declared.grammar.Symbol.{Symbol}
 use Rattle.vob_lr.specs.declared.grammar.Symbol.TheVariants.{Nonterminal, Terminal}

@@ -4,8 +4,8 @@ use Rattle.std.proofs.lemmas.List.{append_assoc, append-nil, drop_all, drop_more
 use Rattle.std.proofs.lemmas.Option.{slice_get_within}
 use Rattle.vob_lr.specs.Derivations.{DerivesBy}
 use Rattle.vob_lr.specs.Derivations.DerivesBy.{nothing, further}
-use Rattle.vob_lr.specs.Replays.{CanUnwind, Finishes, IsUndone, IsUnwound}
-use Rattle.vob_lr.specs.Replays.Finishes.{done, reads, reduces}
+use Rattle.vob_lr.specs.Unwinding.{CanUnwind, Finishes, IsUndone, IsUnwound}
+use Rattle.vob_lr.specs.Unwinding.Finishes.{done, reads, reduces}
 use Rattle.vob_lr.specs.declared.grammar.Rule.{Rule}
 use Rattle.vob_lr.specs.declared.grammar.Symbol.{Symbol}
 use Rattle.vob_lr.specs.declared.grammar.Symbol.TheVariants.{Nonterminal, Terminal}

@@ -40,4 +40,5 @@ pub mod Those
 pub mod TreeNodes
 pub mod Trees
 pub mod Units
+pub mod Unwinding
 pub mod Walked

@@ -1,9 +1,10 @@
 //! The tree of tokens that were parsed.
 ghost use Rattle.std.specs.Prelude.{◌≡◌, ◌+◌, ◌-◌, ◌<◌, ◌≤◌, ◌++◌, [], ◌∷◌, drop, length, map, reverse, slice_get, take, IfOk, OnOk, Some};
 ghost use Rattle.vob_lr.specs.Derivations.{DerivesBy, IsParse};
-ghost use Rattle.vob_lr.specs.Replays.{AreRoots, CanReplay, CanUnwind, Finishes, IsJoined, IsRedone, IsUndone, start_of};
+ghost use Rattle.vob_lr.specs.Replays.{AreRoots, CanReplay, IsJoined, IsRedone, start_of};
 ghost use Rattle.vob_lr.specs.declared.grammar.Rule.{Rule};
 ghost use Rattle.vob_lr.specs.TreeNodes.{IsTree, leaf_at, nodes_at};
+ghost use Rattle.vob_lr.specs.Unwinding.{CanUnwind, Finishes, IsUndone};
 
 use crate::grammar::{Rule, Symbol};
 use std::alloc::{AllocError, Global};

@@ -1,6 +1,6 @@
 -- The last symbol was read, or replaced by the last rule that is left.
 use Rattle.std.proofs.Common.{◌∷◌, [], Some, ap, ◌∙◌, ◌++◌, ◌-◌, get_or, List, subst, sym}
-use Rattle.vob_lr.specs.Replays.{IsUndone}
+use Rattle.vob_lr.specs.Unwinding.{IsUndone}
 use Rattle.vob_lr.specs.declared.grammar.Symbol.{Symbol}
 use Rattle.vob_lr.proofs.UnwindLemmas.{last_left, unread, unreduced}
 use Rattle.vob_lr.proofs.tree.undo.Goals as goal

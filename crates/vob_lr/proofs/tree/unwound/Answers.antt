@@ -1,6 +1,6 @@
 -- All symbols are taken back.
 use Rattle.std.proofs.Common.{rules, ◌≡◌, ap, List, ℕ, Option, ◌+◌, [], length, reverse, subst}
-use Rattle.vob_lr.specs.Replays.{IsUnwound}
+use Rattle.vob_lr.specs.Unwinding.{IsUnwound}
 use Rattle.vob_lr.specs.declared.grammar.Symbol.{Symbol}
 use Rattle.vob_lr.proofs.UnwindLemmas.{all_left, nearer, none_left}
 use Rattle.vob_lr.proofs.tree.unwound.Goals as goal

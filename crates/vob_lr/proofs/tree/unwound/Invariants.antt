@@ -1,6 +1,6 @@
 -- The rules and the tokens that are left.
 use Rattle.std.proofs.Common.{◌+◌, ◌-◌, length, reverse}
-use Rattle.vob_lr.specs.Replays.{IsUnwound}
+use Rattle.vob_lr.specs.Unwinding.{IsUnwound}
 use Rattle.vob_lr.proofs.tree.unwound.Given as goal
 
 abbrev pub invariant-forms : goal.invariant-forms
