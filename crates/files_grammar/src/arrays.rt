@@ -16,12 +16,13 @@ const SHORT: usize = 32_767;
 /// How many numbers stand on a line.
 const ON_A_LINE: usize = 16;
 
-/// What a parser does in a state at a symbol. Terminals have their numbers, and nonterminals come after
-/// them.
+/// What a parser does in a state at a symbol: it enters a state, or with a minus sign it reduces by a rule.
+/// Terminals have their numbers, and nonterminals come after them.
 #[derive(Clone, Copy)]
 struct Entry {
     symbol: usize,
-    action: Action,
+    sign: &'static str,
+    number: usize,
 }
 
 /// The arrays of a parser: the entries of each state that it may enter, in the order of their symbols, and
@@ -45,12 +46,18 @@ struct Head {
     is_signed: bool,
 }
 
-/// Returns an action by the number that its state has among those that a parser may enter.
-fn numbered(states: &States, action: Action) -> Option<Action> {
-    match action {
-        Action::Shift(state) => Some(Action::Shift(states.number(state)?)),
-        Action::Reduce(_) => Some(action),
-    }
+/// Returns what a parser does in a state at a terminal. The end is entered as other terminals are.
+fn entry_of(table: &Table<'_>, states: &States, state: usize, symbol: usize) -> Option<Entry> {
+    let (sign, number) = match table.cell(state, symbol)?.action()? {
+        Action::Shift(to) => ("", states.number(to)?),
+        Action::Reduce(rule) => ("-", rule),
+        Action::Accept => return None,
+    };
+    Some(Entry {
+        symbol,
+        sign,
+        number,
+    })
 }
 
 /// Adds the entries of a state at terminals.
@@ -62,9 +69,8 @@ fn add_actions(
     state: usize,
 ) -> Result<(), AllocError> {
     for symbol in 0..terminals {
-        let action = table.action(state, symbol);
-        if let Some(action) = action.and_then(|action| numbered(states, action)) {
-            row.push(Entry { symbol, action })?;
+        if let Some(entry) = entry_of(table, states, state, symbol) {
+            row.push(entry)?;
         }
     }
     Ok(())
@@ -81,7 +87,8 @@ fn add_gotos(
         if let (Symbol::Nonterminal(number), Some(state)) = (own.symbol, states.number(own.state)) {
             row.push(Entry {
                 symbol: terminals.saturating_add(number),
-                action: Action::Shift(state),
+                sign: "",
+                number: state,
             })?;
         }
     }
@@ -125,14 +132,6 @@ fn put_numbers<W: Write>(output: &mut W, numbers: &[usize]) -> io::Result<()> {
     end_line(output)
 }
 
-/// Writes the number of an action: a state, or less a rule.
-fn put_action<W: Write>(output: &mut W, place: usize, action: Action) -> io::Result<()> {
-    match action {
-        Action::Shift(state) => put_number(output, place, "", state),
-        Action::Reduce(rule) => put_number(output, place, "-", rule),
-    }
-}
-
 /// Writes the symbols of the entries of a state, or else their actions.
 fn put_row<W: Write>(
     output: &mut W,
@@ -147,7 +146,7 @@ fn put_row<W: Write>(
         if are_symbols {
             put_number(output, place, "", entry.symbol)?;
         } else {
-            put_action(output, place, entry.action)?;
+            put_number(output, place, entry.sign, entry.number)?;
         }
     }
     writeln!(output, " // state {state}")

@@ -86,7 +86,7 @@ impl Trial<'_> {
         Ok(Outcome::Taken)
     }
 
-    /// Reduces until a terminal is shifted, and enters the state that follows.
+    /// Reduces until a terminal is shifted, and enters the state that follows; the end is accepted.
     fn take(&mut self, terminal: usize) -> Result<Outcome, AllocError> {
         for _ in 0..usize::MAX {
             match self.stack.table.action(self.state(), terminal) {
@@ -94,11 +94,12 @@ impl Trial<'_> {
                     self.above.push(Entered { state, times: 0 })?;
                     return Ok(Outcome::Taken);
                 }
+                Some(Action::Accept) => return Ok(Outcome::Taken),
                 Some(Action::Reduce(rule)) => match self.reduce(rule)? {
                     Outcome::Taken => {}
                     outcome => return Ok(outcome),
                 },
-                _ => return Ok(Outcome::Refused),
+                None => return Ok(Outcome::Refused),
             }
         }
         Ok(Outcome::Endless)

@@ -1,10 +1,9 @@
 -- A parser by a table without conflicts finds what symbols become.
 use Rattle.std.proofs.Common.{◌≡◌, ℕ, ◌+◌, ◌⊎◌, inl, inr, List, [], ◌∷◌, ◌++◌, get_or, drop, Some, slice_get, refl, sym, ap, ◌∙◌, subst}
 use Rattle.std.proofs.lemmas.List.{append-nil, append_assoc}
-use Rattle.std.proofs.lemmas.Option.{get_or_from_slice_get, slice_get_within}
 use Rattle.vob_lr.specs.Becoming.{AreDone, Becomes}
 use Rattle.vob_lr.specs.Becoming.Becomes.{nothing, terminal, by_rule}
-use Rattle.vob_lr.specs.Grammar.{BecomesEmpty, BeginsWith, HasRule}
+use Rattle.vob_lr.specs.Grammar.{BecomesEmpty, BeginsWith}
 use Rattle.vob_lr.specs.Grammar.BecomesEmpty.{nothing as empty_nothing, by_rule as empty_rule}
 use Rattle.vob_lr.specs.Grammar.BeginsWith.{here, by_rule as begins_rule, behind}
 use Rattle.vob_lr.specs.Growing.{Grows}
@@ -17,7 +16,7 @@ use Rattle.vob_lr.specs.Lookaheads.LooksAhead.{begins, passes, keeps}
 use Rattle.vob_lr.specs.Nesting.{Replaces}
 use Rattle.vob_lr.specs.States.{AreStates}
 use Rattle.vob_lr.specs.Stops.{AcceptsBy}
-use Rattle.vob_lr.specs.Tables.{TableView, action_at}
+use Rattle.vob_lr.specs.Tables.{TableView, chosen_at}
 use Rattle.vob_lr.specs.Trees.{Trees, reductions}
 use Rattle.vob_lr.specs.Trees.Trees.{none, leaf, node}
 use Rattle.vob_lr.specs.declared.grammar.Rule.{Rule}
@@ -184,7 +183,7 @@ module _ (table : TableView) (tokens : List ℕ)
         state = on.state;
         item = on.item;
         grown = reduces is below.grown
-            (ap (λ (u : ℕ). action_at table.cells below.state u) token ∙ action) move on.grown;
+            (ap (λ (u : ℕ). chosen_at table.cells below.state u) token ∙ action) move on.grown;
         reduced = ap (λ (ns : List ℕ). ns ++ s ∷ reductions on.trees) below.reduced
             ∙ ap (λ (ns : List ℕ). rs ++ s ∷ ns) on.reduced;
         left = on.left;

@@ -11,7 +11,7 @@ use Rattle.vob_lr.specs.declared.conflicts.Question.{Question}
 use Rattle.vob_lr.specs.declared.conflicts.Question.TheVariants.{Decided, Undecided}
 use Rattle.vob_lr.specs.declared.grammar.Symbol.TheVariants.{Terminal}
 use Rattle.vob_lr.specs.declared.table.Action.{Action}
-use Rattle.vob_lr.specs.declared.table.Action.TheVariants.{Reduce, Shift}
+use Rattle.vob_lr.specs.declared.table.Action.TheVariants.{Accept, Reduce, Shift}
 use Rattle.vob_lr.specs.declared.table.Cell.{Cell}
 use Rattle.vob_lr.specs.declared.table.Conflict.{Conflict}
 use Rattle.vob_lr.proofs.DoneLemmas.{ahead_terminal, move_inside, move_terminal}
@@ -122,6 +122,7 @@ module _ (table : TableView) (question : Question) where
 module _ (table : TableView) (sound : IsSound table) where
   may_inside : (q t : ℕ) (action : Action) → MayTake table.machine q t action →
       (q < length table.machine.sets) × (t < table.machine.grammar.terminals)
+  may_inside q t Accept move = absurd move
   may_inside q t (Shift p) move = (
     move_inside table.machine sound.states sound.rules q (Terminal t) p move,
     move_terminal table.machine sound.states sound.rules q t p move,

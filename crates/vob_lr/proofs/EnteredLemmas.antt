@@ -13,11 +13,11 @@ use Rattle.vob_lr.specs.Entered.IsEntered.{goes, start}
 use Rattle.vob_lr.specs.Parses.{Config, IsReached, IsTaken}
 use Rattle.vob_lr.specs.Parses.IsReached.{begins, then_steps}
 use Rattle.vob_lr.specs.Stops.{IsSound}
-use Rattle.vob_lr.specs.Tables.{TableView, action_at, action_of, chosen}
+use Rattle.vob_lr.specs.Tables.{TableView, chosen_at, action_of, chosen}
 use Rattle.vob_lr.specs.declared.grammar.Symbol.TheVariants.{Nonterminal, Terminal}
 use Rattle.vob_lr.specs.declared.state.Move.{Move}
 use Rattle.vob_lr.specs.declared.table.Action.{Action}
-use Rattle.vob_lr.specs.declared.table.Action.TheVariants.{Reduce, Shift}
+use Rattle.vob_lr.specs.declared.table.Action.TheVariants.{Accept, Reduce, Shift}
 use Rattle.vob_lr.specs.declared.table.Cell.{Cell}
 use Rattle.vob_lr.proofs.LinkLemmas.{move_inside}
 
@@ -40,8 +40,10 @@ module _ (table : TableView) (tokens : List ℕ) (sound : IsSound table) where
   newest [] all = start
   newest (q ∷ states) all = all 0 0 (omega arith)
 
-  taken_entered : (c d : Config) (a : Action) → action_at table.cells (get_or c.states 0 0) (get_or tokens c.read 0) ≡ Some a →
+  taken_entered : (c d : Config) (a : Action) →
+      chosen_at table.cells (get_or c.states 0 0) (get_or tokens c.read 0) ≡ Some a →
       All (IsEntered table) c.states → IsTaken table.machine tokens c a d → All (IsEntered table) d.states
+  taken_entered c d Accept act all taken = absurd taken
   taken_entered c d (Shift p) act all taken =
       let q = get_or c.states 0 0 in
       let t = get_or tokens c.read 0 in

@@ -12,7 +12,7 @@ use Rattle.vob_lr.specs.Languages.{IsLalr}
 use Rattle.vob_lr.specs.Parses.{Config, IsAccepted, IsReached, Steps, beginning, top}
 use Rattle.vob_lr.specs.Parses.IsReached.{begins, then_steps}
 use Rattle.vob_lr.specs.Stops.{IsSound}
-use Rattle.vob_lr.specs.Tables.{TableView, action_at, action_of}
+use Rattle.vob_lr.specs.Tables.{TableView, chosen_at, action_of}
 use Rattle.vob_lr.specs.declared.table.Action.{Action}
 use Rattle.vob_lr.specs.declared.table.Cell.{Cell}
 use Rattle.vob_lr.specs.declared.table.Action.TheVariants.{Shift}
@@ -38,7 +38,7 @@ step_acts : (table : TableView) (ts : List ℕ) (c d : Config) → Steps table t
     get_or ts n 0 ≡ t → Acts table (top c.states) t
 step_acts table ts c d step n t read ahead = (
   step.action,
-  sym (ap (λ (k : ℕ). action_at table.cells (top c.states) k) (ap (λ (k : ℕ). get_or ts k 0) read ∙ ahead)) ∙ step.is,
+  sym (ap (λ (k : ℕ). chosen_at table.cells (top c.states) k) (ap (λ (k : ℕ). get_or ts k 0) read ∙ ahead)) ∙ step.is,
 )
 
 -- on the way to where a parser accepts an action stands, and there
@@ -49,7 +49,7 @@ module _ (table : TableView) (h : IsLalr table) (ts : List ℕ) (a : Config) (th
   same_acts is =
       let own = subst (λ (e : Config). IsAccepted table ts e) is accepted in (
         Shift own.state,
-        sym (ap (λ (k : ℕ). action_at table.cells (top c.states) k)
+        sym (ap (λ (k : ℕ). chosen_at table.cells (top c.states) k)
             (ap (λ (k : ℕ). get_or ts k 0) read ∙ ahead)) ∙ own.is,
       )
 
@@ -134,7 +134,7 @@ tell_next P bits next n has so w is = record {
     below_other t n less other = omega (arith, less, other)
 
 no_cell : (table : TableView) → IsSound table → (q t : ℕ) (action : Action) → table.machine.grammar.terminals ≤ t →
-    action_at table.cells q t ≡ Some action → ⊥
+    chosen_at table.cells q t ≡ Some action → ⊥
 no_cell table sound q t action past is =
     let none = ap action_of (slice_get_past (get_or table.cells q []) t (short q)) in
     absurd (cc (none, is))
@@ -166,6 +166,6 @@ tell_all table sound q bits long so = record {
 
 -- an action that is there stands for the terminal
 pub some_acts : (table : TableView) (q t : ℕ) (action : Option Action) (has : Bool) →
-    action ≡ action_at table.cells q t → has ≡ is_some action → (has ≡ true) ↔ Acts table q t
+    action ≡ chosen_at table.cells q t → has ≡ is_some action → (has ≡ true) ↔ Acts table q t
 some_acts table q t None has is so = ((λ yes. absurd (cc (yes, so))), (λ acts. absurd (cc (acts.1, is))))
 some_acts table q t (Some a) has is so = ((λ yes. (a, sym is)), (λ acts. so))

@@ -12,7 +12,7 @@ use Rattle.vob_lr.specs.declared.grammar.Symbol.{Symbol}
 use Rattle.vob_lr.specs.declared.grammar.Symbol.TheVariants.{Nonterminal}
 use Rattle.vob_lr.specs.declared.state.Move.{Move}
 use Rattle.vob_lr.specs.declared.table.Action.{Action}
-use Rattle.vob_lr.specs.declared.table.Action.TheVariants.{Reduce, Shift}
+use Rattle.vob_lr.specs.declared.table.Action.TheVariants.{Accept, Reduce, Shift}
 use Rattle.vob_lr.proofs.LinkLemmas.{move_inside}
 use Rattle.vob_lr.proofs.MoveLemmas.{one_move}
 
@@ -32,6 +32,7 @@ module _ (m : Machine) (states : AreStates m.grammar.rules.items m.sets m.moves)
 
   one_taken : (tokens : List ℕ) (c d e : Config) (a : Action) → IsTaken m tokens c a d →
       IsTaken m tokens c a e → d ≡ e
+  one_taken tokens c d e Accept one other = absurd one
   one_taken tokens c d e (Shift p) one other = one.1 ∙ sym other.1
   one_taken tokens c d e (Reduce r) one other =
       let same = same_Some one.rule other.rule (sym one.is ∙ other.is) in
@@ -102,6 +103,7 @@ module _ (table : TableView) (tokens : List ℕ)
 
   taken_grows : (c d : Config) (a : Action) → IsTaken table.machine tokens c a d →
       length c.reduced ≤ length d.reduced
+  taken_grows c d Accept taken = absurd taken
   taken_grows c d (Shift p) taken = omega (arith, ap (λ (e : Config). length e.reduced) taken.1)
   taken_grows c d (Reduce r) taken = omega (arith, ap (λ (e : Config). length e.reduced) taken.after)
 

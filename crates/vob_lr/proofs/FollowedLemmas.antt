@@ -17,7 +17,7 @@ use Rattle.vob_lr.specs.Operations.{AreDecisive, IsOperator}
 use Rattle.vob_lr.specs.OperatorTables.{AcceptedAreNested, IsOperatorGrammar, NestedAreParsed}
 use Rattle.vob_lr.specs.States.{AreStates}
 use Rattle.vob_lr.specs.Stops.{AcceptsBy}
-use Rattle.vob_lr.specs.Tables.{TableView, action_at, stays_at}
+use Rattle.vob_lr.specs.Tables.{TableView, chosen_at, stays_at}
 use Rattle.vob_lr.specs.Trees.{AreTrees, AreTreesOf, Trees, reductions}
 use Rattle.vob_lr.specs.Trees.Trees.{none, leaf, node}
 use Rattle.vob_lr.specs.declared.grammar.Rule.{Rule}
@@ -170,7 +170,7 @@ module _ (table : TableView) (tokens : List ℕ) (terminals precedences : List (
       let token : get_or tokens h.to 0 ≡ t = get_or-drop tokens h.to ∙ ap first_ahead h.left in
       subst (λ (a : ℕ). Grows table tokens q (Nonterminal a ∷ []) (node r f none) n h.to p) left
       (reduces is (subst (λ (xs : List Symbol). Grows table tokens q xs f n h.to h.state) (sym same) h.grown)
-      (ap (λ (u : ℕ). action_at table.cells h.state u) token ∙ action)
+      (ap (λ (u : ℕ). chosen_at table.cells h.state u) token ∙ action)
       (subst (λ (a : ℕ). HasMove m.moves q (Nonterminal a) p) (sym left) move) no_growth)
 
   stays_last : (r : ℕ) (us : List ℕ) → Stops rules e which (Some r) us → HasRightOperand rules r e →
@@ -202,7 +202,7 @@ module _ (table : TableView) (tokens : List ℕ) (terminals precedences : List (
   record IsEntered (q t j v : ℕ) (ys : List Symbol) : Type 0 where
     state : ℕ
     move : HasMove m.moves q (Terminal t) state
-    action : action_at table.cells q t ≡ Some (Shift state)
+    action : chosen_at table.cells q t ≡ Some (Shift state)
     place : IsPlace state j v ys
 
   entered : (q j v t : ℕ) (ys : List Symbol) → IsBefore rules j v (Terminal t ∷ ys) → HasItem m.sets q j →

@@ -17,7 +17,7 @@ use Rattle.vob_lr.specs.declared.grammar.Rule.{Rule}
 use Rattle.vob_lr.specs.declared.grammar.Symbol.{Symbol}
 use Rattle.vob_lr.specs.declared.grammar.Symbol.TheVariants.{Terminal, Nonterminal}
 use Rattle.vob_lr.specs.declared.table.Action.{Action}
-use Rattle.vob_lr.specs.declared.table.Action.TheVariants.{Reduce, Shift}
+use Rattle.vob_lr.specs.declared.table.Action.TheVariants.{Accept, Reduce, Shift}
 use Rattle.vob_lr.proofs.LinkLemmas.{AreLinked}
 use Rattle.vob_lr.proofs.LinkLemmas.AreLinked.{bottom as one_state, above as one_link}
 use Rattle.vob_lr.proofs.ParseLemmas.{accepted_is, reduced_end}
@@ -172,6 +172,7 @@ module _ (table : TableView) (tokens : List ℕ)
   grown_takes c d (Shift p) h action (low, is) =
       subst (λ (e : Config). IsGrown e) (sym is) (grown_shifts c p h action low)
   grown_takes c d (Reduce r) h action to = grown_reduces c d r h action to
+  grown_takes c d Accept h action taken = absurd taken
 
   grown_reached : {c : Config} → IsReached table tokens c → IsGrown c
   grown_reached (begins is) = subst (λ (c : Config). IsGrown c) (sym is) grown_begins

@@ -6,9 +6,9 @@ use Rattle.vob_lr.specs.Languages.{AcceptedAreSentences, ErrorsAreEarly, IsLalr,
 use Rattle.vob_lr.specs.Parses.{Config, IsReached, IsTaken, Steps}
 use Rattle.vob_lr.specs.Parses.IsReached.{begins, then_steps}
 use Rattle.vob_lr.specs.Stops.{AcceptsBy, IsUnexpected}
-use Rattle.vob_lr.specs.Tables.{TableView, action_at}
+use Rattle.vob_lr.specs.Tables.{TableView, chosen_at}
 use Rattle.vob_lr.specs.declared.table.Action.{Action}
-use Rattle.vob_lr.specs.declared.table.Action.TheVariants.{Reduce, Shift}
+use Rattle.vob_lr.specs.declared.table.Action.TheVariants.{Accept, Reduce, Shift}
 use Rattle.vob_lr.proofs.BecomingLemmas.{derived_becomes}
 use Rattle.vob_lr.proofs.CompleteLemmas.{becomes_accepted}
 use Rattle.vob_lr.proofs.DoneLemmas.{AreDone-of}
@@ -58,6 +58,7 @@ module _ (table : TableView) (h : IsLalr table) where
 -- a step reads one token at most
 pub step_reads : (table : TableView) (ts : List ℕ) (c d : Config) (a : Action) → IsTaken table.machine ts c a d →
     (c.read ≤ d.read) × (d.read ≤ c.read + 1)
+step_reads table ts c d Accept taken = absurd taken
 step_reads table ts c d (Shift p) taken =
     let read = ap (λ (e : Config). e.read) taken.1 in (omega (arith, read), omega (arith, read))
 step_reads table ts c d (Reduce r) taken =
@@ -71,11 +72,12 @@ module _ (table : TableView) (n : ℕ) (ts us : List ℕ) (low : n < length ts) 
       IsTaken table.machine us c a d
   taken_same c d (Shift p) less taken = (omega (arith, less, high), taken.1)
   taken_same c d (Reduce r) less taken = taken
+  taken_same c d Accept less taken = absurd taken
 
   pub step_same : (c d : Config) → c.read ≤ n → Steps table ts c d → Steps table us c d
   step_same c d less step = record {
     action = step.action;
-    is = ap (λ (t : ℕ). action_at table.cells (get_or c.states 0 0) t) (sym (same c.read less)) ∙ step.is;
+    is = ap (λ (t : ℕ). chosen_at table.cells (get_or c.states 0 0) t) (sym (same c.read less)) ∙ step.is;
     taken = taken_same c d step.action less step.taken;
   }
 

@@ -10,7 +10,7 @@ use Rattle.vob_lr.specs.Lookaheads.{HasMove}
 use Rattle.vob_lr.specs.Tables.{TableView, chosen}
 use Rattle.vob_lr.specs.declared.grammar.Symbol.TheVariants.{Terminal}
 use Rattle.vob_lr.specs.declared.table.Action.{Action}
-use Rattle.vob_lr.specs.declared.table.Action.TheVariants.{Reduce, Shift}
+use Rattle.vob_lr.specs.declared.table.Action.TheVariants.{Accept, Reduce, Shift}
 use Rattle.vob_lr.specs.declared.table.Cell.{Cell}
 
 module _ (cells : List (List Cell)) (q t : ℕ) (cell : Cell)
@@ -76,6 +76,7 @@ chosen_rule None (s ∷ rules) r there = refl
 module _ (table : TableView) (q t : ℕ) (cell : Cell) (h : AreLeftOut table q t cell) where
   has_some : (action : Action) → IsLeftOut table q t action →
       is_some (chosen cell.shift cell.reduces.items) ≡ true
+  has_some Accept out = absurd out.0
   has_some (Shift p) out = chosen_shift cell.shift cell.reduces.items p ((h.shifts p).1 out)
   has_some (Reduce r) out = chosen_rule cell.shift cell.reduces.items r ((h.reduces.each r).1 out)
 

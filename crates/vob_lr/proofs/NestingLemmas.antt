@@ -15,7 +15,7 @@ use Rattle.vob_lr.specs.Edges.HasNode.{here, inside, behind_leaf, behind_node}
 use Rattle.vob_lr.specs.Edges.IsOnLeftEdge.{here as left_here, inside as left_inside}
 use Rattle.vob_lr.specs.Edges.IsOnRightEdge.{here as right_here, inside as right_inside, behind_leaf as right_past_leaf, behind_node as right_past_node}
 use Rattle.vob_lr.specs.States.{AreStates}
-use Rattle.vob_lr.specs.Tables.{AreRowsOfCells, AreSound, TableView, action_at, stays_at}
+use Rattle.vob_lr.specs.Tables.{AreRowsOfCells, AreSound, TableView, chosen_at, stays_at}
 use Rattle.vob_lr.specs.Trees.{Trees}
 use Rattle.vob_lr.specs.declared.grammar.Rule.{Rule}
 use Rattle.vob_lr.specs.declared.grammar.Symbol.{Symbol}
@@ -80,12 +80,12 @@ module _ (table : TableView) (tokens : List ℕ)
     state : ℕ
     after : ℕ
     grown : Grows table tokens q rule.right.items below from n state
-    action : action_at table.cells state (get_or tokens n 0) ≡ Some (Reduce r)
+    action : chosen_at table.cells state (get_or tokens n 0) ≡ Some (Reduce r)
     move : HasMove m.moves q (Nonterminal rule.left) after
 
   one_grown : {q o p n k r : ℕ} {rule : Rule} {below : Trees} → slice_get rules r ≡ Some rule →
       Grows table tokens q rule.right.items below n k o →
-      action_at table.cells o (get_or tokens k 0) ≡ Some (Reduce r) →
+      chosen_at table.cells o (get_or tokens k 0) ≡ Some (Reduce r) →
       HasMove m.moves q (Nonterminal rule.left) p → IsGrown q k r below
   one_grown {o = o} {p = p} {n = n} {rule = rule} is grown action move = record {
     rule = rule;
@@ -166,7 +166,7 @@ module _ (table : TableView) (tokens : List ℕ)
   -- the operator behind a left operand is shifted
   shifted_behind : {q s n k e t : ℕ} {more : List Symbol} {f : Trees} →
       Grows table tokens q (Nonterminal e ∷ Terminal t ∷ more) f n k s →
-      (p : ℕ) × (o : ℕ) × HasMove m.moves q (Nonterminal e) p × (action_at table.cells p t ≡ Some (Shift o))
+      (p : ℕ) × (o : ℕ) × HasMove m.moves q (Nonterminal e) p × (chosen_at table.cells p t ≡ Some (Shift o))
   shifted_behind (reduces {p = p} is below action move (shifts {p = o} less at shift g)) = (p, o, move, shift)
 
   -- a node on the right edge of a left operand is reduced by with the operator ahead
@@ -207,7 +207,7 @@ module _ (table : TableView) (tokens : List ℕ)
         let ahead = begins begun next first_of (opens rules r e _ own) in
         let leads = subst (λ (ys : List Symbol). Leads g.state q ys) right (grown_leads g.grown) in
         shift_left m terminals precedences table.cells cells g.state t o r
-        (subst (λ (s : ℕ). action_at table.cells s t ≡ Some (Shift o)) target shift)
+        (subst (λ (s : ℕ). chosen_at table.cells s t ≡ Some (Shift o)) target shift)
         (reduces_there leads (opening rules r e _ own) ahead)
 
     -- where a rule at the end of the first operand is reduced by before it
@@ -225,7 +225,7 @@ module _ (table : TableView) (tokens : List ℕ)
         let behind = member_advances m states p first (Nonterminal e) h.state there (next_of rules dot) move in
         let (o, shift) = moves_on m states h.state (first + 1) (Terminal t) behind (next_of rules (past rules dot)) in
         rule_left m terminals precedences table.cells cells h.state t v o
-        (subst (λ (u : ℕ). action_at table.cells h.state u ≡ Some (Reduce v)) at h.action) shift
+        (subst (λ (u : ℕ). chosen_at table.cells h.state u ≡ Some (Reduce v)) at h.action) shift
 
 pub operators_nest : OperatorsNest
 operators_nest table terminals precedences by tokens parsed a trees own =

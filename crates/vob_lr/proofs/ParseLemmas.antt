@@ -15,7 +15,7 @@ use Rattle.vob_lr.specs.declared.grammar.Rule.{Rule}
 use Rattle.vob_lr.specs.declared.grammar.Symbol.{Symbol}
 use Rattle.vob_lr.specs.declared.grammar.Symbol.TheVariants.{Terminal, Nonterminal}
 use Rattle.vob_lr.specs.declared.table.Action.{Action}
-use Rattle.vob_lr.specs.declared.table.Action.TheVariants.{Reduce, Shift}
+use Rattle.vob_lr.specs.declared.table.Action.TheVariants.{Accept, Reduce, Shift}
 use Rattle.vob_lr.proofs.LinkLemmas.{AreLinked, EndWith, dots_linked, linked_count, linked_drop, linked_push}
 use Rattle.vob_lr.proofs.LinkLemmas.AreLinked.{bottom}
 use Rattle.vob_lr.proofs.MemberLemmas.{ahead_inside}
@@ -129,6 +129,7 @@ module _ (table : TableView) (tokens : List ℕ)
   run_takes c d (Shift p) h action (low, is) =
       subst (λ (e : Config). IsRun m tokens e) (sym is) (run_shifts c p h action low)
   run_takes c d (Reduce r) h action to = run_reduces c d r h action to
+  run_takes c d Accept h action taken = absurd taken
 
   pub run_reached : {c : Config} → IsReached table tokens c → IsRun m tokens c
   run_reached (begins is) = subst (λ (c : Config). IsRun m tokens c) (sym is) run_begins

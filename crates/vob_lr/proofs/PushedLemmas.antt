@@ -12,7 +12,7 @@ use Rattle.vob_lr.specs.Parses.IsReached.{begins, then_steps}
 use Rattle.vob_lr.specs.ItemSets.{HasItem}
 use Rattle.vob_lr.specs.Stops.{AcceptsBy}
 use Rattle.vob_lr.specs.declared.grammar.Rule.{Rule}
-use Rattle.vob_lr.specs.Tables.{TableView, action_at}
+use Rattle.vob_lr.specs.Tables.{TableView, chosen_at}
 use Rattle.vob_lr.specs.Trees.{Trees, reductions}
 use Rattle.vob_lr.specs.declared.grammar.Symbol.{Symbol}
 use Rattle.vob_lr.specs.declared.grammar.Symbol.TheVariants.{Terminal, Nonterminal}
@@ -81,8 +81,8 @@ module _ (table : TableView) (tokens : List ℕ) where
       let token : get_or tokens c.read 0 ≡ t = ap (λ (i : ℕ). get_or tokens i 0) read ∙ is in
       let step : Steps table tokens c (shifted p c) = record {
         action = Shift p;
-        is = ap (λ (q : ℕ). action_at table.cells q (get_or tokens c.read 0)) at
-            ∙ ap (action_at table.cells _) token ∙ action;
+        is = ap (λ (q : ℕ). chosen_at table.cells q (get_or tokens c.read 0)) at
+            ∙ ap (chosen_at table.cells _) token ∙ action;
         taken = (omega (arith, low, read), refl);
       } in
       let on = pushed_of g (shifted p c) (then_steps reached step) refl (ap (λ (i : ℕ). i + 1) read) in record {
@@ -113,8 +113,8 @@ module _ (table : TableView) (tokens : List ℕ) where
       } in
       let step : Steps table tokens d (replaced r n p d) = record {
         action = Reduce r;
-        is = ap (λ (i : ℕ). action_at table.cells (top d.states) (get_or tokens i 0)) gone.read
-            ∙ ap (λ (z : ℕ). action_at table.cells z (get_or tokens k 0)) gone.at_top ∙ action;
+        is = ap (λ (i : ℕ). chosen_at table.cells (top d.states) (get_or tokens i 0)) gone.read
+            ∙ ap (λ (z : ℕ). chosen_at table.cells z (get_or tokens k 0)) gone.at_top ∙ action;
         taken = to;
       } in
       let on = pushed_of g (replaced r n p d) (then_steps gone.reached step) refl gone.read in record {
@@ -135,7 +135,7 @@ module _ (table : TableView) (tokens : List ℕ) where
   pub accepted_of : (rule : Rule) → slice_get table.machine.grammar.rules.items 0 ≡ Some rule →
       (xs : List Symbol) → rule.right.items ≡ xs ++ Terminal 0 ∷ [] → {f : Trees} {k s : ℕ} →
       Grows table tokens 0 xs f 0 k s → drop k tokens ≡ [] → (p i : ℕ) →
-      action_at table.cells s 0 ≡ Some (Shift p) → IsBefore table.machine.grammar.rules.items i 0 [] →
+      chosen_at table.cells s 0 ≡ Some (Shift p) → IsBefore table.machine.grammar.rules.items i 0 [] →
       HasItem table.machine.sets p i → AcceptsBy table tokens (reductions f)
   accepted_of rule is xs right {f} {k} {s} g left p i action dot there =
       let rules = table.machine.grammar.rules.items in
@@ -152,8 +152,8 @@ module _ (table : TableView) (tokens : List ℕ) where
         accepted = record {
           read = past;
           state = p;
-          is = ap (λ (q : ℕ). action_at table.cells q (get_or tokens d.read 0)) run.at_top
-              ∙ ap (λ (t : ℕ). action_at table.cells s t) token ∙ action;
+          is = ap (λ (q : ℕ). chosen_at table.cells q (get_or tokens d.read 0)) run.at_top
+              ∙ ap (λ (t : ℕ). chosen_at table.cells s t) token ∙ action;
           last = record {
             item = i;
             completes = done;

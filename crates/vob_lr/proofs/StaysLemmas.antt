@@ -5,7 +5,7 @@ use Rattle.std.proofs.lemmas.Option.{get_or_from_slice_get, none-some, slice_get
 use Rattle.vob_lr.specs.Lookaheads.{HasMove, Machine, Reduces}
 use Rattle.vob_lr.specs.Nesting.{RuleStays, ShiftStays}
 use Rattle.vob_lr.specs.Precedences.{against, left_of, resolved}
-use Rattle.vob_lr.specs.Tables.{AreRowsOfCells, IsCell, action_at, action_of, chosen, stays_at}
+use Rattle.vob_lr.specs.Tables.{AreRowsOfCells, IsCell, chosen_at, action_of, chosen, stays_at}
 use Rattle.vob_lr.specs.declared.grammar.Symbol.TheVariants.{Terminal}
 use Rattle.vob_lr.specs.declared.precedence.Stays.{Stays}
 use Rattle.vob_lr.specs.declared.precedence.Stays.TheVariants.{Shift as TheShift, Rule as TheRule, Nothing, Both}
@@ -98,7 +98,7 @@ alone_chosen which (Some p) (s ∷ rules) r there one stays =
 module _ (m : Machine) (terminals rules : List (Option Precedence)) (cells : List (List Cell))
     (h : AreRowsOfCells m terminals rules (length m.sets) cells) where
   -- against a shift that is chosen each rule yields
-  pub shift_left : (q t p r : ℕ) → action_at cells q t ≡ Some (Shift p) → Reduces m q t r →
+  pub shift_left : (q t p r : ℕ) → chosen_at cells q t ≡ Some (Shift p) → Reduces m q t r →
       ShiftStays (stays_at terminals rules t r)
   shift_left q t p r same reduce =
       let (own, is, act) = acts m terminals rules cells h q t (Shift p) _ same refl in
@@ -107,7 +107,7 @@ module _ (m : Machine) (terminals rules : List (Option Precedence)) (cells : Lis
       ((is.all.reduces.each r).1 reduce)
 
   -- and a rule that is chosen stays against a shift
-  pub rule_left : (q t r p : ℕ) → action_at cells q t ≡ Some (Reduce r) → HasMove m.moves q (Terminal t) p →
+  pub rule_left : (q t r p : ℕ) → chosen_at cells q t ≡ Some (Reduce r) → HasMove m.moves q (Terminal t) p →
       RuleStays (stays_at terminals rules t r)
   rule_left q t r p same move =
       let (own, is, act) = acts m terminals rules cells h q t (Reduce r) _ same refl in
@@ -135,7 +135,7 @@ module _ (m : Machine) (terminals rules : List (Option Precedence)) (cells : Lis
   pub shift_chosen : (q t p : ℕ) → q < length m.sets → t < m.grammar.terminals →
       HasMove m.moves q (Terminal t) p →
       ((r : ℕ) → Reduces m q t r → ShiftStays (stays_at terminals rules t r)) →
-      action_at cells q t ≡ Some (Shift p)
+      chosen_at cells q t ≡ Some (Shift p)
   shift_chosen q t p low inside move stays =
       let (own, is, at) = cell_at q t low inside in
       let which = stays_at terminals rules t in
@@ -149,7 +149,7 @@ module _ (m : Machine) (terminals rules : List (Option Precedence)) (cells : Lis
   pub rule_chosen : (q t r : ℕ) → q < length m.sets → t < m.grammar.terminals → Reduces m q t r →
       ((s : ℕ) → Reduces m q t s → s ≡ r) →
       ((p : ℕ) → HasMove m.moves q (Terminal t) p → stays_at terminals rules t r ≡ TheRule) →
-      action_at cells q t ≡ Some (Reduce r)
+      chosen_at cells q t ≡ Some (Reduce r)
   rule_chosen q t r low inside reduce one stays =
       let (own, is, at) = cell_at q t low inside in
       let which = stays_at terminals rules t in

@@ -1,12 +1,16 @@
 -- One step of a parser, as its parts take it.
-use Rattle.std.proofs.Common.{◌≡◌, ◌↔◌, ℕ, length, get_or, drop, None, Option, Some, slice_get, sym, ap, ◌∙◌, subst, arith}
+use Rattle.std.proofs.Common.{◌≡◌, ◌↔◌, ℕ, Bool, List, [], length, get_or, drop, None, Option, Some, slice_get, refl, sym, ap, ◌∙◌, subst, arith}
+use Rattle.std.specs.Bool.{IsTrue}
 use Rattle.std.proofs.lemmas.Option.{get_or_from_slice_get, none-some, same_Some}
-use Rattle.vob_lr.specs.ItemSets.{HasItem}
+use Rattle.vob_lr.specs.Accepting.{Accepts}
+use Rattle.vob_lr.specs.ItemSets.{HasComplete, HasItem}
 use Rattle.vob_lr.specs.Items.{Completes}
 use Rattle.vob_lr.specs.Lookaheads.{HasMove, Machine}
 use Rattle.vob_lr.specs.Parses.{Config, IsLast, IsReplaced, replaced, top}
+use Rattle.vob_lr.specs.Tables.{TableView, chosen_at}
 use Rattle.vob_lr.specs.declared.grammar.Rule.{Rule}
 use Rattle.vob_lr.specs.declared.grammar.Symbol.TheVariants.{Nonterminal}
+use Rattle.vob_lr.specs.declared.table.Action.TheVariants.{Shift}
 use Rattle.vob_lr.proofs.ItemLemmas.{one_complete}
 
 -- ---- a reduction: states are left first, and another is entered then
@@ -56,4 +60,32 @@ last_is m p count i rule done read long = (
   (λ last.
       subst (λ (k : ℕ). HasItem m.sets p k) (one_complete m.grammar.rules.items 0 last.item i last.completes done)
       last.there),
+)
+
+-- a state with rule 0, the dot behind all its symbols
+pub end_is : (m : Machine) (p : ℕ) (rule : Rule) → slice_get m.grammar.rules.items 0 ≡ Some rule →
+    IsLast m p (length rule.right.items) ↔ HasComplete m.grammar.rules.items (get_or m.sets p []) 0
+end_is m p rule is = (
+  (λ last. (last.item, last.completes, last.there)),
+  (λ (i, done, there).
+      let read = sym (get_or_from_slice_get m.grammar.rules.items 0 rule rule is) in
+      (last_is m p (length rule.right.items) i rule done read refl).0 there),
+)
+
+-- there is none without a rule
+pub no_end : (rules : List Rule) (set : List ℕ) → slice_get rules 0 ≡ None → ¬ HasComplete rules set 0
+no_end rules set none (i, done, there) =
+    none-some done.is.rule (sym none ∙ ap (slice_get rules) (sym done.rule) ∙ done.is.is)
+
+-- a parser that shifts the end into such a state accepts, and only that
+pub accepts_is : (table : TableView) (q t p : ℕ) (ended : Bool) → t ≡ 0 → chosen_at table.cells q t ≡ Some (Shift p) →
+    IsTrue ended ↔ HasComplete table.machine.grammar.rules.items (get_or table.machine.sets p []) 0 →
+    IsTrue ended ↔ Accepts table q t
+accepts_is table q t p ended zero is done = (
+  (λ on. record { is_end = zero; state = p; shifts = is; completes = done.0 on }),
+  (λ accepts.
+      let shifts = same_Some (Shift p) (Shift accepts.state) (sym is ∙ accepts.shifts) in
+      let same : p ≡ accepts.state = cc in
+      done.1 (subst (λ (s : ℕ). HasComplete table.machine.grammar.rules.items (get_or table.machine.sets s []) 0)
+      (sym same) accepts.completes)),
 )

@@ -1,7 +1,7 @@
 -- What symbols become by rules, as a parser finds it. No public clause cites this page.
 use Rattle.std.specs.Prelude.{◌≡◌, ℕ, List, [], ◌∷◌, ◌++◌, slice_get, Some}
 use Rattle.vob_lr.specs.Lookaheads.{HasMove, Machine, Reduces}
-use Rattle.vob_lr.specs.Tables.{action_at}
+use Rattle.vob_lr.specs.Tables.{chosen_at}
 use Rattle.vob_lr.specs.declared.grammar.Rule.{Rule}
 use Rattle.vob_lr.specs.declared.grammar.Symbol.{Symbol}
 use Rattle.vob_lr.specs.declared.grammar.Symbol.TheVariants.{Terminal, Nonterminal}
@@ -20,5 +20,5 @@ pub data Becomes (rules : List Rule) : List Symbol → List ℕ → List ℕ →
 
 -- each action that a parser may do is the one that the table says
 pub record AreDone (m : Machine) (cells : List (List Cell)) : Type 0 where
-  pub shifts : (q t p : ℕ) → HasMove m.moves q (Terminal t) p → action_at cells q t ≡ Some (Shift p)
-  pub reduces : (q t r : ℕ) → Reduces m q t r → action_at cells q t ≡ Some (Reduce r)
+  pub shifts : (q t p : ℕ) → HasMove m.moves q (Terminal t) p → chosen_at cells q t ≡ Some (Shift p)
+  pub reduces : (q t r : ℕ) → Reduces m q t r → chosen_at cells q t ≡ Some (Reduce r)

@@ -7,7 +7,7 @@ use Rattle.vob_lr.specs.declared.conflicts.Question.{Question}
 use Rattle.vob_lr.specs.declared.conflicts.Question.TheVariants.{Decided, Undecided}
 use Rattle.vob_lr.specs.declared.grammar.Symbol.TheVariants.{Terminal}
 use Rattle.vob_lr.specs.declared.table.Action.{Action}
-use Rattle.vob_lr.specs.declared.table.Action.TheVariants.{Reduce, Shift}
+use Rattle.vob_lr.specs.declared.table.Action.TheVariants.{Accept, Reduce, Shift}
 use Rattle.vob_lr.specs.declared.table.Cell.{Cell}
 use Rattle.vob_lr.specs.declared.table.Conflict.{Conflict}
 
@@ -23,14 +23,12 @@ IsConflict cell = 1 < action_count cell.shift cell.reduces.items
 -- one of the cells is that of a state and a terminal, and has more than one action
 abbrev pub IsConflictAt : List (List Cell) → Conflict → Type 0
 IsConflictAt cells c =
-    (cell : Cell) × (slice_get (slice_index_or cells c.state []) c.terminal ≡ Some cell)
-    × IsConflict cell
+    (cell : Cell) × (slice_get (slice_index_or cells c.state []) c.terminal ≡ Some cell) × IsConflict cell
 
 -- the lower state comes first, and of a state the lower terminal
 abbrev pub ComesBefore : Conflict → Conflict → Type 0
 ComesBefore one other =
-    (one.state < other.state)
-    ⊎ ((one.state ≡ other.state) × (one.terminal < other.terminal))
+    (one.state < other.state) ⊎ ((one.state ≡ other.state) × (one.terminal < other.terminal))
 
 -- all conflicts, in that order
 abbrev pub AreConflicts : List (List Cell) → List Conflict → Type 0
@@ -40,11 +38,13 @@ AreConflicts cells found = AreInOrder ComesBefore (IsConflictAt cells) found
 abbrev pub MayTake : Machine → ℕ → ℕ → Action → Type 0
 MayTake m q t (Shift p) = HasMove m.moves q (Terminal t) p
 MayTake m q t (Reduce r) = Reduces m q t r
+MayTake m q t Accept = ⊥
 
 -- what a cell has
 abbrev pub HasAction : Cell → Action → Type 0
 HasAction cell (Shift p) = cell.shift ≡ Some p
 HasAction cell (Reduce r) = Contains cell.reduces.items r
+HasAction cell Accept = ⊥
 
 -- what the cell of state q and terminal t has
 abbrev pub HasActionAt : List (List Cell) → ℕ → ℕ → Action → Type 0

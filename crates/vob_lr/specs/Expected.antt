@@ -4,7 +4,7 @@ use Rattle.vob_block.specs.Packing.{item}
 use Rattle.vob_lr.specs.Derivations.{IsSentence}
 use Rattle.vob_lr.specs.Languages.{IsLalr, rules_of}
 use Rattle.vob_lr.specs.Parses.{Config, IsReached, Steps, beginning, top}
-use Rattle.vob_lr.specs.Tables.{TableView, action_at}
+use Rattle.vob_lr.specs.Tables.{TableView, chosen_at}
 use Rattle.vob_lr.specs.declared.table.Action.{Action}
 
 -- a parser has read the tokens just now: there are none and it begins, or it has shifted the last of them
@@ -15,7 +15,7 @@ pub data HasRead (table : TableView) (tokens : List ℕ) : Config → Type 0 whe
 
 -- an action stands in state q if terminal t is ahead
 abbrev pub Acts : TableView → ℕ → ℕ → Type 0
-Acts table q t = (action : Action) × (action_at table.cells q t ≡ Some action)
+Acts table q t = (action : Action) × (chosen_at table.cells q t ≡ Some action)
 
 -- a bit for each terminal: true exactly if P holds
 pub record AreTerminals (table : TableView) (P : ℕ → Type 0) (set : List Bool) : Type 0 where

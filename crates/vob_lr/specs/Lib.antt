@@ -1,3 +1,4 @@
+pub mod Accepting
 pub mod Ahead
 pub mod Becoming
 pub mod Behind

@@ -3,11 +3,11 @@ use Rattle.std.specs.Prelude.{◌≡◌, ℕ, ◌+◌, ◌<◌, ◌≤◌, List,
 use Rattle.vob_lr.specs.ItemSets.{HasItem}
 use Rattle.vob_lr.specs.Items.{Completes}
 use Rattle.vob_lr.specs.Lookaheads.{HasMove, Machine}
-use Rattle.vob_lr.specs.Tables.{TableView, action_at}
+use Rattle.vob_lr.specs.Tables.{TableView, chosen_at}
 use Rattle.vob_lr.specs.declared.grammar.Rule.{Rule}
 use Rattle.vob_lr.specs.declared.grammar.Symbol.TheVariants.{Nonterminal}
 use Rattle.vob_lr.specs.declared.table.Action.{Action}
-use Rattle.vob_lr.specs.declared.table.Action.TheVariants.{Reduce, Shift}
+use Rattle.vob_lr.specs.declared.table.Action.TheVariants.{Accept, Reduce, Shift}
 
 -- a parser under way: the states on its stack, how many tokens it has read, and the rules by which
 -- it reduced. The newest state and the newest rule are first
@@ -26,7 +26,7 @@ top states = slice_index_or states 0 0
 
 -- what the table says there, with the next token or else the end ahead
 abbrev pub action_in : TableView → List ℕ → Config → Option Action
-action_in table tokens c = action_at table.cells (top c.states) (slice_index_or tokens c.read 0)
+action_in table tokens c = chosen_at table.cells (top c.states) (slice_index_or tokens c.read 0)
 
 -- a token is read, and a state entered
 abbrev pub shifted : ℕ → Config → Config
@@ -50,6 +50,7 @@ pub record IsReplaced (m : Machine) (r : ℕ) (c d : Config) : Type 0 where
 abbrev pub IsTaken : Machine → List ℕ → Config → Action → Config → Type 0
 IsTaken m tokens c (Shift p) d = (c.read < length tokens) × (d ≡ shifted p c)
 IsTaken m tokens c (Reduce r) d = IsReplaced m r c d
+IsTaken m tokens c Accept d = ⊥
 
 -- one step: the action that the table says
 pub record Steps (table : TableView) (tokens : List ℕ) (c d : Config) : Type 0 where

@@ -60,14 +60,14 @@ abbrev pub action_of : Option Cell → Option Action
 action_of None = None
 action_of (Some cell) = chosen cell.shift cell.reduces.items
 
--- what it does in state q if terminal t is ahead
-abbrev pub action_at : List (List Cell) → ℕ → ℕ → Option Action
-action_at cells q t = action_of (slice_get (slice_index_or cells q []) t)
+-- that of state q if terminal t is ahead
+abbrev pub chosen_at : List (List Cell) → ℕ → ℕ → Option Action
+chosen_at cells q t = action_of (slice_get (slice_index_or cells q []) t)
 
 -- each action is one that a parser may do, and each state has a cell for each terminal
 pub record AreSound (m : Machine) (cells : List (List Cell)) : Type 0 where
   pub count : length cells ≡ length m.sets
   pub long : All (λ row. length row ≡ m.grammar.terminals) cells
-  pub shifts : (q t p : ℕ) → action_at cells q t ≡ Some (Shift p) →
+  pub shifts : (q t p : ℕ) → chosen_at cells q t ≡ Some (Shift p) →
       HasMove m.moves q (Terminal t) p
-  pub reduces : (q t r : ℕ) → action_at cells q t ≡ Some (Reduce r) → Reduces m q t r
+  pub reduces : (q t r : ℕ) → chosen_at cells q t ≡ Some (Reduce r) → Reduces m q t r

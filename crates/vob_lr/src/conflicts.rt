@@ -41,6 +41,7 @@ impl Table<'_> {
         match action {
             Action::Shift(to) => cell.shift == Some(to),
             Action::Reduce(rule) => cell.reduces.contains(&rule),
+            Action::Accept => false,
         }
     }
 

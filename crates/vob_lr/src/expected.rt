@@ -17,7 +17,7 @@ impl Table<'_> {
         let terminals = self.lookaheads().items().grammar().terminals;
         let mut set = Vob::from_elem(alloc, false, terminals)?;
         for terminal in 0..terminals {
-            set.set(terminal, self.action(state, terminal).is_some());
+            set.set(terminal, self.chosen(state, terminal).is_some());
         }
         Ok(set)
     }

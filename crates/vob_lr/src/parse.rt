@@ -1,7 +1,8 @@
 //! A parser by a table.
-ghost use Rattle.std.specs.Prelude.{◌≡◌, ◌↔◌, ℕ, ◌<◌, ◌≤◌, drop, length, reverse, slice_get, slice_index, Err, IfErr, IfOk, IsTrue, OnOk, Some};
+ghost use Rattle.std.specs.Prelude.{◌≡◌, ◌↔◌, ℕ, ◌<◌, ◌≤◌, [], drop, length, reverse, slice_get, slice_index, slice_index_or, Err, IfErr, IfOk, IsTrue, OnOk, Some};
 ghost use Rattle.vob_lr.specs.Derivations.{IsParse};
 ghost use Rattle.vob_lr.specs.Expected.{HasRead};
+ghost use Rattle.vob_lr.specs.ItemSets.{HasComplete};
 ghost use Rattle.vob_lr.specs.Languages.{MoreThanSuffice};
 ghost use Rattle.vob_lr.specs.Parses.{IsAccepted, IsLast, IsReached, IsReplaced, Steps, beginning, replaced, shifted, top};
 ghost use Rattle.vob_lr.specs.Stops.{AcceptsBy, CanReplace, IsSound, IsStop, IsTooLong, IsUnexpected};
@@ -197,6 +198,17 @@ impl Table<'_> {
         }
     }
 
+    /// Returns whether a state has rule 0 with its dot behind all.
+    pub(crate) fn is_end(&self, state: usize) -> bool
+        ensures { IsTrue result ↔ HasComplete self.now.machine.grammar.rules.items
+            (slice_index_or self.now.machine.sets state []) 0 }
+    {
+        match self.lookaheads().items().grammar().rules.first() {
+            Some(rule) => self.is_last(state, rule.right.len()),
+            None => false,
+        }
+    }
+
     /// Returns whether a parser accepts the tokens.
     fn accepts(&self, tokens: &[usize], run: &Run) -> bool
         ensures { IsTrue result ↔ IsAccepted self.now tokens.now run.now }
@@ -204,7 +216,7 @@ impl Table<'_> {
         if run.read() < tokens.len() {
             return false;
         }
-        match self.action(run.state(), 0) {
+        match self.chosen(run.state(), 0) {
             Some(Action::Shift(state)) => self.is_last(state, run.depth()),
             _ => false,
         }
@@ -254,7 +266,7 @@ impl Table<'_> {
         ensures err { IfErr result (IsStop (Steps self.now tokens.now run.old) steps run.old) }
     {
         let ahead = token_at(tokens, run.read());
-        match self.action(run.state(), ahead) {
+        match self.chosen(run.state(), ahead) {
             Some(Action::Shift(state)) if run.read() < tokens.len() => run.shift(state)?,
             Some(Action::Reduce(rule)) => self.reduce(rule, steps, run)?,
             _ => return Err(ParseError::Unexpected { at: run.read() }),

@@ -1,8 +1,9 @@
 //! The table of a parser.
-ghost use Rattle.std.specs.Prelude.{◌≡◌, ◌↔◌, ◌⊎◌, [], length, None, slice_get, slice_index_or, Some, IfNone, IfOk, IfSome, IsTrue};
+ghost use Rattle.std.specs.Prelude.{◌≡◌, ◌≢◌, ◌↔◌, ◌⊎◌, ℕ, [], length, None, slice_get, slice_index_or, Some, IfNone, IfOk, IfSome, IsTrue};
+ghost use Rattle.vob_lr.specs.Accepting.{Accepts};
 ghost use Rattle.vob_lr.specs.Languages.{Suffice};
 ghost use Rattle.vob_lr.specs.Stops.{IsSound};
-ghost use Rattle.vob_lr.specs.Tables.{AreRowsOfCells, action_at};
+ghost use Rattle.vob_lr.specs.Tables.{AreRowsOfCells, chosen_at};
 
 use crate::bound::{Bound, bound_of};
 use crate::cells::CellRow;
@@ -19,6 +20,9 @@ pub enum Action {
     Shift(usize),
     /// Replaces the right side of a rule by its left side.
     Reduce(usize),
+    /// With the end ahead, nothing is left to read: in the state that the end leads to, rule 0 is
+    /// complete. A driver stops, and what it has for the start symbol is the result.
+    Accept,
 }
 
 /// What a parser may do in a state when a terminal is ahead: enter a state, and reduce by rules, the
@@ -151,10 +155,43 @@ impl<'a> Table<'a> {
         self.rows.get(state)?.get(terminal)
     }
 
-    /// Returns what a parser does there, or `None` if it does nothing.
-    pub fn action(&self, state: usize, terminal: usize) -> Option<Action>
-        ensures { result ≡ action_at self.now.cells state terminal }
+    /// Returns what a parser does there of what it may, or `None` if it does nothing. The end is
+    /// shifted as other terminals are.
+    pub(crate) fn chosen(&self, state: usize, terminal: usize) -> Option<Action>
+        ensures { result ≡ chosen_at self.now.cells state terminal }
     {
         self.cell(state, terminal)?.action()
+    }
+
+    /// Returns whether a parser would shift the end, and accepts by it.
+    fn accepts_at(&self, state: usize, terminal: usize) -> bool
+        ensures { IsTrue result ↔ Accepts self.now state terminal }
+    {
+        if terminal != 0 {
+            return false;
+        }
+        match self.chosen(state, terminal) {
+            Some(Action::Shift(to)) => self.is_end(to),
+            _ => false,
+        }
+    }
+
+    /// Returns what a parser does in a state when a terminal is ahead, or `None` if it does nothing. It
+    /// accepts where it would shift the end, and rule 0 is complete then.
+    ///
+    /// A driver begins with state 0 on its stack. By a shift it pushes a state, and takes the next token;
+    /// terminal 0 comes after the last. By a reduction it pops a state for each symbol of the right side,
+    /// and pushes what `Lookaheads::next` returns for the left side. At `Accept` the tokens are a
+    /// sentence, and at `None` they aren't. If the left side of rule 0 stands on a right side, as in no
+    /// file of a grammar, only `parse` tells where a sentence ends.
+    pub fn action(&self, state: usize, terminal: usize) -> Option<Action>
+        ensures accept { (result ≡ Some Action.Accept) ↔ Accepts self.now state terminal }
+        ensures others { result ≢ Some Action.Accept
+            → result ≡ chosen_at self.now.cells state terminal }
+    {
+        if self.accepts_at(state, terminal) {
+            return Some(Action::Accept);
+        }
+        self.chosen(state, terminal)
     }
 }

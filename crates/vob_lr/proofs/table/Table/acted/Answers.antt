@@ -9,8 +9,8 @@ loop-terminal-preserved c = record {
   long = c.set.ensures.written.len ∙ c.loop-terminal.invariant.long;
   tell = tell_next (Acts c.args.self.now c.args.state) c.loop-terminal.set.bits c.set.new.self.bits
       c.loop-terminal.terminal c.is_some.result c.loop-terminal.invariant.tell c.set.ensures.written
-      (some_acts c.args.self.now c.args.state c.loop-terminal.terminal c.action.result c.is_some.result
-      c.action.ensures c.is_some.ensures);
+      (some_acts c.args.self.now c.args.state c.loop-terminal.terminal c.chosen.result c.is_some.result
+      c.chosen.ensures c.is_some.ensures);
 }
 
 pub returns : goal.returns
