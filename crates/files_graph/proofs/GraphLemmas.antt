@@ -17,7 +17,8 @@ use Rattle.vob_flow.specs.Closure.{IsEdge}
 use Rattle.std.proofs.lemmas.Bool.{cases_lt}
 use Rattle.std.proofs.lemmas.List.{get_or_past}
 
-abbrev Distinct : List (List ℕ) → Type 0
+-- each name stands at one place
+abbrev pub Distinct : List (List ℕ) → Type 0
 Distinct names = (i j : ℕ) (x : List ℕ) → slice_get names i ≡ Some x → slice_get names j ≡ Some x → i ≡ j
 
 inside : {X : Type 0} (xs : List X) (i : ℕ) (x : X) → slice_get xs i ≡ Some x → i < length xs
@@ -67,8 +68,11 @@ distinct_fold (word ∷ words) names distinct = distinct_fold words (with_name n
 none_distinct : Distinct []
 none_distinct i j x at_i at_j = absurd (none-some x at_i)
 
-pub names_distinct : (words : List (List ℕ)) → Distinct (names_in words)
+names_distinct : (words : List (List ℕ)) → Distinct (names_in words)
 names_distinct words = distinct_fold words [] none_distinct
+
+pub distinct_names : (words names : List (List ℕ)) → names ≡ names_in words → Distinct names
+distinct_names words names named = subst Distinct (sym named) (names_distinct words)
 
 module _ (names : List (List ℕ)) where
   edge_of : (edges : List (List ℕ × List ℕ)) (pairs : List (ℕ × ℕ)) → AreNumbers names edges pairs → (n m : ℕ) →
@@ -101,16 +105,13 @@ module _ (words names : List (List ℕ)) (edges : List (List ℕ × List ℕ)) (
       let found = edge_of names edges pairs numbers n m there in
       (inside names n found.0 found.3, inside names m found.1 found.4)
 
-  distinct_names : Distinct names
-  distinct_names = subst Distinct (sym named) (names_distinct words)
-
   pub pairs_join : (n m : ℕ) → Contains pairs (n, m) ↔ JoinsNames names edges n m
   pairs_join n m = (
     edge_of names edges pairs numbers n m,
     λ joins.
         let found = pair_of names edges pairs numbers (joins.0, joins.1) joins.2 in
-        let from : found.0.0 ≡ n = distinct_names found.0.0 n joins.0 found.2 joins.3 in
-        let to : found.0.1 ≡ m = distinct_names found.0.1 m joins.1 found.3 joins.4 in
+        let from : found.0.0 ≡ n = distinct_names words names named found.0.0 n joins.0 found.2 joins.3 in
+        let to : found.0.1 ≡ m = distinct_names words names named found.0.1 m joins.1 found.3 joins.4 in
         subst (λ k. Contains pairs (n, k)) to (subst (λ k. Contains pairs (k, found.0.1)) from found.1),
   )
 

@@ -4,11 +4,13 @@ mod EdgeLemmas
 mod GraphLemmas
 mod KeepsLemmas
 mod LeastLemmas
+mod OneOutputLemmas
 mod OrderLemmas
 mod PartLemmas
 pub mod PathLemmas
 mod ReadingLemmas
 mod ReductionLemmas
+mod SameGraphLemmas
 mod SortLemmas
 mod WayLemmas
 mod WorkedEdges

@@ -1,3 +1,4 @@
+pub mod ClosureLaws
 pub mod ClosureText
 pub mod Closures
 pub mod Direct

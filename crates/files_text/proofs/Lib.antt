@@ -1,5 +1,5 @@
 pub mod ListLemmas
 pub mod NamesLemmas
-mod OneLemmas
+pub mod OneLemmas
 pub mod PrintedLemmas
 pub mod WordsLemmas

@@ -1,6 +1,6 @@
 -- What lists hold that are put together of others, and in which order.
-use Rattle.std.specs.Prelude.{AllPairs, All, Contains}
-use Rattle.std.proofs.Common.{◌≡◌, zero, suc, ◌⊎◌, inl, inr, List, [], ◌∷◌, ◌++◌, get_or, map, refl, ap, arith}
+use Rattle.std.specs.Prelude.{◌↔◌, AllPairs, All, Contains}
+use Rattle.std.proofs.Common.{◌≡◌, zero, suc, ◌⊎◌, inl, inr, List, [], ◌∷◌, ◌++◌, get_or, map, refl, sym, ap, ◌∙◌, subst, arith}
 use Rattle.std.proofs.lemmas.List.Elements.{Contains-append_cases, Contains-get_or}
 use Rattle.std.proofs.lemmas.List.Kept.{AllPairs-cons}
 
@@ -45,6 +45,42 @@ module _ {X : Type 0} where
 
     pub AllPairs-none : AllPairs R []
     AllPairs-none i j d less inside = absurd (omega (arith, inside))
+
+    -- an order in which no two items come before each other
+    module _ (one_way : (x y : X) → R x y → ¬ R y x) where
+      same_first : (x y : X) (xs ys : List X) → AllPairs R (x ∷ xs) → AllPairs R (y ∷ ys) →
+          Contains (y ∷ ys) x → Contains (x ∷ xs) y → x ≡ y
+      same_first x y xs ys own others there back = elim (first_or_later y ys x there) [
+        | inl same ↦ sym same
+        | inr after ↦ elim (first_or_later x xs y back) [
+          | inl same ↦ same
+          | inr behind ↦
+              absurd (one_way x y (head_first x xs y own behind) (head_first y ys x others after))
+        ]
+      ]
+
+      same_later : (x y : X) (xs ys : List X) → x ≡ y → AllPairs R (x ∷ xs) →
+          ((z : X) → Contains (x ∷ xs) z → Contains (y ∷ ys) z) → (z : X) → Contains xs z → Contains ys z
+      same_later x y xs ys firsts own into z there = elim (first_or_later y ys z (into z (later x xs z there))) [
+        | inl same ↦
+            let twice : R x x = subst (R x) (sym (firsts ∙ same)) (head_first x xs z own there) in
+            absurd (one_way x x twice twice)
+        | inr after ↦ after
+      ]
+
+      -- two lists in order that have the same items are equal
+      pub sorted_one : (xs ys : List X) → AllPairs R xs → AllPairs R ys →
+          ((x : X) → Contains xs x ↔ Contains ys x) → xs ≡ ys
+      sorted_one [] [] own others each = refl
+      sorted_one [] (y ∷ ys) own others each = absurd (nothing y ((each y).1 (first y ys)))
+      sorted_one (x ∷ xs) [] own others each = absurd (nothing x ((each x).0 (first x xs)))
+      sorted_one (x ∷ xs) (y ∷ ys) own others each =
+          let firsts = same_first x y xs ys own others ((each x).0 (first x xs)) ((each y).1 (first y ys)) in
+          let rest = sorted_one xs ys (tail_pairs x xs own) (tail_pairs y ys others) (λ z. (
+            same_later x y xs ys firsts own (λ w. (each w).0) z,
+            same_later y x ys xs (sym firsts) others (λ w. (each w).1) z,
+          )) in
+          ap (λ h. h ∷ xs) firsts ∙ ap (λ l. y ∷ l) rest
 
 module _ {X Y : Type 0} (f : X → Y) where
   pub Contains-map : (xs : List X) (y : Y) → Contains (map f xs) y → (x : X) × Contains xs x × (f x ≡ y)

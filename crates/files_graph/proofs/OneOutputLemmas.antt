@@ -1,0 +1,102 @@
+-- A text has one graph, and one text for each part of its closure.
+use Rattle.std.proofs.Common.{◌≡◌, ◌↔◌, inl, inr, ℕ, ◌<◌, List, [], ◌∷◌, ◌++◌, map, arith, refl, sym, ap, subst, ◌∙◌}
+use Rattle.std.specs.List.{flat_map}
+use Rattle.vob_flow.specs.Closure.{IsEdge, Leads}
+use Rattle.files_text.specs.Names.{names_in}
+use Rattle.files_text.specs.Printed.{name_line}
+use Rattle.files_text.specs.Words.{Token}
+use Rattle.files_text.proofs.ListLemmas.{sorted_one}
+use Rattle.files_text.proofs.OneLemmas.{words_one}
+use Rattle.files_graph.specs.ClosureLaws.{GraphsAreOne, HaveSameEdges, OutputsAreOne}
+use Rattle.files_graph.specs.ClosureText.{IsBefore, ListsEdges, ListsNodes, ListsPart, edge_line}
+use Rattle.files_graph.specs.Edges.{AreEdges}
+use Rattle.files_graph.specs.Graphs.{IsGraphOf, JoinsNames}
+use Rattle.files_graph.specs.declared.closure.Part.{Part}
+use Rattle.files_graph.specs.declared.closure.Part.TheVariants.{Edges, Fewest, From}
+use Rattle.files_graph.proofs.GraphLemmas.{Distinct, distinct_names}
+use Rattle.files_graph.proofs.SameGraphLemmas.{leads_same, reduced_same}
+
+-- ---- one graph
+
+-- words are lines of two names in one way
+edges_one : (words : List Token) (edges others : List (List ℕ × List ℕ)) → AreEdges words edges →
+    AreEdges words others → edges ≡ others
+edges_one [] [] [] are are' = refl
+edges_one [] [] (other ∷ others) are are' = absurd are'
+edges_one [] (edge ∷ edges) others are are' = absurd are
+edges_one (from ∷ []) edges others are are' = absurd are
+edges_one (from ∷ to ∷ words) [] others are are' = absurd are
+edges_one (from ∷ to ∷ words) (edge ∷ edges) [] are are' = absurd are'
+edges_one (from ∷ to ∷ words) (edge ∷ edges) (other ∷ others) are are' =
+    ap (λ e. e ∷ edges) (are.4 ∙ sym are'.4) ∙ ap (λ l. other ∷ l) (edges_one words edges others are.5 are'.5)
+
+abbrev texts : List Token → List (List ℕ)
+texts words = map (λ word. word.text) words
+
+-- a graph has no name twice
+names_apart : (text : List ℕ) (names next : List (List ℕ)) → IsGraphOf text names next → Distinct names
+names_apart text names next graph = distinct_names (texts graph.words) names graph.named
+
+module _ {text : List ℕ} {names next others other : List (List ℕ)} (a : IsGraphOf text names next)
+    (b : IsGraphOf text others other) where
+  same_words : a.words ≡ b.words
+  same_words = words_one a.are_words b.are_words
+
+  same_edges : a.edges ≡ b.edges
+  same_edges = edges_one b.words a.edges b.edges (subst (λ words. AreEdges words a.edges) same_words a.are_edges)
+      b.are_edges
+
+  same_names : names ≡ others
+  same_names = a.named ∙ ap (λ words. names_in (texts words)) same_words ∙ sym b.named
+
+  edge_over : (n m : ℕ) → IsEdge next n m → IsEdge other n m
+  edge_over n m edge = (b.each n m).1 (subst (λ edges. JoinsNames others edges n m) same_edges
+      (subst (λ list. JoinsNames list a.edges n m) same_names ((a.each n m).0 edge)))
+
+pub graphs_one : GraphsAreOne
+graphs_one text names next others other a b = (same_names a b, λ n m. (edge_over a b n m, edge_over b a n m))
+
+-- ---- one text
+
+module _ (names : List (List ℕ)) where
+  edge_lines_one : {P Q : ℕ → ℕ → Type 0} {text text' : List ℕ} → ((n m : ℕ) → P n m ↔ Q n m) →
+      ListsEdges names P text → ListsEdges names Q text' → text ≡ text'
+  edge_lines_one same a b =
+      let edges = sorted_one IsBefore one_way a.edges b.edges a.order b.order (λ edge. (
+        (λ has. (b.each edge.0 edge.1).1 ((same edge.0 edge.1).0 ((a.each edge.0 edge.1).0 has))),
+        (λ has. (a.each edge.0 edge.1).1 ((same edge.0 edge.1).1 ((b.each edge.0 edge.1).0 has))),
+      )) in
+      a.lines ∙ ap (flat_map (edge_line names)) edges ∙ sym b.lines
+    where
+      one_way : (edge other : ℕ × ℕ) → IsBefore edge other → ¬ IsBefore other edge
+      one_way edge other (inl less) (inl more) = omega (arith, less, more)
+      one_way edge other (inl less) (inr more) = omega (arith, less, more.0)
+      one_way edge other (inr less) (inl more) = omega (arith, less.0, more)
+      one_way edge other (inr less) (inr more) = omega (arith, less.1, more.1)
+
+  node_lines_one : {P Q : ℕ → Type 0} {text text' : List ℕ} → ((n : ℕ) → P n ↔ Q n) →
+      ListsNodes names P text → ListsNodes names Q text' → text ≡ text'
+  node_lines_one same a b =
+      let nodes = sorted_one (λ (n m : ℕ). n < m) (λ n m less more. omega (arith, less, more)) a.nodes b.nodes
+      a.order b.order (λ n. (
+        (λ has. (b.each n).1 ((same n).0 ((a.each n).0 has))),
+        (λ has. (a.each n).1 ((same n).1 ((b.each n).0 has))),
+      )) in
+      a.lines ∙ ap (flat_map (name_line names)) nodes ∙ sym b.lines
+
+  part_one : (next other : List (List ℕ)) → HaveSameEdges next other → Distinct names → (part : Part) →
+      (text text' : List ℕ) → ListsPart names next part text → ListsPart names other part text' → text ≡ text'
+  part_one next other same distinct Edges text text' a b = edge_lines_one (leads_same next other same) a b
+  part_one next other same distinct (From name) text text' a b =
+      let node = distinct b.0 a.0 name.now b.1 a.1 in
+      node_lines_one (leads_same next other same a.0) a.2
+      (subst (λ n. ListsNodes names (Leads other n) text') node b.2)
+  part_one next other same distinct Fewest text text' a b = edge_lines_one (reduced_same next other same) a b
+
+pub outputs_one : OutputsAreOne
+outputs_one text part old new other a b =
+    let (names, edges) = graphs_one text a.names a.next b.names b.next a.graph b.graph in
+    let apart = names_apart text b.names b.next b.graph in
+    let same = part_one b.names a.next b.next edges apart part a.written.0 b.written.0
+    (subst (λ list. ListsPart list a.next part a.written.0) names a.written.2) b.written.2 in
+    a.written.1 ∙ ap (λ more. old ++ more) same ∙ sym b.written.1
