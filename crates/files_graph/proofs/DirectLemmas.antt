@@ -13,21 +13,13 @@ use Rattle.vob_flow.specs.Reach.{HasWay}
 use Rattle.vob_flow.specs.Reach.Reaches.{at_start, along}
 use Rattle.files_graph.specs.Direct.{GainDirect, HasFound, HasFoundMore, IsDirect, IsFrom, IsSearch, LeadsDown}
 use Rattle.files_graph.specs.declared.direct.Search.{Search}
+use Rattle.files_graph.proofs.WayLemmas.{only, way_none}
 
 pub count_zero : (bits : List Bool) → ((x : ℕ) → item bits x ≡ false) → count_of true bits ≡ 0
 count_zero [] none = refl
 count_zero (b ∷ bits) none =
     let first : one_of true b ≡ 0 = ap (one_of true) (none 0) in
     omega (arith, count_cons true b bits, first, count_zero bits (λ x. none (suc x)))
-
-only : (n m : ℕ) → Contains (n ∷ []) m → n ≡ m
-only n m within = elim (Contains-push_cases [] n m within) [
-  | inl none ↦ absurd (omega (arith, none.1))
-  | inr same ↦ same
-]
-
-pub way_none : (links : List (List ℕ)) (n : ℕ) → HasWay links n n
-way_none links n = at_start (Contains-push [] n)
 
 -- ways lead down
 pub way_down : (links : List (List ℕ)) → LeadsDown links → (s : ℕ) → {m : ℕ} → HasWay links s m → m ≤ s

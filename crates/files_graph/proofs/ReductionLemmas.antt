@@ -1,9 +1,7 @@
 -- The edges between numbers and within them are those of a reduction.
-use Rattle.std.proofs.Common.{◌≡◌, ◌≢◌, ◌↔◌, ◌⊎◌, ℕ, ◌<◌, ◌≤◌, List, [], ◌∷◌, length, refl, sym, ap, ◌∙◌, subst, arith, inl, inr}
+use Rattle.std.proofs.Common.{◌≡◌, ◌≢◌, ◌↔◌, ◌⊎◌, ℕ, ◌<◌, ◌≤◌, List, length, refl, sym, ap, ◌∙◌, subst, arith, inl, inr}
 use Rattle.std.specs.List.{Contains}
 use Rattle.std.proofs.lemmas.Bool.{cases_eq, cases_lt}
-use Rattle.std.proofs.lemmas.List.{get_or_past}
-use Rattle.std.proofs.lemmas.List.Elements.{Contains-push_cases}
 use Rattle.vob_flow.specs.Closure.{IsEdge, Leads}
 use Rattle.vob_flow.specs.Closure.Leads.{by_edge, through}
 use Rattle.vob_flow.specs.Components.{AreConnected}
@@ -13,19 +11,10 @@ use Rattle.vob_rows.specs.Graph.{LeadToNodes}
 use Rattle.files_graph.specs.Direct.{IsDirect, LeadsDown}
 use Rattle.files_graph.specs.Parts.{AreFirsts, AreLasts, AreLinks, AreNumbered, IsLastOf, IsLinkOf, IsNextOf, JoinsFirsts, at}
 use Rattle.files_graph.specs.Reduction.{IsBack, IsBetween, IsFirst, IsNext}
-use Rattle.files_graph.proofs.DirectLemmas.{way_down, way_none}
-
-only : (n m : ℕ) → Contains (n ∷ []) m → n ≡ m
-only n m within = elim (Contains-push_cases [] n m within) [
-  | inl none ↦ absurd (omega (arith, none.1))
-  | inr same ↦ same
-]
+use Rattle.files_graph.proofs.DirectLemmas.{way_down}
+use Rattle.files_graph.proofs.WayLemmas.{connected_cycle, edge_from, leads_from, leads_way, only, way_apart, way_join, way_none}
 
 -- ---- ways and paths
-
-join : (next : List (List ℕ)) (a b : ℕ) → HasWay next a b → {c : ℕ} → HasWay next b c → HasWay next a c
-join next a b way {c} (at_start start) = subst (HasWay next a) (only b c start) way
-join next a b way (along rest edge) = along (join next a b way rest) edge
 
 -- the first edge of a way
 first_step : (next : List (List ℕ)) (a : ℕ) → {b : ℕ} → HasWay next a b →
@@ -36,29 +25,9 @@ first_step next a (along {n = k} {m = b} rest edge) = elim (first_step next a re
   | inr step ↦ inr (step.0, step.1, along step.2 edge)
 ]
 
-way_leads : (next : List (List ℕ)) {a b : ℕ} → Leads next a b → HasWay next a b
-way_leads next {a} (by_edge edge) = along (way_none next a) edge
-way_leads next {a} (through {k = k} edge rest) = join next a k (along (way_none next a) edge) (way_leads next rest)
-
-leads_way : (next : List (List ℕ)) (a k : ℕ) → IsEdge next a k → {b : ℕ} → HasWay next k b → Leads next a b
-leads_way next a k edge {b} (at_start start) = by_edge (subst (IsEdge next a) (only k b start) edge)
-leads_way next a k edge (along {n = m} {m = b} rest last) = leads_on (leads_way next a k edge rest) last
-  where
-    leads_on : {x y z : ℕ} → Leads next x y → IsEdge next y z → Leads next x z
-    leads_on (by_edge e) f = through e (by_edge f)
-    leads_on (through e more) f = through e (leads_on more f)
-
 module _ (next : List (List ℕ)) (ends : LeadToNodes next (length next)) where
-  edge_from : (n m : ℕ) → IsEdge next n m → n < length next
-  edge_from n m edge = elim (cases_lt n (length next)) [
-    | inl less ↦ less
-    | inr past ↦
-        let none = subst (λ (xs : List ℕ). Contains xs m) (get_or_past next n [] past) edge in
-        absurd (omega (arith, none.1))
-  ]
-
   edge_to : (n m : ℕ) → IsEdge next n m → m < length next
-  edge_to n m edge = subst (λ x. x < length next) edge.2 (ends n (edge_from n m edge) edge.0 m edge.1)
+  edge_to n m edge = subst (λ x. x < length next) edge.2 (ends n (edge_from next n m edge) edge.0 m edge.1)
 
   way_to : (n : ℕ) → {m : ℕ} → HasWay next n m → (n ≡ m) ⊎ (m < length next)
   way_to n {m} (at_start start) = inl (only n m start)
@@ -68,19 +37,12 @@ module _ (next : List (List ℕ)) (ends : LeadToNodes next (length next)) where
   way_inside n less way = elim (way_to n way) [ inl same ↦ omega (arith, less, same) | inr there ↦ there ]
 
   way_from : (n m : ℕ) → HasWay next n m → n ≢ m → n < length next
-  way_from n m way apart = elim (first_step next n way) [
-    | inl same ↦ absurd (apart same)
-    | inr step ↦ edge_from n step.0 step.1
-  ]
-
-  leads_from : {n m : ℕ} → Leads next n m → n < length next
-  leads_from {n} {m} (by_edge edge) = edge_from n m edge
-  leads_from {n} (through {k = k} edge rest) = edge_from n k edge
+  way_from n m way apart = leads_from next (way_apart next n m way apart)
 
   module _ (numbers : List ℕ) (h : AreNumbered next numbers) where
     pub link_inside : (n p q : ℕ) → IsLinkOf next numbers n p q → (p < length next) × (q < length next)
     link_inside n p q (m, e, n_is, m_is, apart) =
-        (omega (arith, h.inside n (edge_from n m e), n_is), omega (arith, h.inside m (edge_to n m e), m_is))
+        (omega (arith, h.inside n (edge_from next n m e), n_is), omega (arith, h.inside m (edge_to n m e), m_is))
 
     -- ---- ways between numbers
 
@@ -88,13 +50,13 @@ module _ (next : List (List ℕ)) (ends : LeadToNodes next (length next)) where
       pub leads_down : LeadsDown links
       leads_down p q edge =
           let (n, (m, e, n_is, m_is, apart)) = (l p q).0 edge in
-          let down = h.down n m (edge_from n m e) (edge_to n m e) e (λ same. apart (sym n_is ∙ same ∙ m_is)) in
+          let down = h.down n m (edge_from next n m e) (edge_to n m e) e (λ same. apart (sym n_is ∙ same ∙ m_is)) in
           omega (arith, down, n_is, m_is)
 
       pub direct_inside : (p q : ℕ) → IsDirect links p q → (p < length next) × (q < length next)
       direct_inside p q d =
           let (n, (m, e, n_is, m_is, apart)) = (l p q).0 d.edge in
-          (omega (arith, h.inside n (edge_from n m e), n_is), omega (arith, h.inside m (edge_to n m e), m_is))
+          (omega (arith, h.inside n (edge_from next n m e), n_is), omega (arith, h.inside m (edge_to n m e), m_is))
 
       way_links : (n : ℕ) → {m : ℕ} → HasWay next n m → HasWay links (at numbers n) (at numbers m)
       way_links n {m} (at_start start) = subst (λ x. HasWay links (at numbers n) (at numbers x)) (only n m start)
@@ -110,8 +72,8 @@ module _ (next : List (List ℕ)) (ends : LeadToNodes next (length next)) where
           ((h.same n m less m_in).0 (only (at numbers n) q start ∙ sym is)).0
       way_next n less (along {n = p} {m = q} rest edge) m m_in is =
           let (k, (o, e, k_is, o_is, apart)) = (l p q).0 edge in
-          let to = way_next n less rest k (edge_from k o e) k_is in
-          join next n o (along to e) ((h.same o m (edge_to k o e) m_in).0 (o_is ∙ sym is)).0
+          let to = way_next n less rest k (edge_from next k o e) k_is in
+          way_join next n o m (along to e) ((h.same o m (edge_to k o e) m_in).0 (o_is ∙ sym is)).0
 
       module _ (firsts : List ℕ) (f : AreFirsts numbers 0 firsts) where
         first_in : (n : ℕ) → n < length next → at firsts (at numbers n) < length next
@@ -137,7 +99,7 @@ module _ (next : List (List ℕ)) (ends : LeadToNodes next (length next)) where
         between_direct : (p q : ℕ) → IsDirect links p q → IsBetween next (at firsts p) (at firsts q)
         between_direct p q d =
             let (n, (m, e, n_is, m_is, apart)) = (l p q).0 d.edge in
-            let n_in = edge_from n m e in
+            let n_in = edge_from next n m e in
             let m_in = edge_to n m e in
             let a = at firsts (at numbers n) in
             let b = at firsts (at numbers m) in
@@ -150,7 +112,7 @@ module _ (next : List (List ℕ)) (ends : LeadToNodes next (length next)) where
             let made : IsBetween next a b = record {
               from_first = first_is n n_in;
               to_first = first_is m m_in;
-              way = join next a m (along to_n e) from_m;
+              way = way_join next a m b (along to_n e) from_m;
               apart = λ connected. apart (sym a_is ∙ (h.same a b a_in b_in).1 connected ∙ b_is);
               alone = λ k to from.
                   let k_in = way_inside a a_in to in
@@ -163,7 +125,9 @@ module _ (next : List (List ℕ)) (ends : LeadToNodes next (length next)) where
                           let low = way_down links leads_down step.0 step.2 in
                           let high = way_down links leads_down (at numbers k) rest in
                           inr ((h.same k b k_in b_in).0 (omega (arith, low, high, last, b_is)))
-                      | inr other ↦ absurd (d.alone step.0 step.1 other (join links step.0 (at numbers k) step.2 rest))
+                      | inr other ↦
+                          let on = way_join links step.0 (at numbers k) q step.2 rest in
+                          absurd (d.alone step.0 step.1 other on)
                     ]
                   ];
             } in
@@ -267,15 +231,12 @@ module _ (next : List (List ℕ)) (ends : LeadToNodes next (length next)) where
                   omega (arith, high, ap (at lasts) own, n.last);
               first = subst (IsFirst next) n.first (first_is links l firsts f a a_in);
               cycle = elim n.cycle [
-                | inl apart ↦ elim (first_step next a together.0) [
-                  | inl is ↦ absurd (apart (sym is))
-                  | inr step ↦ leads_way next a step.0 step.1 (join next step.0 b step.2 together.1)
-                ]
+                | inl apart ↦ connected_cycle next a b together (λ is. apart (sym is))
                 | inr edge ↦ by_edge edge
               ];
             }),
         (λ n.
-            let a_in = leads_from n.cycle in
+            let a_in = leads_from next n.cycle in
             let b_in = way_inside a a_in n.together.0 in
             let same = (h.same a b a_in b_in).1 n.together in
             let last = at lasts (at numbers a) in
@@ -299,7 +260,7 @@ module _ (next : List (List ℕ)) (ends : LeadToNodes next (length next)) where
               loop : Leads next a a → IsEdge next a a
               loop (by_edge edge) = edge
               loop (through {k = k} edge rest) =
-                  let connected : AreConnected next a k = (along (way_none next a) edge, way_leads next rest) in
+                  let connected : AreConnected next a k = (along (way_none next a) edge, leads_way next rest) in
                   let high = n.last k connected in
                   let low = subst (λ x. x ≤ k) one (n.first k (subst (λ x. AreConnected next x k) (sym one) connected)) in
                   subst (IsEdge next a) (omega (arith, high, low)) edge

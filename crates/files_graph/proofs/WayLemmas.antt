@@ -28,8 +28,8 @@ cases_either (inr none) (inl b) = inl (inr b)
 cases_either (inr none) (inr neither) = inr (λ either. elim either [ inl a ↦ none a | inr b ↦ neither b ])
 
 -- one node alone
-alone : (n m : ℕ) → Contains (n ∷ []) m → n ≡ m
-alone n m within = elim (Contains-push_cases [] n m within) [
+pub only : (n m : ℕ) → Contains (n ∷ []) m → n ≡ m
+only n m within = elim (Contains-push_cases [] n m within) [
   | inl none ↦ absurd (omega (arith, none.1))
   | inr same ↦ same
 ]
@@ -41,19 +41,19 @@ module _ (next : List (List ℕ)) where
   leads_both (by_edge edge) rest = through edge rest
   leads_both (through edge more) rest = through edge (leads_both more rest)
 
-  way_none : (n : ℕ) → HasWay next n n
+  pub way_none : (n : ℕ) → HasWay next n n
   way_none n = at_start (Contains-push [] n)
 
   -- a way of no edges, or a path
   pub way_cases : (n : ℕ) → {m : ℕ} → HasWay next n m → (n ≡ m) ⊎ Leads next n m
-  way_cases n {m} (at_start start) = inl (alone n m start)
+  way_cases n {m} (at_start start) = inl (only n m start)
   way_cases n (along {n = k} {m = m} rest edge) = inr (elim (way_cases n rest) [
     | inl same ↦ by_edge (subst (λ x. IsEdge next x m) (sym same) edge)
     | inr leads ↦ leads_both leads (by_edge edge)
   ])
 
   edge_way : (n k : ℕ) → IsEdge next n k → {m : ℕ} → HasWay next k m → HasWay next n m
-  edge_way n k edge {m} (at_start start) = subst (HasWay next n) (alone k m start) (along (way_none n) edge)
+  edge_way n k edge {m} (at_start start) = subst (HasWay next n) (only k m start) (along (way_none n) edge)
   edge_way n k edge (along rest last) = along (edge_way n k edge rest) last
 
   pub leads_way : {n m : ℕ} → Leads next n m → HasWay next n m
@@ -85,7 +85,7 @@ module _ (next : List (List ℕ)) where
   ]
 
   -- only a node that is there has edges
-  edge_from : (n m : ℕ) → IsEdge next n m → n < length next
+  pub edge_from : (n m : ℕ) → IsEdge next n m → n < length next
   edge_from n m edge = elim (cases_lt n (length next)) [
     | inl less ↦ less
     | inr past ↦ absurd (omega (arith, ap length (get_or_past next n [] past), edge.1))
@@ -157,7 +157,7 @@ module _ (next : List (List ℕ)) where
   ]
 
   way_via : (n : ℕ) → {m : ℕ} → HasWay next n m → IsVia (length next) n m
-  way_via n {m} (at_start start) = via_short (length next) n m (inl (alone n m start))
+  way_via n {m} (at_start start) = via_short (length next) n m (inl (only n m start))
   way_via n (along {n = k} {m = m} rest edge) = via_join (length next) k n m (edge_from k m edge) (way_via n rest)
       (via_short (length next) k m (inr edge))
 
