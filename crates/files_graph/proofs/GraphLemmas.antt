@@ -81,7 +81,13 @@ module _ (names : List (List ℕ)) where
   edge_of [] (pair ∷ pairs) are n m there = absurd are
   edge_of (edge ∷ edges) [] are n m there = absurd are
   edge_of (edge ∷ edges) (pair ∷ pairs) are n m there = elim (first_or_later pair pairs (n, m) there) [
-    | inl same ↦ (edge.0, edge.1, first edge edges, subst (λ (p : ℕ × ℕ). slice_get names p.0 ≡ Some edge.0) same are.0, subst (λ (p : ℕ × ℕ). slice_get names p.1 ≡ Some edge.1) same are.1)
+    | inl same ↦ (
+      edge.0,
+      edge.1,
+      first edge edges,
+      subst (λ (p : ℕ × ℕ). slice_get names p.0 ≡ Some edge.0) same are.0,
+      subst (λ (p : ℕ × ℕ). slice_get names p.1 ≡ Some edge.1) same are.1,
+    )
     | inr after ↦ let found = edge_of edges pairs are.2 n m after in
         (found.0, found.1, later edge edges (found.0, found.1) found.2, found.3, found.4)
   ]
@@ -93,7 +99,12 @@ module _ (names : List (List ℕ)) where
   pair_of [] (pair ∷ pairs) are edge there = absurd are
   pair_of (e ∷ edges) [] are edge there = absurd are
   pair_of (e ∷ edges) (pair ∷ pairs) are edge there = elim (first_or_later e edges edge there) [
-    | inl same ↦ (pair, first pair pairs, are.0 ∙ ap (λ (x : List ℕ × List ℕ). Some x.0) same, are.1 ∙ ap (λ (x : List ℕ × List ℕ). Some x.1) same)
+    | inl same ↦ (
+      pair,
+      first pair pairs,
+      are.0 ∙ ap (λ (x : List ℕ × List ℕ). Some x.0) same,
+      are.1 ∙ ap (λ (x : List ℕ × List ℕ). Some x.1) same,
+    )
     | inr after ↦ let found = pair_of edges pairs are.2 edge after in
         (found.0, later pair pairs found.0 found.1, found.2, found.3)
   ]

@@ -111,6 +111,8 @@ module _ (old new : Reader) (from word : Word) (n m : ℕ) (between : List (List
       let whole : words ≡ read.before ++ token_of from ∷ [] =
       read.words_are ∙ ap (λ f. read.before ++ at_hand f) at_from in
       let fresh = rw at_from at read.fresh in
+      let kept = numbers_kept between word.text.now read.edges old.edges.items
+      (rw first.added (numbers_kept old.names from.text.now read.edges old.edges.items read.numbers)) in
       record {
         before = read.before ++ token_of from ∷ token_of word ∷ [];
         edges = read.edges ++ (from.text.now, word.text.now) ∷ [];
@@ -121,9 +123,12 @@ module _ (old new : Reader) (from word : Word) (n m : ℕ) (between : List (List
             ∙ append_assoc read.before (token_of from ∷ []) (token_of word ∷ [])
             ∙ sym (ap (λ f. (read.before ++ token_of from ∷ token_of word ∷ []) ++ at_hand f) none ∙ append-nil _);
         fresh = rw none tt;
-        named = second.added ∙ ap (λ l. with_name l word.text.now) (first.added ∙ ap (λ l. with_name l from.text.now) read.named)
+        named = second.added
+            ∙ ap (λ l. with_name l word.text.now) (first.added ∙ ap (λ l. with_name l from.text.now) read.named)
             ∙ sym (names_more read.before (token_of from) (token_of word));
-        numbers = rw (pushed, second.added) (numbers_more _ (from.text.now, word.text.now) (n, m) (name_kept between word.text.now n from.text.now first.at) (rw second.added at second.at) read.edges old.edges.items (numbers_kept between word.text.now read.edges old.edges.items (rw first.added (numbers_kept old.names from.text.now read.edges old.edges.items read.numbers))));
+        numbers = rw (pushed, second.added) (numbers_more _ (from.text.now, word.text.now) (n, m)
+            (name_kept between word.text.now n from.text.now first.at) (rw second.added at second.at)
+            read.edges old.edges.items kept);
       }
 
 pub line_is : (line : Option ℕ) (n : ℕ) → true ≡ option_eq eqb line (Some n) → line ≡ Some n

@@ -1,3 +1,4 @@
+-- The words that were taken are those of the text, and a fault leaves some unread.
 use Rattle.std.proofs.Common.{◌∷◌, ◌++◌, [], refl}
 use Rattle.std.proofs.lemmas.Result.{err_from_is_err_and}
 use Rattle.std.proofs.lemmas.List.{append_assoc, append-nil}

@@ -1,3 +1,4 @@
+-- A word is a mark, or all letters up to the next byte that is none.
 use Rattle.files_text.proofs.WordsLemmas.{mark_is_word, letters_are_word}
 use Rattle.files_text.proofs.words.word_length.Goals as goal
 

@@ -1,3 +1,4 @@
+-- A name alone on the last line is a fault.
 use Rattle.std.proofs.Common.{[]}
 use Rattle.std.proofs.lemmas.List.{append-nil}
 use Rattle.files_graph.specs.Edges.IsFaulty.{alone}

@@ -1,3 +1,4 @@
+-- A comma in place of the first name is a fault, and so is a third name.
 use Rattle.std.proofs.Common.{◌∷◌}
 use Rattle.std.proofs.lemmas.Result.{err_from_is_err_and}
 use Rattle.files_text.specs.Words.{token_of}

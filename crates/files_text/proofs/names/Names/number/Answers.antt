@@ -1,3 +1,4 @@
+-- The number is that of the key, and a new key is the last.
 use Rattle.files_text.proofs.NamesLemmas.{numbered_name}
 use Rattle.files_text.proofs.names.Names.number.Goals as goal
 

@@ -1,3 +1,4 @@
+-- The word is the next one, or the text has ended.
 use Rattle.std.proofs.Common.{◌==◌, ap, ◌∙◌, length}
 use Rattle.files_text.specs.Words.{Rest}
 use Rattle.files_text.proofs.WordsLemmas.{none_left, word_next}
