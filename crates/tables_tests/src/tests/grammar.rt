@@ -1,6 +1,6 @@
 //! Which nonterminals of grammars can become empty, which terminals can begin what they become, and
-//! which can follow them; which derive tokens, and which themselves. Grammars worked by hand, a long
-//! chain, and rules with symbols that aren't there.
+//! which can follow them; which derive tokens, and which themselves. Grammars worked by hand, a
+//! long chain, and rules with symbols that aren't there.
 use super::support::{check_bits, check_error, same};
 use std::process::Abort;
 use vob_lr::{Grammar, GrammarError, GrammarSets, Rule, Symbol, cycle, nullable, productive};
@@ -207,7 +207,8 @@ const CYCLIC: [Cyclic; 9] = [
     // A token always stays beside S, and so does A, which doesn't become empty.
     Cyclic { names: ("SA", "sa"), rules: &["S=SA", "S=Ss", "S=s", "A=a"], found: None },
     // The grammar of sums: each step down to F and up again adds a token.
-    Cyclic { names: ("ETF", "+*()i"), rules: &["E=E+T", "E=T", "T=T*F", "T=F", "F=(E)", "F=i"], found: None },
+    Cyclic { names: ("ETF", "+*()i"), found: None,
+        rules: &["E=E+T", "E=T", "T=T*F", "T=F", "F=(E)", "F=i"] },
     // What becomes empty alone derives no more than that.
     Cyclic { names: ("SE", "s"), rules: &["S=EE", "S=s", "E="], found: None },
     Cyclic { names: ("", ""), rules: &[], found: None },
