@@ -1,3 +1,5 @@
-pub mod ProblemLemmas
 pub mod DefinitionLemmas
 pub mod LiveLemmas
+mod NodeLemmas
+mod NumberLemmas
+pub mod ProblemLemmas

@@ -51,24 +51,47 @@ impl FlowFault {
 }
 
 impl From<Fault> for FlowFault {
+    ghost use Rattle.std.specs.Prelude.{◌≡◌};
+    ghost use Rattle.files_flow.specs.declared.fault.FlowFault.TheVariants.{Text};
+
+    ghost from_gives = { λ fault result. result ≡ Text fault };
+
     fn from(fault: Fault) -> FlowFault {
         FlowFault::Text(fault)
     }
 }
 
 impl From<AllocError> for FlowFault {
+    ghost use Rattle.std.specs.Prelude.{◌≡◌};
+    ghost use Rattle.files_flow.specs.declared.fault.FlowFault.TheVariants.{Text};
+    ghost use Rattle.files_text.specs.declared.fault.Fault.TheVariants.{Memory};
+
+    ghost from_gives = { λ _ result. result ≡ Text Memory };
+
     fn from(_: AllocError) -> FlowFault {
         FlowFault::Text(Fault::Memory)
     }
 }
 
 impl<T: Drop> From<AllocFailed<T>> for FlowFault {
+    ghost use Rattle.std.specs.Prelude.{◌≡◌};
+    ghost use Rattle.files_flow.specs.declared.fault.FlowFault.TheVariants.{Text};
+    ghost use Rattle.files_text.specs.declared.fault.Fault.TheVariants.{Memory};
+
+    ghost from_gives = { λ _ result. result ≡ Text Memory };
+
     fn from(_: AllocFailed<T>) -> FlowFault {
         FlowFault::Text(Fault::Memory)
     }
 }
 
 impl From<io::Error> for FlowFault {
+    ghost use Rattle.std.specs.Prelude.{◌≡◌};
+    ghost use Rattle.files_flow.specs.declared.fault.FlowFault.TheVariants.{Text};
+    ghost use Rattle.files_text.specs.declared.fault.Fault.TheVariants.{Output};
+
+    ghost from_gives = { λ error result. result ≡ Text (Output error) };
+
     fn from(error: io::Error) -> FlowFault {
         FlowFault::Text(Fault::Output(error))
     }

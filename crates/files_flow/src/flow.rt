@@ -1,12 +1,17 @@
-//! Flow graphs whose nodes stand in a text, one a line: `name: reads a b; writes c; next n m`.
+//! Flow graphs whose nodes stand in a text.
+ghost use Rattle.std.specs.Prelude.{◌≡◌, ◌<◌, ◌∷◌, ◌++◌, [], List, Some, length, map, slice_get, All, Contains, IfErr, IfOk, OnOk, ◌⊎◌};
+ghost use Rattle.std.specs.String.{string_bytes};
+ghost use Rattle.files_text.specs.Words.{token_of};
+ghost use Rattle.files_flow.specs.Flows.{IsFlowOf, names_for};
+ghost use Rattle.files_flow.specs.NodeFaults.{IsCalled, IsUnread};
+ghost use Rattle.files_flow.specs.Nodes.{Mention, mention_of};
+ghost use Rattle.files_flow.specs.Numbering.{AreDistinct, AreSound, AreUnnumbered, HasMore, HaveSaid, IsEmpty, IsNone, IsUnnumbered, with_number, with_variable};
 
 use crate::fault::FlowFault;
-use files_text::{Fault, Names, Word, Words};
-use std::alloc::Global;
+use crate::nodes::{Kind, Nodes, Use, read_nodes};
+use files_text::{Names, Word};
+use std::alloc::{AllocError, Global};
 use vob_flow::live::Flow;
-
-/// What is expected after the name of a node.
-const COLON: &str = "`:` after the name of a node";
 
 /// A flow graph, and the names of its nodes and of its variables. The first node is the entry.
 #[derive(Drop)]
@@ -16,180 +21,133 @@ pub struct FlowGraph<'a> {
     pub nodes: Vec<Flow>,
 }
 
-/// What the next word of a line can be.
-#[derive(Clone, Copy, PartialEq, Eq)]
-enum Wants {
-    Name,
-    Colon,
-    Part,
-    Reads,
-    Writes,
-    Next,
-}
-
-/// A graph as it is read: what is wanted next, the last word, and the names after `next`, each with
-/// the number of its node.
-#[derive(Drop)]
-struct Reader<'a> {
-    graph: FlowGraph<'a>,
-    wants: Wants,
-    last: Word<'a>,
-    next: Vec<(usize, Word<'a>)>,
-}
-
-/// Whether a word is a mark.
-fn is_mark(word: &Word<'_>) -> bool {
-    word.text == b":".as_slice() || word.text == b";".as_slice()
-}
-
 /// Adds a number to a list that doesn't have it.
-fn add_new(numbers: &mut Vec<usize>, number: usize) -> Result<(), Fault> {
-    if !numbers.contains(&number) {
-        numbers.push(number)?;
+fn add_new(numbers: &mut Vec<usize>, number: usize) -> Result<(), AllocError>
+    ensures { OnOk result (numbers.new.items ≡ with_number numbers.old.items number) }
+{
+    if numbers.contains(&number) {
+        return Ok(());
     }
+    numbers.push(number)?;
     Ok(())
 }
 
-impl<'a> Reader<'a> {
-    /// Begins to read.
-    fn new(alloc: Global) -> Reader<'a> {
-        Reader {
-            graph: FlowGraph {
-                names: Names::new(alloc),
-                variables: Names::new(alloc),
-                nodes: Vec::new(alloc),
-            },
-            wants: Wants::Name,
-            last: Word {
-                text: b"",
-                line: 0,
-                column: 1,
-            },
-            next: Vec::new(alloc),
-        }
+/// Adds a number to the list of a node for a kind of names.
+fn add_to_flow(flow: &mut Flow, kind: Kind, number: usize) -> Result<(), AllocError>
+    ensures { OnOk result (HasMore kind number flow.old flow.new) }
+{
+    match kind {
+        Kind::Reads => add_new(&mut flow.reads, number),
+        Kind::Writes => add_new(&mut flow.writes, number),
+        Kind::Next => add_new(&mut flow.next, number),
     }
+}
 
-    /// Ends a line. Fails if it has a name alone.
-    fn end_line(&mut self) -> Result<(), Fault> {
-        if self.wants == Wants::Colon {
-            return Err(Fault::Line {
-                line: self.last.line,
-                column: self.last.end(),
-                expected: COLON,
-            });
-        }
-        self.wants = Wants::Name;
-        Ok(())
-    }
-
-    /// Takes the name of a node, which must be new.
-    fn take_name(&mut self, alloc: Global, word: &Word<'a>) -> Result<(), FlowFault> {
-        if is_mark(word) {
-            return Err(FlowFault::from(word.unexpected("the name of a node")));
-        }
-        if self.graph.names.find(word.text).is_some() {
-            return Err(FlowFault::Twice {
-                line: word.line,
-                column: word.column,
-                name: String::from_utf8_lossy(alloc, word.text)?,
-            });
-        }
-        self.graph.names.number(word.text)?;
-        self.graph.nodes.push(Flow {
+/// Returns nodes that read, write and lead to nothing.
+fn empty_flows(alloc: Global, count: usize) -> Result<Vec<Flow>, AllocError>
+    ensures count { IfOk result (λ made. length made.items ≡ count) }
+    ensures empty { IfOk result (λ made. All IsEmpty made.items) }
+{
+    let mut nodes = Vec::new(alloc);
+    for _ in 0..count {
+        nodes.push(Flow {
             reads: Vec::new(alloc),
             writes: Vec::new(alloc),
             next: Vec::new(alloc),
         })?;
-        self.wants = Wants::Colon;
-        Ok(())
     }
+    Ok(nodes)
+}
 
-    /// Takes the first word of a part, or the end of an empty one.
-    fn take_part(&mut self, word: &Word<'a>) -> Result<(), Fault> {
-        self.wants = match word.text {
-            b"reads" => Wants::Reads,
-            b"writes" => Wants::Writes,
-            b"next" => Wants::Next,
-            b";" => Wants::Part,
-            _ => return Err(word.unexpected("`reads`, `writes`, `next` or `;`")),
-        };
-        Ok(())
-    }
+/// Returns the number of the node with a name.
+fn node_number(alloc: Global, names: &Names<'_>, name: &Word<'_>) -> Result<usize, FlowFault>
+    ensures ok { IfOk result (λ number. slice_get names.now number ≡ Some name.now.text.now) }
+    ensures err { IfErr result (IsNone names.now (token_of name.now)) }
+{
+    let Some(number) = names.find(name.text) else {
+        return Err(FlowFault::NoNode {
+            line: name.line,
+            column: name.column,
+            name: String::from_utf8_lossy(alloc, name.text)?,
+        });
+    };
+    Ok(number)
+}
 
-    /// Takes a name of a part, or the mark that ends it.
-    fn take_member(&mut self, word: &Word<'a>) -> Result<(), Fault> {
-        if word.text == b";".as_slice() {
-            self.wants = Wants::Part;
-            return Ok(());
-        }
-        if is_mark(word) {
-            return Err(word.unexpected("a name or `;`"));
-        }
-        if self.wants == Wants::Next {
-            let node = self.graph.nodes.len().saturating_sub(1);
-            self.next.push((node, *word))?;
-            return Ok(());
-        }
-        let variable = self.graph.variables.number(word.text)?;
-        let is_read = self.wants == Wants::Reads;
-        match self.graph.nodes.last_mut() {
-            Some(node) if is_read => add_new(&mut node.reads, variable),
-            Some(node) => add_new(&mut node.writes, variable),
-            None => Ok(()),
-        }
+/// Returns the number of a name that a node reads, writes or leads to. A new variable is added.
+fn number_of<'a>(
+    alloc: Global,
+    names: &Names<'a>,
+    variables: &mut Names<'a>,
+    said: &Use<'a>,
+) -> Result<usize, FlowFault>
+    ensures ok { IfOk result (λ number. slice_get
+        (names_for names.now variables.new said.now.kind) number ≡ Some said.now.name.text.now) }
+    ensures variables { OnOk result (variables.new ≡ with_variable variables.old (mention_of said.now)) }
+    ensures err { IfErr result (IsUnnumbered names.now (mention_of said.now)) }
+{
+    match said.kind {
+        Kind::Reads | Kind::Writes => Ok(variables.number(said.name.text)?),
+        Kind::Next => node_number(alloc, names, &said.name),
     }
+}
 
-    /// Takes a word.
-    fn take(&mut self, alloc: Global, word: &Word<'a>) -> Result<(), FlowFault> {
-        if word.line != self.last.line {
-            self.end_line()?;
-        }
-        word.check_no_comma()?;
-        self.last = *word;
-        match self.wants {
-            Wants::Name => self.take_name(alloc, word)?,
-            Wants::Colon if word.text == b":".as_slice() => self.wants = Wants::Part,
-            Wants::Colon => return Err(FlowFault::from(word.unexpected(COLON))),
-            Wants::Part => self.take_part(word)?,
-            Wants::Reads | Wants::Writes | Wants::Next => self.take_member(word)?,
-        }
-        Ok(())
-    }
+/// Adds the number of a name to the lists of a node.
+fn add_use<'a>(
+    alloc: Global,
+    names: &Names<'a>,
+    variables: &mut Names<'a>,
+    nodes: &mut [Flow],
+    said: &Use<'a>,
+) -> Result<(), FlowFault>
+    requires { said.now.node < length nodes.old }
+    ensures ok { OnOk result ((mentions : List Mention) → AreDistinct names.now
+        → HaveSaid names.now variables.old nodes.old mentions
+        → HaveSaid names.now variables.new nodes.new (mentions ++ mention_of said.now ∷ [])) }
+    ensures err { IfErr result (IsUnnumbered names.now (mention_of said.now)) }
+{
+    let number = number_of(alloc, names, variables, said)?;
+    add_to_flow(&mut nodes[said.node], said.kind, number)?;
+    Ok(())
+}
 
-    /// Lets the names after `next` be nodes. Fails at the first that no node has.
-    fn link(self, alloc: Global) -> Result<FlowGraph<'a>, FlowFault> {
-        let Reader {
-            mut graph,
-            next,
-            ..
-        } = self;
-        for (node, word) in next.iter() {
-            let Some(to) = graph.names.find(word.text) else {
-                return Err(FlowFault::NoNode {
-                    line: word.line,
-                    column: word.column,
-                    name: String::from_utf8_lossy(alloc, word.text)?,
-                });
-            };
-            if let Some(flow) = graph.nodes.get_mut(*node) {
-                add_new(&mut flow.next, to)?;
-            }
-        }
-        Ok(graph)
+/// Makes the flow graph of nodes that were read. Fails at the first name to which a node leads and that
+/// no node has.
+fn link<'a>(alloc: Global, read: Nodes<'a>) -> Result<FlowGraph<'a>, FlowFault>
+    requires { AreSound read.names (map mention_of read.uses.items) }
+    ensures names { IfOk result (λ graph. graph.names ≡ read.entry.names) }
+    ensures ok { IfOk result (λ graph. HaveSaid graph.names graph.variables graph.nodes.items
+        (map mention_of read.entry.uses.items)) }
+    ensures err { IfErr result (AreUnnumbered read.entry.names (map mention_of read.entry.uses.items)) }
+{
+    let mut variables = Names::new(alloc);
+    let mut nodes = empty_flows(alloc, read.names.len())?;
+    for number in 0..read.uses.len() {
+        add_use(
+            alloc,
+            &read.names,
+            &mut variables,
+            &mut nodes,
+            &read.uses[number],
+        )?;
     }
+    Ok(FlowGraph {
+        names: read.names,
+        variables,
+        nodes,
+    })
 }
 
 /// Reads a flow graph. A line is a node: its name, a colon, and parts that begin with `reads`,
 /// `writes` or `next`, with `;` between them.
 ///
 /// Fails at the first word that can't stand where it does, as a comma, or the name of a node that
-/// another has. Fails then at the first name after `next` that no node has.
-pub fn read_flow(alloc: Global, text: &[u8]) -> Result<FlowGraph<'_>, FlowFault> {
-    let mut words = Words::new(text, b":;,");
-    let mut reader = Reader::new(alloc);
-    'words: while let Some(word) = words.next() {
-        reader.take(alloc, &word)?;
-    }
-    reader.end_line()?;
-    reader.link(alloc)
+/// another has. Fails then at the first name after `next` that no node has. Fails too if memory runs
+/// out.
+pub fn read_flow(alloc: Global, text: &[u8]) -> Result<FlowGraph<'_>, FlowFault>
+    ensures ok { IfOk result (λ graph. IsFlowOf text.now graph) }
+    ensures err { IfErr result (λ fault. IsUnread text.now fault) }
+{
+    let read = read_nodes(alloc, text)?;
+    link(alloc, read)
 }

@@ -6,6 +6,7 @@ mod definitions;
 mod dominance;
 mod fault;
 mod flow;
+mod nodes;
 mod problem;
 
 pub use analysis::{ANALYSES, Analysis, print_flow};
