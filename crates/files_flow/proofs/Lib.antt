@@ -1,4 +1,7 @@
 pub mod DefinitionLemmas
+mod ExpressionLemmas
+mod FaultLemmas
+mod FittingLemmas
 pub mod LiveLemmas
 mod NodeLemmas
 mod NumberLemmas

@@ -18,7 +18,7 @@ use Rattle.vob_rows.specs.Sparse.{members}
 use Rattle.files_flow.specs.declared.flow.FlowGraph.{FlowGraph}
 use Rattle.files_flow.specs.declared.problem.Problem.{Problem}
 use Rattle.files_flow.specs.FlowText.{ListsLive, ListsSolution, sides_text}
-use Rattle.files_flow.specs.Problems.{Fits, IsLiveProblem}
+use Rattle.files_flow.specs.Problems.{IsLiveProblem, IsSound}
 use Rattle.files_text.proofs.ListLemmas.{nothing}
 use Rattle.files_flow.proofs.ProblemLemmas.{only}
 
@@ -171,13 +171,13 @@ module _ (vars : ℕ) (nodes : List Flow) (near far : List (List Bool)) where
         }
 
 -- the lines of the problem's solution are those of live variables
-pub lists_live : (graph : FlowGraph) (problem : Problem) (text : List ℕ) → IsLiveProblem graph problem → Fits problem →
+pub lists_live : (graph : FlowGraph) (problem : Problem) (text : List ℕ) → IsLiveProblem graph problem → IsSound problem →
     ListsSolution graph.names problem text → ListsLive graph text
 lists_live graph problem text is fit l =
     let places : length problem.labels.items ≡ length graph.variables =
     sym (length-map problem.labels.items (λ (v : Vec ℕ Global). v.items)) ∙ ap length is.labels in
     let h = rw (is.paths, is.from, is.by_variable, is.writes, is.generates, places) at l.solved.solved in
-    let small = rw (places, is.generates) at fit in record {
+    let small = rw (places, is.generates) at fit.places in record {
       before = l.solved.far_sets;
       after = l.solved.near_sets;
       solution = live_solution (length graph.variables) graph.nodes.items _ _ (λ n less. small n [] less) h;

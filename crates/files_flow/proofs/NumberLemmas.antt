@@ -25,7 +25,7 @@ use Rattle.files_flow.specs.NodeFaults.{IsFound}
 use Rattle.std.specs.Prelude.{Result, Ok, Err, IfErr, IfOk}
 use Rattle.files_text.specs.declared.fault.Fault.TheVariants.{Line, Memory, Input, Output}
 use Rattle.files_flow.specs.declared.fault.FlowFault.{FlowFault}
-use Rattle.files_flow.specs.declared.fault.FlowFault.TheVariants.{Graph, Live, NoNode, Sets, Text, Twice}
+use Rattle.files_flow.specs.declared.fault.FlowFault.TheVariants.{NoNode, Text, Twice}
 use Rattle.files_flow.specs.declared.flow.FlowGraph.{FlowGraph}
 use Rattle.files_flow.specs.Flows.{IsFlowOf}
 use Rattle.files_flow.specs.Nodes.{HasNodes}
@@ -80,7 +80,7 @@ get_kept [] name k x there = absurd (none-some x there)
 get_kept (y ∷ names) name zero x there = there
 get_kept (y ∷ names) name (suc k) x there = get_kept names name k x there
 
-name_kept : (names : List (List ℕ)) (name : List ℕ) (k : ℕ) (x : List ℕ) → slice_get names k ≡ Some x →
+pub name_kept : (names : List (List ℕ)) (name : List ℕ) (k : ℕ) (x : List ℕ) → slice_get names k ≡ Some x →
     slice_get (with_name names name) k ≡ Some x
 name_kept names name k x there = elim (grown names name) [
   | inl same ↦ ap (λ l. slice_get l k) same ∙ there
@@ -327,9 +327,6 @@ module _ (text : List ℕ) (names : List (List ℕ)) (mentions : List Mention) (
   absent early mention late cut found (Text (Output error)) is = absurd is
   absent early mention late cut found (Text (Line line column expected)) is = absurd is
   absent early mention late cut found (Twice line column name) is = absurd is
-  absent early mention late cut found (Graph error) is = absurd is
-  absent early mention late cut found (Sets error) is = absurd is
-  absent early mention late cut found (Live error) is = absurd is
 
   pub flow_unread : (result : Result FlowGraph FlowFault) → IfErr result (AreUnnumbered names mentions) →
       IfErr result (IsUnread text)

@@ -1,5 +1,5 @@
 -- The flow graph of a text: what each node reads, writes and leads to, by numbers.
-use Rattle.std.specs.Prelude.{◌≡◌, ◌==◌, ◌&&◌, ℕ, Bool, true, false, not, List, [], ◌∷◌, length, map, filter, slice_get, Some, All, ⊤}
+use Rattle.std.specs.Prelude.{◌≡◌, ◌==◌, ◌&&◌, ◌<◌, ℕ, Bool, true, false, not, List, [], ◌∷◌, length, map, filter, slice_get, Some, All, ⊤}
 use Rattle.vob_flow.specs.declared.live.Flow.{Flow}
 use Rattle.files_text.specs.Names.{names_in}
 use Rattle.files_flow.specs.declared.flow.FlowGraph.{FlowGraph}
@@ -53,3 +53,9 @@ pub record IsFlowOf (text : List ℕ) (graph : FlowGraph) : Type 0 where
   pub found : All (IsFound graph.names) mentions
   pub variables : graph.variables ≡ variables_in mentions
   pub flows : AreFlows graph.names graph.variables graph.nodes.items mentions
+
+-- the numbers in the lists of each node are those of variables and nodes
+pub record IsInRange (graph : FlowGraph) : Type 0 where
+  pub count : length graph.nodes.items ≡ length graph.names
+  pub each : (n : ℕ) (node : Flow) → slice_get graph.nodes.items n ≡ Some node → (kind : Kind) →
+      All (λ number. number < length (names_for graph.names graph.variables kind)) (list_of kind node)

@@ -1,4 +1,6 @@
+pub mod Analyses
 pub mod Definitions
+pub mod Expressions
 pub mod FlowText
 pub mod Flows
 pub mod NodeFaults

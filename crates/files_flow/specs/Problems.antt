@@ -1,6 +1,7 @@
 -- Dataflow problems by lists, and the sets that solve them.
 use Rattle.std.specs.Prelude.{◌≡◌, ◌↔◌, ◌⊎◌, ℕ, ◌<◌, Bool, false, List, [], ◌∷◌, length, map, slice_index_or, Contains}
 use Rattle.std.specs.List.{range_with_len}
+use Rattle.vob_rows.specs.Graph.{LeadToNodes}
 use Rattle.vob_rows.specs.Sparse.{members}
 pub use Rattle.vob_flow.specs.Lists.{IsBelowEach, Solve, keeps, lists_of, sets_of}
 use Rattle.vob_flow.specs.declared.lists.Paths.TheVariants.{Some as SomePath}
@@ -24,9 +25,14 @@ pub record AreBefore (nodes : List Flow) (before : List (List ℕ)) : Type 0 whe
   pub each : (n m : ℕ) → n < length nodes →
       Contains (slice_index_or before n []) m ↔ Contains (next_of nodes m) n
 
--- what nodes generate are places
-abbrev pub Fits : Problem → Type 0
-Fits problem = IsBelowEach (length problem.labels.items) (lists_of problem.generates.items)
+-- lists for each node from which edges lead, whose numbers are nodes, places and variables
+pub record IsSound (problem : Problem) : Type 0 where
+  pub edges : LeadToNodes (lists_of problem.from.items) (length problem.from.items)
+  pub generates : length problem.generates.items ≡ length problem.from.items
+  pub writes : length problem.writes.items ≡ length problem.from.items
+  pub places : IsBelowEach (length problem.labels.items) (lists_of problem.generates.items)
+  pub own_places : IsBelowEach (length problem.labels.items) (lists_of problem.by_variable.items)
+  pub variables : IsBelowEach (length problem.by_variable.items) (lists_of problem.writes.items)
 
 -- the places on the near side of each node, from where it draws, and on the far one: those of the sets
 -- that solve a problem, where each node keeps what it doesn't kill

@@ -1,21 +1,24 @@
 //! What holds before and after each node of a flow graph.
-ghost use Rattle.std.specs.Prelude.{◌≡◌, [], slice_index_or, IfOk, OnOk};
+ghost use Rattle.std.specs.Prelude.{◌≡◌, [], slice_index_or, IfErr, IfOk, OnOk};
 ghost use Rattle.std.specs.Io.KnownBytes.{Appends};
 ghost use Rattle.files_text.specs.Printed.{Writes};
-ghost use Rattle.files_flow.specs.Problems.{Fits, IsSolved, lists_of};
-ghost use Rattle.files_flow.specs.FlowText.{ListsLive, ListsReaching, ListsSolution, labels_text, set_text, sides_text};
+ghost use Rattle.files_flow.specs.Analyses.{FailsBy, IsOutputFault, ListsAnalysis, WritesAnalysis};
+ghost use Rattle.files_flow.specs.Flows.{IsInRange};
+ghost use Rattle.files_flow.specs.Problems.{IsSolved, IsSound, lists_of};
+ghost use Rattle.files_flow.specs.FlowText.{ListsAvailable, ListsBusy, ListsLive, ListsReaching, ListsSolution, labels_text, set_text, sides_text};
 
 use crate::definitions::reaching_problem;
 use crate::dominance::{print_dominators, print_immediate};
+use crate::expressions::{available_problem, busy_problem};
 use crate::fault::FlowFault;
 use crate::flow::{FlowGraph, read_flow};
-use crate::problem::{Problem, available_problem, busy_problem, live_problem};
-use files_text::{Names, end_line, put_name, put_next};
-use std::alloc::Global;
+use crate::problem::{Problem, graph_of, live_problem};
+use files_text::{Fault, Names, end_line, put_name, put_next};
+use std::alloc::{AllocError, Global};
 use std::io;
 use std::io::Write;
 use vob_flow::{Lists, SparseSides, solve_lists};
-use vob_rows::{Graph, SparseRows};
+use vob_rows::SparseRows;
 
 /// An analysis of a flow graph.
 #[derive(Clone, Copy, PartialEq, Eq)]
@@ -60,20 +63,23 @@ impl Analysis {
 }
 
 /// Solves a problem: returns the least sets that meet its equations, or the greatest ones if it asks
-/// about all paths.
-fn solve(alloc: Global, problem: &Problem) -> Result<SparseSides, FlowFault>
-    ensures solved { IfOk result (λ sides. IsSolved problem.now sides.near.rows sides.far.rows) }
-    ensures fit { OnOk result (Fits problem.now) }
+/// about all paths. Fails if memory runs out.
+fn solve(alloc: Global, problem: &Problem) -> Result<SparseSides, AllocError>
+    requires { IsSound problem.now }
+    ensures { IfOk result (λ sides. IsSolved problem.now sides.near.rows sides.far.rows) }
 {
-    let from = Graph::from_lists(alloc, &problem.from)?;
+    let from = graph_of(alloc, &problem.from)?;
     let lists = Lists {
         places: problem.labels.len(),
         generates: &problem.generates,
         by_variable: &problem.by_variable,
         writes: &problem.writes,
     };
-    let sides = solve_lists(alloc, &lists, &from, problem.paths)?;
-    Ok(sides)
+    match solve_lists(alloc, &lists, &from, problem.paths) {
+        Ok(sides) => Ok(sides),
+        // The lists are those of nodes, places and variables.
+        Err(_) => Err(AllocError),
+    }
 }
 
 /// Returns the label of a place, or nothing if there is none.
@@ -104,9 +110,10 @@ fn put_places<W: Write>(
     labels: &[Vec<u8>],
     sets: &SparseRows,
     node: usize,
-) -> Result<(), FlowFault>
-    ensures { OnOk result (Appends (W.contents output.old) (W.contents output.new)
+) -> Result<(), Fault>
+    ensures ok { OnOk result (Appends (W.contents output.old) (W.contents output.new)
         (set_text (lists_of labels.now) sets.now.rows node)) }
+    ensures err { IfErr result IsOutputFault }
 {
     if node < sets.rows() {
         let places = sets.members(alloc, node)?;
@@ -123,9 +130,10 @@ fn put_sides<W: Write>(
     labels: &[Vec<u8>],
     before: &SparseRows,
     after: &SparseRows,
-) -> Result<(), FlowFault>
-    ensures { OnOk result (Appends (W.contents output.old) (W.contents output.new)
+) -> Result<(), Fault>
+    ensures ok { OnOk result (Appends (W.contents output.old) (W.contents output.new)
         (sides_text names.now (lists_of labels.now) before.now.rows after.now.rows)) }
+    ensures err { IfErr result IsOutputFault }
 {
     for node in 0..names.len() {
         put_name(output, names.name(node))?;
@@ -144,10 +152,11 @@ fn print_solution<W: Write>(
     names: &Names<'_>,
     problem: &Problem,
     output: &mut W,
-) -> Result<(), FlowFault>
-    ensures written { OnOk result (Writes (W.contents output.old) (W.contents output.new)
+) -> Result<(), Fault>
+    requires { IsSound problem.now }
+    ensures ok { OnOk result (Writes (W.contents output.old) (W.contents output.new)
         (ListsSolution names.now problem.now)) }
-    ensures fit { OnOk result (Fits problem.now) }
+    ensures err { IfErr result IsOutputFault }
 {
     let sides = solve(alloc, problem)?;
     if problem.is_forward {
@@ -173,13 +182,11 @@ fn print_solution<W: Write>(
 }
 
 /// Writes the variables that may still be read before and after each node.
-fn print_live<W: Write>(
-    alloc: Global,
-    graph: &FlowGraph<'_>,
-    output: &mut W,
-) -> Result<(), FlowFault>
-    ensures { OnOk result (Writes (W.contents output.old) (W.contents output.new)
+fn print_live<W: Write>(alloc: Global, graph: &FlowGraph<'_>, output: &mut W) -> Result<(), Fault>
+    requires { IsInRange graph.now }
+    ensures ok { OnOk result (Writes (W.contents output.old) (W.contents output.new)
         (ListsLive graph.now)) }
+    ensures err { IfErr result IsOutputFault }
 {
     let problem = live_problem(alloc, graph)?;
     print_solution(alloc, &graph.names, &problem, output)?;
@@ -191,36 +198,86 @@ fn print_reaching<W: Write>(
     alloc: Global,
     graph: &FlowGraph<'_>,
     output: &mut W,
-) -> Result<(), FlowFault>
-    ensures { OnOk result (Writes (W.contents output.old) (W.contents output.new)
+) -> Result<(), Fault>
+    requires { IsInRange graph.now }
+    ensures ok { OnOk result (Writes (W.contents output.old) (W.contents output.new)
         (ListsReaching graph.now)) }
+    ensures err { IfErr result IsOutputFault }
 {
     let problem = reaching_problem(alloc, graph)?;
     print_solution(alloc, &graph.names, &problem, output)?;
     Ok(())
 }
 
-/// Reads a flow graph, and writes what an analysis finds at each node. Returns the status, 0.
+/// Writes the expressions that were computed on all paths from the entry before and after each node.
+fn print_available<W: Write>(
+    alloc: Global,
+    graph: &FlowGraph<'_>,
+    output: &mut W,
+) -> Result<(), Fault>
+    requires { IsInRange graph.now }
+    ensures ok { OnOk result (Writes (W.contents output.old) (W.contents output.new)
+        (ListsAvailable graph.now)) }
+    ensures err { IfErr result IsOutputFault }
+{
+    let problem = available_problem(alloc, graph)?;
+    print_solution(alloc, &graph.names, &problem, output)?;
+    Ok(())
+}
+
+/// Writes the expressions that will be computed on all paths before and after each node.
+fn print_busy<W: Write>(alloc: Global, graph: &FlowGraph<'_>, output: &mut W) -> Result<(), Fault>
+    requires { IsInRange graph.now }
+    ensures ok { OnOk result (Writes (W.contents output.old) (W.contents output.new)
+        (ListsBusy graph.now)) }
+    ensures err { IfErr result IsOutputFault }
+{
+    let problem = busy_problem(alloc, graph)?;
+    print_solution(alloc, &graph.names, &problem, output)?;
+    Ok(())
+}
+
+/// Writes what an analysis finds at each node.
+fn print_analysis<W: Write>(
+    alloc: Global,
+    graph: &FlowGraph<'_>,
+    analysis: Analysis,
+    output: &mut W,
+) -> Result<(), Fault>
+    requires { IsInRange graph.now }
+    ensures ok { OnOk result (Writes (W.contents output.old) (W.contents output.new)
+        (ListsAnalysis analysis graph.now)) }
+    ensures err { IfErr result IsOutputFault }
+{
+    match analysis {
+        Analysis::Live => print_live(alloc, graph, output),
+        Analysis::Reaching => print_reaching(alloc, graph, output),
+        Analysis::Available => print_available(alloc, graph, output),
+        Analysis::Busy => print_busy(alloc, graph, output),
+        Analysis::Dominators => print_dominators(alloc, graph, output),
+        Analysis::Immediate => print_immediate(alloc, graph, output),
+    }
+}
+
+/// Reads a flow graph, and writes what an analysis finds at each node. Returns the status, 0. Equal
+/// texts give equal bytes.
 ///
-/// Fails at the first word of the text that can't stand where it does. Nothing is written then.
-/// Fails too if memory runs out, or if the output can't be written.
+/// Fails at the first word of the text that can't stand where it does, or else at the first name to
+/// which a node leads that no node has. Nothing is written then. Fails too if memory runs out, or if
+/// the output can't be written.
 pub fn print_flow<W: Write>(
     alloc: Global,
     text: &[u8],
     analysis: Analysis,
     output: &mut W,
-) -> Result<u8, FlowFault> {
+) -> Result<u8, FlowFault>
+    ensures status { IfOk result (λ status. status ≡ 0) }
+    ensures ok { OnOk result
+        (WritesAnalysis text.now analysis (W.contents output.old) (W.contents output.new)) }
+    ensures err { IfErr result (λ fault. FailsBy text.now fault
+        (W.contents output.old) (W.contents output.new)) }
+{
     let graph = read_flow(alloc, text)?;
-    let names = &graph.names;
-    match analysis {
-        Analysis::Live => print_live(alloc, &graph, output)?,
-        Analysis::Reaching => print_reaching(alloc, &graph, output)?,
-        Analysis::Available => {
-            print_solution(alloc, names, &available_problem(alloc, &graph)?, output)?;
-        }
-        Analysis::Busy => print_solution(alloc, names, &busy_problem(alloc, &graph)?, output)?,
-        Analysis::Dominators => print_dominators(alloc, &graph, output)?,
-        Analysis::Immediate => print_immediate(alloc, &graph, output)?,
-    }
+    print_analysis(alloc, &graph, analysis, output)?;
     Ok(0)
 }

@@ -3,9 +3,6 @@
 use files_text::Fault;
 use std::alloc::{AllocError, AllocFailed};
 use std::{fmt, io};
-use vob_flow::SolveError;
-use vob_flow::live::LiveError;
-use vob_rows::GraphError;
 
 /// Why no analysis is written.
 #[derive(Debug, Drop)]
@@ -24,12 +21,6 @@ pub enum FlowFault {
         column: usize,
         name: String,
     },
-    /// The edges of the flow graph lead to no nodes.
-    Graph(GraphError),
-    /// The sets of the flow graph weren't found.
-    Sets(SolveError),
-    /// The live variables of the flow graph weren't found.
-    Live(LiveError),
 }
 
 impl FlowFault {
@@ -43,9 +34,6 @@ impl FlowFault {
             FlowFault::Twice { line, column, name } => {
                 write!(f, "{file}:{line}:{column}: a second node is called {name}")
             }
-            FlowFault::Graph(error) => write!(f, "{file}: {error}"),
-            FlowFault::Sets(error) => write!(f, "{file}: {error}"),
-            FlowFault::Live(error) => write!(f, "{file}: {error}"),
         }
     }
 }
@@ -94,32 +82,5 @@ impl From<io::Error> for FlowFault {
 
     fn from(error: io::Error) -> FlowFault {
         FlowFault::Text(Fault::Output(error))
-    }
-}
-
-impl From<GraphError> for FlowFault {
-    fn from(error: GraphError) -> FlowFault {
-        match error {
-            GraphError::Memory => FlowFault::Text(Fault::Memory),
-            _ => FlowFault::Graph(error),
-        }
-    }
-}
-
-impl From<SolveError> for FlowFault {
-    fn from(error: SolveError) -> FlowFault {
-        match error {
-            SolveError::Memory => FlowFault::Text(Fault::Memory),
-            _ => FlowFault::Sets(error),
-        }
-    }
-}
-
-impl From<LiveError> for FlowFault {
-    fn from(error: LiveError) -> FlowFault {
-        match error {
-            LiveError::Memory => FlowFault::Text(Fault::Memory),
-            _ => FlowFault::Live(error),
-        }
     }
 }

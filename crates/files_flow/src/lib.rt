@@ -4,6 +4,7 @@
 mod analysis;
 mod definitions;
 mod dominance;
+mod expressions;
 mod fault;
 mod flow;
 mod nodes;

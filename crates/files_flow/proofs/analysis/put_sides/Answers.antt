@@ -16,12 +16,12 @@ loop-node-preserved g c =
     (Appends-both _ _ _ _ _ (Appends-both _ _ _ _ _ (Appends-both _ _ _ _ _ (Appends-both _ _ _ _ _
     (Appends-both _ _ _ _ _ (rw (← c.name.ensures) c.in_ok-put_name.ensures)
     c.in_ok-write_all.ensures.bytes)
-    c.in_ok-put_places.ensures)
+    c.in_ok-put_places.ensures.ok)
     c.in_ok-write_all-2.ensures.bytes)
-    c.in_ok-put_places-2.ensures)
+    c.in_ok-put_places-2.ensures.ok)
     c.in_ok-end_line.ensures)
 
-pub returns : goal.returns
-returns g c =
+pub returns-clause-ok : goal.returns-clause-ok
+returns-clause-ok g c =
     items_none _ _ _ _ _ (range_none c.loop-node.node (length c.args.names.now)
     (omega (arith, c.loop-node-test.false, c.len-node-end.ensures))) c.loop-node.invariant

@@ -1,0 +1,18 @@
+-- The lines are those of the solution of the graph's problem.
+use Rattle.files_flow.proofs.FittingLemmas.{available_sound, edges_lead}
+use Rattle.files_flow.proofs.analysis.print_available.Goals as goal
+
+pub print_solution-requires : goal.print_solution-requires
+print_solution-requires g c =
+    available_sound c.args.graph.now c.requires c.in_ok-problem.problem c.in_ok-problem.ensures
+
+pub returns-clause-ok : goal.returns-clause-ok
+returns-clause-ok g c =
+    let text = c.in_ok-print_solution.ensures.ok in (
+      text.0,
+      text.1,
+      record { problem = _; of = c.in_ok-problem.ensures; lists = text.2 },
+    )
+
+pub available_problem-requires : goal.available_problem-requires
+available_problem-requires g c = edges_lead c.args.graph.now c.requires

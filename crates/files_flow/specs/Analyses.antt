@@ -1,0 +1,41 @@
+-- What `flow` makes of a text: what it writes, and why it fails.
+use Rattle.std.specs.Prelude.{ℕ, List, Option, ⊤}
+use Rattle.std.specs.Io.KnownBytes.{Keeps}
+use Rattle.files_text.specs.Printed.{Writes}
+use Rattle.files_text.specs.declared.fault.Fault.{Fault}
+use Rattle.files_text.specs.declared.fault.Fault.TheVariants.{Memory, Output}
+use Rattle.files_flow.specs.FlowText.{ListsAvailable, ListsBusy, ListsDominators, ListsImmediate, ListsLive, ListsReaching}
+use Rattle.files_flow.specs.Flows.{IsFlowOf}
+use Rattle.files_flow.specs.NodeFaults.{IsUnread}
+use Rattle.files_flow.specs.declared.analysis.Analysis.{Analysis}
+use Rattle.files_flow.specs.declared.analysis.Analysis.TheVariants.{Live, Reaching, Available, Busy, Dominators, Immediate}
+use Rattle.files_flow.specs.declared.fault.FlowFault.{FlowFault}
+use Rattle.files_flow.specs.declared.fault.FlowFault.TheVariants.{Text}
+use Rattle.files_flow.specs.declared.flow.FlowGraph.{FlowGraph}
+
+-- what an analysis lists of a flow graph
+abbrev pub ListsAnalysis : Analysis → FlowGraph → List ℕ → Type 0
+ListsAnalysis Live graph text = ListsLive graph text
+ListsAnalysis Reaching graph text = ListsReaching graph text
+ListsAnalysis Available graph text = ListsAvailable graph text
+ListsAnalysis Busy graph text = ListsBusy graph text
+ListsAnalysis Dominators graph text = ListsDominators graph text
+ListsAnalysis Immediate graph text = ListsImmediate graph text
+
+-- known bytes grew by what an analysis lists of the text's flow graph
+pub record WritesAnalysis (text : List ℕ) (analysis : Analysis) (old new : Option (List ℕ)) : Type 0 where
+  pub graph : FlowGraph
+  pub graph_is : IsFlowOf text graph
+  pub written : Writes old new (ListsAnalysis analysis graph)
+
+-- there was no memory, or the output failed
+abbrev pub IsOutputFault : Fault → Type 0
+IsOutputFault Memory = ⊤
+IsOutputFault (Output error) = ⊤
+IsOutputFault fault = ⊥
+
+-- why nothing was written, unless memory ran out or the output failed
+abbrev pub FailsBy : List ℕ → FlowFault → (old new : Option (List ℕ)) → Type 0
+FailsBy text (Text Memory) old new = ⊤
+FailsBy text (Text (Output error)) old new = ⊤
+FailsBy text fault old new = IsUnread text fault × Keeps old new
