@@ -4,7 +4,7 @@ use Rattle.std.specs.Io.KnownBytes.{Keeps}
 use Rattle.files_text.specs.declared.fault.Fault.{Fault}
 use Rattle.files_text.specs.declared.fault.Fault.TheVariants.{Input, Line, Memory, Output}
 use Rattle.files_flow.specs.Analyses.{FailsBy, IsOutputFault}
-use Rattle.files_flow.specs.NodeFaults.{IsUnread}
+use Rattle.files_flow.specs.FlowFaults.{IsUnread}
 use Rattle.files_flow.specs.declared.fault.FlowFault.{FlowFault}
 use Rattle.files_flow.specs.declared.fault.FlowFault.TheVariants.{NoNode, Text, Twice}
 

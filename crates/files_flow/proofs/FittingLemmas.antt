@@ -12,7 +12,8 @@ use Rattle.vob_rows.specs.Graph.{LeadToNodes}
 use Rattle.files_text.proofs.ListLemmas.{Contains-map, first_or_later, map-Contains, nothing}
 use Rattle.files_flow.proofs.ExpressionLemmas.{zip_count, zip_each}
 use Rattle.files_flow.specs.Definitions.{AreGrouped, IsReachingProblem, definition_label, definitions_of}
-use Rattle.files_flow.specs.Expressions.{AreReachedBefore, AreTransposed, IsAvailableProblem, IsBusyProblem, IsLasting, IsOwn, after_of, expression_label, expressions_of}
+use Rattle.files_flow.specs.Expressions.{AreReachedBefore, AreTransposed, IsLasting, IsOwn, expression_label, expressions_of}
+use Rattle.files_flow.specs.Available.{IsAvailableProblem, IsBusyProblem, after_of}
 use Rattle.files_flow.specs.Flows.{AreNumbers, IsFlowOf, IsInRange, list_of, names_for}
 use Rattle.files_flow.specs.Problems.{AreBefore, IsLiveProblem, IsSound, lists_of, next_of}
 use Rattle.files_flow.specs.declared.flow.FlowGraph.{FlowGraph}

@@ -24,7 +24,8 @@ use Rattle.files_flow.specs.Nodes.{AreClosed, AreNodes, AreWordsOf, BeginsNode, 
 use Rattle.files_flow.specs.Nodes.AreClosed.{nothing, closed}
 use Rattle.files_flow.specs.Nodes.AreNodes.{no_node, node}
 use Rattle.files_flow.specs.Nodes.IsPart.{empty, keyed}
-use Rattle.files_flow.specs.NodeFaults.{IsFaulty, IsFaultOf, IsFirstFault, IsSecond, IsTextFault, IsUnread}
+use Rattle.files_flow.specs.NodeFaults.{IsFaulty, IsFirstFault, IsSecond}
+use Rattle.files_flow.specs.FlowFaults.{IsFaultOf, IsTextFault, IsUnread}
 use Rattle.files_flow.specs.Reading.{HasRead, at_hand}
 use Rattle.files_flow.specs.declared.fault.FlowFault.{FlowFault}
 use Rattle.files_flow.specs.declared.nodes.Kind.{Kind}
@@ -95,7 +96,8 @@ pub node_more : (last : Option ℕ) (part : Option Kind) (words : List Token) (c
     IsNumbered called name.text k after →
     AreNodes (Some colon.line) None (words ++ name ∷ colon ∷ []) after mentions
 node_more last part words called mentions name colon nodes begins line is k after numbered =
-    let made = node name colon nodes begins is nothing empty (All-push (λ (w : Token). w.line ≡ name.line) [] colon (All-nil (λ (w : Token). w.line ≡ name.line)) (sym line)) in
+    let own = λ (w : Token). w.line ≡ name.line in
+    let made = node name colon nodes begins is nothing empty (All-push own [] colon (All-nil own) (sym line)) in
     subst (λ l. AreNodes (Some colon.line) None (words ++ name ∷ colon ∷ []) l mentions) (sym (numbered.added ∙ with_one))
     (subst (AreNodes (Some colon.line) None (words ++ name ∷ colon ∷ []) (called ++ name.text ∷ [])) (append-nil _ ∙ append-nil mentions)
     (subst (λ l. AreNodes (Some l) None (words ++ name ∷ colon ∷ []) (called ++ name.text ∷ []) (mentions ++ [] ++ [])) line made))

@@ -21,7 +21,7 @@ use Rattle.files_flow.specs.Nodes.{AreClosed, AreNodes, IsPart, Mention}
 use Rattle.files_flow.specs.Nodes.AreClosed.{nothing, closed}
 use Rattle.files_flow.specs.Nodes.AreNodes.{no_node, node}
 use Rattle.files_flow.specs.Nodes.IsPart.{empty, keyed}
-use Rattle.files_flow.specs.NodeFaults.{IsFound}
+use Rattle.files_flow.specs.FlowFaults.{IsFound}
 use Rattle.std.specs.Prelude.{Result, Ok, Err, IfErr, IfOk}
 use Rattle.files_text.specs.declared.fault.Fault.TheVariants.{Line, Memory, Input, Output}
 use Rattle.files_flow.specs.declared.fault.FlowFault.{FlowFault}
@@ -29,7 +29,7 @@ use Rattle.files_flow.specs.declared.fault.FlowFault.TheVariants.{NoNode, Text, 
 use Rattle.files_flow.specs.declared.flow.FlowGraph.{FlowGraph}
 use Rattle.files_flow.specs.Flows.{IsFlowOf}
 use Rattle.files_flow.specs.Nodes.{HasNodes}
-use Rattle.files_flow.specs.NodeFaults.{IsUnread}
+use Rattle.files_flow.specs.FlowFaults.{IsUnread}
 use Rattle.files_flow.specs.Numbering.{AreUnnumbered, IsUnnumbered}
 use Rattle.files_flow.specs.Numbering.{AreDistinct, AreSound, HasMore, HaveSaid, with_number, with_variable}
 use Rattle.files_flow.proofs.NodeLemmas.{has}
@@ -228,8 +228,10 @@ module _ (names old-variables variables : List (List ℕ)) (nodes : List Flow) (
   each : (n : ℕ) (flow : Flow) → slice_get (set nodes mention.node new) n ≡ Some flow → (kind : Kind) →
       AreNumbers (names_for names variables kind) (list_of kind flow) (names_in (said_of n kind (mentions ++ mention ∷ [])))
   each n flow there kind = elim (get_set nodes mention.node new n flow there) [
-    | inl same ↦ subst (λ k. AreNumbers (names_for names variables kind) (list_of kind flow) (names_in (said_of k kind (mentions ++ mention ∷ [])))) (sym same.0)
-        (subst (λ f. AreNumbers (names_for names variables kind) (list_of kind f) (names_in (said_of mention.node kind (mentions ++ mention ∷ [])))) same.1 (here_is kind))
+    | inl same ↦ subst (λ k. AreNumbers (names_for names variables kind) (list_of kind flow)
+        (names_in (said_of k kind (mentions ++ mention ∷ [])))) (sym same.0)
+        (subst (λ f. AreNumbers (names_for names variables kind) (list_of kind f)
+        (names_in (said_of mention.node kind (mentions ++ mention ∷ [])))) same.1 (here_is kind))
     | inr other ↦
         let off : (mention.node == n) ≡ false = grind (arith, common_steps, other.0) in
         rw (chosen_more (λ m. (m.node == n) && is_kind m.kind kind) mentions mention, off) (before n flow other.1 kind)
@@ -268,7 +270,8 @@ pub are_sound : (last : Option ℕ) (part : Option Kind) (words : List Token) (n
     AreNodes last part words names mentions → AreSound names mentions
 are_sound last part words names mentions no_node = (none_distinct, All-nil (λ (m : Mention). m.node < 0))
 are_sound last part words names mentions
-    (node {last = l} {before = b} {kind = kind} {words = w} {shut = s} {part = p} name colon {names = old} {mentions = early} {own = own} {others = others} nodes begins is shut_is part_is lines) =
+    (node {last = l} {before = b} {kind = kind} {words = w} {shut = s} {part = p} name colon {names = old}
+    {mentions = early} {own = own} {others = others} nodes begins is shut_is part_is lines) =
     let sound = are_sound l b w old early nodes in
     let long = length-append old (name.text ∷ []) in
     let count = length (old ++ name.text ∷ []) in

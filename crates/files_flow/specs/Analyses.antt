@@ -4,9 +4,10 @@ use Rattle.std.specs.Io.KnownBytes.{Keeps}
 use Rattle.files_text.specs.Printed.{Writes}
 use Rattle.files_text.specs.declared.fault.Fault.{Fault}
 use Rattle.files_text.specs.declared.fault.Fault.TheVariants.{Memory, Output}
-use Rattle.files_flow.specs.FlowText.{ListsAvailable, ListsBusy, ListsDominators, ListsImmediate, ListsLive, ListsReaching}
+use Rattle.files_flow.specs.FlowText.{ListsDominators, ListsImmediate, ListsLive, ListsReaching}
+use Rattle.files_flow.specs.Available.{ListsAvailable, ListsBusy}
 use Rattle.files_flow.specs.Flows.{IsFlowOf}
-use Rattle.files_flow.specs.NodeFaults.{IsUnread}
+use Rattle.files_flow.specs.FlowFaults.{IsUnread}
 use Rattle.files_flow.specs.declared.analysis.Analysis.{Analysis}
 use Rattle.files_flow.specs.declared.analysis.Analysis.TheVariants.{Live, Reaching, Available, Busy, Dominators, Immediate}
 use Rattle.files_flow.specs.declared.fault.FlowFault.{FlowFault}

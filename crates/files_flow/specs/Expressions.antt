@@ -1,14 +1,11 @@
 -- The expressions of a flow graph: what its nodes read.
 use Rattle.std.specs.Prelude.{◌≡◌, ◌↔◌, ◌⊎◌, ℕ, ◌<◌, Bool, true, false, List, [], ◌∷◌, ◌++◌, codes, filter, length, map, slice_index_or, Some, slice_get, Contains}
-use Rattle.std.specs.List.{AllZip, flat_map}
+use Rattle.std.specs.List.{flat_map}
 use Rattle.vob_flow.specs.Reach.{HasWay}
-use Rattle.vob_flow.specs.declared.lists.Paths.TheVariants.{AllFrom}
 use Rattle.vob_flow.specs.declared.live.Flow.{Flow}
 use Rattle.files_text.specs.Names.{names_in}
 use Rattle.files_text.specs.Printed.{name_at}
-use Rattle.files_flow.specs.declared.flow.FlowGraph.{FlowGraph}
-use Rattle.files_flow.specs.declared.problem.Problem.{Problem}
-use Rattle.files_flow.specs.Problems.{lists_of, next_of}
+use Rattle.files_flow.specs.Problems.{next_of}
 
 abbrev pub reads_any : List ℕ → Bool
 reads_any [] = false
@@ -51,39 +48,3 @@ pub record AreReachedBefore (nodes : List Flow) (before : List (List ℕ)) : Typ
   pub count : length before ≡ length nodes
   pub each : (n m : ℕ) → n < length nodes → Contains (slice_index_or before n []) m
       ↔ (Contains (next_of nodes m) n × HasWay (map (λ node. node.next.items) nodes) 0 m)
-
--- a node ends the expressions that read what it writes
-pub record HasExpressions (graph : FlowGraph) (problem : Problem) : Type 0 where
-  pub labels : lists_of problem.labels.items
-      ≡ map (expression_label graph.variables) (expressions_of graph.nodes.items)
-  pub by_variable : AreTransposed (length graph.variables) (expressions_of graph.nodes.items)
-      (lists_of problem.by_variable.items)
-
--- expressions on all paths from the first node, where there are none: a node makes its own if it
--- doesn't write any variable of it
-pub record IsAvailableProblem (graph : FlowGraph) (problem : Problem) : Type 0 where
-  pub paths : problem.paths ≡ AllFrom 0
-  pub forward : problem.is_forward ≡ true
-  pub expressions : HasExpressions graph problem
-  pub generates : AllZip (IsLasting (expressions_of graph.nodes.items)) graph.nodes.items
-      (lists_of problem.generates.items)
-  pub writes : lists_of problem.writes.items ≡ map (λ node. node.writes.items) graph.nodes.items
-  pub from : AreReachedBefore graph.nodes.items (lists_of problem.from.items)
-
--- the nodes that come after one, or a border if there are none
-abbrev pub after_of : (border : ℕ) → List ℕ → List ℕ
-after_of border [] = border ∷ []
-after_of border (node ∷ next) = node ∷ next
-
--- expressions on all paths to a border behind the last node, where there are none: a node makes its
--- own
-pub record IsBusyProblem (graph : FlowGraph) (problem : Problem) : Type 0 where
-  pub paths : problem.paths ≡ AllFrom (length graph.nodes.items)
-  pub backward : problem.is_forward ≡ false
-  pub expressions : HasExpressions graph problem
-  pub own : List (List ℕ)
-  pub are_own : AllZip (λ node. IsOwn (expressions_of graph.nodes.items) node.reads.items) graph.nodes.items own
-  pub generates : lists_of problem.generates.items ≡ own ++ [] ∷ []
-  pub writes : lists_of problem.writes.items ≡ map (λ node. node.writes.items) graph.nodes.items ++ [] ∷ []
-  pub from : lists_of problem.from.items
-      ≡ map (λ node. after_of (length graph.nodes.items) node.next.items) graph.nodes.items ++ [] ∷ []

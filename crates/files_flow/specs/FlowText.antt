@@ -6,7 +6,6 @@ use Rattle.vob_flow.specs.Live.{AreLeastLive, IsSolution}
 use Rattle.files_flow.specs.declared.flow.FlowGraph.{FlowGraph}
 use Rattle.files_flow.specs.declared.problem.Problem.{Problem}
 use Rattle.files_flow.specs.Definitions.{IsReachingProblem}
-use Rattle.files_flow.specs.Expressions.{IsAvailableProblem, IsBusyProblem}
 use Rattle.files_text.specs.Printed.{line_end, members, name_at}
 use Rattle.files_flow.specs.Problems.{AreBefore, IsSolved, lists_of}
 
@@ -75,18 +74,6 @@ pub record ListsSolution (names : List (List ℕ)) (problem : Problem) (text : L
 pub record ListsReaching (graph : FlowGraph) (text : List ℕ) : Type 0 where
   pub problem : Problem
   pub of : IsReachingProblem graph problem
-  pub lists : ListsSolution graph.names problem text
-
--- the expressions that were computed on all paths from the first node, before and after each node
-pub record ListsAvailable (graph : FlowGraph) (text : List ℕ) : Type 0 where
-  pub problem : Problem
-  pub of : IsAvailableProblem graph problem
-  pub lists : ListsSolution graph.names problem text
-
--- the expressions that will be computed on all paths, before and after each node
-pub record ListsBusy (graph : FlowGraph) (text : List ℕ) : Type 0 where
-  pub problem : Problem
-  pub of : IsBusyProblem graph problem
   pub lists : ListsSolution graph.names problem text
 
 -- the nodes that all paths from the first node to each pass

@@ -6,7 +6,7 @@ use Rattle.files_flow.specs.declared.flow.FlowGraph.{FlowGraph}
 use Rattle.files_flow.specs.declared.nodes.Kind.{Kind}
 use Rattle.files_flow.specs.declared.nodes.Kind.TheVariants.{Reads, Writes, Next}
 use Rattle.files_flow.specs.Nodes.{HasNodes, Mention}
-use Rattle.files_flow.specs.NodeFaults.{IsFound}
+use Rattle.files_flow.specs.FlowFaults.{IsFound}
 
 abbrev pub is_kind : Kind → Kind → Bool
 is_kind Reads Reads = true

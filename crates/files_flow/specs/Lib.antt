@@ -1,6 +1,8 @@
 pub mod Analyses
+pub mod Available
 pub mod Definitions
 pub mod Expressions
+pub mod FlowFaults
 pub mod FlowText
 pub mod Flows
 pub mod NodeFaults

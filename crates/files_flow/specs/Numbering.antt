@@ -11,7 +11,8 @@ use Rattle.files_flow.specs.declared.fault.FlowFault.TheVariants.{NoNode, Text}
 use Rattle.files_flow.specs.declared.nodes.Kind.{Kind}
 use Rattle.files_flow.specs.declared.nodes.Kind.TheVariants.{Next}
 use Rattle.files_flow.specs.Flows.{AreFlows, is_kind, list_of, variables_in}
-use Rattle.files_flow.specs.NodeFaults.{IsCalled, IsFound}
+use Rattle.files_flow.specs.NodeFaults.{IsCalled}
+use Rattle.files_flow.specs.FlowFaults.{IsFound}
 use Rattle.files_flow.specs.Nodes.{Mention}
 
 -- numbers with one more, which is the last unless it is there

@@ -5,7 +5,8 @@ ghost use Rattle.files_text.specs.Printed.{Writes};
 ghost use Rattle.files_flow.specs.Analyses.{FailsBy, IsOutputFault, ListsAnalysis, WritesAnalysis};
 ghost use Rattle.files_flow.specs.Flows.{IsInRange};
 ghost use Rattle.files_flow.specs.Problems.{IsSolved, IsSound, lists_of};
-ghost use Rattle.files_flow.specs.FlowText.{ListsAvailable, ListsBusy, ListsLive, ListsReaching, ListsSolution, labels_text, set_text, sides_text};
+ghost use Rattle.files_flow.specs.FlowText.{ListsLive, ListsReaching, ListsSolution, labels_text, set_text, sides_text};
+ghost use Rattle.files_flow.specs.Available.{ListsAvailable, ListsBusy};
 
 use crate::definitions::reaching_problem;
 use crate::dominance::{print_dominators, print_immediate};

@@ -5,7 +5,8 @@ ghost use Rattle.vob_block.specs.Packing.{item};
 ghost use Rattle.vob_rows.specs.Graph.{LeadToNodes};
 ghost use Rattle.files_text.specs.Names.{IsNumbered, with_name};
 ghost use Rattle.files_text.specs.Printed.{name_at};
-ghost use Rattle.files_flow.specs.Expressions.{AreReachedBefore, AreTransposed, HasExpressions, IsAvailableProblem, IsBusyProblem, IsLasting, IsOwn, Meet, after_of, expression_label, expressions_of, reads_any};
+ghost use Rattle.files_flow.specs.Expressions.{AreReachedBefore, AreTransposed, IsLasting, IsOwn, Meet, expression_label, expressions_of, reads_any};
+ghost use Rattle.files_flow.specs.Available.{IsAvailableProblem, IsBusyProblem, after_of};
 ghost use Rattle.files_flow.specs.Problems.{IsAddedTo, lists_of, next_of};
 
 use crate::flow::FlowGraph;

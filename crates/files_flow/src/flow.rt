@@ -1,9 +1,8 @@
 //! Flow graphs whose nodes stand in a text.
-ghost use Rattle.std.specs.Prelude.{◌≡◌, ◌<◌, ◌∷◌, ◌++◌, [], List, Some, length, map, slice_get, All, Contains, IfErr, IfOk, OnOk, ◌⊎◌};
-ghost use Rattle.std.specs.String.{string_bytes};
+ghost use Rattle.std.specs.Prelude.{◌≡◌, ◌<◌, ◌∷◌, ◌++◌, [], List, Some, length, map, slice_get, All, IfErr, IfOk, OnOk};
 ghost use Rattle.files_text.specs.Words.{token_of};
 ghost use Rattle.files_flow.specs.Flows.{IsFlowOf, names_for};
-ghost use Rattle.files_flow.specs.NodeFaults.{IsCalled, IsUnread};
+ghost use Rattle.files_flow.specs.FlowFaults.{IsUnread};
 ghost use Rattle.files_flow.specs.Nodes.{Mention, mention_of};
 ghost use Rattle.files_flow.specs.Numbering.{AreDistinct, AreSound, AreUnnumbered, HasMore, HaveSaid, IsEmpty, IsNone, IsUnnumbered, with_number, with_variable};
 

@@ -1,9 +1,9 @@
 //! Nodes that stand in a text, one a line: `name: reads a b; writes c; next n m`.
-ghost use Rattle.std.specs.Prelude.{◌≡◌, ◌≢◌, ◌⊎◌, ◌++◌, ◌∷◌, [], List, None, Some, map, IfErr, IfNone, IfOk, IfSome, IsTrue, OnOk, codes, length, min};
+ghost use Rattle.std.specs.Prelude.{◌≡◌, ◌≢◌, ◌⊎◌, ◌++◌, ◌∷◌, [], List, None, Some, map, IfErr, IfNone, IfOk, IfSome, OnOk, codes};
 ghost use Rattle.files_text.specs.Faults.{IsLine};
 ghost use Rattle.files_text.specs.Words.{Token, token_of};
 ghost use Rattle.files_flow.specs.Nodes.{HasNodes, key_of, mention_of};
-ghost use Rattle.files_flow.specs.NodeFaults.{IsFaultOf, IsTextFault, IsUnread};
+ghost use Rattle.files_flow.specs.FlowFaults.{IsFaultOf, IsTextFault, IsUnread};
 ghost use Rattle.files_flow.specs.Reading.{HasRead};
 
 use crate::fault::FlowFault;

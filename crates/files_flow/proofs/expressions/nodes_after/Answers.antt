@@ -1,7 +1,7 @@
 -- The list of one node more.
 use Rattle.std.proofs.Common.{◌∙◌, ap}
 use Rattle.vob_flow.specs.declared.live.Flow.{Flow}
-use Rattle.files_flow.specs.Expressions.{after_of}
+use Rattle.files_flow.specs.Available.{after_of}
 use Rattle.files_flow.proofs.ProblemLemmas.{copied}
 use Rattle.files_flow.proofs.expressions.nodes_after.Goals as goal
 

@@ -23,8 +23,11 @@ returns-then-eq-clause-ok c words read =
 pub returns-in_default-clause-err : goal.returns-in_default-clause-err
 returns-in_default-clause-err c words read rest =
     stopped c.args.self.now words (token_of c.args.word.now ∷ rest) read c.args.word.now.line
-    c.args.word.now.column _ _ (rw c.requires.none (no_part c.requires.line c.requires.part
-    (c.in_ok-check_no_comma.ensures.ok, text_isnt _ c.as_slice.result.now _ c.as_slice.ensures c.if-eq.ensures, rw c.in_default.is at c.kind_of.ensures.none))) c.unexpected.ensures
+    c.args.word.now.column _ _ (rw c.requires.none (no_part c.requires.line c.requires.part (
+      c.in_ok-check_no_comma.ensures.ok,
+      text_isnt _ c.as_slice.result.now _ c.as_slice.ensures c.if-eq.ensures,
+      rw c.in_default.is at c.kind_of.ensures.none,
+    ))) c.unexpected.ensures
 
 pub returns-clause-ok : goal.returns-clause-ok
 returns-clause-ok c words read =
