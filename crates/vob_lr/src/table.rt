@@ -181,9 +181,9 @@ impl<'a> Table<'a> {
     ///
     /// A driver begins with state 0 on its stack. By a shift it pushes a state, and takes the next token;
     /// terminal 0 comes after the last. By a reduction it pops a state for each symbol of the right side,
-    /// and pushes what `Lookaheads::next` returns for the left side. At `Accept` the tokens are a
-    /// sentence, and at `None` they aren't. If the left side of rule 0 stands on a right side, as in no
-    /// file of a grammar, only `parse` tells where a sentence ends.
+    /// and pushes what `Lookaheads::next` returns for the left side. At `Accept` it is done, and at
+    /// `None` the token doesn't fit. If the left side of rule 0 stands on a right side, as in no
+    /// grammar file, only `parse` tells where a sentence ends.
     pub fn action(&self, state: usize, terminal: usize) -> Option<Action>
         ensures accept { (result ≡ Some Action.Accept) ↔ Accepts self.now state terminal }
         ensures others { result ≢ Some Action.Accept
