@@ -3,10 +3,11 @@
 use crate::fault::Fault;
 use clap::builder::ValueParser;
 use clap::{Arg, ArgAction, ArgMatches, Command};
+use files_code::{FORMS, Form};
 use files_filter::Shows;
 use files_flow::{ANALYSES, Analysis};
-use files_grammar::{FORMS, Form, TREE_FORMS, TreeForm};
 use files_graph::Part;
+use files_parse::{TREE_FORMS, TreeForm};
 use std::alloc::{AllocError, Global};
 
 /// The name that stands for standard input.

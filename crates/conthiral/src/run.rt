@@ -3,10 +3,12 @@
 use crate::command::{STANDARD_INPUT, Task, command, shown_name, task_of};
 use crate::fault::{Fault, Report};
 use crate::progress::Watched;
+use files_code::{Form, print_form};
 use files_filter::{Shows, print_filter};
 use files_flow::print_flow;
-use files_grammar::{Form, GrammarFile, print_form, print_grammar, print_parse};
+use files_grammar::{GrammarFile, print_grammar};
 use files_graph::print_closure;
+use files_parse::print_parse;
 use std::fs::File;
 use std::io::{BufWriter, Read, Write};
 use std::process::ExitCode;

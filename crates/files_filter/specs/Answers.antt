@@ -2,28 +2,19 @@
 use Rattle.std.specs.Prelude.{◌≡◌, ◌==◌, ℕ, Bool, true, false, not, List, [], ◌∷◌, length, Option, Some, None, unwrap_or}
 use Rattle.csv.specs.Records.{field_at}
 use Rattle.std.specs.Cmp.Lexicographic.{slice_cmp}
-use Rattle.std.specs.Ordering.{is_eq, is_ge, is_gt, is_le, is_lt, is_ne, nat_cmp}
+use Rattle.std.specs.Ordering.{nat_cmp}
 use Rattle.std.specs.declared.cmp.Ordering.{Ordering}
+use Rattle.files_condition.specs.Relations.{holds}
+use Rattle.files_condition.specs.declared.condition.Relation.{Relation}
 use Rattle.files_filter.specs.Reading.{Cells}
 use Rattle.files_filter.specs.declared.comparing.Kind.{Kind}
 use Rattle.files_filter.specs.declared.comparing.Kind.TheVariants.{Compared, Missing}
 use Rattle.files_filter.specs.declared.comparing.Other.TheVariants.{Column, Number, Text}
 use Rattle.files_filter.specs.declared.comparing.Test.{Test}
-use Rattle.files_filter.specs.declared.condition.Relation.{Relation}
-use Rattle.files_filter.specs.declared.condition.Relation.TheVariants.{Equal, Greater, GreaterOrEqual, Less, LessOrEqual, NotEqual}
 
 -- the cell of a row at a place: empty if there is none
 abbrev pub cell_at : Cells → ℕ → List ℕ
 cell_at cells place = unwrap_or (field_at cells place) []
-
--- whether a relation holds of two values in an order
-abbrev pub holds : Relation → Ordering → Bool
-holds Equal order = is_eq order
-holds NotEqual order = is_ne order
-holds Less order = is_lt order
-holds LessOrEqual order = is_le order
-holds Greater order = is_gt order
-holds GreaterOrEqual order = is_ge order
 
 -- it holds, or doesn't, as some order of the two says
 abbrev pub Decides : Relation → Option Bool → Type 0

@@ -3,11 +3,10 @@ ghost use Rattle.std.specs.Prelude.{◌≡◌, IfOk};
 ghost use Rattle.csv.specs.Records.{fields_of};
 ghost use Rattle.files_filter.specs.Answers.{Answers, cell_at};
 
-use crate::condition::{Comparison, Operand, Question, Relation};
 use crate::fault::FilterFault;
-use crate::number::Number;
 use crate::table::Table;
 use csv::ByteRecord;
+use files_condition::{Comparison, Number, Operand, Question, Relation};
 use std::alloc::Global;
 use std::cmp::Ordering;
 use std::io::Read;

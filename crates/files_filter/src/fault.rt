@@ -1,5 +1,6 @@
 //! Why no rows are written, and how that is said.
 
+use files_condition::ConditionFault;
 use files_text::Fault;
 use std::alloc::{AllocError, AllocFailed};
 use std::{fmt, io};
@@ -84,6 +85,18 @@ impl FilterFault {
                 "{file}:{line}:{column}: expected a number in column {name}, found {cell}"
             ),
             FilterFault::Columns => write!(f, "{file}: the rows differ in length"),
+        }
+    }
+}
+
+impl From<ConditionFault> for FilterFault {
+    fn from(fault: ConditionFault) -> FilterFault {
+        match fault {
+            ConditionFault::Memory => FilterFault::Text(Fault::Memory),
+            ConditionFault::Word { column, expected } => FilterFault::Condition {
+                column,
+                expected,
+            },
         }
     }
 }

@@ -11,11 +11,11 @@ ghost use Rattle.files_filter.specs.Reading.{Cells, HasRead};
 ghost use Rattle.files_filter.specs.Written.{cells_of};
 
 use crate::block::{Block, Next, Row, columns_of, read_block};
-use crate::condition::read_condition;
 use crate::fault::FilterFault;
 use crate::questions::Questions;
 use crate::table::Table;
 use csv::{ByteRecord, Writer, WriterBuilder};
+use files_condition::read_condition;
 use files_text::Fault;
 use std::alloc::{AllocError, Global};
 use std::io::{Read, Write};

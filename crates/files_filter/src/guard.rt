@@ -1,11 +1,10 @@
 //! Comparisons that can't be meant: of numbers with texts.
 
 use crate::comparing::{Kind, Other, Test, cell};
-use crate::condition::{Comparison, Question};
 use crate::fault::FilterFault;
-use crate::number::Number;
 use crate::table::Table;
 use csv::ByteRecord;
+use files_condition::{Comparison, Number, Question};
 use std::alloc::Global;
 use std::io::Read;
 

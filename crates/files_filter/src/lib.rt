@@ -3,11 +3,9 @@
 
 mod block;
 mod comparing;
-mod condition;
 mod fault;
 mod filter;
 mod guard;
-mod number;
 mod questions;
 mod table;
 

@@ -4,11 +4,11 @@ ghost use Rattle.csv.specs.Records.{fields_of};
 ghost use Rattle.files_filter.specs.Answers.{AreAnswers};
 
 use crate::comparing::Test;
-use crate::condition::Condition;
 use crate::fault::FilterFault;
 use crate::guard::Guard;
 use crate::table::Table;
 use csv::ByteRecord;
+use files_condition::Condition;
 use std::alloc::Global;
 use std::io::Read;
 

@@ -3,9 +3,9 @@ ghost use Rattle.std.specs.Prelude.{◌≡◌, ◌∷◌, [], IfOk, ℕ, List, O
 ghost use Rattle.csv.specs.Records.{fields_of};
 ghost use Rattle.files_filter.specs.Reading.{Cells, HasRead, ReadsNext};
 
-use crate::condition::{Operand, is_word};
 use crate::fault::FilterFault;
 use csv::{ByteRecord, ErrorKind, Position, Reader, ReaderBuilder};
+use files_condition::{Operand, is_word};
 use files_csv::WholeRows;
 use files_text::{Fault, Names};
 use std::alloc::{AllocError, Global};

@@ -1,7 +1,6 @@
 //! Trees of tokens, as text, DOT and JSON.
 
-use crate::fault::GrammarFault;
-use crate::file::GrammarFile;
+use files_grammar::{GrammarFault, GrammarFile};
 use files_text::{Word, end_line, put_name};
 use serde::Serialize;
 use std::alloc::{AllocError, Global};

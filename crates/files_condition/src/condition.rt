@@ -1,8 +1,8 @@
 //! Conditions on the columns of a table: `city = Paris & !(age < 30)`.
 ghost use Rattle.std.specs.Prelude.{◌≡◌};
-ghost use Rattle.files_filter.specs.Answers.{holds};
+ghost use Rattle.files_condition.specs.Relations.{holds};
 
-use crate::fault::FilterFault;
+use crate::fault::ConditionFault;
 use std::alloc::{AllocError, Global};
 use std::cmp::Ordering;
 use vob_filter::filter::Expression;
@@ -130,8 +130,8 @@ struct Scanner<'a> {
 }
 
 /// The fault of a condition, before a byte counted from 0.
-fn at(byte: usize, expected: &'static str) -> FilterFault {
-    FilterFault::Condition {
+fn at(byte: usize, expected: &'static str) -> ConditionFault {
+    ConditionFault::Word {
         column: byte.saturating_add(1),
         expected,
     }
@@ -164,7 +164,7 @@ fn mark_kind(mark: u8, with_equal: bool) -> Kind<'static> {
 
 impl<'a> Scanner<'a> {
     /// Adds a word that begins at `start`.
-    fn add(&mut self, kind: Kind<'a>) -> Result<(), FilterFault> {
+    fn add(&mut self, kind: Kind<'a>) -> Result<(), ConditionFault> {
         if self.words.len() >= MOST_WORDS {
             return Err(at(self.start, "at most 1000 words"));
         }
@@ -178,7 +178,7 @@ impl<'a> Scanner<'a> {
     }
 
     /// Begins a word at a byte, or passes over white space.
-    fn begin(&mut self, place: usize, byte: u8) -> Result<(), FilterFault> {
+    fn begin(&mut self, place: usize, byte: u8) -> Result<(), ConditionFault> {
         self.start = place;
         match byte {
             b'&' => self.add(Kind::And),
@@ -204,7 +204,7 @@ impl<'a> Scanner<'a> {
     }
 
     /// Takes the byte at a place.
-    fn step(&mut self, place: usize, byte: u8) -> Result<(), FilterFault> {
+    fn step(&mut self, place: usize, byte: u8) -> Result<(), ConditionFault> {
         match self.mode {
             Mode::Between => self.begin(place, byte),
             Mode::Plain => {
@@ -233,13 +233,13 @@ impl<'a> Scanner<'a> {
     }
 
     /// Adds the word without quotes that ends before a byte.
-    fn end_plain(&mut self, end: usize) -> Result<(), FilterFault> {
+    fn end_plain(&mut self, end: usize) -> Result<(), ConditionFault> {
         let text = self.text.get(self.start..end).unwrap_or_default();
         self.add(Kind::Plain(text))
     }
 
     /// Ends the last word.
-    fn finish(&mut self) -> Result<(), FilterFault> {
+    fn finish(&mut self) -> Result<(), ConditionFault> {
         match self.mode {
             Mode::Between => Ok(()),
             Mode::Plain => self.end_plain(self.text.len()),
@@ -250,7 +250,7 @@ impl<'a> Scanner<'a> {
 }
 
 /// Returns the words of a condition.
-fn scan(alloc: Global, text: &[u8]) -> Result<Vec<Word<'_>>, FilterFault> {
+fn scan(alloc: Global, text: &[u8]) -> Result<Vec<Word<'_>>, ConditionFault> {
     let mut scanner = Scanner {
         text,
         words: Vec::new(alloc),
@@ -347,7 +347,7 @@ impl<'a> Reader<'a> {
     }
 
     /// Takes an operator between two operands.
-    fn take_operator(&mut self, operator: Operator) -> Result<(), FilterFault> {
+    fn take_operator(&mut self, operator: Operator) -> Result<(), ConditionFault> {
         self.apply_from(operator.level())?;
         self.operators.push(operator)?;
         self.wants = Wants::Operand;
@@ -355,7 +355,7 @@ impl<'a> Reader<'a> {
     }
 
     /// Takes a `)`, which must have its `(`.
-    fn close(&mut self, word: &Word<'a>) -> Result<(), FilterFault> {
+    fn close(&mut self, word: &Word<'a>) -> Result<(), ConditionFault> {
         self.apply_from(1)?;
         match self.operators.pop() {
             Some(_) => Ok(()),
@@ -364,7 +364,7 @@ impl<'a> Reader<'a> {
     }
 
     /// Takes a question about a column.
-    fn ask(&mut self, column: Operand<'a>, question: Question<'a>) -> Result<(), FilterFault> {
+    fn ask(&mut self, column: Operand<'a>, question: Question<'a>) -> Result<(), ConditionFault> {
         self.operands
             .push(Expression::Column(self.comparisons.len()))?;
         self.comparisons.push(Comparison { column, question })?;
@@ -378,10 +378,10 @@ impl<'a> Reader<'a> {
         column: Operand<'a>,
         relation: Relation,
         word: &Word<'a>,
-    ) -> Result<(), FilterFault> {
+    ) -> Result<(), ConditionFault> {
         let value = word.operand();
         if value.text.is_empty() {
-            return Err(FilterFault::Condition {
+            return Err(ConditionFault::Word {
                 column: word.at,
                 expected: "a value that isn't empty (`NAME is missing` asks for empty cells)",
             });
@@ -390,7 +390,7 @@ impl<'a> Reader<'a> {
     }
 
     /// Takes the first word of an operand.
-    fn take_operand(&mut self, word: &Word<'a>) -> Result<(), FilterFault> {
+    fn take_operand(&mut self, word: &Word<'a>) -> Result<(), ConditionFault> {
         match word.kind {
             Kind::Plain(_) | Kind::Quoted(_) => self.wants = Wants::Relation(word.operand()),
             Kind::Not => self.operators.push(Operator::Not)?,
@@ -401,7 +401,7 @@ impl<'a> Reader<'a> {
     }
 
     /// Takes a word.
-    fn take(&mut self, word: &Word<'a>) -> Result<(), FilterFault> {
+    fn take(&mut self, word: &Word<'a>) -> Result<(), ConditionFault> {
         match (self.wants, word.kind) {
             (Wants::Operand, _) => self.take_operand(word),
             (Wants::Relation(column), Kind::Relation(relation)) => {
@@ -430,7 +430,7 @@ impl<'a> Reader<'a> {
     }
 
     /// The fault of a word that can't stand at a column.
-    fn unexpected(&self, column: usize) -> FilterFault {
+    fn unexpected(&self, column: usize) -> ConditionFault {
         let expected = match self.wants {
             Wants::Operand => "the name of a column, `!` or `(`",
             Wants::Relation(_) => "`=`, `!=`, `<`, `<=`, `>`, `>=` or `is`",
@@ -439,11 +439,11 @@ impl<'a> Reader<'a> {
             Wants::Missing(_, false) => "`missing`",
             Wants::Operator => "`&`, `|`, `)` or the end",
         };
-        FilterFault::Condition { column, expected }
+        ConditionFault::Word { column, expected }
     }
 
     /// Ends the condition, whose text has a length.
-    fn finish(mut self, len: usize) -> Result<Condition<'a>, FilterFault> {
+    fn finish(mut self, len: usize) -> Result<Condition<'a>, ConditionFault> {
         match self.wants {
             Wants::Operator => {}
             _ => return Err(self.unexpected(len.saturating_add(1))),
@@ -466,7 +466,7 @@ impl<'a> Reader<'a> {
 /// parentheses. `!` binds most tightly, and `|` least. Names and values may stand in double quotes.
 ///
 /// Fails at the first word that can't stand where it does.
-pub fn read_condition(alloc: Global, text: &str) -> Result<Condition<'_>, FilterFault> {
+pub fn read_condition(alloc: Global, text: &str) -> Result<Condition<'_>, ConditionFault> {
     let words = scan(alloc, text.as_bytes())?;
     let mut reader = Reader {
         alloc,

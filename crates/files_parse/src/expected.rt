@@ -1,6 +1,6 @@
 //! Which tokens a parser takes after others, and before which token it never ends.
 
-use crate::file::SymbolNames;
+use files_grammar::SymbolNames;
 use std::alloc::{AllocError, Global};
 use vob_lr::{Action, Symbol, Table};
 

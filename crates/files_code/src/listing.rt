@@ -2,9 +2,8 @@
 
 use crate::constants::constants_of;
 use crate::escape::{put_comment, put_string};
-use crate::fault::GrammarFault;
-use crate::file::{GrammarFile, SymbolNames};
 use crate::form::Form;
+use files_grammar::{GrammarFault, GrammarFile, SymbolNames};
 use files_text::end_line;
 use std::alloc::Global;
 use std::io;

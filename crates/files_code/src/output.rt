@@ -1,13 +1,10 @@
 //! A grammar in a form for other programs: its parser in C or in Rust.
 
 use crate::arrays::Arrays;
-use crate::conflicts::Conflicts;
 use crate::escape::put_comment;
-use crate::fault::GrammarFault;
-use crate::file::GrammarFile;
 use crate::form::Form;
 use crate::listing::{put_characters, put_names, put_rules, put_tokens};
-use crate::states::States;
+use files_grammar::{Conflicts, GrammarFault, GrammarFile, States};
 use std::alloc::Global;
 use std::io;
 use std::io::Write;

@@ -3,10 +3,8 @@ ghost use Rattle.std.specs.Prelude.{IfOk};
 ghost use Rattle.vob_lr.specs.Derivations.{IsParse};
 
 use crate::expected::{END, endless_at, expected_after};
-use crate::fault::GrammarFault;
-use crate::file::{GrammarFile, SymbolNames};
-use crate::grammar::put_rule;
 use crate::tree::{TreeForm, WordTree};
+use files_grammar::{GrammarFault, GrammarFile, SymbolNames, put_rule};
 use files_text::{Fault, Word, Words};
 use indexmap::IndexMap;
 use std::alloc::{AllocError, Global};

@@ -1,9 +1,7 @@
 //! The table of a parser as arrays of numbers, in which the entries of each state stand together.
 
-use crate::fault::GrammarFault;
-use crate::file::GrammarFile;
 use crate::form::Form;
-use crate::states::States;
+use files_grammar::{GrammarFault, GrammarFile, States};
 use files_text::end_line;
 use std::alloc::{AllocError, Global};
 use std::io;
