@@ -3,8 +3,13 @@
 
 mod condition;
 mod fault;
+pub mod laws;
 mod number;
+mod reader;
+mod waiting;
+mod words;
 
-pub use condition::{Comparison, Condition, Operand, Question, Relation, is_word, read_condition};
+pub use condition::{Comparison, Condition, Operand, Question, Relation, read_condition};
 pub use fault::ConditionFault;
 pub use number::Number;
+pub use words::is_word;
