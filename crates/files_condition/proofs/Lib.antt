@@ -1,3 +1,5 @@
+mod DigitLemmas
+mod NumberLemmas
 pub mod CompleteLemmas
 pub mod ExactLemmas
 pub mod OneLemmas

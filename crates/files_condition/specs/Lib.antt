@@ -3,6 +3,8 @@ pub mod Laws
 pub mod Places
 pub mod Reading
 pub mod Relations
+pub mod Numbers
+pub mod Padded
 pub mod Scanning
 pub mod States
 pub mod Words

@@ -1,121 +1,241 @@
 //! Decimal numbers in cells and in conditions.
+ghost use Rattle.std.specs.Prelude.{◌≡◌, ◌↔◌, ◌<◌, ◌≤◌, ◌+◌, ◌*◌, ◌^◌, ◌-ℤ◌, ◌+ℤ◌, ℕ, ℤ, [], drop, get_or, length, pos, IfSome, IfNone};
+ghost use Rattle.std.specs.Bool.{IsTrue};
+ghost use Rattle.std.specs.List.{prefix_len};
+ghost use Rattle.std.specs.Char.{is_ascii_digit};
+ghost use Rattle.std.specs.Ordering.{int_cmp, nat_cmp};
+ghost use Rattle.std.specs.Str.Parse.{AllDigits, starts_with_minus, without_leading_sign};
+ghost use Rattle.files_condition.specs.Numbers.{Decimal, IsNumber, IsPower, behind_digits, behind_fraction, digits_in, fraction_in, order_of, digits, up, down};
+ghost use Rattle.files_condition.specs.Padded.{digits_of, is_zero, padded_cmp, zeros_of};
 
 use std::cmp::Ordering;
+use std::marker::Model;
 
 /// A decimal number. The order of two is exact, however many digits they have.
-#[derive(Clone, Copy)]
+#[derive(Drop)]
 pub struct Number<'a> {
     is_negative: bool,
-    // From the first digit above 0 to the last one, with a point that may stand among them. The
-    // number 0 has none.
-    digits: &'a [u8],
-    // The power of ten of the first of these digits.
-    power: i64,
+    // The digits before the point, and those after it.
+    whole: &'a [u8],
+    fraction: &'a [u8],
+    // The power of ten after an `e`.
+    power: i32,
 }
 
-/// Returns whether a byte can stand in a number.
-fn is_numeric(byte: u8) -> bool {
-    byte.is_ascii_digit() || b"+-.eE".contains(&byte)
-}
-
-/// Returns whether a byte is a digit above 0.
-fn is_above_zero(byte: u8) -> bool {
-    byte.is_ascii_digit() && byte != b'0'
-}
-
-/// Returns whether a text is a number of digits alone.
-fn is_whole(text: &[u8]) -> bool {
-    !text.is_empty() && text.iter().all(|byte| byte.is_ascii_digit())
-}
-
-/// Returns whether a text is a decimal number.
-fn is_decimal(text: &[u8]) -> bool {
-    if !text.iter().all(|byte| is_numeric(*byte)) {
-        return false;
-    }
-    match str::from_utf8(text) {
-        Ok(text) => text.parse::<f64>().is_ok(),
-        Err(_) => false,
+/// Returns a text without its sign, if it has one.
+fn without_sign(text: &[u8]) -> &[u8]
+    ensures { result.now ≡ without_leading_sign text.now }
+{
+    match text.first() {
+        Some(b'-' | b'+') => &text[1..],
+        _ => text,
     }
 }
 
-/// Returns the digits of a number with their sign and point, and the power of ten after an `e`.
-fn split_power(text: &[u8]) -> Option<(&[u8], i32)> {
-    let Some(at) = text.iter().position(|byte| b"eE".contains(byte)) else {
-        return Some((text, 0));
-    };
-    let power = str::from_utf8(text.get(at.saturating_add(1)..)?).ok()?;
-    Some((text.get(..at)?, power.parse::<i32>().ok()?))
+/// Returns how many digits a text begins with.
+fn digits(text: &[u8]) -> usize
+    ensures count { result ≡ prefix_len is_ascii_digit text.now }
+    ensures within { result ≤ length text.now }
+{
+    text.iter().take_while(|byte| byte.is_ascii_digit()).count()
 }
 
-/// Returns the power of ten of the digit at a place of a number without an `e`.
-fn power_at(text: &[u8], place: usize) -> Option<i64> {
-    let point = text.iter().position(|byte| *byte == b'.');
-    let point = i64::try_from(point.unwrap_or(text.len())).ok()?;
-    let place = i64::try_from(place).ok()?;
-    let before = if place < point { 1 } else { 0 };
-    Some(point.saturating_sub(place).saturating_sub(before))
+/// Returns the digits that a text begins with, and what comes after.
+fn split_digits(text: &[u8]) -> (&[u8], &[u8])
+    ensures digits { result.0.now ≡ digits_in text.now }
+    ensures behind { result.1.now ≡ behind_digits text.now }
+    ensures len { length result.0.now + length result.1.now ≡ length text.now }
+    ensures all { AllDigits 10 result.0.now }
+{
+    let count = digits(text);
+    (&text[..count], &text[count..])
 }
 
-/// Returns the order of digits of the same power of ten.
-fn order_digits(first: &[u8], second: &[u8]) -> Ordering {
-    let first = first.iter().filter(|byte| **byte != b'.');
-    first.cmp(second.iter().filter(|byte| **byte != b'.'))
+/// Returns the digits after a point, if it is next, and what comes after these.
+fn split_fraction(text: &[u8]) -> (&[u8], &[u8])
+    ensures digits { result.0.now ≡ fraction_in text.now }
+    ensures behind { result.1.now ≡ behind_fraction text.now }
+    ensures len { length result.0.now ≤ length text.now }
+    ensures all { AllDigits 10 result.0.now }
+{
+    match text.first() {
+        Some(b'.') => split_digits(&text[1..]),
+        _ => (b"", text),
+    }
+}
+
+/// Returns the power of ten after the digits of a number.
+fn power_of(text: &[u8]) -> Option<i32>
+    ensures some { IfSome result (IsPower text.now) }
+    ensures none { IfNone result (¬ ((power : ℤ) × IsPower text.now power)) }
+{
+    match text.first() {
+        None => Some(0),
+        Some(b'e' | b'E') => match str::from_utf8(&text[1..]) {
+            Ok(power) => power.parse::<i32>().ok(),
+            Err(_) => None,
+        },
+        Some(_) => None,
+    }
+}
+
+/// Returns how many zeros digits begin with.
+fn zeros(digits: &[u8]) -> usize
+    ensures count { result ≡ prefix_len is_zero digits.now }
+    ensures within { result ≤ length digits.now }
+{
+    digits.iter().take_while(|byte| **byte == b'0').count()
+}
+
+/// Returns the order of two powers of ten.
+fn order_of_powers(first: i128, second: i128) -> Ordering
+    ensures { result ≡ int_cmp first second }
+{
+    first.cmp(&second)
+}
+
+impl<'a> Model for Number<'a> {
+    ghost use Rattle.std.specs.Prelude.{◌+◌, ◌≤◌, ◌++◌, length};
+    ghost use Rattle.std.specs.Str.Parse.{AllDigits};
+    ghost use Rattle.std.below.core.specs.declared.int.usize.TheConstants.{MAX};
+    ghost use Rattle.files_condition.specs.Numbers.{Decimal};
+
+    ghost Value = { Decimal };
+
+    ghost view = { λ number. record {
+      negative = number.is_negative;
+      whole = number.whole.now;
+      fraction = number.fraction.now;
+      power = number.power;
+    } };
+
+    ghost invariant = { λ number. (length number.whole.now + length number.fraction.now ≤ MAX)
+        × AllDigits 10 (number.whole.now ++ number.fraction.now) };
 }
 
 impl<'a> Number<'a> {
     /// Returns the number that a text is, as `-1`, `.5` or `2.5e3`, or `None` if it is none.
-    pub fn of(text: &'a [u8]) -> Option<Number<'a>> {
-        let (text, power) = if is_whole(text) {
-            (text, 0)
-        } else if is_decimal(text) {
-            split_power(text)?
-        } else {
+    pub fn of(text: &'a [u8]) -> Option<Number<'a>>
+        ensures some { IfSome result (IsNumber text.now) }
+        ensures none { IfNone result (¬ ((number : Decimal) × IsNumber text.now number)) }
+    {
+        let (whole, behind) = split_digits(without_sign(text));
+        let (fraction, behind) = split_fraction(behind);
+        if whole.is_empty() && fraction.is_empty() {
             return None;
-        };
-        let Some(first) = text.iter().position(|byte| is_above_zero(*byte)) else {
-            return Some(Number {
-                is_negative: false,
-                digits: b"",
-                power: 0,
-            });
-        };
-        let end = text
-            .iter()
-            .rposition(|byte| is_above_zero(*byte))?
-            .saturating_add(1);
+        }
+        let power = power_of(behind)?;
         Some(Number {
             is_negative: text.starts_with(b"-"),
-            digits: text.get(first..end)?,
-            power: power_at(text, first)?.saturating_add(i64::from(power)),
+            whole,
+            fraction,
+            power,
         })
     }
 
-    /// Returns -1, 0 or 1, as the number is below 0, is 0, or is above it.
-    fn sign(self) -> i8 {
-        if self.digits.is_empty() {
-            0
-        } else if self.is_negative {
-            -1
-        } else {
-            1
+    /// Returns how many digits there are.
+    fn len(&self) -> usize
+        ensures { result ≡ length (digits_of self.now) }
+    {
+        self.whole.len() + self.fraction.len()
+    }
+
+    /// Returns how many digits come before the first one above 0.
+    fn zeros(&self) -> usize
+        ensures count { result ≡ zeros_of self.now }
+        ensures within { result ≤ length (digits_of self.now) }
+        ensures digits { AllDigits 10 (digits_of self.now) }
+    {
+        let count = zeros(self.whole);
+        if count < self.whole.len() {
+            return count;
         }
+        count + zeros(self.fraction)
+    }
+
+    /// Returns the digit that comes some places after another, and 0 if none does.
+    fn digit(&self, from: usize, place: usize) -> u8
+        ensures { result ≡ get_or (digits_of self.now) (from + place) 48 }
+    {
+        let at = from.saturating_add(place);
+        if at < self.whole.len() {
+            return self.whole[at];
+        }
+        let digit = self.fraction.get(at - self.whole.len());
+        digit.copied().unwrap_or(b'0')
+    }
+
+    /// Returns the order of the digits of two numbers from places on.
+    fn order_of_digits(&self, from: usize, other: &Number<'_>, other_from: usize) -> Ordering
+        requires from { from ≤ length (digits_of self.now) }
+        requires other { other_from ≤ length (digits_of other.now) }
+        ensures { result ≡ padded_cmp (drop from (digits_of self.now))
+            (drop other_from (digits_of other.now)) }
+    {
+        let count = (self.len() - from).max(other.len() - other_from);
+        for place in 0..count {
+            let first = self.digit(from, place);
+            match first.cmp(&other.digit(other_from, place)) {
+                Ordering::Equal => {}
+                order => return order,
+            }
+        }
+        Ordering::Equal
+    }
+
+    /// Returns the power of ten above the first of the last `digits` digits.
+    fn top(&self, digits: usize) -> i128
+        ensures { result ≡ (pos digits +ℤ self.now.power) -ℤ pos (length self.now.fraction) }
+    {
+        digits as i128 + i128::from(self.power) - self.fraction.len() as i128
     }
 
     /// Returns the order of two numbers without their signs.
-    fn order_of_sizes(self, other: Number<'_>) -> Ordering {
-        match self.power.cmp(&other.power) {
-            Ordering::Equal => order_digits(self.digits, other.digits),
+    fn order_of_sizes(&self, other: &Number<'_>) -> Ordering
+        ensures { result ≡ nat_cmp (digits self.now * 10 ^ (up self.now + down other.now))
+            (digits other.now * 10 ^ (up other.now + down self.now)) }
+    {
+        let (zeros, others) = (self.zeros(), other.zeros());
+        let (first, second) = (self.len() - zeros, other.len() - others);
+        if first.min(second) == 0 {
+            return first.cmp(&second);
+        }
+        match order_of_powers(self.top(first), other.top(second)) {
+            Ordering::Equal => self.order_of_digits(zeros, other, others),
             order => order,
         }
     }
 
+    /// Returns whether the number is 0.
+    fn is_zero(&self) -> bool
+        ensures { IsTrue result ↔ (digits self.now ≡ 0) }
+    {
+        self.zeros() == self.len()
+    }
+
+    /// Returns whether two numbers are 0.
+    fn are_zero(&self, other: &Number<'_>) -> bool
+        ensures { IsTrue result ↔ ((digits self.now ≡ 0) × (digits other.now ≡ 0)) }
+    {
+        self.is_zero() && other.is_zero()
+    }
+
     /// Returns the order of two numbers.
-    pub fn order(self, other: Number<'_>) -> Ordering {
-        match self.sign().cmp(&other.sign()) {
-            Ordering::Equal if self.is_negative => other.order_of_sizes(self),
-            Ordering::Equal => self.order_of_sizes(other),
-            order => order,
+    pub fn order(&self, other: &Number<'_>) -> Ordering
+        ensures { result ≡ order_of self.now other.now }
+    {
+        if self.is_negative == other.is_negative {
+            if self.is_negative {
+                return other.order_of_sizes(self);
+            }
+            return self.order_of_sizes(other);
         }
+        if self.are_zero(other) {
+            return Ordering::Equal;
+        }
+        if self.is_negative {
+            return Ordering::Less;
+        }
+        Ordering::Greater
     }
 }

@@ -11,9 +11,12 @@ use Rattle.files_filter.specs.Answers.{AreAnswers}
 use Rattle.files_filter.specs.Blocks.{AnswerAll, Follows}
 use Rattle.files_filter.specs.FilterText.{Answered, row_line, rows_text, shown, true_rows, windowed}
 use Rattle.files_filter.specs.Filtered.{AreWritten, IsFiltered, IsShown, heading}
-use Rattle.files_filter.specs.Reading.{AreAllRows, Cells, HasRead}
+use Rattle.files_filter.specs.Reading.{AreAllRows, AreFirstRows, Cells, HasRead}
 use Rattle.files_filter.specs.declared.block.Next.{Next}
-use Rattle.files_filter.specs.declared.block.Next.TheVariants.{End, Rows}
+use Rattle.files_filter.specs.declared.block.Next.TheVariants.{End, Fault, Rows}
+use Rattle.files_filter.specs.RowFaults.{IsRowFault}
+use Rattle.files_filter.specs.FilterFaults.{WritesShown, WritesWindow}
+use Rattle.files_filter.specs.declared.fault.FilterFault.{FilterFault}
 use Rattle.files_filter.specs.declared.comparing.Test.{Test}
 use Rattle.files_filter.specs.declared.filter.Shows.{Shows}
 use Rattle.files_filter.specs.declared.table.Table.{Table}
@@ -150,6 +153,19 @@ module _ {R : Type 0} (remaining : R → Option (List ℕ)) (text : Option (List
     written = all_written;
   }
 
+  -- or a fault
+  pub first_filtered : (fault : FilterFault) → IsRowFault fault
+      × AreFirstRows text ((before ++ map (λ row. row.0) so.rows) ++ map (λ row. row.0) block) →
+      sum < 2 ^ 64 → WritesWindow text before tests expression skip most old new fault
+  first_filtered fault first less = record {
+    fault_is = first.0;
+    rows = so.rows ++ block;
+    first = rw (cells_after before so.rows block) first.1;
+    answers = all_written.answers;
+    wrote = all_written.wrote;
+    few = rw all_written.count at less;
+  }
+
 -- what comes after a block
 module _ {R : Type 0} (remaining : R → Option (List ℕ)) (text : Option (List ℕ)) (rows : List Cells) (table : Table R)
     (next : Next) (follows : Follows remaining text rows table next) where
@@ -158,6 +174,9 @@ module _ {R : Type 0} (remaining : R → Option (List ℕ)) (text : Option (List
 
   pub then_none : next ≡ End → AreAllRows text rows
   then_none same = subst (λ n. Follows remaining text rows table n) same follows
+
+  pub then_fault : (fault : FilterFault) → next ≡ Fault fault → IsRowFault fault × AreFirstRows text rows
+  then_fault fault same = subst (λ n. Follows remaining text rows table n) same follows
 
 -- the header and the rows of a window are what is shown
 pub shown_all : (text : Option (List ℕ)) (header : Cells) (tests : List Test) (expression : Expression) (shows : Shows)
@@ -173,3 +192,16 @@ shown_all text header tests expression shows skip most old now new found window 
       wrote = Appends-both old now new _ _ head (rw (window (true_rows expression is.rows) short) at is.written.wrote);
       count = is.written.count;
     }
+
+pub shown_first : (text : Option (List ℕ)) (header : Cells) (tests : List Test) (expression : Expression) (shows : Shows)
+    (skip : ℕ) (most : Option ℕ) (old now new : Option (List ℕ)) (fault : FilterFault) →
+    ((rows : List Cells) → length rows < 2 ^ 64 → windowed skip most rows ≡ shown shows rows) →
+    Appends old now (heading shows header) → WritesWindow text (header ∷ []) tests expression skip most now new fault →
+    WritesShown text header tests expression shows old new fault
+shown_first text header tests expression shows skip most old now new fault window head is = record {
+  fault_is = is.fault_is;
+  rows = is.rows;
+  first = is.first;
+  answers = is.answers;
+  wrote = Appends-both old now new _ _ head (rw (window (true_rows expression is.rows) is.few) at is.wrote);
+}

@@ -2,11 +2,12 @@
 use Rattle.std.proofs.Common.{◌≡◌, ◌∙◌, ℕ, Bool, true, false, List, [], ◌∷◌, ◌++◌, Option, Some, None, ap, inl, option_map, refl, sym}
 use Rattle.std.specs.Io.KnownBytes.{Keeps}
 use Rattle.csv.specs.Reading.{Reached, ReadRecord, Ready, default_config, reader_config, reader_state, reader_trim, source_of, strip_bom, took_first}
+use Rattle.csv.specs.declared.parser.State.{State}
 use Rattle.csv.specs.declared.parser.State.TheVariants as st
 use Rattle.csv.specs.declared.reader.Reader.{Reader}
 use Rattle.csv.specs.declared.reader.Trim.TheVariants as trim
 use Rattle.csv.proofs.ReadFacts.{rows-end, rows-more}
-use Rattle.files_filter.specs.Reading.{AreAllRows, Cells, ComeBefore, HasRead, ReadsNext}
+use Rattle.files_filter.specs.Reading.{AreAllRows, AreFirstRows, Cells, ComeBefore, HasRead, ReadsNext}
 use Rattle.files_csv.specs.Whole.{unread}
 use Rattle.files_filter.specs.declared.table.Table.{Table}
 
@@ -72,3 +73,15 @@ same_reader remaining text rows old new same has = record {
   config = rw same has.config;
   before = rw same has.before;
 }
+
+-- what was read are the first rows
+firsts : (text left : Option (List ℕ)) (rows : List Cells) (state : State) → ComeBefore text rows state left →
+    AreFirstRows text rows
+firsts None left rows state before = tt
+firsts (Some text) None rows state before = absurd before
+firsts (Some text) (Some left) rows state before = (state, left, before)
+
+pub first_rows : {R : Type 0} (remaining : R → Option (List ℕ)) (text : Option (List ℕ)) (rows : List Cells)
+    (table : Table R) → HasRead remaining text rows table → AreFirstRows text rows
+first_rows remaining text rows table has =
+    firsts text (source_of (unread remaining) table.reader) rows (reader_state table.reader) has.before

@@ -1,9 +1,10 @@
 -- Blocks of the rows of a table.
-use Rattle.std.specs.Prelude.{◌++◌, ◌∷◌, [], ℕ, All, Bool, List, Option, Some, None, map, slice_index_or, ⊤}
+use Rattle.std.specs.Prelude.{◌++◌, ◌∷◌, [], ℕ, All, Bool, List, Option, Some, None, map, slice_index_or}
 use Rattle.csv.specs.Records.{fields_of}
 use Rattle.files_filter.specs.Answers.{AreAnswers}
+use Rattle.files_filter.specs.RowFaults.{IsRowFault}
 use Rattle.files_filter.specs.FilterText.{Answered, answered}
-use Rattle.files_filter.specs.Reading.{AreAllRows, Cells, HasRead}
+use Rattle.files_filter.specs.Reading.{AreAllRows, AreFirstRows, Cells, HasRead}
 use Rattle.files_filter.specs.declared.block.Block.{Block}
 use Rattle.files_filter.specs.declared.block.Next.{Next}
 use Rattle.files_filter.specs.declared.block.Next.TheVariants.{End, Fault, Rows}
@@ -28,7 +29,7 @@ ReadsRow remaining text rows table (Some row) = HasRead remaining text (rows ++ 
 abbrev pub Follows : {R : Type 0} → (R → Option (List ℕ)) → Option (List ℕ) → List Cells → Table R → Next → Type 0
 Follows remaining text rows table Rows = HasRead remaining text rows table
 Follows remaining text rows table End = AreAllRows text rows
-Follows remaining text rows table (Fault fault) = ⊤
+Follows remaining text rows table (Fault fault) = IsRowFault fault × AreFirstRows text rows
 
 -- a table after the rows of a block
 abbrev pub ReadsBlock : {R : Type 0} → (R → Option (List ℕ)) → Option (List ℕ) → List Cells → Table R → Block → Type 0

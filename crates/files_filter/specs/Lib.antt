@@ -1,6 +1,9 @@
+pub mod RowFaults
 pub mod FilterText
 pub mod Reading
 pub mod Answers
+pub mod Columns
 pub mod Blocks
 pub mod Written
 pub mod Filtered
+pub mod FilterFaults

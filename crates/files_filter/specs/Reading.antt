@@ -18,6 +18,12 @@ ComeBefore (Some text) rows state None = ⊥
 ComeBefore (Some text) rows state (Some left) =
     Reached default_config st.StartRecord (strip_bom text) rows state left
 
+-- these are the first rows of a text, if it is known
+abbrev pub AreFirstRows : Option (List ℕ) → List Cells → Type 0
+AreFirstRows None rows = ⊤
+AreFirstRows (Some text) rows =
+    (state : State) × (left : List ℕ) × Reached default_config st.StartRecord (strip_bom text) rows state left
+
 -- these are all rows of a text, if it is known
 abbrev pub AreAllRows : Option (List ℕ) → List Cells → Type 0
 AreAllRows None rows = ⊤

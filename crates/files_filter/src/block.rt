@@ -1,11 +1,12 @@
 //! Some rows of a table, with what each comparison of a condition is in them.
-ghost use Rattle.std.specs.Prelude.{◌≡◌, ◌<◌, ◌++◌, ◌∷◌, [], ℕ, All, IfOk, IfSome, List, Option, length, map};
+ghost use Rattle.std.specs.Prelude.{◌≡◌, ◌<◌, ◌++◌, ◌∷◌, [], ℕ, All, IfErr, IfOk, IfSome, List, Option, length, map};
 ghost use Rattle.csv.specs.Records.{fields_of};
 ghost use Rattle.vob_filter.specs.Columns.{row_at, value_at};
 ghost use Rattle.vob_filter.specs.Filter.{AreRows};
 ghost use Rattle.files_filter.specs.Answers.{AreAnswers};
 ghost use Rattle.files_filter.specs.Blocks.{AnswerAll, ReadsBlock, ReadsRow, answers_at};
 ghost use Rattle.files_filter.specs.FilterText.{answered};
+ghost use Rattle.files_filter.specs.RowFaults.{IsRowFault};
 ghost use Rattle.files_filter.specs.Reading.{Cells, HasRead};
 
 use crate::fault::FilterFault;
@@ -79,6 +80,7 @@ fn next_row<R: Read + Drop>(
     ensures row { IfOk result (λ next. (text : Option (List ℕ)) (rows : List Cells) →
         HasRead R.remaining text rows table.old →
         ReadsRow R.remaining text rows table.new next) }
+    ensures err { IfErr result IsRowFault }
 {
     let mut row = Row::from_spare(alloc, spare);
     if !table.next(&mut row.cells)? {

@@ -5,6 +5,15 @@ use files_text::Fault;
 use std::alloc::{AllocError, AllocFailed};
 use std::{fmt, io};
 
+/// A cell that isn't a number: where it stands, the name of its column, and what it is.
+#[derive(Debug, Drop)]
+pub struct WrongCell {
+    pub line: usize,
+    pub column: usize,
+    pub name: String,
+    pub cell: String,
+}
+
 /// Why no rows are written. Lines and columns of a text are counted from 1.
 #[derive(Debug, Drop)]
 pub enum FilterFault {
@@ -34,13 +43,8 @@ pub enum FilterFault {
         cells: u64,
         header: u64,
     },
-    /// A cell isn't a number: the one in the column with a name.
-    Cell {
-        line: usize,
-        column: usize,
-        name: String,
-        cell: String,
-    },
+    /// A cell isn't a number.
+    Cell(WrongCell),
     /// The rows of a table haven't the same length.
     Columns,
 }
@@ -75,12 +79,14 @@ impl FilterFault {
                 f,
                 "{file}:{line}: expected {header} cells, as in the header, found {cells}"
             ),
-            FilterFault::Cell {
-                line,
-                column,
-                name,
-                cell,
-            } => write!(
+            FilterFault::Cell(
+                WrongCell {
+                    line,
+                    column,
+                    name,
+                    cell,
+                },
+            ) => write!(
                 f,
                 "{file}:{line}:{column}: expected a number in column {name}, found {cell}"
             ),
@@ -90,6 +96,11 @@ impl FilterFault {
 }
 
 impl From<ConditionFault> for FilterFault {
+    ghost use Rattle.std.specs.Prelude.{◌≡◌};
+    ghost use Rattle.files_filter.specs.FilterFaults.{fault_of};
+
+    ghost from_gives = { λ given fault. fault ≡ fault_of given };
+
     fn from(fault: ConditionFault) -> FilterFault {
         match fault {
             ConditionFault::Memory => FilterFault::Text(Fault::Memory),
@@ -102,18 +113,36 @@ impl From<ConditionFault> for FilterFault {
 }
 
 impl From<AllocError> for FilterFault {
+    ghost use Rattle.std.specs.Prelude.{◌≡◌};
+    ghost use Rattle.files_text.specs.declared.fault.Fault.TheVariants.{Memory};
+    ghost use Rattle.files_filter.specs.declared.fault.FilterFault.TheVariants.{Text};
+
+    ghost from_gives = { λ _ fault. fault ≡ Text Memory };
+
     fn from(_: AllocError) -> FilterFault {
         FilterFault::Text(Fault::Memory)
     }
 }
 
 impl<T: Drop> From<AllocFailed<T>> for FilterFault {
+    ghost use Rattle.std.specs.Prelude.{◌≡◌};
+    ghost use Rattle.files_text.specs.declared.fault.Fault.TheVariants.{Memory};
+    ghost use Rattle.files_filter.specs.declared.fault.FilterFault.TheVariants.{Text};
+
+    ghost from_gives = { λ _ fault. fault ≡ Text Memory };
+
     fn from(_: AllocFailed<T>) -> FilterFault {
         FilterFault::Text(Fault::Memory)
     }
 }
 
 impl From<io::Error> for FilterFault {
+    ghost use Rattle.std.specs.Prelude.{◌≡◌};
+    ghost use Rattle.files_text.specs.declared.fault.Fault.TheVariants.{Output};
+    ghost use Rattle.files_filter.specs.declared.fault.FilterFault.TheVariants.{Text};
+
+    ghost from_gives = { λ error fault. fault ≡ Text (Output error) };
+
     fn from(error: io::Error) -> FilterFault {
         FilterFault::Text(Fault::Output(error))
     }
@@ -121,6 +150,10 @@ impl From<io::Error> for FilterFault {
 
 /// What can go wrong as rows are written.
 impl From<csv::Error> for FilterFault {
+    ghost use Rattle.files_filter.specs.RowFaults.{IsOutputFault};
+
+    ghost from_gives = { λ _ fault. IsOutputFault fault };
+
     fn from(error: csv::Error) -> FilterFault {
         match error.into_kind() {
             csv::ErrorKind::Io(error) if error.kind() == io::ErrorKind::OutOfMemory =>

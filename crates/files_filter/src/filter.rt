@@ -1,10 +1,12 @@
 //! The rows of a table that a condition is true of.
-ghost use Rattle.std.specs.Prelude.{◌≡◌, ◌-◌, ◌<◌, ◌∷◌, ◌^◌, [], ℕ, All, IfOk, List, OnOk, Option, length, map, option_map};
+ghost use Rattle.std.specs.Prelude.{◌≡◌, ◌⊎◌, ◌-◌, ◌<◌, ◌∷◌, ◌^◌, [], ℕ, All, IfErr, IfOk, List, OnOk, Option, length, map, option_map};
 ghost use Rattle.std.specs.Io.KnownBytes.{Appends};
 ghost use Rattle.std.specs.List.{flat_map};
 ghost use Rattle.csv.specs.Records.{fields_of};
 ghost use Rattle.csv.specs.Writing.{text_written};
-ghost use Rattle.files_filter.specs.Filtered.{IsFiltered, IsShown, heading};
+ghost use Rattle.files_filter.specs.FilterFaults.{Fails, FailsBy, WritesShown, WritesWindow};
+ghost use Rattle.files_filter.specs.RowFaults.{IsOutputFault};
+ghost use Rattle.files_filter.specs.Filtered.{Filters, FiltersBy, IsFiltered, IsShown, count_line, heading, status_of};
 ghost use Rattle.files_filter.specs.FilterText.{IsReady, answered, row_line, rows_text, shown, true_rows, windowed};
 ghost use Rattle.files_text.specs.Printed.{members};
 ghost use Rattle.files_filter.specs.Reading.{Cells, HasRead};
@@ -15,9 +17,10 @@ use crate::fault::FilterFault;
 use crate::questions::Questions;
 use crate::table::Table;
 use csv::{ByteRecord, Writer, WriterBuilder};
-use files_condition::read_condition;
+use files_condition::{Condition, read_condition};
 use files_text::Fault;
 use std::alloc::{AllocError, Global};
+use std::io;
 use std::io::{Read, Write};
 use vob::Vob;
 use vob_filter::filter::{Expression, select};
@@ -84,9 +87,10 @@ fn put_rows<W: Write + Drop>(
 ) -> Result<(), FilterFault>
     requires numbers { All (λ number. number < length rows.now) numbers.now }
     requires ready { IsReady writer.old }
-    ensures { OnOk result (Appends (text_written W.contents writer.old)
+    ensures ok { OnOk result (Appends (text_written W.contents writer.old)
         (text_written W.contents writer.new)
         (flat_map (λ number. row_line (cells_of rows.now number)) numbers.now)) }
+    ensures err { IfErr result IsOutputFault }
 {
     for number in numbers {
         writer.write_byte_record(&rows[*number].cells)?;
@@ -97,8 +101,9 @@ fn put_rows<W: Write + Drop>(
 /// Returns the lines of the rows with some numbers.
 fn lines_of(alloc: Global, rows: &[Row], numbers: &[usize]) -> Result<Vec<u8>, FilterFault>
     requires { All (λ number. number < length rows.now) numbers.now }
-    ensures { IfOk result (λ text. text.items
+    ensures ok { IfOk result (λ text. text.items
         ≡ flat_map (λ number. row_line (cells_of rows.now number)) numbers.now) }
+    ensures err { IfErr result IsOutputFault }
 {
     let mut writer = WriterBuilder::new().from_writer(Vec::new(alloc));
     put_rows(&mut writer, rows, numbers)?;
@@ -110,7 +115,8 @@ fn lines_of(alloc: Global, rows: &[Row], numbers: &[usize]) -> Result<Vec<u8>, F
 
 /// Returns the line of a header.
 fn header_line(alloc: Global, header: &ByteRecord) -> Result<Vec<u8>, FilterFault>
-    ensures { IfOk result (λ text. text.items ≡ row_line (fields_of header.now)) }
+    ensures ok { IfOk result (λ text. text.items ≡ row_line (fields_of header.now)) }
+    ensures err { IfErr result IsOutputFault }
 {
     let mut writer = WriterBuilder::new().from_writer(Vec::new(alloc));
     writer.write_byte_record(header)?;
@@ -127,8 +133,9 @@ fn put_heading<W: Write>(
     shows: Shows,
     output: &mut W,
 ) -> Result<(), FilterFault>
-    ensures { OnOk result (Appends (W.contents output.old) (W.contents output.new)
+    ensures ok { OnOk result (Appends (W.contents output.old) (W.contents output.new)
         (heading shows (fields_of header.now))) }
+    ensures err { IfErr result IsOutputFault }
 {
     match shows {
         Shows::Rows | Shows::Page(_) => {
@@ -173,6 +180,7 @@ fn put_block<W: Write>(
     ensures wrote { OnOk result (Appends (W.contents output.old) (W.contents output.new)
         (rows_text (windowed window.skip window.most
         (true_rows expression.now (map answered rows.now))))) }
+    ensures err { IfErr result IsOutputFault }
 {
     let kept = kept_rows(alloc, rows, width, expression)?;
     let most = window.most.unwrap_or(kept.len());
@@ -191,10 +199,14 @@ fn put_true_rows<R: Read + Drop, W: Write>(
     mut window: Window,
     output: &mut W,
 ) -> Result<usize, FilterFault>
-    ensures { IfOk result (λ count. (text : Option (List ℕ)) (rows : List Cells) →
+    ensures ok { IfOk result (λ count. (text : Option (List ℕ)) (rows : List Cells) →
         HasRead R.remaining text rows table.old →
         IsFiltered text rows questions.old.tests.items expression.now window.skip window.most
         (W.contents output.old) (W.contents output.new) count) }
+    ensures err { IfErr result (λ fault. IsOutputFault fault ⊎ ((text : Option (List ℕ))
+        (rows : List Cells) → HasRead R.remaining text rows table.old → WritesWindow text rows
+        questions.old.tests.items expression.now window.skip window.most
+        (W.contents output.old) (W.contents output.new) fault)) }
 {
     let width = questions.len();
     let mut count: usize = 0;
@@ -227,15 +239,56 @@ fn put_shown<R: Read + Drop, W: Write>(
     shows: Shows,
     output: &mut W,
 ) -> Result<usize, FilterFault>
-    ensures { IfOk result (λ count. (text : Option (List ℕ)) →
+    ensures ok { IfOk result (λ count. (text : Option (List ℕ)) →
         HasRead R.remaining text (fields_of table.old.header ∷ []) table.old →
         IsShown text (fields_of table.old.header) questions.old.tests.items expression.now shows
         (W.contents output.old) (W.contents output.new) count) }
+    ensures err { IfErr result (λ fault. IsOutputFault fault ⊎ ((text : Option (List ℕ)) →
+        HasRead R.remaining text (fields_of table.old.header ∷ []) table.old →
+        WritesShown text (fields_of table.old.header) questions.old.tests.items expression.now shows
+        (W.contents output.old) (W.contents output.new) fault)) }
 {
     put_heading(alloc, &table.header, shows, output)?;
     let window = Window::of(shows);
     let count = put_true_rows(alloc, table, questions, expression, window, output)?;
     Ok(count)
+}
+
+/// Writes how many rows are kept, if that is to be shown. Returns the status.
+fn put_count<W: Write>(shows: Shows, count: usize, output: &mut W) -> io::Result<u8>
+    ensures status { IfOk result (λ status. status ≡ status_of shows count) }
+    ensures wrote { OnOk result (Appends (W.contents output.old) (W.contents output.new)
+        (count_line shows count)) }
+{
+    match shows {
+        Shows::Rows | Shows::Page(_) => Ok(0),
+        Shows::Count => {
+            writeln!(output, "{count}")?;
+            Ok(0)
+        }
+        Shows::Nothing => Ok(if count == 0 { 1 } else { 0 }),
+    }
+}
+
+/// Writes what is to be shown of a table by a condition that was read. Returns the status.
+fn filter_by<R: Read + Drop, W: Write>(
+    alloc: Global,
+    input: R,
+    condition: &Condition<'_>,
+    shows: Shows,
+    output: &mut W,
+) -> Result<u8, FilterFault>
+    ensures ok { IfOk result (Filters (R.remaining input) condition.now.comparisons.items
+        condition.now.expression shows (W.contents output.old) (W.contents output.new)) }
+    ensures err { IfErr result (λ fault. IsOutputFault fault
+        ⊎ Fails (R.remaining input) condition.now.comparisons.items condition.now.expression shows
+        (W.contents output.old) (W.contents output.new) fault) }
+{
+    let mut table = Table::read(alloc, input)?;
+    let mut questions = Questions::new(alloc, &table, condition)?;
+    let expression = &condition.expression;
+    let count = put_shown(alloc, &mut table, &mut questions, expression, shows, output)?;
+    Ok(put_count(shows, count, output)?)
 }
 
 /// Writes the rows of a table of which a condition is true, or a page of them, as they are read. An
@@ -251,22 +304,12 @@ pub fn print_filter<R: Read + Drop, W: Write>(
     condition: &str,
     shows: Shows,
     output: &mut W,
-) -> Result<u8, FilterFault> {
+) -> Result<u8, FilterFault>
+    ensures ok { IfOk result (FiltersBy (R.remaining input) condition.now shows
+        (W.contents output.old) (W.contents output.new)) }
+    ensures err { IfErr result (FailsBy (R.remaining input) condition.now shows
+        (W.contents output.old) (W.contents output.new)) }
+{
     let condition = read_condition(alloc, condition)?;
-    let mut table = Table::read(alloc, input)?;
-    let mut questions = Questions::new(alloc, &table, &condition)?;
-    let count = put_shown(
-        alloc,
-        &mut table,
-        &mut questions,
-        &condition.expression,
-        shows,
-        output,
-    )?;
-    match shows {
-        Shows::Count => writeln!(output, "{count}")?,
-        Shows::Nothing if count == 0 => return Ok(1),
-        _ => {}
-    }
-    Ok(0)
+    filter_by(alloc, input, &condition, shows, output)
 }

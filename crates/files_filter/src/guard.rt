@@ -1,7 +1,9 @@
 //! Comparisons that can't be meant: of numbers with texts.
+ghost use Rattle.std.specs.Prelude.{IfErr};
+ghost use Rattle.files_filter.specs.RowFaults.{IsRowFault};
 
 use crate::comparing::{Kind, Other, Test, cell};
-use crate::fault::FilterFault;
+use crate::fault::{FilterFault, WrongCell};
 use crate::table::Table;
 use csv::ByteRecord;
 use files_condition::{Comparison, Number, Question};
@@ -22,7 +24,9 @@ pub struct TextGuard {
 
 impl TextGuard {
     /// Returns the fault of a text that is compared with numbers.
-    fn fault(&self) -> FilterFault {
+    fn fault(&self) -> FilterFault
+        ensures { IsRowFault result }
+    {
         FilterFault::Condition {
             column: self.at,
             expected: "a number, as the column has numbers, or a text in quotes",
@@ -30,7 +34,9 @@ impl TextGuard {
     }
 
     /// Looks at the next row.
-    fn look(&mut self, row: &ByteRecord) -> Result<(), FilterFault> {
+    fn look(&mut self, row: &ByteRecord) -> Result<(), FilterFault>
+        ensures { IfErr result IsRowFault }
+    {
         let cell = cell(row, self.place);
         if cell.is_empty() {
             return Ok(());
@@ -53,8 +59,8 @@ pub struct ColumnsGuard {
     place: usize,
     other: usize,
     have_numbers: bool,
-    // The fault of the first text.
-    text: Option<FilterFault>,
+    // The first cell that is a text.
+    text: Option<WrongCell>,
 }
 
 impl ColumnsGuard {
@@ -64,7 +70,9 @@ impl ColumnsGuard {
         alloc: Global,
         table: &Table<R>,
         row: &ByteRecord,
-    ) -> Result<(), FilterFault> {
+    ) -> Result<(), FilterFault>
+        ensures { IfErr result IsRowFault }
+    {
         let first = cell(row, self.place);
         if first.is_empty() || cell(row, self.other).is_empty() {
             return Ok(());
@@ -72,12 +80,12 @@ impl ColumnsGuard {
         if Number::of(first).is_some() {
             self.have_numbers = true;
         } else if self.text.is_none() {
-            self.text = Some(table.no_number(alloc, row, self.place)?);
+            self.text = Some(table.wrong_cell(alloc, row, self.place)?);
         }
         match self.text.take() {
-            Some(fault) if self.have_numbers => Err(fault),
-            fault => {
-                self.text = fault;
+            Some(cell) if self.have_numbers => Err(FilterFault::Cell(cell)),
+            cell => {
+                self.text = cell;
                 Ok(())
             }
         }
@@ -97,7 +105,7 @@ impl Guard {
         let Question::Compared(relation, value) = &comparison.question else {
             return None;
         };
-        match test.kind {
+        match &test.kind {
             Kind::Compared(_, Other::Text(_)) if !value.is_quoted => {
                 Some(Guard::Text(TextGuard {
                     place: test.place,
@@ -110,7 +118,7 @@ impl Guard {
             Kind::Compared(_, Other::Column(other)) if relation.is_order() => {
                 Some(Guard::Columns(ColumnsGuard {
                     place: test.place,
-                    other,
+                    other: *other,
                     have_numbers: false,
                     text: None,
                 }))
@@ -125,7 +133,9 @@ impl Guard {
         alloc: Global,
         table: &Table<R>,
         row: &ByteRecord,
-    ) -> Result<(), FilterFault> {
+    ) -> Result<(), FilterFault>
+        ensures { IfErr result IsRowFault }
+    {
         match self {
             Guard::Text(guard) => guard.look(row),
             Guard::Columns(guard) => guard.look(alloc, table, row),
@@ -133,7 +143,9 @@ impl Guard {
     }
 
     /// Fails at the end of a table if all cells that were compared with a text are numbers.
-    pub fn finish(&self) -> Result<(), FilterFault> {
+    pub fn finish(&self) -> Result<(), FilterFault>
+        ensures { IfErr result IsRowFault }
+    {
         match self {
             Guard::Text(guard) if guard.have_numbers && !guard.have_texts => Err(guard.fault()),
             _ => Ok(()),

@@ -9,5 +9,5 @@ mod guard;
 mod questions;
 mod table;
 
-pub use fault::FilterFault;
+pub use fault::{FilterFault, WrongCell};
 pub use filter::{Shows, print_filter};

@@ -1,15 +1,18 @@
 //! The questions of a condition on the rows of a table.
-ghost use Rattle.std.specs.Prelude.{◌≡◌, length, OnOk};
+ghost use Rattle.std.specs.Prelude.{◌≡◌, ◌⊎◌, length, IfErr, IfOk, OnOk};
 ghost use Rattle.csv.specs.Records.{fields_of};
 ghost use Rattle.files_filter.specs.Answers.{AreAnswers};
+ghost use Rattle.files_filter.specs.Columns.{AreTests};
+ghost use Rattle.files_filter.specs.FilterFaults.{AsksInVain};
+ghost use Rattle.files_filter.specs.RowFaults.{IsOutputFault, IsRowFault};
 
 use crate::comparing::Test;
 use crate::fault::FilterFault;
 use crate::guard::Guard;
 use crate::table::Table;
 use csv::ByteRecord;
-use files_condition::Condition;
-use std::alloc::Global;
+use files_condition::{Comparison, Condition};
+use std::alloc::{AllocError, Global};
 use std::io::Read;
 
 /// What a condition asks of each row of a table.
@@ -27,7 +30,8 @@ fn set_answers<R: Read + Drop>(
     row: &ByteRecord,
     answers: &mut Vec<Option<bool>>,
 ) -> Result<(), FilterFault>
-    ensures { OnOk result (AreAnswers tests.now (fields_of row.now) answers.new.items) }
+    ensures ok { OnOk result (AreAnswers tests.now (fields_of row.now) answers.new.items) }
+    ensures err { IfErr result IsRowFault }
 {
     answers.clear();
     for test in tests {
@@ -36,22 +40,52 @@ fn set_answers<R: Read + Drop>(
     Ok(())
 }
 
+/// Returns the tests of comparisons. Fails at the first whose column isn't there.
+fn tests_of<'a, R: Read + Drop>(
+    alloc: Global,
+    table: &Table<R>,
+    comparisons: &[Comparison<'a>],
+) -> Result<Vec<Test<'a>>, FilterFault>
+    ensures ok { IfOk result (λ tests. AreTests (fields_of table.now.header) comparisons.now tests.items) }
+    ensures err { IfErr result (λ fault. IsOutputFault fault
+        ⊎ AsksInVain (fields_of table.now.header) comparisons.now fault) }
+{
+    let mut tests = Vec::new(alloc);
+    for comparison in comparisons {
+        tests.push(Test::new(alloc, table, comparison)?)?;
+    }
+    Ok(tests)
+}
+
+/// Returns the guards of comparisons.
+fn guards_of(
+    alloc: Global,
+    comparisons: &[Comparison<'_>],
+    tests: &[Test<'_>],
+) -> Result<Vec<Guard>, AllocError> {
+    let mut guards = Vec::new(alloc);
+    for (comparison, test) in comparisons.iter().zip(tests) {
+        if let Some(guard) = Guard::new(comparison, test) {
+            guards.push(guard)?;
+        }
+    }
+    Ok(guards)
+}
+
 impl<'a> Questions<'a> {
     /// Finds the columns of a condition in a table. Fails if one isn't there.
     pub fn new<R: Read + Drop>(
         alloc: Global,
         table: &Table<R>,
         condition: &Condition<'a>,
-    ) -> Result<Questions<'a>, FilterFault> {
-        let mut tests = Vec::new(alloc);
-        let mut guards = Vec::new(alloc);
-        for comparison in condition.comparisons.iter() {
-            let test = Test::new(alloc, table, comparison)?;
-            if let Some(guard) = Guard::new(comparison, &test) {
-                guards.push(guard)?;
-            }
-            tests.push(test)?;
-        }
+    ) -> Result<Questions<'a>, FilterFault>
+        ensures ok { IfOk result (λ questions. AreTests (fields_of table.now.header)
+            condition.now.comparisons.items questions.tests.items) }
+        ensures err { IfErr result (λ fault. IsOutputFault fault
+            ⊎ AsksInVain (fields_of table.now.header) condition.now.comparisons.items fault) }
+    {
+        let tests = tests_of(alloc, table, &condition.comparisons)?;
+        let guards = guards_of(alloc, &condition.comparisons, &tests)?;
         Ok(Questions { tests, guards })
     }
 
@@ -74,6 +108,7 @@ impl<'a> Questions<'a> {
         ensures tests { self.new.tests ≡ self.old.tests }
         ensures answers { OnOk result
             (AreAnswers self.old.tests.items (fields_of row.now) answers.new.items) }
+        ensures err { IfErr result IsRowFault }
     {
         for guard in self.guards.iter_mut() {
             guard.look(alloc, table, row)?;
@@ -82,7 +117,9 @@ impl<'a> Questions<'a> {
     }
 
     /// Fails at the end of a table if numbers alone were compared with a text.
-    pub fn finish(&self) -> Result<(), FilterFault> {
+    pub fn finish(&self) -> Result<(), FilterFault>
+        ensures { IfErr result IsRowFault }
+    {
         for guard in self.guards.iter() {
             guard.finish()?;
         }

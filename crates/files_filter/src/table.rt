@@ -1,9 +1,12 @@
 //! Tables of CSV: a header, and rows of as many cells.
-ghost use Rattle.std.specs.Prelude.{◌≡◌, ◌∷◌, [], IfOk, ℕ, List, Option};
-ghost use Rattle.csv.specs.Records.{fields_of};
+ghost use Rattle.std.specs.Prelude.{◌≡◌, ◌↔◌, ◌∷◌, [], IfErr, IfNone, IfOk, IfSome, ℕ, List, Option, Some};
+ghost use Rattle.std.specs.Bool.{IsTrue};
+ghost use Rattle.csv.specs.Records.{field_at, fields_of};
+ghost use Rattle.files_filter.specs.Columns.{IsColumn, IsNoColumn};
+ghost use Rattle.files_filter.specs.RowFaults.{IsColumnFault, IsHeaderFault, IsTextFault};
 ghost use Rattle.files_filter.specs.Reading.{Cells, HasRead, ReadsNext};
 
-use crate::fault::FilterFault;
+use crate::fault::{FilterFault, WrongCell};
 use csv::{ByteRecord, ErrorKind, Position, Reader, ReaderBuilder};
 use files_condition::{Operand, is_word};
 use files_csv::WholeRows;
@@ -56,7 +59,8 @@ impl<R: Read + Drop> Table<R> {
     /// Reads the header of a table. Fails if there is none, if two columns have one name, or if RFC
     /// 4180 refuses a byte of it. Columns without a name may be many.
     pub fn read(alloc: Global, input: R) -> Result<Table<R>, FilterFault>
-        ensures { IfOk result (λ table.
+        ensures err { IfErr result IsHeaderFault }
+        ensures ok { IfOk result (λ table.
             HasRead R.remaining (R.remaining input) (fields_of table.header ∷ []) table) }
     {
         let reader = ReaderBuilder::new()
@@ -83,6 +87,7 @@ impl<R: Read + Drop> Table<R> {
     /// or at a row that has more cells than the header, or fewer.
     pub fn next(&mut self, row: &mut ByteRecord) -> Result<bool, FilterFault>
         ensures header { self.new.header ≡ self.old.header }
+        ensures err { IfErr result IsTextFault }
         ensures next { IfOk result (λ found. (text : Option (List ℕ)) (rows : List Cells) →
             HasRead R.remaining text rows self.old →
             ReadsNext R.remaining text rows self.new found (fields_of row.new)) }
@@ -94,7 +99,9 @@ impl<R: Read + Drop> Table<R> {
     }
 
     /// Returns the fault of a row that can't be read.
-    fn no_row(&self, error: csv::Error) -> FilterFault {
+    fn no_row(&self, error: csv::Error) -> FilterFault
+        ensures { IsTextFault result }
+    {
         match error.into_kind() {
             ErrorKind::Io(error) => FilterFault::Text(self.no_text(error)),
             ErrorKind::UnequalLengths {
@@ -129,16 +136,36 @@ impl<R: Read + Drop> Table<R> {
         self.reader.get_ref().cell_place(byte, cell)
     }
 
+    /// Returns whether the column at a place has a name.
+    fn is_called(&self, place: usize, name: &[u8]) -> bool
+        ensures { IsTrue result ↔ (field_at (fields_of self.now.header) place ≡ Some name.now) }
+    {
+        match self.header.get(place) {
+            Some(own) => own == name,
+            None => false,
+        }
+    }
+
     /// Returns the place of the column with a name, if there is one. An empty name is none.
-    pub fn place(&self, name: &[u8]) -> Option<usize> {
+    pub fn place(&self, name: &[u8]) -> Option<usize>
+        ensures some { IfSome result (IsColumn (fields_of self.now.header) name.now) }
+        ensures none { IfNone result (IsNoColumn (fields_of self.now.header) name.now) }
+    {
         if name.is_empty() {
             return None;
         }
-        (0..self.header.len()).find(|place| self.header.get(*place) == Some(name))
+        for place in 0..self.header.len() {
+            if self.is_called(place, name) {
+                return Some(place);
+            }
+        }
+        None
     }
 
     /// Fails at the first column that has the name of one before.
-    fn check_names(&self, alloc: Global) -> Result<(), FilterFault> {
+    fn check_names(&self, alloc: Global) -> Result<(), FilterFault>
+        ensures { IfErr result IsHeaderFault }
+    {
         let mut names = Names::new(alloc);
         for place in 0..self.header.len() {
             let name = self.header.get(place).unwrap_or_default();
@@ -158,11 +185,9 @@ impl<R: Read + Drop> Table<R> {
     }
 
     /// Returns the fault of a name in a condition that no column has.
-    pub fn no_column(
-        &self,
-        alloc: Global,
-        column: &Operand<'_>,
-    ) -> Result<FilterFault, AllocError> {
+    pub fn no_column(&self, alloc: Global, column: &Operand<'_>) -> Result<FilterFault, AllocError>
+        ensures { IfOk result (λ fault. IsColumnFault fault column.now.at) }
+    {
         Ok(FilterFault::Column {
             column: column.at,
             name: shown(alloc, column.text)?,
@@ -170,16 +195,15 @@ impl<R: Read + Drop> Table<R> {
         })
     }
 
-    /// Returns the fault of a cell that isn't a number: of the row that was read last, in the column
-    /// at a place.
-    pub fn no_number(
+    /// Returns a cell that isn't a number: of the row that was read last, in the column at a place.
+    pub fn wrong_cell(
         &self,
         alloc: Global,
         row: &ByteRecord,
         place: usize,
-    ) -> Result<FilterFault, AllocError> {
+    ) -> Result<WrongCell, AllocError> {
         let (line, column) = self.cell_place(row.position(), place);
-        Ok(FilterFault::Cell {
+        Ok(WrongCell {
             line,
             column,
             name: shown(alloc, self.header.get(place).unwrap_or_default())?,

@@ -2,6 +2,7 @@
 use Rattle.std.proofs.Common.{◌≡◌, ◌∙◌, true, rules}
 use Rattle.std.specs.Result.{is_ok}
 use Rattle.files_filter.proofs.BlocksLemmas.{answers_more_rows, block_more}
+use Rattle.files_filter.proofs.ReadingLemmas.{first_rows}
 use Rattle.files_filter.proofs.block.read_block.Goals as goal
 
 pub loop-preserved : goal.loop-preserved
@@ -19,3 +20,7 @@ loop-preserved g c =
           rw (c.in_ok-push-in-Ok-Some.ensures.items)
           (answers_more_rows c.args.questions.now.tests.items c.loop.rows.items row now.answers are);
     }
+
+pub returns-in-Err-clause-rows : goal.returns-in-Err-clause-rows
+returns-in-Err-clause-rows g c = λ text rows has.
+    (c.in-Err.ensures.err, first_rows g.R.Read.remaining text _ c.loop.table (c.loop.invariant.rows text rows has))

@@ -4,8 +4,8 @@ use Rattle.files_filter.specs.FilterText.{IsReady}
 use Rattle.files_filter.proofs.FilterTextLemmas.{row_written, starts_empty, text_kept}
 use Rattle.files_filter.proofs.filter.header_line.Goals as goal
 
-pub returns-in-Ok : goal.returns-in-Ok
-returns-in-Ok c =
+pub returns-in-Ok-clause-ok : goal.returns-in-Ok-clause-ok
+returns-in-Ok-clause-ok c =
     let fresh = c.from_writer-writer.result in
     let writer = c.from_writer-writer.ensures in
     let ready : IsReady fresh =

@@ -26,7 +26,7 @@ returns-clause-wrote g c =
     c.args.window.skip c.args.window.most c.len.result c.len.ensures.len in
     rw (
       c.deref-2.ensures.value,
-      c.in_ok-lines_of.ensures,
+      c.in_ok-lines_of.ensures.ok,
       c.deref.ensures.value,
       c.in_ok-numbers.ensures,
       c.unwrap_or-most.ensures,

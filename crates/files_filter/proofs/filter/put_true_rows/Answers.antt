@@ -1,9 +1,9 @@
 -- Block by block the rows are written.
-use Rattle.std.proofs.Common.{◌∙◌, map, refl}
+use Rattle.std.proofs.Common.{◌∙◌, ◌<◌, ◌^◌, inr, map, refl, rules}
 use Rattle.files_filter.specs.Blocks.{AnswerAll}
 use Rattle.files_filter.specs.FilterText.{answered}
 use Rattle.files_filter.proofs.BlocksLemmas.{answers_wide}
-use Rattle.files_filter.proofs.FilteredLemmas.{all_filtered, more_filtered, none_yet, then_none, then_rows}
+use Rattle.files_filter.proofs.FilteredLemmas.{all_filtered, first_filtered, more_filtered, none_yet, then_fault, then_none, then_rows}
 use Rattle.files_filter.proofs.filter.put_true_rows.Goals as goal
 
 pub loop-init : goal.loop-init
@@ -39,8 +39,8 @@ loop-preserved g c =
           put.written c.after-window.ensures.skip c.after-window.ensures.most read;
     }
 
-pub returns-in-End : goal.returns-in-End
-returns-in-End g c =
+pub returns-in-End-clause-ok : goal.returns-in-End-clause-ok
+returns-in-End-clause-ok g c =
     let now = c.loop.invariant in
     let block = c.in_ok-rows.field-0.rows.items in
     let answers : AnswerAll c.args.questions.now.tests.items (map answered block) =
@@ -52,3 +52,18 @@ returns-in-End g c =
     all_filtered g.R.Read.remaining text rows c.args.questions.now.tests.items c.args.expression.now
     c.args.window.skip c.args.window.most _ _ _ c.loop.table c.loop.count c.loop.window.skip c.loop.window.most so
     (map answered block) answers c.in_ok-kept.kept _ put.kept c.in-Some.ensures.1 put.wrote read
+
+pub returns-in-Fault-clause-err : goal.returns-in-Fault-clause-err
+returns-in-Fault-clause-err g c =
+    let now = c.loop.invariant in
+    let block = c.in_ok-rows.field-0.rows.items in
+    let answers : AnswerAll c.args.questions.now.tests.items (map answered block) =
+    rw now.tests at c.in_ok-rows.ensures.answers in
+    let put = rw c.deref.ensures.value at c.in_ok-kept.ensures in
+    let fits : c.in-Some.sum < 2 ^ 64 = search rules in inr (λ text rows has.
+    let so = now.filtered text rows has in
+    let read = then_fault g.R.Read.remaining text _ c.read_block.new.table c.in_ok-rows.field-0.next
+    (c.in_ok-rows.ensures.rows text _ so.read) c.in-Fault.fault c.in-Fault.is in
+    first_filtered g.R.Read.remaining text rows c.args.questions.now.tests.items c.args.expression.now
+    c.args.window.skip c.args.window.most _ _ _ c.loop.table c.loop.count c.loop.window.skip c.loop.window.most so
+    (map answered block) answers c.in_ok-kept.kept _ put.kept c.in-Some.ensures.1 put.wrote c.in-Fault.fault read fits)

@@ -6,8 +6,8 @@ use Rattle.files_filter.specs.declared.table.Table.{Table}
 use Rattle.files_filter.proofs.ReadingLemmas.{begins, same_reader}
 use Rattle.files_filter.proofs.table.Table.read.Goals as goal
 
-pub returns : goal.returns
-returns g c =
+pub returns-clause-ok : goal.returns-clause-ok
+returns-clause-ok g c =
     let remaining = g.R.Read.remaining in
     let text = remaining c.args.input in
     let reader = c.from_reader-reader.ensures in

@@ -1,0 +1,95 @@
+-- Why a filter fails, and what it has written then.
+use Rattle.std.specs.Prelude.{◌≡◌, ◌⊎◌, ◌++◌, ◌∷◌, ◌<◌, ◌^◌, ℕ, List, [], Option, codes, length, map, ⊤}
+use Rattle.std.specs.Io.KnownBytes.{Appends, Keeps}
+use Rattle.vob_filter.specs.declared.filter.Expression.{Expression}
+use Rattle.files_condition.specs.declared.condition.Comparison.{Comparison}
+use Rattle.files_condition.specs.declared.fault.ConditionFault.{ConditionFault}
+use Rattle.files_condition.specs.declared.fault.ConditionFault.TheVariants as condition
+use Rattle.files_condition.specs.Conditions.{IsCondition, test_of, tree_of}
+use Rattle.files_condition.specs.Places.{IsConditionFault}
+use Rattle.files_text.specs.declared.fault.Fault.TheVariants.{Memory, Output}
+use Rattle.files_filter.specs.Blocks.{AnswerAll}
+use Rattle.files_filter.specs.Columns.{AreTests, IsNoColumn}
+use Rattle.files_filter.specs.Filtered.{heading}
+use Rattle.files_filter.specs.RowFaults.{IsColumnFault, IsHeaderFault, IsOutputFault, IsRowFault}
+use Rattle.files_filter.specs.FilterText.{Answered, rows_text, shown, true_rows, windowed}
+use Rattle.files_filter.specs.Reading.{AreFirstRows, Cells}
+use Rattle.files_filter.specs.declared.comparing.Test.{Test}
+use Rattle.files_filter.specs.declared.fault.FilterFault.{FilterFault}
+use Rattle.files_filter.specs.declared.fault.FilterFault.TheVariants.{Cell, Column, Columns, Condition, Row, Text, Twice}
+use Rattle.files_filter.specs.declared.filter.Shows.{Shows}
+
+-- a comparison asks about a name that no column has, and those before it don't
+pub record AsksInVain (header : Cells) (comparisons : List Comparison) (fault : FilterFault) : Type 0 where
+  pub early : List Comparison
+  pub comparison : Comparison
+  pub late : List Comparison
+  pub cut : comparisons ≡ early ++ comparison ∷ late
+  pub tests : List Test
+  pub tests_are : AreTests header early tests
+  pub none : IsNoColumn header comparison.column.text.now
+  pub fault_is : IsColumnFault fault comparison.column.at
+
+-- so does one on the text of a table
+pub record IsUnknown (text : Option (List ℕ)) (comparisons : List Comparison) (fault : FilterFault) : Type 0 where
+  pub header : Cells
+  pub first : AreFirstRows text (header ∷ [])
+  pub asks : AsksInVain header comparisons fault
+
+-- of the rows of a text after some, those up to a fault are read; in a window those are written of which a condition is
+-- true by its tests. Their number fits a usize
+pub record WritesWindow (text : Option (List ℕ)) (before : List Cells) (tests : List Test) (expression : Expression)
+    (skip : ℕ) (most : Option ℕ) (old new : Option (List ℕ)) (fault : FilterFault) : Type 0 where
+  pub fault_is : IsRowFault fault
+  pub rows : List Answered
+  pub first : AreFirstRows text (before ++ map (λ row. row.0) rows)
+  pub answers : AnswerAll tests rows
+  pub wrote : Appends old new (rows_text (windowed skip most (true_rows expression rows)))
+  pub few : length (true_rows expression rows) < 2 ^ 64
+
+-- so are those below its header
+pub record WritesShown (text : Option (List ℕ)) (header : Cells) (tests : List Test) (expression : Expression)
+    (shows : Shows) (old new : Option (List ℕ)) (fault : FilterFault) : Type 0 where
+  pub fault_is : IsRowFault fault
+  pub rows : List Answered
+  pub first : AreFirstRows text (header ∷ map (λ row. row.0) rows)
+  pub answers : AnswerAll tests rows
+  pub wrote : Appends old new (heading shows header ++ rows_text (shown shows (true_rows expression rows)))
+
+-- and so are those of a condition, by its comparisons
+pub record WritesFirst (text : Option (List ℕ)) (comparisons : List Comparison) (expression : Expression) (shows : Shows)
+    (old new : Option (List ℕ)) (fault : FilterFault) : Type 0 where
+  pub header : Cells
+  pub tests : List Test
+  pub tests_are : AreTests header comparisons tests
+  pub written : WritesShown text header tests expression shows old new fault
+
+-- what was written before a fault: nothing, or the rows before it that are kept
+abbrev pub Fails : Option (List ℕ) → List Comparison → Expression → Shows → (old new : Option (List ℕ)) → FilterFault →
+    Type 0
+Fails text comparisons expression shows old new fault =
+    ((IsHeaderFault fault ⊎ IsUnknown text comparisons fault) × Keeps old new)
+    ⊎ WritesFirst text comparisons expression shows old new fault
+
+-- a condition's fault, as a filter's
+abbrev pub fault_of : ConditionFault → FilterFault
+fault_of condition.Memory = Text Memory
+fault_of (condition.Word column expected) = Condition column expected
+
+-- the text of a condition is none: where, and what was expected there
+abbrev pub IsUnread : List ℕ → FilterFault → Type 0
+IsUnread whole (Condition column expected) = IsConditionFault whole (condition.Word column expected)
+IsUnread whole fault = ⊥
+
+-- a condition was read, and a fault came later
+pub record FailsLater (text : Option (List ℕ)) (whole : List ℕ) (shows : Shows) (old new : Option (List ℕ))
+    (fault : FilterFault) : Type 0 where
+  pub comparisons : List Comparison
+  pub expression : Expression
+  pub read : IsCondition whole (map test_of comparisons) (tree_of expression)
+  pub fails : Fails text comparisons expression shows old new fault
+
+-- why a filter fails, by the text of its condition, and what it has written then
+abbrev pub FailsBy : Option (List ℕ) → List ℕ → Shows → (old new : Option (List ℕ)) → FilterFault → Type 0
+FailsBy text whole shows old new fault = IsOutputFault fault
+    ⊎ ((IsUnread whole fault × Keeps old new) ⊎ FailsLater text whole shows old new fault)
