@@ -76,30 +76,58 @@ fn write_grammar<W: fmt::Write>(
 }
 
 impl From<AllocError> for GrammarFault {
+    ghost use Rattle.std.specs.Prelude.{◌≡◌};
+    ghost use Rattle.files_text.specs.declared.fault.Fault.TheVariants.{Memory};
+    ghost use Rattle.files_grammar.specs.declared.fault.GrammarFault.TheVariants.{Text};
+
+    ghost from_gives = { λ _ result. result ≡ Text Memory };
+
     fn from(_: AllocError) -> GrammarFault {
         GrammarFault::Text(Fault::Memory)
     }
 }
 
 impl<T: Drop> From<AllocFailed<T>> for GrammarFault {
+    ghost use Rattle.std.specs.Prelude.{◌≡◌};
+    ghost use Rattle.files_text.specs.declared.fault.Fault.TheVariants.{Memory};
+    ghost use Rattle.files_grammar.specs.declared.fault.GrammarFault.TheVariants.{Text};
+
+    ghost from_gives = { λ _ result. result ≡ Text Memory };
+
     fn from(_: AllocFailed<T>) -> GrammarFault {
         GrammarFault::Text(Fault::Memory)
     }
 }
 
 impl From<io::Error> for GrammarFault {
+    ghost use Rattle.std.specs.Prelude.{◌≡◌};
+    ghost use Rattle.files_text.specs.declared.fault.Fault.TheVariants.{Output};
+    ghost use Rattle.files_grammar.specs.declared.fault.GrammarFault.TheVariants.{Text};
+
+    ghost from_gives = { λ error result. result ≡ Text (Output error) };
+
     fn from(error: io::Error) -> GrammarFault {
         GrammarFault::Text(Fault::Output(error))
     }
 }
 
 impl From<TextError> for GrammarFault {
+    ghost use Rattle.std.specs.Prelude.{◌≡◌};
+    ghost use Rattle.files_grammar.specs.declared.fault.GrammarFault.TheVariants.{Grammar};
+
+    ghost from_gives = { λ error result. result ≡ Grammar error };
+
     fn from(error: TextError) -> GrammarFault {
         GrammarFault::Grammar(error)
     }
 }
 
 impl From<GrammarError> for GrammarFault {
+    ghost use Rattle.std.specs.Prelude.{◌≡◌};
+    ghost use Rattle.files_grammar.specs.GrammarFaults.{fault_of};
+
+    ghost from_gives = { λ error result. result ≡ fault_of error };
+
     fn from(error: GrammarError) -> GrammarFault {
         match error {
             GrammarError::Memory => GrammarFault::Text(Fault::Memory),

@@ -1,4 +1,11 @@
 //! Grammar files, and what is left out of them.
+ghost use Rattle.std.specs.Prelude.{◌≡◌, IfErr, IfOk, OnOk};
+ghost use Rattle.vob_flow.specs.Lists.{lists_of};
+ghost use Rattle.vob_lr.specs.Faults.{IsWellFormed};
+ghost use Rattle.files_text.specs.Printed.{name_at};
+ghost use Rattle.files_grammar.specs.GrammarFaults.{HasNoTable, IsOfText};
+ghost use Rattle.files_grammar.specs.GrammarFiles.{IsTableOf, precedence_of, rule_precedence_of};
+ghost use Rattle.files_grammar.specs.Rules.{nonterminal_name, symbol_name, terminal_name};
 
 use crate::fault::GrammarFault;
 use std::alloc::{AllocError, Global};
@@ -26,7 +33,9 @@ pub struct GrammarFile {
 }
 
 /// Returns the name with a number, or nothing if there is none.
-fn name_at(names: &[Vec<u8>], number: usize) -> &[u8] {
+fn name_at(names: &[Vec<u8>], number: usize) -> &[u8]
+    ensures { result.now ≡ name_at (lists_of names.now) number }
+{
     match names.get(number) {
         Some(name) => name.as_slice(),
         None => b"",
@@ -35,17 +44,23 @@ fn name_at(names: &[Vec<u8>], number: usize) -> &[u8] {
 
 impl SymbolNames {
     /// Returns the name of a terminal.
-    pub fn terminal(&self, number: usize) -> &[u8] {
+    pub fn terminal(&self, number: usize) -> &[u8]
+        ensures { result.now ≡ terminal_name self.now number }
+    {
         name_at(&self.terminals, number)
     }
 
     /// Returns the name of a nonterminal.
-    pub fn nonterminal(&self, number: usize) -> &[u8] {
+    pub fn nonterminal(&self, number: usize) -> &[u8]
+        ensures { result.now ≡ nonterminal_name self.now number }
+    {
         name_at(&self.nonterminals, number)
     }
 
     /// Returns the name of a symbol.
-    pub fn of(&self, symbol: Symbol) -> &[u8] {
+    pub fn of(&self, symbol: Symbol) -> &[u8]
+        ensures { result.now ≡ symbol_name self.now symbol }
+    {
         match symbol {
             Symbol::Terminal(number) => self.terminal(number),
             Symbol::Nonterminal(number) => self.nonterminal(number),
@@ -96,7 +111,9 @@ fn counted(alloc: Global, count: usize, noun: &str) -> Result<String, AllocError
 
 impl GrammarFile {
     /// Reads a grammar file. Fails at the first word that can't stand where it does.
-    pub fn read(alloc: Global, text: &[u8]) -> Result<GrammarFile, GrammarFault> {
+    pub fn read(alloc: Global, text: &[u8]) -> Result<GrammarFile, GrammarFault>
+        ensures { IfErr result IsOfText }
+    {
         let GrammarText {
             grammar,
             terminals,
@@ -122,17 +139,26 @@ impl GrammarFile {
     }
 
     /// Returns the precedence of a terminal, if it has one.
-    pub fn precedence(&self, terminal: usize) -> Option<Precedence> {
+    pub fn precedence(&self, terminal: usize) -> Option<Precedence>
+        ensures { result ≡ precedence_of self.now terminal }
+    {
         self.precedences.get(terminal).copied().flatten()
     }
 
     /// Returns the precedence of a rule, if it has one.
-    pub fn rule_precedence(&self, rule: usize) -> Option<Precedence> {
+    pub fn rule_precedence(&self, rule: usize) -> Option<Precedence>
+        ensures { result ≡ rule_precedence_of self.now rule }
+    {
         self.rule_precedences.get(rule).copied().flatten()
     }
 
-    /// Makes the table of the grammar.
-    pub fn table(&self, alloc: Global) -> Result<Table<'_>, GrammarFault> {
+    /// Makes the table of the grammar. Fails if there is no rule, with the first rule that names a
+    /// symbol that isn't there, or if memory runs out.
+    pub fn table(&self, alloc: Global) -> Result<Table<'_>, GrammarFault>
+        ensures ok { IfOk result (IsTableOf self.now) }
+        ensures rules { OnOk result (IsWellFormed self.now.grammar) }
+        ensures err { IfErr result (HasNoTable self.now.grammar) }
+    {
         let states = Lookaheads::new(alloc, &self.grammar)?;
         Ok(Table::new(alloc, states, &self.precedences, &self.rule_precedences)?)
     }

@@ -1,15 +1,58 @@
 //! The sets and the states of a grammar, as text.
+ghost use Rattle.std.specs.Prelude.{IfErr, IfOk, OnOk};
+ghost use Rattle.std.specs.Io.KnownBytes.{Appends};
+ghost use Rattle.files_text.specs.Printed.{Writes};
+ghost use Rattle.vob_lr.specs.Entered.{IsEntered};
+ghost use Rattle.vob_lr.specs.Those.{AreThose};
+ghost use Rattle.files_grammar.specs.GrammarFaults.{FailsBy};
+ghost use Rattle.files_grammar.specs.GrammarText.{HasStatus, SaysGrammar, SaysWanted, count_line, counts_text, rules_text, shifts_text, symbols_text};
 
-use crate::conflicts::{Conflicts, put_actions};
+use crate::conflicts::Conflicts;
 use crate::fault::GrammarFault;
-use crate::file::{GrammarFile, SymbolNames};
+use crate::file::GrammarFile;
+use crate::rules::put_rules;
+use crate::sets::put_sets;
+use crate::state_text::put_states;
 use crate::states::States;
-use files_text::{put_name, put_next};
 use std::alloc::Global;
 use std::io;
 use std::io::Write;
-use vob_lr::{Cell, Grammar, GrammarSets, Item, Lookaheads, Move, Rule, Symbol, Table};
-use vob_rows::{BitRows, Row};
+use vob_lr::{Grammar, GrammarSets, Table};
+
+/// Writes the line of a count.
+fn put_count<W: Write>(output: &mut W, word: &[u8], count: usize) -> io::Result<()>
+    ensures { OnOk result (Appends (W.contents output.old) (W.contents output.new)
+        (count_line word.now count)) }
+{
+    output.write_all(word)?;
+    writeln!(output, "{count}")
+}
+
+/// Writes how many symbols and rules there are.
+fn put_symbol_counts<W: Write>(output: &mut W, grammar: &Grammar) -> io::Result<()>
+    ensures { OnOk result (Appends (W.contents output.old) (W.contents output.new)
+        (symbols_text grammar.now)) }
+{
+    put_count(output, b"terminals ", grammar.terminals)?;
+    put_count(output, b"nonterminals ", grammar.nonterminals)?;
+    put_count(output, b"rules ", grammar.rules.len())
+}
+
+/// Writes how many conflicts there are with a shift.
+fn put_shift_count<W: Write>(output: &mut W, shifts: usize) -> io::Result<()>
+    ensures { OnOk result (Appends (W.contents output.old) (W.contents output.new)
+        (shifts_text shifts)) }
+{
+    write!(output, "conflicts {shifts} shift/reduce, ")
+}
+
+/// Writes how many rules are too many.
+fn put_rule_count<W: Write>(output: &mut W, rules: usize) -> io::Result<()>
+    ensures { OnOk result (Appends (W.contents output.old) (W.contents output.new)
+        (rules_text rules)) }
+{
+    writeln!(output, "{rules} reduce/reduce")
+}
 
 /// Writes how many symbols, rules, states and conflicts there are.
 fn put_counts<W: Write>(
@@ -17,261 +60,72 @@ fn put_counts<W: Write>(
     grammar: &Grammar,
     states: usize,
     conflicts: &Conflicts,
-) -> io::Result<()> {
-    let terminals = grammar.terminals;
-    let nonterminals = grammar.nonterminals;
-    let rules = grammar.rules.len();
-    writeln!(output, "terminals {terminals}")?;
-    writeln!(output, "nonterminals {nonterminals}")?;
-    writeln!(output, "rules {rules}")?;
-    writeln!(output, "states {states}")?;
-    let Conflicts {
-        shift_reduce,
-        reduce_reduce,
-        ..
-    } = conflicts;
-    writeln!(
-        output,
-        "conflicts {shift_reduce} shift/reduce, {reduce_reduce} reduce/reduce"
-    )
+) -> io::Result<()>
+    ensures { OnOk result (Appends (W.contents output.old) (W.contents output.new)
+        (counts_text grammar.now states conflicts.now.shift_reduce conflicts.now.reduce_reduce)) }
+{
+    put_symbol_counts(output, grammar)?;
+    put_count(output, b"states ", states)?;
+    put_shift_count(output, conflicts.shift_reduce)?;
+    put_rule_count(output, conflicts.reduce_reduce)
 }
 
-/// Writes the names of some terminals, each after a space.
-fn put_terminals<W: Write>(output: &mut W, names: &SymbolNames, set: &Row<'_>) -> io::Result<()> {
-    for terminal in set.iter_set_bits(..) {
-        put_next(output, names.terminal(terminal))?;
-    }
-    Ok(())
-}
-
-/// Writes a line: a word, and the names of the terminals of a nonterminal's set, if it has one.
-fn put_set<W: Write>(
+/// Writes the rules and the states if they are wanted.
+fn put_wanted<W: Write>(
     output: &mut W,
-    word: &[u8],
-    names: &SymbolNames,
-    sets: &BitRows,
-    number: usize,
-) -> io::Result<()> {
-    output.write_all(word)?;
-    if number < sets.rows() {
-        put_terminals(output, names, &sets.row(number))?;
-    }
-    output.write_all(b"\n")
-}
-
-/// Writes the sets of a nonterminal.
-fn put_nonterminal<W: Write>(
-    output: &mut W,
-    names: &SymbolNames,
-    sets: &GrammarSets,
-    number: usize,
-) -> io::Result<()> {
-    output.write_all(b"\n")?;
-    put_name(output, names.nonterminal(number))?;
-    if sets.nullable.get(number) == Some(true) {
-        output.write_all(b"\n  nullable yes\n")?;
-    } else {
-        output.write_all(b"\n  nullable no\n")?;
-    }
-    put_set(output, b"  FIRST", names, &sets.first, number)?;
-    put_set(output, b"  FOLLOW", names, &sets.follow, number)
-}
-
-/// Writes a rule.
-pub fn put_rule<W: Write>(output: &mut W, names: &SymbolNames, rule: &Rule) -> io::Result<()> {
-    put_name(output, names.nonterminal(rule.left))?;
-    output.write_all(b":")?;
-    for symbol in rule.right.iter() {
-        put_next(output, names.of(*symbol))?;
-    }
-    output.write_all(b"\n")
-}
-
-/// Writes an item: its rule, with a point for the dot.
-fn put_item<W: Write>(
-    output: &mut W,
-    names: &SymbolNames,
-    rule: &Rule,
-    dot: usize,
-) -> io::Result<()> {
-    output.write_all(b"  ")?;
-    put_name(output, names.nonterminal(rule.left))?;
-    output.write_all(b":")?;
-    for (place, symbol) in rule.right.iter().enumerate() {
-        if place == dot {
-            output.write_all(b" .")?;
-        }
-        put_next(output, names.of(*symbol))?;
-    }
-    if dot >= rule.right.len() {
-        output.write_all(b" .")?;
-    }
-    Ok(())
-}
-
-/// Writes the lookaheads of an item in brackets.
-fn put_ahead<W: Write>(
-    output: &mut W,
-    names: &SymbolNames,
-    ahead: Option<Row<'_>>,
-) -> io::Result<()> {
-    if let Some(set) = ahead {
-        output.write_all(b"  [")?;
-        put_terminals(output, names, &set)?;
-        output.write_all(b" ]")?;
-    }
-    Ok(())
-}
-
-/// Returns whether an item is of a kernel: its dot is after a symbol, or it is the start.
-fn is_kernel(item: Item) -> bool {
-    item.dot > 0 || item.rule == 0
-}
-
-/// Writes the item with a number, if it is of a kernel or complete, and its lookaheads if it is
-/// complete.
-fn put_if_shown<W: Write>(
-    output: &mut W,
-    names: &SymbolNames,
-    states: &Lookaheads<'_>,
-    state: usize,
-    number: usize,
-) -> io::Result<()> {
-    let items = states.items();
-    if number >= items.len() {
-        return Ok(());
-    }
-    let item = items.item(number);
-    let Some(rule) = items.grammar().rules.get(item.rule) else {
-        return Ok(());
-    };
-    let is_complete = item.dot >= rule.right.len();
-    if !is_complete && !is_kernel(item) {
-        return Ok(());
-    }
-    put_item(output, names, rule, item.dot)?;
-    if is_complete && item.rule > 0 {
-        put_ahead(output, names, states.of(state, number))?;
-    }
-    output.write_all(b"\n")
-}
-
-/// Writes the items of a state that are of its kernel or complete.
-fn put_items<W: Write>(
-    output: &mut W,
-    names: &SymbolNames,
-    states: &Lookaheads<'_>,
-    state: usize,
-    set: &[usize],
-) -> io::Result<()> {
-    for number in set {
-        put_if_shown(output, names, states, state, *number)?;
-    }
-    Ok(())
-}
-
-/// Writes what a parser may do if a terminal is ahead, the action that it takes first.
-fn put_cell<W: Write>(output: &mut W, name: &[u8], states: &States, cell: &Cell) -> io::Result<()> {
-    if cell.action().is_none() {
-        return Ok(());
-    }
-    output.write_all(b" ")?;
-    put_next(output, name)?;
-    let shift = cell.shift.and_then(|to| states.number(to));
-    put_actions(output, shift, &cell.reduces, ",")
-}
-
-/// Writes what a parser may do in a state.
-fn put_cells<W: Write>(
-    output: &mut W,
-    names: &SymbolNames,
+    file: &GrammarFile,
     table: &Table<'_>,
     states: &States,
-    state: usize,
-) -> io::Result<()> {
-    for (terminal, name) in names.terminals.iter().enumerate() {
-        if let Some(cell) = table.cell(state, terminal) {
-            put_cell(output, name, states, cell)?;
-        }
+    wants_states: bool,
+) -> io::Result<()>
+    requires { AreThose (IsEntered table.now) states.now }
+    ensures { OnOk result (Writes (W.contents output.old) (W.contents output.new)
+        (SaysWanted wants_states file.now table.now states.now)) }
+{
+    if !wants_states {
+        return Ok(());
     }
+    put_rules(output, &file.names, &file.grammar.rules)?;
+    put_states(output, &file.names, table, states)?;
     Ok(())
 }
 
-/// Writes the states that follow a state once a nonterminal is read.
-fn put_gotos<W: Write>(
-    output: &mut W,
-    names: &SymbolNames,
-    states: &States,
-    moves: &[Move],
-) -> io::Result<()> {
-    for own in moves {
-        let (Symbol::Nonterminal(number), Some(state)) = (own.symbol, states.number(own.state))
-        else {
-            continue;
-        };
-        output.write_all(b" ")?;
-        put_next(output, names.nonterminal(number))?;
-        writeln!(output, " goto {state}")?;
+/// Returns the status: 1 if there are other conflicts than a file expects, else 0.
+fn status_of(file: &GrammarFile, conflicts: &Conflicts) -> u8
+    ensures { HasStatus file.now conflicts.now.shift_reduce conflicts.now.reduce_reduce result }
+{
+    if conflicts.are(file.expected) {
+        return 0;
     }
-    Ok(())
+    1
 }
 
-/// Writes the rules with their numbers.
-fn put_rules<W: Write>(output: &mut W, names: &SymbolNames, rules: &[Rule]) -> io::Result<()> {
-    output.write_all(b"\n")?;
-    for (number, rule) in rules.iter().enumerate() {
-        write!(output, "rule {number} ")?;
-        put_rule(output, names, rule)?;
-    }
-    Ok(())
-}
-
-/// Writes the states that a parser may enter: the items of each, and what a parser may do.
-fn put_states<W: Write>(
-    output: &mut W,
-    names: &SymbolNames,
-    table: &Table<'_>,
-    states: &States,
-) -> io::Result<()> {
-    let lookaheads = table.lookaheads();
-    let automaton = lookaheads.automaton();
-    for (state, set) in automaton.sets.iter().enumerate() {
-        let Some(number) = states.number(state) else {
-            continue;
-        };
-        writeln!(output, "\nstate {number}")?;
-        put_items(output, names, lookaheads, state, set)?;
-        put_cells(output, names, table, states, state)?;
-        if let Some(moves) = automaton.moves.get(state) {
-            put_gotos(output, names, states, moves)?;
-        }
-    }
-    Ok(())
-}
-
-/// Writes the counts of a grammar, its conflicts, and the sets of its nonterminals. Writes its rules and
-/// states too if they are wanted. Returns the status: 1 if there are other conflicts than the file
-/// expects, else 0.
+/// Writes the counts of a grammar, its conflicts, and the sets of its nonterminals. Writes its rules
+/// and states too if they are wanted. Returns the status: 1 if there are other conflicts than the
+/// file expects, else 0.
 ///
-/// Fails if memory runs out, or if the output can't be written.
+/// Fails if the grammar has no rule, with the first rule that names a symbol that isn't there, or
+/// if memory runs out. Nothing is written then. Fails too if the output can't be written.
 pub fn print_grammar<W: Write>(
     alloc: Global,
     file: &GrammarFile,
     wants_states: bool,
     output: &mut W,
-) -> Result<u8, GrammarFault> {
+) -> Result<u8, GrammarFault>
+    ensures ok { IfOk result (λ status. Writes (W.contents output.old) (W.contents output.new)
+        (SaysGrammar file.now wants_states status)) }
+    ensures err { IfErr result (λ fault. FailsBy file.now.grammar fault
+        (W.contents output.old) (W.contents output.new)) }
+{
     let sets = GrammarSets::new(alloc, &file.grammar)?;
     let table = file.table(alloc)?;
+    // A proof knows from this call what the states are.
+    let _lookaheads = table.lookaheads();
     let states = States::of(alloc, &table)?;
     let conflicts = Conflicts::of(alloc, file, &table, &states)?;
     put_counts(output, &file.grammar, states.count(), &conflicts)?;
-    conflicts.put(output, file)?;
-    for number in 0..file.grammar.nonterminals {
-        put_nonterminal(output, &file.names, &sets, number)?;
-    }
-    if wants_states {
-        put_rules(output, &file.names, &file.grammar.rules)?;
-        put_states(output, &file.names, &table, &states)?;
-    }
-    Ok(if conflicts.are(file.expected) { 0 } else { 1 })
+    conflicts.put(output, &file.names, &states)?;
+    put_sets(output, file, &sets)?;
+    put_wanted(output, file, &table, &states, wants_states)?;
+    Ok(status_of(file, &conflicts))
 }

@@ -1,0 +1,11 @@
+mod ConflictLemmas
+mod CountLemmas
+mod GrammarLemmas
+mod ItemLemmas
+mod LeftLemmas
+mod NumberLemmas
+mod OrderLemmas
+mod RuleLemmas
+mod SetTextLemmas
+mod StateLemmas
+mod TextLemmas

@@ -1,0 +1,12 @@
+pub mod ActionText
+pub mod ConflictText
+pub mod Conflicts
+pub mod ConflictsFound
+pub mod GrammarFaults
+pub mod GrammarFiles
+pub mod GrammarText
+pub mod ItemText
+pub mod Rules
+pub mod SetText
+pub mod StateText
+pub mod Texts
