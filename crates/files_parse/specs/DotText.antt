@@ -1,0 +1,57 @@
+-- The tree of a parse as a graph in DOT.
+use Rattle.std.specs.Prelude.{◌≡◌, ◌==◌, ◌||◌, ℕ, List, [], ◌∷◌, ◌++◌, Option, None, Some, codes, cond, length, slice_get}
+use Rattle.std.specs.Fmt.{decimal}
+use Rattle.std.specs.List.{flat_map, range_with_len}
+use Rattle.vob_lr.specs.TreeNodes.{IsTree, nodes_at}
+use Rattle.vob_lr.specs.declared.tree.Node.{Node}
+use Rattle.vob_lr.specs.declared.tree.Tree.{Tree}
+use Rattle.files_grammar.specs.declared.file.GrammarFile.{GrammarFile}
+use Rattle.files_text.specs.Printed.{line_end}
+use Rattle.files_parse.specs.NodeNames.{node_name}
+
+-- a byte of a label: a backslash stands before a double quote and a backslash
+abbrev pub escaped : ℕ → List ℕ
+escaped byte = cond ((byte == 34) || (byte == 92)) (92 ∷ byte ∷ []) (byte ∷ [])
+
+-- a name between double quotes
+abbrev pub label : List ℕ → List ℕ
+label name = codes "\"" ++ flat_map escaped name ++ codes "\""
+
+-- the line of an edge
+abbrev pub dot_edge : (from to : ℕ) → List ℕ
+dot_edge from to = codes "  n" ++ decimal from ++ codes " -> n" ++ decimal to ++ (codes ";" ++ line_end)
+
+-- the numbers of the children of a node
+abbrev pub children_of : List Node → Node → List ℕ
+children_of nodes node = range_with_len node.first (length (nodes_at nodes node.first node.count))
+
+-- the lines of a node: its label, and its edges
+abbrev pub dot_node : GrammarFile → (tokens : List ℕ) → List Node → ℕ → Node → List ℕ
+dot_node file tokens nodes number node = codes "  n" ++ decimal number ++ codes " [label="
+    ++ label (node_name file tokens node) ++ (codes "];" ++ line_end)
+    ++ flat_map (dot_edge number) (children_of nodes node)
+
+-- those of the node with a number, if there is one
+abbrev pub dot_by : GrammarFile → (tokens : List ℕ) → List Node → ℕ → Option Node → List ℕ
+dot_by file tokens nodes number None = []
+dot_by file tokens nodes number (Some node) = dot_node file tokens nodes number node
+
+abbrev pub dot_at : GrammarFile → (tokens : List ℕ) → List Node → ℕ → List ℕ
+dot_at file tokens nodes number = dot_by file tokens nodes number (slice_get nodes number)
+
+-- what stands before the nodes
+abbrev pub dot_head : List ℕ
+dot_head = (codes "digraph tree {" ++ line_end) ++ (codes "  ordering=out;" ++ line_end)
+    ++ (codes "  node [shape=plain];" ++ line_end)
+
+-- a graph of all nodes of a tree
+abbrev pub dot_text : GrammarFile → (tokens : List ℕ) → Tree → List ℕ
+dot_text file tokens tree = dot_head
+    ++ flat_map (dot_at file tokens tree.nodes.items) (range_with_len 0 (length tree.nodes.items))
+    ++ (codes "}" ++ line_end)
+
+-- the graph of a tree of a parse
+pub record ListsDot (file : GrammarFile) (tokens parsed text : List ℕ) : Type 0 where
+  pub tree : Tree
+  pub is_tree : IsTree file.grammar.rules.items tokens parsed tree
+  pub lines : text ≡ dot_text file tokens tree

@@ -1,0 +1,13 @@
+pub mod DotText
+pub mod Failures
+pub mod JsonNames
+pub mod JsonText
+pub mod NodeNames
+pub mod ParseFaults
+pub mod ParseLaws
+pub mod Parses
+pub mod Terminals
+pub mod Tokens
+pub mod TreeLines
+pub mod TreeText
+pub mod Writing
