@@ -5,4 +5,10 @@ mod FittingLemmas
 pub mod LiveLemmas
 mod NodeLemmas
 mod NumberLemmas
+mod OneImmediateLemmas
+mod OneOutputLemmas
 pub mod ProblemLemmas
+mod SameGraphLemmas
+mod SameNodesLemmas
+mod SameProblemLemmas
+mod SameSolutionLemmas

@@ -71,7 +71,7 @@ distinct_fold (word ∷ words) names distinct = distinct_fold words (with_name n
 none_distinct : AreDistinct []
 none_distinct i j x at_i at_j = absurd (none-some x at_i)
 
-names_distinct : (words : List (List ℕ)) → AreDistinct (names_in words)
+pub names_distinct : (words : List (List ℕ)) → AreDistinct (names_in words)
 names_distinct words = distinct_fold words [] none_distinct
 
 get_kept : (names : List (List ℕ)) (name : List ℕ) (k : ℕ) (x : List ℕ) → slice_get names k ≡ Some x →

@@ -7,6 +7,7 @@ mod dominance;
 mod expressions;
 mod fault;
 mod flow;
+pub mod laws;
 mod nodes;
 mod problem;
 

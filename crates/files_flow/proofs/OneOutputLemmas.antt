@@ -1,0 +1,179 @@
+-- A text has one text for each analysis of its flow graph.
+use Rattle.std.specs.Prelude.{All, Contains, slice_get}
+use Rattle.std.specs.List.{Any}
+use Rattle.std.proofs.Common.{◌≡◌, ◌↔◌, ◌⊎◌, ◌≢◌, inl, inr, ℕ, ◌<◌, ◌≤◌, Bool, Some, List, [], ◌++◌, codes, length, map, get_or, arith, refl, sym, ap, subst, ◌∙◌}
+use Rattle.std.proofs.lemmas.Bool.{cases_lt}
+use Rattle.std.proofs.lemmas.List.{get_or-map, get_or_past}
+use Rattle.std.proofs.lemmas.Option.{get_or_from_slice_get, slice_get_cases, slice_get_within}
+use Rattle.vob_rows.specs.Sparse.{members}
+use Rattle.vob_flow.specs.Dominators.{Dominates, IsPath}
+use Rattle.vob_flow.specs.Dominators.IsPath.{start, step}
+use Rattle.vob_flow.specs.Draws.{IsIn}
+use Rattle.vob_flow.specs.LiveEquations.{AreSets, IsSolution}
+use Rattle.vob_flow.specs.declared.live.Flow.{Flow}
+use Rattle.files_text.specs.Printed.{line_end, name_at}
+use Rattle.files_text.proofs.ListLemmas.{sorted_one}
+use Rattle.files_flow.specs.declared.analysis.Analysis.{Analysis}
+use Rattle.files_flow.specs.declared.analysis.Analysis.TheVariants.{Live, Reaching, Available, Busy, Dominators, Immediate}
+use Rattle.files_flow.specs.declared.flow.FlowGraph.{FlowGraph}
+use Rattle.files_flow.specs.declared.problem.Problem.{Problem}
+use Rattle.files_flow.specs.Analyses.{ListsAnalysis}
+use Rattle.files_flow.specs.FlowLaws.{AreAlike, OutputsAreOne}
+use Rattle.files_flow.specs.FlowText.{AreLines, ListsDominators, ListsDominatorsOf, ListsLive, ListsSolution, labels_text, sides_text}
+use Rattle.files_flow.specs.FlowText.AreLines.{none, more}
+use Rattle.files_flow.proofs.SameGraphLemmas.{graphs_one}
+use Rattle.files_flow.proofs.SameProblemLemmas.{same_available, same_before, same_busy, same_count, same_nexts, same_reaching, same_reads, same_writes}
+use Rattle.files_flow.proofs.SameSolutionLemmas.{HaveSameNumbers, same_back, sets_one, solution_one}
+
+-- ---- live variables
+
+pub at_node : (f : Flow → List ℕ) (nodes : List Flow) (n : ℕ) (flow : Flow) → slice_get nodes n ≡ Some flow →
+    get_or (map f nodes) n [] ≡ f flow
+at_node f nodes n flow is = get_or-map f nodes n flow [] (slice_get_within nodes n flow is)
+    ∙ ap f (get_or_from_slice_get nodes n flow flow is)
+
+list_at : (f : Flow → List ℕ) (nodes others : List Flow) → map f nodes ≡ map f others → (n : ℕ) (flow other : Flow) →
+    slice_get nodes n ≡ Some flow → slice_get others n ≡ Some other → f flow ≡ f other
+list_at f nodes others same n flow other is is' =
+    sym (at_node f nodes n flow is) ∙ ap (λ l. get_or l n []) same ∙ at_node f others n other is'
+
+module _ (vars : ℕ) (nodes others : List Flow)
+    (reads : map (λ (node : Flow). node.reads.items) nodes ≡ map (λ (node : Flow). node.reads.items) others)
+    (writes : map (λ (node : Flow). node.writes.items) nodes ≡ map (λ (node : Flow). node.writes.items) others)
+    (nexts : map (λ (node : Flow). node.next.items) nodes ≡ map (λ (node : Flow). node.next.items) others)
+    (count : length nodes ≡ length others) where
+  there : (n : ℕ) (other : Flow) → slice_get others n ≡ Some other → (flow : Flow) × (slice_get nodes n ≡ Some flow)
+  there n other is = elim (slice_get_cases nodes n).1 [
+    | inl at ↦ (at.0, at.2)
+    | inr past ↦ absurd (omega (arith, slice_get_within others n other is, past.0, count))
+  ]
+
+  live_over : (before after : List (List Bool)) → IsSolution vars nodes before after → IsSolution vars others before
+      after
+  live_over before after s = record {
+    before_sets = record { count = s.before_sets.count ∙ count; long = s.before_sets.long };
+    after_sets = record { count = s.after_sets.count ∙ count; long = s.after_sets.long };
+    before_is = λ n other is v.
+        let (flow, at) = there n other is in
+        subst (λ (l : List ℕ). IsIn before n v ↔ (Contains l v ⊎ (IsIn after n v × ¬ Contains other.writes.items v)))
+        (list_at (λ (node : Flow). node.reads.items) nodes others reads n flow other at is)
+        (subst (λ (l : List ℕ). IsIn before n v ↔ (Contains flow.reads.items v ⊎ (IsIn after n v × ¬ Contains l v)))
+        (list_at (λ (node : Flow). node.writes.items) nodes others writes n flow other at is)
+        (s.before_is n flow at v));
+    after_is = λ n other is v.
+        let (flow, at) = there n other is in
+        subst (λ (l : List ℕ). IsIn after n v ↔ Any (λ m. IsIn before m v) l)
+        (list_at (λ (node : Flow). node.next.items) nodes others nexts n flow other at is) (s.after_is n flow at v);
+  }
+
+-- sets for as many nodes and variables that are within one another are equal
+within_one : (vars count : ℕ) (sets others : List (List Bool)) → AreSets vars count sets → AreSets vars count others →
+    ((n v : ℕ) → IsIn sets n v ↔ IsIn others n v) → sets ≡ others
+within_one vars count sets others a b each = sets_one sets others (a.count ∙ sym b.count)
+    (λ n. elim (cases_lt n count) [
+      | inl less ↦ a.long n [] (omega (arith, less, a.count)) ∙ sym (b.long n [] (omega (arith, less, b.count)))
+      | inr past ↦ ap length (get_or_past sets n [] (omega (arith, past, a.count)))
+          ∙ sym (ap length (get_or_past others n [] (omega (arith, past, b.count))))
+    ]) each
+
+module _ (graph other : FlowGraph) (same : AreAlike graph other) where
+  live_one : (text text' : List ℕ) → ListsLive graph text → ListsLive other text' → text ≡ text'
+  live_one text text' a b =
+      let k = length other.variables in
+      let reads = same_reads graph other same in
+      let writes = same_writes graph other same in
+      let nexts = same_nexts graph other same in
+      let count = same_count graph other same in
+      let vars : length graph.variables ≡ k = ap length same.variables in
+      let own = graph.nodes.items in
+      let others = other.nodes.items in
+      let first = subst (λ v. IsSolution v own a.before a.after) vars a.solution in
+      let over = live_over k own others reads writes nexts count a.before a.after first in
+      let back = live_over k others own (sym reads) (sym writes) (sym nexts) (sym count) b.before b.after b.solution in
+      let less = a.least b.before b.after (subst (λ v. IsSolution v own b.before b.after) (sym vars) back) in
+      let more = b.least a.before a.after over in
+      let befores = within_one k (length others) a.before b.before over.before_sets b.solution.before_sets
+      (λ n v. (less.0 n v, more.0 n v)) in
+      let afters = within_one k (length others) a.after b.after over.after_sets b.solution.after_sets
+      (λ n v. (less.1 n v, more.1 n v)) in
+      a.lines ∙ ap (λ l. sides_text l graph.variables (map members a.before) (map members a.after)) same.names
+      ∙ ap (λ l. sides_text other.names l (map members a.before) (map members a.after)) same.variables
+      ∙ ap (λ l. sides_text other.names other.variables (map members l) (map members a.after)) befores
+      ∙ ap (λ l. sides_text other.names other.variables (map members b.before) (map members l)) afters ∙ sym b.lines
+
+-- ---- dominators
+
+module _ (before others : List (List ℕ)) (same : HaveSameNumbers before others) where
+  pub path_over : {path : List ℕ} {n : ℕ} → IsPath before 0 path n → IsPath others 0 path n
+  path_over start = start
+  path_over (step {m = m} {n = n} rest edge) = step (path_over rest) ((same.each n m).0 edge)
+
+module _ (before others : List (List ℕ)) (same : HaveSameNumbers before others) where
+  pub dominates_over : (d n : ℕ) → Dominates before 0 d n → Dominates others 0 d n
+  dominates_over d n all path is = all path (path_over others before (same_back same) is)
+
+-- equal lines, one after another
+module _ (P Q : ℕ → List ℕ → Type 0) (count : ℕ)
+    (one : (k : ℕ) → k < count → (line other : List ℕ) → P k line → Q k other → line ≡ other) where
+  pub lines_one : {k k' : ℕ} {text text' : List ℕ} → AreLines P k text → AreLines Q k' text' → k ≡ k' → k ≤ count →
+      text ≡ text'
+  lines_one none none same most = refl
+  lines_one none (more lines line) same most = absurd (omega (arith, same))
+  lines_one (more lines line) none same most = absurd (omega (arith, same))
+  lines_one (more {k} {text} {line} lines is) (more {k = k'} {text = text'} {line = line'} lines' is') same most =
+      let ks : k ≡ k' = omega (arith, same) in
+      ap (λ l. l ++ line) (lines_one lines lines' ks (omega (arith, most)))
+      ∙ ap (λ l. text' ++ l) (one k (omega (arith, most)) line line' is (subst (λ j. Q j line') (sym ks) is'))
+
+pub within_all : (k : ℕ) (list : List ℕ) → All (λ d. d < k) list → (d : ℕ) → Contains list d → d < k
+within_all k list all d (i, less, is) = subst (λ x. x < k) is (all i d less)
+
+module _ (names : List (List ℕ)) (before others : List (List ℕ)) (same : HaveSameNumbers before others) where
+  dominators_one : (n : ℕ) (line line' : List ℕ) → ListsDominatorsOf before names n line →
+      ListsDominatorsOf others names n line' → line ≡ line'
+  dominators_one n line line' a b =
+      let list = sorted_one (λ (c d : ℕ). c < d) (λ c d less more. omega (arith, less, more)) a.list b.list a.rise
+      b.rise
+      (λ d. (
+        (λ has.
+            let less = within_all (length before) a.list a.inside d has in
+            (b.each d (omega (arith, less, same.count))).1
+            (dominates_over before others same d n ((a.each d less).0 has))),
+        (λ has.
+            let less = within_all (length others) b.list b.inside d has in
+            (a.each d (omega (arith, less, same.count))).1
+            (dominates_over others before (same_back same) d n ((b.each d less).0 has))),
+      )) in
+      a.is ∙ ap (λ l. name_at names n ++ codes ": dominators" ++ labels_text names l ++ line_end) list ∙ sym b.is
+
+-- ---- all analyses but one
+
+module _ (graph other : FlowGraph) (same : AreAlike graph other) (text text' : List ℕ) where
+  all_dominators_one : ListsDominators graph text → ListsDominators other text' → text ≡ text'
+  all_dominators_one a b =
+      let befores = same_before graph other same a.before b.before a.are_before b.are_before in
+      lines_one (ListsDominatorsOf a.before other.names) (ListsDominatorsOf b.before other.names)
+      (length other.names) (λ n less. dominators_one other.names a.before b.before befores n)
+      (subst (λ l. AreLines (ListsDominatorsOf a.before l) (length l) text) same.names a.lines) b.lines refl
+      (omega arith)
+
+  named_one : {problem : Problem} → ListsSolution graph.names problem text → ListsSolution other.names problem text
+  named_one {problem} a = subst (λ l. ListsSolution l problem text) same.names a
+
+  analysis_one : (analysis : Analysis) → analysis ≢ Immediate → ListsAnalysis analysis graph text →
+      ListsAnalysis analysis other text' → text ≡ text'
+  analysis_one Live not a b = live_one graph other same text text' a b
+  analysis_one Reaching not a b = solution_one a.problem b.problem
+      (same_reaching graph other same a.problem b.problem a.of b.of) other.names text text' (named_one a.lists) b.lists
+  analysis_one Available not a b = solution_one a.problem b.problem
+      (same_available graph other same a.problem b.problem a.of b.of) other.names text text' (named_one a.lists) b.lists
+  analysis_one Busy not a b = solution_one a.problem b.problem
+      (same_busy graph other same a.problem b.problem a.of b.of) other.names text text' (named_one a.lists) b.lists
+  analysis_one Dominators not a b = all_dominators_one a b
+  analysis_one Immediate not a b = absurd (not refl)
+
+pub outputs_one : OutputsAreOne
+outputs_one text analysis not old new other a b =
+    let same = graphs_one text a.graph b.graph a.graph_is b.graph_is in
+    let texts = analysis_one a.graph b.graph same a.written.0 b.written.0 analysis not a.written.2 b.written.2 in
+    a.written.1 ∙ ap (λ more. old ++ more) texts ∙ sym b.written.1
