@@ -5,7 +5,7 @@ mod FittingLemmas
 pub mod LiveLemmas
 mod NodeLemmas
 mod NumberLemmas
-mod OneImmediateLemmas
+mod OneDominatorLemmas
 mod OneOutputLemmas
 pub mod ProblemLemmas
 mod SameGraphLemmas

@@ -1,13 +1,11 @@
 -- A text has one text for each analysis of its flow graph.
-use Rattle.std.specs.Prelude.{All, Contains, slice_get}
+use Rattle.std.specs.Prelude.{Contains, slice_get}
 use Rattle.std.specs.List.{Any}
-use Rattle.std.proofs.Common.{◌≡◌, ◌↔◌, ◌⊎◌, ◌≢◌, inl, inr, ℕ, ◌<◌, ◌≤◌, Bool, Some, List, [], ◌++◌, codes, length, map, get_or, arith, refl, sym, ap, subst, ◌∙◌}
+use Rattle.std.proofs.Common.{◌≡◌, ◌↔◌, ◌⊎◌, inl, inr, ℕ, ◌<◌, ◌≤◌, Bool, Some, List, [], ◌++◌, codes, length, map, get_or, arith, refl, sym, ap, subst, ◌∙◌}
 use Rattle.std.proofs.lemmas.Bool.{cases_lt}
 use Rattle.std.proofs.lemmas.List.{get_or-map, get_or_past}
 use Rattle.std.proofs.lemmas.Option.{get_or_from_slice_get, slice_get_cases, slice_get_within}
 use Rattle.vob_rows.specs.Sparse.{members}
-use Rattle.vob_flow.specs.Dominators.{Dominates, IsPath}
-use Rattle.vob_flow.specs.Dominators.IsPath.{start, step}
 use Rattle.vob_flow.specs.Draws.{IsIn}
 use Rattle.vob_flow.specs.LiveEquations.{AreSets, IsSolution}
 use Rattle.vob_flow.specs.declared.live.Flow.{Flow}
@@ -19,15 +17,15 @@ use Rattle.files_flow.specs.declared.flow.FlowGraph.{FlowGraph}
 use Rattle.files_flow.specs.declared.problem.Problem.{Problem}
 use Rattle.files_flow.specs.Analyses.{ListsAnalysis}
 use Rattle.files_flow.specs.FlowLaws.{AreAlike, OutputsAreOne}
-use Rattle.files_flow.specs.FlowText.{AreLines, ListsDominators, ListsDominatorsOf, ListsLive, ListsSolution, labels_text, sides_text}
-use Rattle.files_flow.specs.FlowText.AreLines.{none, more}
+use Rattle.files_flow.specs.FlowText.{ListsLive, ListsSolution, labels_text, sides_text}
+use Rattle.files_flow.proofs.OneDominatorLemmas.{all_dominators_one, all_immediate_one}
 use Rattle.files_flow.proofs.SameGraphLemmas.{graphs_one}
 use Rattle.files_flow.proofs.SameProblemLemmas.{same_available, same_before, same_busy, same_count, same_nexts, same_reaching, same_reads, same_writes}
 use Rattle.files_flow.proofs.SameSolutionLemmas.{HaveSameNumbers, same_back, sets_one, solution_one}
 
 -- ---- live variables
 
-pub at_node : (f : Flow → List ℕ) (nodes : List Flow) (n : ℕ) (flow : Flow) → slice_get nodes n ≡ Some flow →
+at_node : (f : Flow → List ℕ) (nodes : List Flow) (n : ℕ) (flow : Flow) → slice_get nodes n ≡ Some flow →
     get_or (map f nodes) n [] ≡ f flow
 at_node f nodes n flow is = get_or-map f nodes n flow [] (slice_get_within nodes n flow is)
     ∙ ap f (get_or_from_slice_get nodes n flow flow is)
@@ -101,79 +99,26 @@ module _ (graph other : FlowGraph) (same : AreAlike graph other) where
       ∙ ap (λ l. sides_text other.names other.variables (map members l) (map members a.after)) befores
       ∙ ap (λ l. sides_text other.names other.variables (map members b.before) (map members l)) afters ∙ sym b.lines
 
--- ---- dominators
-
-module _ (before others : List (List ℕ)) (same : HaveSameNumbers before others) where
-  pub path_over : {path : List ℕ} {n : ℕ} → IsPath before 0 path n → IsPath others 0 path n
-  path_over start = start
-  path_over (step {m = m} {n = n} rest edge) = step (path_over rest) ((same.each n m).0 edge)
-
-module _ (before others : List (List ℕ)) (same : HaveSameNumbers before others) where
-  pub dominates_over : (d n : ℕ) → Dominates before 0 d n → Dominates others 0 d n
-  dominates_over d n all path is = all path (path_over others before (same_back same) is)
-
--- equal lines, one after another
-module _ (P Q : ℕ → List ℕ → Type 0) (count : ℕ)
-    (one : (k : ℕ) → k < count → (line other : List ℕ) → P k line → Q k other → line ≡ other) where
-  pub lines_one : {k k' : ℕ} {text text' : List ℕ} → AreLines P k text → AreLines Q k' text' → k ≡ k' → k ≤ count →
-      text ≡ text'
-  lines_one none none same most = refl
-  lines_one none (more lines line) same most = absurd (omega (arith, same))
-  lines_one (more lines line) none same most = absurd (omega (arith, same))
-  lines_one (more {k} {text} {line} lines is) (more {k = k'} {text = text'} {line = line'} lines' is') same most =
-      let ks : k ≡ k' = omega (arith, same) in
-      ap (λ l. l ++ line) (lines_one lines lines' ks (omega (arith, most)))
-      ∙ ap (λ l. text' ++ l) (one k (omega (arith, most)) line line' is (subst (λ j. Q j line') (sym ks) is'))
-
-pub within_all : (k : ℕ) (list : List ℕ) → All (λ d. d < k) list → (d : ℕ) → Contains list d → d < k
-within_all k list all d (i, less, is) = subst (λ x. x < k) is (all i d less)
-
-module _ (names : List (List ℕ)) (before others : List (List ℕ)) (same : HaveSameNumbers before others) where
-  dominators_one : (n : ℕ) (line line' : List ℕ) → ListsDominatorsOf before names n line →
-      ListsDominatorsOf others names n line' → line ≡ line'
-  dominators_one n line line' a b =
-      let list = sorted_one (λ (c d : ℕ). c < d) (λ c d less more. omega (arith, less, more)) a.list b.list a.rise
-      b.rise
-      (λ d. (
-        (λ has.
-            let less = within_all (length before) a.list a.inside d has in
-            (b.each d (omega (arith, less, same.count))).1
-            (dominates_over before others same d n ((a.each d less).0 has))),
-        (λ has.
-            let less = within_all (length others) b.list b.inside d has in
-            (a.each d (omega (arith, less, same.count))).1
-            (dominates_over others before (same_back same) d n ((b.each d less).0 has))),
-      )) in
-      a.is ∙ ap (λ l. name_at names n ++ codes ": dominators" ++ labels_text names l ++ line_end) list ∙ sym b.is
-
--- ---- all analyses but one
+-- ---- all analyses
 
 module _ (graph other : FlowGraph) (same : AreAlike graph other) (text text' : List ℕ) where
-  all_dominators_one : ListsDominators graph text → ListsDominators other text' → text ≡ text'
-  all_dominators_one a b =
-      let befores = same_before graph other same a.before b.before a.are_before b.are_before in
-      lines_one (ListsDominatorsOf a.before other.names) (ListsDominatorsOf b.before other.names)
-      (length other.names) (λ n less. dominators_one other.names a.before b.before befores n)
-      (subst (λ l. AreLines (ListsDominatorsOf a.before l) (length l) text) same.names a.lines) b.lines refl
-      (omega arith)
-
   named_one : {problem : Problem} → ListsSolution graph.names problem text → ListsSolution other.names problem text
   named_one {problem} a = subst (λ l. ListsSolution l problem text) same.names a
 
-  analysis_one : (analysis : Analysis) → analysis ≢ Immediate → ListsAnalysis analysis graph text →
+  analysis_one : (analysis : Analysis) → ListsAnalysis analysis graph text →
       ListsAnalysis analysis other text' → text ≡ text'
-  analysis_one Live not a b = live_one graph other same text text' a b
-  analysis_one Reaching not a b = solution_one a.problem b.problem
+  analysis_one Live a b = live_one graph other same text text' a b
+  analysis_one Reaching a b = solution_one a.problem b.problem
       (same_reaching graph other same a.problem b.problem a.of b.of) other.names text text' (named_one a.lists) b.lists
-  analysis_one Available not a b = solution_one a.problem b.problem
+  analysis_one Available a b = solution_one a.problem b.problem
       (same_available graph other same a.problem b.problem a.of b.of) other.names text text' (named_one a.lists) b.lists
-  analysis_one Busy not a b = solution_one a.problem b.problem
+  analysis_one Busy a b = solution_one a.problem b.problem
       (same_busy graph other same a.problem b.problem a.of b.of) other.names text text' (named_one a.lists) b.lists
-  analysis_one Dominators not a b = all_dominators_one a b
-  analysis_one Immediate not a b = absurd (not refl)
+  analysis_one Dominators a b = all_dominators_one graph other same text text' a b
+  analysis_one Immediate a b = all_immediate_one graph other same text text' a b
 
 pub outputs_one : OutputsAreOne
-outputs_one text analysis not old new other a b =
+outputs_one text analysis old new other a b =
     let same = graphs_one text a.graph b.graph a.graph_is b.graph_is in
-    let texts = analysis_one a.graph b.graph same a.written.0 b.written.0 analysis not a.written.2 b.written.2 in
+    let texts = analysis_one a.graph b.graph same a.written.0 b.written.0 analysis a.written.2 b.written.2 in
     a.written.1 ∙ ap (λ more. old ++ more) texts ∙ sym b.written.1

@@ -1,10 +1,8 @@
 -- A text has one flow graph, and each analysis of it is written in one way.
-use Rattle.std.specs.Prelude.{◌≡◌, ◌≢◌, ◌<◌, ℕ, List, Some, length, map}
-use Rattle.vob_flow.specs.Reach.{HasWay}
+use Rattle.std.specs.Prelude.{◌≡◌, ℕ, List, Some, map}
 use Rattle.files_flow.specs.Analyses.{WritesAnalysis}
 use Rattle.files_flow.specs.Flows.{IsFlowOf, list_of}
 use Rattle.files_flow.specs.declared.analysis.Analysis.{Analysis}
-use Rattle.files_flow.specs.declared.analysis.Analysis.TheVariants.{Immediate}
 use Rattle.files_flow.specs.declared.flow.FlowGraph.{FlowGraph}
 use Rattle.files_flow.specs.declared.nodes.Kind.{Kind}
 
@@ -19,19 +17,7 @@ abbrev pub GraphsAreOne : Type 0
 GraphsAreOne = (text : List ℕ) (graph other : FlowGraph) → IsFlowOf text graph → IsFlowOf text other →
     AreAlike graph other
 
--- two outputs are equal if both grew from the same bytes by the same analysis of one text
-abbrev pub IsOne : (text : List ℕ) → Analysis → Type 0
-IsOne text analysis = (old new other : List ℕ) → WritesAnalysis text analysis (Some old) (Some new) →
-    WritesAnalysis text analysis (Some old) (Some other) → new ≡ other
-
--- equal texts give equal bytes, except perhaps for immediate dominators
+-- equal texts give equal bytes: by one analysis of one text the same bytes grow to the same
 abbrev pub OutputsAreOne : Type 0
-OutputsAreOne = (text : List ℕ) (analysis : Analysis) → analysis ≢ Immediate → IsOne text analysis
-
--- paths from the first node lead to all nodes
-abbrev pub ReachesAll : FlowGraph → Type 0
-ReachesAll graph = (n : ℕ) → n < length graph.names → HasWay (map (λ node. node.next.items) graph.nodes.items) 0 n
-
--- equal texts give equal bytes for immediate dominators, if paths lead to all nodes
-abbrev pub ImmediateIsOne : Type 0
-ImmediateIsOne = (text : List ℕ) (graph : FlowGraph) → IsFlowOf text graph → ReachesAll graph → IsOne text Immediate
+OutputsAreOne = (text : List ℕ) (analysis : Analysis) (old new other : List ℕ) →
+    WritesAnalysis text analysis (Some old) (Some new) → WritesAnalysis text analysis (Some old) (Some other) → new ≡ other
