@@ -13,6 +13,9 @@ use std::alloc::{AllocError, Global};
 /// The name that stands for standard input.
 pub const STANDARD_INPUT: &str = "-";
 
+/// What `--version` says of the program.
+const VERSION: &str = "0.1.0";
+
 /// What the help of `grammar` says of its states and of the exit status.
 const GRAMMAR_HELP: &str = "\
 The states are those of the LALR(1) parser that bison makes by default. With
@@ -299,6 +302,7 @@ pub fn command<'a>(alloc: Global) -> Result<Command<'a>, AllocError> {
     Command::new(alloc, "conthiral")
         .bin_name("conthiral")?
         .about("Sets of bits at work on files")
+        .version(VERSION)
         .subcommand_required(true)
         .arg_required_else_help(true)
         .subcommand(grammar_command(alloc)?)?
