@@ -1,1 +1,5 @@
 mod WholeLemmas
+mod PartLemmas
+mod PlaceLemmas
+mod ProgressLemmas
+mod KeepLemmas

@@ -105,7 +105,8 @@ module _ (text : List ℕ) (given whole filled count : ℕ) where
 -- more room is no other text
 pub unread_same : {R : Type 0} (remaining : R → Option (List ℕ)) (old new : WholeRows R) →
     KeepsText old new → unread remaining new ≡ unread remaining old
-unread_same remaining old new kept = rw (kept.text, kept.given, kept.input) refl
+unread_same remaining old new kept =
+    rw (kept.text, ap (λ rows. rows.given) kept.same, ap (λ rows. rows.input) kept.same) refl
 
 -- the bytes that are left, after a read
 pub read_grows : {R : Type 0} (remaining : R → Option (List ℕ)) (old new : WholeRows R)

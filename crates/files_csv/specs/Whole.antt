@@ -24,10 +24,10 @@ pub record LeavesText {R : Type 0} (old new : WholeRows R) : Type 0 where
   pub filled : new.filled ≡ old.filled
   pub given : new.given ≡ old.given
   pub input : new.input ≡ old.input
+  pub bytes : new.bytes ≡ old.bytes
+  pub lines : new.lines ≡ old.lines
 
 -- with room for more of it
 pub record KeepsText {R : Type 0} (old new : WholeRows R) : Type 0 where
   pub text : take new.filled new.text.items ≡ take old.filled old.text.items
-  pub filled : new.filled ≡ old.filled
-  pub given : new.given ≡ old.given
-  pub input : new.input ≡ old.input
+  pub same : new ≡ record old { text = new.text }

@@ -1,10 +1,16 @@
 //! A text of CSV, read by whole rows.
-ghost use Rattle.std.specs.Prelude.{◌≡◌, ◌≢◌, ◌+◌, ◌<◌, ◌≤◌, [], drop, length, take, true, false, IfOk, OnOk};
+ghost use Rattle.std.specs.Prelude.{◌≡◌, ◌≢◌, ◌↔◌, ◌==◌, ◌+◌, ◌<◌, ◌≤◌, ◌++◌, [], ℕ, List, None, Some, count_by, drop, length, take, true, false, IfOk, IfSome, MatchBool, MatchResult, OnOk};
+ghost use Rattle.std.specs.Bool.{IsTrue};
 ghost use Rattle.std.specs.Io.KnownBytes.{Consumes, IsAtEnd, Keeps, ReadConsumes};
 ghost use Rattle.std.specs.Io.{ReadsAtMost};
+ghost use Rattle.files_csv.specs.Parts.{StandsNext};
+ghost use Rattle.files_csv.specs.Progress.{AreGone, HasRead, HasReadTo, HasRefused, HasScanned, RefusesAfter};
+ghost use Rattle.files_csv.specs.Refused.{IsRefused, column_after, line_after};
+ghost use Rattle.files_csv.specs.Rows.{IsBody, IsCsv, mark};
 ghost use Rattle.files_csv.specs.Whole.{IsFresh, KeepsText, LeavesText, rows_at_hand, unread};
+ghost use Rattle.files_text.specs.Faults.{IsLine};
 
-use crate::quotes::{MARK, Part, cell_start, last_quote};
+use crate::quotes::{MARK, Part, cell_start};
 use files_text::Fault;
 use std::alloc::{AllocError, Global};
 use std::io;
@@ -27,8 +33,9 @@ pub struct WholeRows<R> {
     // How many of these are whole rows, and how many were given.
     whole: usize,
     given: usize,
-    // What the byte after these stands in.
+    // What the byte after these stands in, and the place where its cell begins.
     part: Part,
+    cell: usize,
     // What comes before them in the input.
     bytes: u64,
     lines: usize,
@@ -55,10 +62,37 @@ fn read_from<R: Read>(input: &mut R, text: &mut [u8], from: usize) -> io::Result
     input.read(&mut text[from..])
 }
 
+/// Returns how many lines end in a text.
+fn line_feeds(text: &[u8]) -> usize
+    ensures { result ≡ count_by (λ byte. byte == 10) text.now }
+{
+    text.iter().filter(|byte| **byte == b'\n').count()
+}
+
+/// Returns the column of what comes after a text, counted from 1.
+fn column(text: &[u8]) -> usize
+    ensures { result ≡ column_after text.now }
+{
+    let mut start = text.len();
+    while start > 0 && text[start - 1] != b'\n' {
+        start -= 1;
+    }
+    text.len() - start + 1
+}
+
+/// Returns whether a text begins with the mark of UTF-8.
+fn has_mark(text: &[u8]) -> bool
+    ensures { IsTrue result ↔ ((rest : List ℕ) × (text.now ≡ mark ++ rest)) }
+{
+    text.len() >= 3 && text[0] == 0xef && text[1] == 0xbb && text[2] == 0xbf
+}
+
 impl<R: Read> WholeRows<R> {
     /// Makes the reader of the rows of a text.
     pub fn new(alloc: Global, input: R) -> WholeRows<R>
-        ensures { Keeps (R.remaining input) (unread R.remaining result) }
+        ensures unread { Keeps (R.remaining input) (unread R.remaining result) }
+        ensures progress { (text : List ℕ) → R.remaining input ≡ Some text →
+            HasRead R.remaining text result }
     {
         WholeRows {
             input,
@@ -67,6 +101,7 @@ impl<R: Read> WholeRows<R> {
             whole: 0,
             given: 0,
             part: Part::Mark(0),
+            cell: 0,
             bytes: 0,
             lines: 0,
             refused: None,
@@ -85,18 +120,17 @@ impl<R: Read> WholeRows<R> {
     fn forget(&mut self)
         ensures fresh { IsFresh self.new }
         ensures unread { Keeps (unread R.remaining self.old) (unread R.remaining self.new) }
+        ensures progress { (text : List ℕ) → rows_at_hand self.old ≡ [] →
+            HasRead R.remaining text self.old → HasRead R.remaining text self.new }
     {
         let filled = self.filled.min(self.text.len());
         let given = self.given.min(filled);
-        let lines = self.text[..given]
-            .iter()
-            .filter(|byte| **byte == b'\n')
-            .count();
-        self.lines = self.lines.saturating_add(lines);
+        self.lines = self.lines.saturating_add(line_feeds(&self.text[..given]));
         self.bytes = self.bytes.saturating_add(given as u64);
         self.text.copy_within(given..filled, 0);
         self.filled = filled - given;
         self.whole = self.whole.saturating_sub(given);
+        self.cell = self.cell.saturating_sub(given);
         self.given = 0;
     }
 
@@ -119,8 +153,12 @@ impl<R: Read> WholeRows<R> {
         requires { IsFresh self.old }
         ensures fresh { IsFresh self.new }
         ensures unread { Keeps (unread R.remaining self.old) (unread R.remaining self.new) }
-        ensures filled { IfOk result (λ count. self.new.filled ≡ self.old.filled + count) }
+        ensures filled { MatchResult result (λ count. self.new.filled ≡ self.old.filled + count)
+            (λ _. self.new.filled ≡ self.old.filled) }
         ensures end { IfOk result (λ count. count ≡ 0 → IsAtEnd (R.remaining self.new.input)) }
+        ensures refused { self.new.refused ≡ self.old.refused }
+        ensures progress { (text : List ℕ) → HasRead R.remaining text self.old →
+            HasReadTo R.remaining text self.new self.old.filled }
     {
         self.make_room()?;
         let count = read_from(&mut self.input, &mut self.text, self.filled)?;
@@ -130,26 +168,66 @@ impl<R: Read> WholeRows<R> {
 
     /// Finds the rows that are whole among the bytes from a place on.
     fn scan(&mut self, from: usize)
-        ensures { LeavesText self.old self.new }
+        ensures same { LeavesText self.old self.new }
+        ensures progress { (text : List ℕ) → self.old.refused ≡ None →
+            HasReadTo R.remaining text self.old from → HasRead R.remaining text self.new }
     {
         for at in from..self.filled.min(self.text.len()) {
-            match self.part.after(self.text[at]) {
-                Ok(Part::End) => {
-                    self.part = Part::Start;
-                    self.whole = at.saturating_add(1);
-                }
-                Ok(next) => self.part = next,
-                Err(expected) => {
-                    self.refuse(at, expected);
-                    return;
-                }
+            if self.refuses(at) {
+                return;
             }
+        }
+    }
+
+    /// Looks at the byte at a place, and returns whether it is refused.
+    #[inline(always)]
+    fn refuses(&mut self, at: usize) -> bool
+        requires { at < length self.old.text.items }
+        ensures same { LeavesText self.old self.new }
+        ensures progress { (text : List ℕ) → at < self.old.filled →
+            HasScanned R.remaining text self.old at → MatchBool result
+            (HasRefused text self.new) (HasScanned R.remaining text self.new (at + 1)) }
+    {
+        let next = match self.part.after(self.text[at]) {
+            Ok(next) => next,
+            Err(expected) => {
+                self.refuse(at, expected);
+                return true;
+            }
+        };
+        self.stand(next, at + 1);
+        false
+    }
+
+    /// Takes what the byte at a place stands in.
+    #[inline(always)]
+    fn stand(&mut self, next: Part, place: usize)
+        ensures same { LeavesText self.old self.new }
+        ensures progress { (text : List ℕ) (at : ℕ) → place ≡ at + 1 → at < self.old.filled →
+            (has : HasScanned R.remaining text self.old at) →
+            StandsNext next (has.gone ++ take (at + 1) self.old.text.items)
+            (length has.gone + self.old.cell) → HasScanned R.remaining text self.new (at + 1) }
+    {
+        match next {
+            Part::End => {
+                self.part = Part::Start;
+                self.cell = place;
+                self.whole = place;
+            }
+            Part::Start => {
+                self.part = Part::Start;
+                self.cell = place;
+            }
+            _ => self.part = next,
         }
     }
 
     /// Refuses the byte at a place.
     fn refuse(&mut self, at: usize, expected: &'static str)
-        ensures { LeavesText self.old self.new }
+        ensures same { LeavesText self.old self.new }
+        ensures refused { (gone body : List ℕ) → AreGone self.old gone →
+            at ≤ length self.old.text.items → IsBody (gone ++ take at self.old.text.items) body →
+            RefusesAfter self.new body expected.now }
     {
         let (line, column) = self.line_and_column(at);
         self.refused = Some(Refused {
@@ -161,14 +239,13 @@ impl<R: Read> WholeRows<R> {
 
     /// Takes what is left for a row, at the end of the text.
     fn end(&mut self)
-        ensures { LeavesText self.old self.new }
+        ensures same { LeavesText self.old self.new }
+        ensures progress { (text : List ℕ) → self.old.refused ≡ None →
+            IsAtEnd (R.remaining self.old.input) → HasRead R.remaining text self.old →
+            HasRead R.remaining text self.new }
     {
         match self.part {
-            Part::Quoted => {
-                let row = self.text.get(self.whole..self.filled).unwrap_or_default();
-                let quote = last_quote(row, self.first_part(self.whole));
-                self.refuse(self.whole.saturating_add(quote), "a closing `\"`");
-            }
+            Part::Quoted => self.refuse(self.cell, "a closing `\"`"),
             Part::Return => self.refuse(self.filled, "a line feed after a carriage return"),
             _ => self.whole = self.filled,
         }
@@ -180,6 +257,8 @@ impl<R: Read> WholeRows<R> {
         ensures bytes { Consumes (unread R.remaining self.old) (unread R.remaining self.new)
             (take result buf.new) }
         ensures some { rows_at_hand self.old ≢ [] → result ≡ 0 → length buf.new ≡ 0 }
+        ensures progress { (text : List ℕ) → HasRead R.remaining text self.old →
+            HasRead R.remaining text self.new }
     {
         let rows = self.rows();
         let count = rows.len().min(buf.len());
@@ -193,6 +272,10 @@ impl<R: Read> WholeRows<R> {
         ensures unread { Keeps (unread R.remaining self.old) (unread R.remaining self.new) }
         ensures some { IfOk result (λ more. more ≡ true → rows_at_hand self.new ≢ []) }
         ensures end { IfOk result (λ more. more ≡ false → IsAtEnd (unread R.remaining self.new)) }
+        ensures progress { (text : List ℕ) → HasRead R.remaining text self.old →
+            HasRead R.remaining text self.new }
+        ensures is_csv { IfOk result (λ more. more ≡ false → (text : List ℕ) →
+            HasRead R.remaining text self.old → IsCsv text) }
     {
         if !self.rows().is_empty() {
             return Ok(true);
@@ -226,17 +309,28 @@ impl<R: Read> WholeRows<R> {
         }
     }
 
+    /// Returns bytes at hand, without the mark if they begin the text.
+    fn without_mark<'a>(&self, text: &'a [u8]) -> &'a [u8]
+        ensures start { self.now.bytes ≡ 0 → (rest : List ℕ) → text.now ≡ mark ++ rest →
+            result.now ≡ rest }
+        ensures later { (self.now.bytes ≡ 0 → (rest : List ℕ) → text.now ≢ mark ++ rest) →
+            result.now ≡ text.now }
+    {
+        if self.bytes == 0 && has_mark(text) {
+            return &text[MARK.len()..];
+        }
+        text
+    }
+
     /// Returns the line and the column of a place, counted from 1. A column is a byte.
-    fn line_and_column(&self, at: usize) -> (usize, usize) {
-        let before = self.text.get(..at).unwrap_or_default();
-        let lines = before.iter().filter(|byte| **byte == b'\n').count();
-        let start = match before.iter().rposition(|byte| *byte == b'\n') {
-            Some(end) => end.saturating_add(1),
-            None if self.bytes == 0 && before.starts_with(MARK) => MARK.len(),
-            None => 0,
-        };
-        let line = self.lines.saturating_add(lines).saturating_add(1);
-        (line, at.saturating_sub(start).saturating_add(1))
+    fn line_and_column(&self, at: usize) -> (usize, usize)
+        ensures { (gone body : List ℕ) → AreGone self.now gone → at ≤ length self.now.text.items →
+            IsBody (gone ++ take at self.now.text.items) body →
+            (result.0 ≡ line_after body) × (result.1 ≡ column_after body) }
+    {
+        let before = self.without_mark(&self.text[..at.min(self.text.len())]);
+        let lines = self.lines.saturating_add(line_feeds(before));
+        (lines.saturating_add(1), column(before))
     }
 
     /// Returns the place where the row begins that was read from a byte of the input on. Blank lines
@@ -261,7 +355,11 @@ impl<R: Read> WholeRows<R> {
     }
 
     /// Returns the fault of the byte that is refused, if one was found.
-    pub fn fault(&self) -> Option<Fault> {
+    pub fn fault(&self) -> Option<Fault>
+        ensures { (text : List ℕ) → HasRead R.remaining text self.now → IfSome result (λ fault.
+            (line column : ℕ) × (expected : List ℕ) × IsRefused text line column expected
+            × IsLine fault line column expected) }
+    {
         let Refused {
             line,
             column,
@@ -282,6 +380,10 @@ impl<R: Read> Read for WholeRows<R> {
         ensures bound { ReadsAtMost result buf.new }
         ensures bytes { ReadConsumes (unread R.remaining self.old) (unread R.remaining self.new)
             result buf.new }
+        ensures progress { (text : List ℕ) → HasRead R.remaining text self.old →
+            HasRead R.remaining text self.new }
+        ensures is_csv { IfOk result (λ count. count ≡ 0 → 0 < length buf.new → (text : List ℕ) →
+            HasRead R.remaining text self.old → IsCsv text) }
     {
         if !self.fill()? {
             return Ok(0);

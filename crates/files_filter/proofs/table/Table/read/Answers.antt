@@ -13,7 +13,7 @@ returns-clause-ok g c =
     let reader = c.from_reader-reader.ensures in
     let setup = c.has_headers.ensures in
     let fresh : Table g.row.R.Denot = record { reader = c.from_reader-reader.result; header = c.new-3.result } in
-    let has = begins remaining text (unread remaining c.new-2.result) fresh c.new-2.ensures
+    let has = begins remaining text (unread remaining c.new-2.result) fresh c.new-2.ensures.unread
     (rw setup at reader.trim ∙ c.new.ensures.trim) (inr (inr (rw setup at reader.has_headers, reader.headers)))
     (rw setup at reader.config ∙ c.new.ensures.config) reader.state reader.source in
     let found : c.in_ok-next.field-0 ≡ true = search rules in
