@@ -3,3 +3,4 @@ mod PartLemmas
 mod PlaceLemmas
 mod ProgressLemmas
 mod KeepLemmas
+mod OnceLemmas
