@@ -116,8 +116,10 @@ module _ {R : Type 0} (rows : WholeRows R) (gone text body before : List ℕ) (a
       end_some (inr both) = rw both (omega arith)
 
       long : AreBody gone (row.cells ++ (row.last ++ row.end)) → length row.end ≤ length gone
-      long (inl same) = rw (same, length-append row.cells (row.last ++ row.end), length-append row.last row.end) (omega arith)
-      long (inr bare) = rw (bare.0, length-append row.cells (row.last ++ row.end), length-append row.last row.end) (omega arith)
+      long (inl same) = rw (same, length-append row.cells (row.last ++ row.end), length-append row.last row.end)
+          (omega arith)
+      long (inr bare) = rw (bare.0, length-append row.cells (row.last ++ row.end), length-append row.last row.end)
+          (omega arith)
 
       some : rows.bytes ≢ 0
       some none = omega (arith, are.bytes, none, long row.body, end_some row.end_is)

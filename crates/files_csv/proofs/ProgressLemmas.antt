@@ -63,7 +63,8 @@ module _ {R : Type 0} (remaining : R → Option (List ℕ)) (text : List ℕ) (o
   size : length (has.gone ++ take (at + 1) old.text.items) ≡ length has.gone + place
   size =
       let inside : at + 1 ≤ length old.text.items = omega (arith, less, has.read.inside) in
-      rw (length-append has.gone (take (at + 1) old.text.items), length-take-le (at + 1) old.text.items inside, same) refl
+      rw (length-append has.gone (take (at + 1) old.text.items), length-take-le (at + 1) old.text.items inside, same)
+      refl
 
   pub row_more : (next : Part) → next ≡ End → new.part ≡ Start → new.whole ≡ place → new.cell ≡ place →
       StandsNext next (has.gone ++ take (at + 1) old.text.items) (length has.gone + old.cell) →
@@ -110,16 +111,19 @@ module _ {R : Type 0} (remaining : R → Option (List ℕ)) (text : List ℕ) (o
   all =
       let cut : take old.filled items ≡ take (at + 1) items ++ drop (at + 1) (take old.filled items) =
       sym (take-append-drop (at + 1) (take old.filled items))
-      ∙ ap (λ xs. xs ++ drop (at + 1) (take old.filled items)) (take-take (at + 1) old.filled items (omega (arith, less))) in
+      ∙ ap (λ xs. xs ++ drop (at + 1) (take old.filled items))
+      (take-take (at + 1) old.filled items (omega (arith, less))) in
       has.read.text_is ∙ ap (λ xs. (has.gone ++ xs) ++ has.left) cut
-      ∙ ap (λ xs. xs ++ has.left) (sym (append_assoc has.gone (take (at + 1) items) (drop (at + 1) (take old.filled items))))
+      ∙ ap (λ xs. xs ++ has.left)
+      (sym (append_assoc has.gone (take (at + 1) items) (drop (at + 1) (take old.filled items))))
       ∙ append_assoc (has.gone ++ take (at + 1) items) (drop (at + 1) (take old.filled items)) has.left
       ∙ ap (λ xs. xs ++ rest) seen_more
 
   pub byte_refused : (new : WholeRows R) (expected : List ℕ) (cant : CantStand seen byte expected) →
       RefusesAfter new (cant.cells ++ cant.cell) expected → HasRefused text new
   byte_refused new expected cant refuses =
-      let cell_all : take (length cant.cell) cant.cell ≡ cant.cell = take_all (length cant.cell) cant.cell (omega arith) in
+      let cell_all : take (length cant.cell) cant.cell ≡ cant.cell =
+      take_all (length cant.cell) cant.cell (omega arith) in
       record {
         fault = refuses.fault;
         found = refuses.found;
@@ -167,7 +171,11 @@ ends_well (Mark count) text seen start shut wait stands all = (
   record {
     cells = [];
     last = seen;
-    body = inr (all ∙ append-nil seen, λ rest same. no_mark seen rest (short stands) (sym (all ∙ append-nil seen) ∙ same));
+    body = inr (
+      all ∙ append-nil seen,
+      λ rest same.
+          no_mark seen rest (short stands) (sym (all ∙ append-nil seen) ∙ same),
+    );
     each = no_cells;
     end = last count stands.0 stands.1;
   },
@@ -222,7 +230,8 @@ module _ {R : Type 0} (remaining : R → Option (List ℕ)) (text : List ℕ) (o
           take_past now.gone (take old.filled old.text.items) old.cell
           ∙ ap (λ xs. now.gone ++ xs) (take-take old.cell old.filled old.text.items inside) in
           let refuses = refuse now.gone cell.cells now.read.gone_are (omega (arith, inside, now.read.inside))
-          (rw cut at (body_cut (filled now) cell.cells cell.cell (length now.gone + old.cell) cell.body cell.start_is)) in
+          (rw cut at (body_cut (filled now) cell.cells cell.cell (length now.gone + old.cell) cell.body
+          cell.start_is)) in
           record {
             fault = refuses.fault;
             found = refuses.found;

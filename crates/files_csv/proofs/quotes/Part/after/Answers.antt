@@ -7,8 +7,8 @@ use Rattle.files_csv.proofs.quotes.Part.after.Goals as goal
 pub returns-in_default : goal.returns-in_default
 returns-in_default c = λ seen start stands.
     let now = in_cell c.args.self seen start c.in_default.not-Mark stands in
-    goes_on seen now.cells now.cell c.args.byte start (body_more seen _ _ now.body) now.each now.start_is (λ word. word.now)
-    c.in_row.result (c.in_row.ensures now.cell now.begins)
+    goes_on seen now.cells now.cell c.args.byte start (body_more seen _ _ now.body) now.each now.start_is
+    (λ word. word.now) c.in_row.result (c.in_row.ensures now.cell now.begins)
 
 pub returns-in-None : goal.returns-in-None
 returns-in-None c = λ seen start stands.

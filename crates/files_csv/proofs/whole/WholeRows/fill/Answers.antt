@@ -10,7 +10,8 @@ use Rattle.files_csv.proofs.whole.WholeRows.fill.Goals as goal
 pub loop-init : goal.loop-init
 loop-init g c =
     let none : rows_at_hand c.args.self.now ≡ [] =
-    sym c.rows.ensures ∙ nil_from_length c.rows.result.now (eqb-true (length c.rows.result.now) 0 (sym c.if-not-is_empty.ensures)) in record {
+    sym c.rows.ensures ∙ nil_from_length c.rows.result.now
+    (eqb-true (length c.rows.result.now) 0 (sym c.if-not-is_empty.ensures)) in record {
       fresh = c.forget.ensures.fresh;
       unread = c.forget.ensures.unread;
       progress = λ text has. c.forget.ensures.progress text none has;
