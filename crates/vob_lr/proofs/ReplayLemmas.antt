@@ -2,9 +2,11 @@
 use Rattle.std.proofs.Common.{◌≡◌, ℕ, ◌+◌, ◌<◌, ◌≤◌, List, [], ◌∷◌, ◌++◌, drop, length, take, get_or, Option, None, Some, slice_get, refl, sym, ap, ◌∙◌, subst, arith}
 use Rattle.std.proofs.lemmas.List.{append_assoc, append-nil, drop_at, drop_more, length-append, length-drop, length-take-le, take_all, take_at, take_more}
 use Rattle.std.proofs.lemmas.Option.{slice_get_within}
-use Rattle.vob_lr.specs.Replays.{AreRoots, CanReplay, IsJoined, IsRedone, IsReplayed, start_of}
-use Rattle.vob_lr.specs.TreeNodes.{leaf_at, nodes_at}
-use Rattle.vob_lr.specs.Replays.AreRoots.{nothing, token, by_rule}
+use Rattle.vob_lr.specs.Replays.{AreReplayed, CanReplay, IsJoined, IsRedone, IsReplayed, start_of}
+use Rattle.vob_lr.specs.TreeNodes.{below_of, inner, leaf_at, roots_of, width}
+use Rattle.vob_lr.specs.Trees.{AreTrees, Trees, leaves, reductions}
+use Rattle.vob_lr.specs.Trees.AreTrees.{nothing, terminal, by_rule}
+use Rattle.vob_lr.specs.Trees.Trees.{none, leaf, node}
 use Rattle.vob_lr.specs.Unwinding.{Finishes}
 use Rattle.vob_lr.specs.Unwinding.Finishes.{done, reads, reduces}
 use Rattle.vob_lr.specs.declared.grammar.Rule.{Rule}
@@ -12,7 +14,8 @@ use Rattle.vob_lr.specs.declared.grammar.Symbol.{Symbol}
 use Rattle.vob_lr.specs.declared.grammar.Symbol.TheVariants.{Nonterminal, Terminal}
 use Rattle.vob_lr.specs.declared.tree.Forest.{Forest}
 use Rattle.vob_lr.specs.declared.tree.Node.{Node}
-use Rattle.vob_lr.proofs.RootLemmas.{Parts, as_many, grown, joined, parts, start}
+use Rattle.vob_lr.specs.declared.tree.Tree.{Tree}
+use Rattle.vob_lr.proofs.RootLemmas.{as_many, below-beside, beside, inner-beside, joined, leaves-beside, length-below, length-roots, parts, reductions-beside, roots-beside, start}
 
 module _ (rules : List Rule) (goal : List Symbol) where
   -- a token is read next
@@ -82,25 +85,6 @@ next_token tokens read t ts within e =
       rest = cc;
     }
 
-joined_count : (forest new : Forest) (r count : ℕ) → IsJoined r count forest new →
-    length new.nodes.items + length new.roots.items
-    ≡ (length forest.nodes.items + length forest.roots.items) + 1
-joined_count forest new r count j =
-    let roots = forest.roots.items in
-    let nodes_are = ap (λ (l : List Node). length l) j.nodes
-    ∙ length-append forest.nodes.items (drop j.below roots) in
-    let roots_are = ap (λ (l : List Node). length l) j.roots
-    ∙ length-append (take j.below roots) (record {
-      rule = Some r;
-      first = length forest.nodes.items;
-      count = count;
-      from = start_of (drop j.below roots) forest.read;
-      to = forest.read;
-    } ∷ []) in
-    let moved = length-drop j.below roots in
-    let kept = length-take-le j.below roots (omega (arith, j.long)) in
-    omega (arith, nodes_are, roots_are, moved, kept, j.long)
-
 module _ (rules : List Rule) where
   pub room : (forest : Forest) (made : Option ℕ) → made ≡ None → CanReplay rules made forest →
       forest.read < 18446744073709551615
@@ -115,30 +99,24 @@ module _ (rules : List Rule) where
   redone_token forest new made is nodes roots read tokens parsed goal moves p =
       let n = reads_next rules goal moves p.finishes (ap (λ (m : Option ℕ). m ∷ moves) is) in
       let next = next_token tokens forest.read n.t n.ts p.inside n.tokens_are in
-      let long : 0 + length (take forest.read tokens) ≡ forest.read =
-      omega (arith, length-take-le forest.read tokens p.inside) in
-      let last : AreRoots rules forest.nodes.items (leaf_at forest.read ∷ []) (Terminal n.t ∷ []) forest.read (n.t ∷ []) [] =
-      token nothing in
-      let one = joined rules p.trees (subst (λ (at : ℕ). AreRoots rules forest.nodes.items (leaf_at forest.read ∷ [])
-      (Terminal n.t ∷ []) at (n.t ∷ []) []) (sym long) last) in
+      let last = leaf n.t none in
+      let count = ap (λ (l : List ℕ). length l) p.tokens_of ∙ length-take-le forest.read tokens p.inside in
+      let at : 0 + length (leaves p.trees) ≡ forest.read = omega (arith, count) in
       record {
         symbols = p.symbols ++ Terminal n.t ∷ [];
-        reduced = p.reduced;
+        trees = beside p.trees last;
         left = p.left;
         fits = p.fits;
         inside = omega (arith, next.inside, read);
-        trees = rw (nodes, roots, read, next.taken) (subst (λ (l : List ℕ). AreRoots rules forest.nodes.items
-            (forest.roots.items ++ leaf_at forest.read ∷ []) (p.symbols ++ Terminal n.t ∷ []) 0
-            (take forest.read tokens ++ n.t ∷ []) l) (append-nil p.reduced) one);
+        are = joined rules p.are (terminal nothing);
+        tokens_of = leaves-beside p.trees last ∙ ap (λ (l : List ℕ). l ++ n.t ∷ []) p.tokens_of ∙ sym next.taken
+            ∙ ap (λ (k : ℕ). take k tokens) (sym read);
+        nodes = nodes ∙ p.nodes ∙ sym (append-nil (below_of 0 0 p.trees)) ∙ sym (below-beside 0 0 p.trees last);
+        roots = roots ∙ ap (λ (l : List Node). l ++ leaf_at forest.read ∷ []) p.roots
+            ∙ ap (λ (k : ℕ). roots_of 0 0 p.trees ++ leaf_at k ∷ []) (sym at) ∙ sym (roots-beside 0 0 p.trees last);
         finishes = rw (read, next.rest) n.finishes;
-        all = p.all;
-        count = omega (
-          arith,
-          p.count,
-          read,
-          ap (λ (l : List Node). length l) nodes,
-          ap (λ (l : List Node). length l) roots ∙ length-append forest.roots.items (leaf_at forest.read ∷ []),
-        );
+        all = ap (λ (l : List ℕ). l ++ p.left) (reductions-beside p.trees last ∙ append-nil (reductions p.trees))
+            ∙ p.all;
       }
 
   -- the rule of the next move is there, and a root for each symbol of its right side
@@ -152,7 +130,7 @@ module _ (rules : List Rule) where
       HasRoots forest r
   has_roots forest made r is (tokens, parsed, goal, moves, p) =
       let n = reduces_next rules goal r moves p.finishes (ap (λ (m : Option ℕ). m ∷ moves) is) in
-      let many = as_many rules p.trees in
+      let many = ap (λ (l : List Node). length l) p.roots ∙ length-roots 0 0 p.trees ∙ as_many rules p.are in
       let form = ap (λ (l : List Symbol). length l) n.form ∙ length-append n.before n.rule.right.items in
       record {
         rule = n.rule;
@@ -161,96 +139,77 @@ module _ (rules : List Rule) where
         long = omega (arith, many, form);
       }
 
-  -- the newest trees become the children of a root
-  grown_root : {nodes one other : List Node} {xs : List Symbol} {ts us rs ss : List ℕ} (r : ℕ) (rule : Rule)
-      (to : ℕ) → slice_get rules r ≡ Some rule → AreRoots rules nodes one xs 0 ts rs →
-      AreRoots rules nodes other rule.right.items (0 + length ts) us ss → (0 + length ts) + length us ≡ to →
-      AreRoots rules (nodes ++ other) (one ++ record {
-        rule = Some r;
-        first = length nodes;
-        count = length rule.right.items;
-        from = start_of other to;
-        to = to;
-      } ∷ []) (xs ++ Nonterminal rule.left ∷ []) 0 (ts ++ us) (rs ++ (ss ++ r ∷ []))
-  grown_root {nodes = nodes} {one = one} {other = other} {xs = xs} {ts = ts} {us = us} {rs = rs} {ss = ss} r rule to
-      there first second is =
-      let at = 0 + length ts in
-      let right = rule.right.items in
-      let many : length other ≡ length right = as_many rules second in
-      let all : take (length right) other ≡ other = take_all (length right) other (omega (arith, many)) in
-      let children : nodes_at (nodes ++ other) (length nodes) (length right) ≡ other =
-      ap (λ (l : List Node). take (length right) l) (drop_at nodes other (length nodes) refl) ∙ all in
-      let from : start_of other to ≡ at = ap (λ (n : ℕ). start_of other n) (sym is) ∙ start rules second in
-      let own : Node = record {
-        rule = Some r;
-        first = length nodes;
-        count = length right;
-        from = at;
-        to = at + length us;
-      } in
-      let root : AreRoots rules (nodes ++ other) (own ∷ []) (Nonterminal rule.left ∷ []) at (us ++ []) (ss ++ r ∷ []) =
-      by_rule there (subst (λ (l : List Node). AreRoots rules (nodes ++ other) l right at us ss) (sym children)
-      (grown rules other second)) nothing in
-      let tidy = subst (λ (l : List ℕ). AreRoots rules (nodes ++ other) (own ∷ []) (Nonterminal rule.left ∷ []) at l
-      (ss ++ r ∷ [])) (append-nil us) root in
-      let same : own ≡ record {
-        rule = Some r;
-        first = length nodes;
-        count = length right;
-        from = start_of other to;
-        to = to;
-      } = cc in
-      subst (λ (node : Node). AreRoots rules (nodes ++ other) (one ++ node ∷ []) (xs ++ Nonterminal rule.left ∷ []) 0
-      (ts ++ us) (rs ++ (ss ++ r ∷ []))) same (joined rules (grown rules other first) tidy)
-
-  -- what a join leaves of trees
-  joined_parts : {xs ys : List Symbol} {vs qs : List ℕ} (forest new : Forest) (r : ℕ) (rule : Rule) →
-      slice_get rules r ≡ Some rule → ys ≡ rule.right.items → length vs ≡ forest.read →
-      IsJoined r (length rule.right.items) forest new →
-      Parts rules forest.nodes.items forest.roots.items xs ys 0 vs qs →
-      AreRoots rules new.nodes.items new.roots.items (xs ++ Nonterminal rule.left ∷ []) 0 vs (qs ++ r ∷ [])
-  joined_parts {xs = xs} {ys = ys} {vs = vs} {qs = qs} forest new r rule there form read j q =
-      let right : length q.other ≡ length rule.right.items =
-      as_many rules q.second ∙ ap (λ (l : List Symbol). length l) form in
-      let whole = ap (λ (l : List Node). length l) q.roots_are ∙ length-append q.one q.other in
-      let below : length q.one ≡ j.below = omega (arith, right, whole, j.long) in
-      let kept : take j.below forest.roots.items ≡ q.one =
-      ap (λ (l : List Node). take j.below l) q.roots_are ∙ take_at q.one q.other j.below below in
-      let cut : drop j.below forest.roots.items ≡ q.other =
-      ap (λ (l : List Node). drop j.below l) q.roots_are ∙ drop_at q.one q.other j.below below in
-      let spans = ap (λ (l : List ℕ). length l) q.tokens_are ∙ length-append q.ts q.us in
-      let to : (0 + length q.ts) + length q.us ≡ forest.read = omega (arith, read, spans) in
-      let second = subst (λ (l : List Symbol). AreRoots rules forest.nodes.items q.other l (0 + length q.ts) q.us q.ss)
-      form q.second in
-      let made = grown_root r rule forest.read there q.first second to in
-      let rules_are : q.rs ++ (q.ss ++ r ∷ []) ≡ qs ++ r ∷ [] =
-      sym (append_assoc q.rs q.ss (r ∷ [])) ∙ ap (λ (l : List ℕ). l ++ r ∷ []) (sym q.rules_are) in
-      rw (j.nodes, j.roots, kept, cut, q.tokens_are, sym rules_are) made
+  -- what a join makes of trees: the newest become the children of a root
+  joined_nodes : (forest new : Forest) (r count : ℕ) (one other : Trees) → IsJoined r count forest new →
+      width other ≡ count → forest.read ≡ length (leaves (beside one other)) →
+      forest.nodes.items ≡ below_of 0 0 (beside one other) → forest.roots.items ≡ roots_of 0 0 (beside one other) →
+      (new.nodes.items ≡ below_of 0 0 (beside one (node r other none)))
+      × (new.roots.items ≡ roots_of 0 0 (beside one (node r other none)))
+  joined_nodes forest new r count one other j wide read nodes roots =
+      let first = 0 + inner one in
+      let at = 0 + length (leaves one) in
+      let mine = roots_of 0 0 one in
+      let own = roots_of first at other in
+      let under = below_of first at other in
+      let made = node r other none in
+      let whole : forest.roots.items ≡ mine ++ own = roots ∙ roots-beside 0 0 one other in
+      let long = ap (λ (l : List Node). length l) whole ∙ length-append mine own in
+      let below : length mine ≡ j.below = omega (arith, long, j.long, wide, length-roots first at other) in
+      let kept : take j.below forest.roots.items ≡ mine =
+      ap (λ (l : List Node). take j.below l) whole ∙ take_at mine own j.below below in
+      let cut : drop j.below forest.roots.items ≡ own =
+      ap (λ (l : List Node). drop j.below l) whole ∙ drop_at mine own j.below below in
+      let count_is = ap (λ (l : List Node). length l) nodes ∙ length-below 0 0 (beside one other)
+      ∙ inner-beside one other in
+      let to = read ∙ ap (λ (l : List ℕ). length l) (leaves-beside one other)
+      ∙ length-append (leaves one) (leaves other) in
+      let from : start_of own forest.read ≡ at =
+      ap (λ (k : ℕ). start_of own k) (omega (arith, to)) ∙ start first at other in
+      let numbered : length forest.nodes.items ≡ first + inner other = omega (arith, count_is) in
+      let ends : forest.read ≡ at + length (leaves other) = omega (arith, to) in (
+        j.nodes ∙ ap (λ (l : List Node). forest.nodes.items ++ l) cut
+            ∙ ap (λ (l : List Node). l ++ own) (nodes ∙ below-beside 0 0 one other)
+            ∙ append_assoc (below_of 0 0 one) under own
+            ∙ ap (λ (l : List Node). below_of 0 0 one ++ l) (sym (append-nil (under ++ own)))
+            ∙ sym (below-beside 0 0 one made),
+        rw (j.roots, kept, cut, from, numbered, ends, sym wide) (sym (roots-beside 0 0 one made)),
+      )
 
   pub redone_rule : (forest new : Forest) (made : Option ℕ) (r : ℕ) (rule : Rule) → made ≡ Some r →
       slice_get rules r ≡ Some rule → IsJoined r (length rule.right.items) forest new → IsRedone rules made forest new
   redone_rule forest new made r rule is there j tokens parsed goal moves p =
       let n = reduces_next rules goal r moves p.finishes (ap (λ (m : Option ℕ). m ∷ moves) is) in
       let same : n.rule ≡ rule = cc in
-      let read : length (take forest.read tokens) ≡ forest.read = length-take-le forest.read tokens p.inside in
-      let q = parts rules n.before n.rule.right.items p.trees n.form in
-      let trees = joined_parts forest new r rule there (ap (λ (own : Rule). own.right.items) same) read j q in
+      let right = ap (λ (own : Rule). own.right.items) same in
+      let q = parts rules n.before n.rule.right.items p.are n.form in
+      let joint = node r q.other none in
+      let under : AreTrees rules rule.right.items q.other =
+      subst (λ (l : List Symbol). AreTrees rules l q.other) right q.second in
+      let read = sym (ap (λ (l : List ℕ). length l) p.tokens_of ∙ length-take-le forest.read tokens p.inside)
+      ∙ ap (λ (f : Trees). length (leaves f)) q.trees_are in
+      let nodes = joined_nodes forest new r (length rule.right.items) q.one q.other j (as_many rules under) read
+      (p.nodes ∙ ap (λ (f : Trees). below_of 0 0 f) q.trees_are)
+      (p.roots ∙ ap (λ (f : Trees). roots_of 0 0 f) q.trees_are) in
+      let rules_are : reductions (beside q.one joint) ≡ reductions p.trees ++ r ∷ [] =
+      reductions-beside q.one joint ∙ sym (append_assoc (reductions q.one) (reductions q.other) (r ∷ []))
+      ∙ ap (λ (l : List ℕ). l ++ r ∷ []) (sym (reductions-beside q.one q.other))
+      ∙ ap (λ (f : Trees). reductions f ++ r ∷ []) (sym q.trees_are) in
       record {
         symbols = n.before ++ Nonterminal rule.left ∷ [];
-        reduced = p.reduced ++ r ∷ [];
+        trees = beside q.one joint;
         left = n.more;
         fits = p.fits;
         inside = omega (arith, p.inside, j.read);
-        trees = rw j.read trees;
+        are = joined rules q.first (by_rule there under nothing);
+        tokens_of = leaves-beside q.one joint
+            ∙ ap (λ (l : List ℕ). leaves q.one ++ l) (append-nil (leaves q.other))
+            ∙ sym (leaves-beside q.one q.other) ∙ ap (λ (f : Trees). leaves f) (sym q.trees_are) ∙ p.tokens_of
+            ∙ ap (λ (k : ℕ). take k tokens) (sym j.read);
+        nodes = nodes.0;
+        roots = nodes.1;
         finishes = rw (j.read, sym same) n.finishes;
-        all = append_assoc p.reduced (r ∷ []) n.more ∙ ap (λ (l : List ℕ). p.reduced ++ l) (sym n.left_is) ∙ p.all;
-        count = omega (
-          arith,
-          p.count,
-          j.read,
-          joined_count forest new r (length rule.right.items) j,
-          length-append p.reduced (r ∷ []),
-        );
+        all = ap (λ (l : List ℕ). l ++ n.more) rules_are ∙ append_assoc (reductions p.trees) (r ∷ []) n.more
+            ∙ ap (λ (l : List ℕ). reductions p.trees ++ l) (sym n.left_is) ∙ p.all;
       }
 
 -- what replays from the beginning to the end is a tree
@@ -260,14 +219,16 @@ module _ (rules : List Rule) (tokens parsed : List ℕ) (goal : List Symbol) whe
       Finishes rules goal [] tokens moves parsed → IsReplayed rules tokens parsed goal forest moves
   begun forest moves fits nodes roots read f = record {
     symbols = [];
-    reduced = [];
+    trees = none;
     left = parsed;
     fits = fits;
     inside = omega (arith, read);
-    trees = rw (nodes, roots, read) nothing;
+    are = nothing;
+    tokens_of = ap (λ (k : ℕ). take k tokens) (sym read);
+    nodes = nodes;
+    roots = roots;
     finishes = rw read f;
     all = refl;
-    count = omega (arith, read, ap (λ (l : List Node). length l) nodes, ap (λ (l : List Node). length l) roots);
   }
 
   finished : {xs : List Symbol} {us : List ℕ} {ms : List (Option ℕ)} {left : List ℕ} →
@@ -276,30 +237,21 @@ module _ (rules : List Rule) (tokens parsed : List ℕ) (goal : List Symbol) whe
   finished (reads f) e = absurd (cc)
   finished (reduces before is form f) e = absurd (cc)
 
-  pub ended : (forest : Forest) (moves : List (Option ℕ)) → moves ≡ [] →
-      IsReplayed rules tokens parsed goal forest moves →
-      AreRoots rules (forest.nodes.items ++ forest.roots.items)
-      (drop (length forest.nodes.items) (forest.nodes.items ++ forest.roots.items)) goal 0 tokens parsed
-      × (length (forest.nodes.items ++ forest.roots.items) ≡ length tokens + length parsed)
-  ended forest moves none p =
-      let (symbols, no_tokens, no_rules) = finished p.finishes none in
+  pub ended : (forest : Forest) (moves : List (Option ℕ)) (tree : Tree) → moves ≡ [] →
+      tree.nodes.items ≡ forest.nodes.items ++ forest.roots.items → tree.first ≡ length forest.nodes.items →
+      IsReplayed rules tokens parsed goal forest moves → AreReplayed rules goal tokens parsed tree
+  ended forest moves tree all_made nodes first p =
+      let (symbols, no_tokens, no_rules) = finished p.finishes all_made in
       let count = length-drop forest.read tokens in
       let long = ap (λ (l : List ℕ). length l) no_tokens in
       let read : forest.read ≡ length tokens = omega (arith, count, long, p.inside) in
-      let all : take forest.read tokens ≡ tokens = take_all forest.read tokens (omega (arith, read)) in
-      let rules_are : p.reduced ≡ parsed =
-      sym (append-nil p.reduced) ∙ ap (λ (l : List ℕ). p.reduced ++ l) (sym no_rules) ∙ p.all in (
-        rw (
-          drop_at forest.nodes.items forest.roots.items (length forest.nodes.items) refl,
-          sym symbols,
-          sym all,
-          sym rules_are,
-        ) (grown rules forest.roots.items p.trees),
-        omega (
-          arith,
-          p.count,
-          read,
-          length-append forest.nodes.items forest.roots.items,
-          ap (λ (l : List ℕ). length l) rules_are,
-        ),
-      )
+      record {
+        trees = p.trees;
+        are = subst (λ (l : List Symbol). AreTrees rules l p.trees) symbols p.are;
+        tokens_of = p.tokens_of ∙ take_all forest.read tokens (omega (arith, read));
+        reduced = sym (append-nil (reductions p.trees)) ∙ ap (λ (l : List ℕ). reductions p.trees ++ l) (sym no_rules)
+            ∙ p.all;
+        nodes = nodes ∙ ap (λ (l : List Node). l ++ forest.roots.items) p.nodes
+            ∙ ap (λ (l : List Node). below_of 0 0 p.trees ++ l) p.roots;
+        first = first ∙ ap (λ (l : List Node). length l) p.nodes ∙ length-below 0 0 p.trees;
+      }

@@ -1,9 +1,12 @@
--- Trees side by side: joined, divided, and kept as nodes are added.
-use Rattle.std.proofs.Common.{◌≡◌, ℕ, ◌+◌, ◌-◌, ◌≤◌, List, [], ◌∷◌, ◌++◌, length, take, Some, refl, sym, ap, ◌∙◌, subst, arith, suc, zero}
-use Rattle.std.proofs.lemmas.List.{append_assoc, length-append, take_at, take-append-le}
-use Rattle.vob_lr.specs.Replays.{AreRoots, start_of}
-use Rattle.vob_lr.specs.TreeNodes.{leaf_at, nodes_at}
-use Rattle.vob_lr.specs.Replays.AreRoots.{nothing, token, by_rule}
+-- Trees side by side: joined, divided, and the nodes that stand for them.
+use Rattle.std.proofs.Common.{◌≡◌, ℕ, ◌+◌, ◌-◌, List, [], ◌∷◌, ◌++◌, drop, length, take, Some, refl, sym, ap, ◌∙◌, subst, arith}
+use Rattle.std.proofs.lemmas.List.{append_assoc, drop_at, length-append, take_at}
+use Rattle.vob_lr.specs.Replays.{start_of}
+use Rattle.vob_lr.specs.TreeNodes.{Stand, below_of, inner, leaf_at, nodes_at, roots_of, width}
+use Rattle.vob_lr.specs.TreeNodes.Stand.{nothing as no_roots, token, by_rule as rule_root}
+use Rattle.vob_lr.specs.Trees.{AreTrees, Trees, leaves, reductions}
+use Rattle.vob_lr.specs.Trees.AreTrees.{nothing, terminal, by_rule}
+use Rattle.vob_lr.specs.Trees.Trees.{none, leaf, node}
 use Rattle.vob_lr.specs.declared.grammar.Rule.{Rule}
 use Rattle.vob_lr.specs.declared.grammar.Symbol.{Symbol}
 use Rattle.vob_lr.specs.declared.grammar.Symbol.TheVariants.{Nonterminal, Terminal}
@@ -15,139 +18,205 @@ before_end right xs e =
     ap (λ (l : List Symbol). take (length right - 1) l) e
     ∙ take_at xs (Terminal 0 ∷ []) (length right - 1) (omega (arith, long))
 
-enough : {A : Type 0} (c : ℕ) (xs : List A) → length (take c xs) ≡ c → c ≤ length xs
-enough zero xs h = omega (arith)
-enough (suc c) [] h = absurd (cc)
-enough (suc c) (x ∷ xs) h = omega (arith, enough c xs (omega (arith, h)))
+-- ---- trees beside others
 
--- nodes that are all there stay as others are added
-still_at : (ns ms : List Node) (f c : ℕ) → length (nodes_at ns f c) ≡ c → nodes_at (ns ++ ms) f c ≡ nodes_at ns f c
-still_at [] ms f zero h = refl
-still_at [] ms zero (suc c) h = absurd (cc)
-still_at [] ms (suc f) (suc c) h = absurd (cc)
-still_at (n ∷ ns) ms zero c h = take-append-le c (n ∷ ns) ms (enough c (n ∷ ns) h)
-still_at (n ∷ ns) ms (suc f) c h = still_at ns ms f c h
+abbrev pub beside : Trees → Trees → Trees
+beside none g = g
+beside (leaf t more) g = leaf t (beside more g)
+beside (node r below more) g = node r below (beside more g)
+
+pub leaves-beside : (f g : Trees) → leaves (beside f g) ≡ leaves f ++ leaves g
+leaves-beside none g = refl
+leaves-beside (leaf t more) g = ap (λ (l : List ℕ). t ∷ l) (leaves-beside more g)
+leaves-beside (node r below more) g =
+    ap (λ (l : List ℕ). leaves below ++ l) (leaves-beside more g)
+    ∙ sym (append_assoc (leaves below) (leaves more) (leaves g))
+
+pub reductions-beside : (f g : Trees) → reductions (beside f g) ≡ reductions f ++ reductions g
+reductions-beside none g = refl
+reductions-beside (leaf t more) g = reductions-beside more g
+reductions-beside (node r below more) g =
+    ap (λ (l : List ℕ). reductions below ++ r ∷ l) (reductions-beside more g)
+    ∙ sym (append_assoc (reductions below) (r ∷ reductions more) (reductions g))
+
+pub inner-beside : (f g : Trees) → inner (beside f g) ≡ inner f + inner g
+inner-beside none g = omega arith
+inner-beside (leaf t more) g = inner-beside more g
+inner-beside (node r below more) g = omega (arith, inner-beside more g)
+
+-- ---- the nodes of trees
+
+pub roots_same : (f : Trees) (first other at from : ℕ) → first ≡ other → at ≡ from →
+    roots_of first at f ≡ roots_of other from f
+roots_same f first other at from same place =
+    ap (λ (n : ℕ). roots_of n at f) same ∙ ap (λ (n : ℕ). roots_of other n f) place
+
+pub below_same : (f : Trees) (first other at from : ℕ) → first ≡ other → at ≡ from →
+    below_of first at f ≡ below_of other from f
+below_same f first other at from same place =
+    ap (λ (n : ℕ). below_of n at f) same ∙ ap (λ (n : ℕ). below_of other n f) place
+
+pub roots-beside : (first at : ℕ) (f g : Trees) →
+    roots_of first at (beside f g) ≡ roots_of first at f ++ roots_of (first + inner f) (at + length (leaves f)) g
+roots-beside first at none g = roots_same g _ _ _ _ (omega arith) (omega arith)
+roots-beside first at (leaf t more) g =
+    ap (λ (l : List Node). leaf_at at ∷ l)
+    (roots-beside first (at + 1) more g ∙ ap (λ (l : List Node). roots_of first (at + 1) more ++ l)
+    (roots_same g _ _ _ _ refl (omega arith)))
+roots-beside first at (node r below more) g =
+    let next = first + (inner below + width below) in
+    let from = at + length (leaves below) in
+    let long = length-append (leaves below) (leaves more) in
+    let own : Node = record {
+      rule = Some r;
+      first = first + inner below;
+      count = width below;
+      from = at;
+      to = from;
+    } in
+    ap (λ (l : List Node). own ∷ l)
+    (roots-beside next from more g ∙ ap (λ (l : List Node). roots_of next from more ++ l)
+    (roots_same g _ _ _ _ (omega arith) (omega (arith, long))))
+
+pub below-beside : (first at : ℕ) (f g : Trees) →
+    below_of first at (beside f g) ≡ below_of first at f ++ below_of (first + inner f) (at + length (leaves f)) g
+below-beside first at none g = below_same g _ _ _ _ (omega arith) (omega arith)
+below-beside first at (leaf t more) g =
+    below-beside first (at + 1) more g ∙ ap (λ (l : List Node). below_of first (at + 1) more ++ l)
+    (below_same g _ _ _ _ refl (omega arith))
+below-beside first at (node r below more) g =
+    let next = first + (inner below + width below) in
+    let from = at + length (leaves below) in
+    let long = length-append (leaves below) (leaves more) in
+    let own = below_of first at below ++ roots_of first at below in
+    ap (λ (l : List Node). own ++ l)
+    (below-beside next from more g ∙ ap (λ (l : List Node). below_of next from more ++ l)
+    (below_same g _ _ _ _ (omega arith) (omega (arith, long))))
+    ∙ sym (append_assoc own (below_of next from more) _)
+
+pub length-roots : (first at : ℕ) (f : Trees) → length (roots_of first at f) ≡ width f
+length-roots first at none = refl
+length-roots first at (leaf t more) = omega (arith, length-roots first (at + 1) more)
+length-roots first at (node r below more) =
+    omega (arith, length-roots (first + (inner below + width below)) (at + length (leaves below)) more)
+
+pub length-below : (first at : ℕ) (f : Trees) → length (below_of first at f) ≡ inner f
+length-below first at none = refl
+length-below first at (leaf t more) = length-below first (at + 1) more
+length-below first at (node r below more) =
+    let next = first + (inner below + width below) in
+    let from = at + length (leaves below) in
+    omega (
+      arith,
+      length-below first at below,
+      length-roots first at below,
+      length-below next from more,
+      length-append (below_of first at below) (roots_of first at below),
+      length-append (below_of first at below ++ roots_of first at below) (below_of next from more),
+    )
+
+-- there is a node for each token and for each reduction
+pub count_nodes : (f : Trees) → inner f + width f ≡ length (leaves f) + length (reductions f)
+count_nodes none = refl
+count_nodes (leaf t more) = omega (arith, count_nodes more)
+count_nodes (node r below more) =
+    omega (
+      arith,
+      count_nodes below,
+      count_nodes more,
+      length-append (leaves below) (leaves more),
+      length-append (reductions below) (r ∷ reductions more),
+    )
+
+-- where trees begin
+pub start : (first at : ℕ) (f : Trees) → start_of (roots_of first at f) (at + length (leaves f)) ≡ at
+start first at none = omega arith
+start first at (leaf t more) = refl
+start first at (node r below more) = refl
+
+-- in an array that has the nodes below them at their numbers, roots stand for their trees
+pub stand_for : (nodes before after : List Node) (first at : ℕ) (f : Trees) →
+    nodes ≡ before ++ (below_of first at f ++ after) → length before ≡ first → Stand nodes (roots_of first at f) at f
+stand_for nodes before after first at none is long = no_roots
+stand_for nodes before after first at (leaf t more) is long =
+    token (stand_for nodes before after first (at + 1) more is long)
+stand_for nodes before after first at (node r below more) is long =
+    let next = first + (inner below + width below) in
+    let from = at + length (leaves below) in
+    let own = below_of first at below in
+    let roots = roots_of first at below in
+    let others = below_of next from more in
+    let whole : nodes ≡ before ++ (own ++ (roots ++ (others ++ after))) =
+    is ∙ ap (λ (l : List Node). before ++ l)
+    (append_assoc (own ++ roots) others after ∙ append_assoc own roots (others ++ after)) in
+    let left = sym (append_assoc before own (roots ++ (others ++ after))) in
+    let count = length-append before own in
+    let there : nodes_at nodes (first + inner below) (width below) ≡ roots =
+    ap (λ (l : List Node). take (width below) (drop (first + inner below) l)) (whole ∙ left)
+    ∙ ap (λ (l : List Node). take (width below) l)
+    (drop_at (before ++ own) (roots ++ (others ++ after)) (first + inner below)
+    (omega (arith, count, long, length-below first at below)))
+    ∙ take_at roots (others ++ after) (width below) (length-roots first at below) in
+    let behind : nodes ≡ (before ++ (own ++ roots)) ++ (others ++ after) =
+    is ∙ ap (λ (l : List Node). before ++ l) (append_assoc (own ++ roots) others after)
+    ∙ sym (append_assoc before (own ++ roots) (others ++ after)) in
+    let far = length-append before (own ++ roots) in
+    let both = length-append own roots in
+    rule_root (ap (λ (l : List Node). length l) there ∙ length-roots first at below)
+    (subst (λ (l : List Node). Stand nodes l at below) (sym there)
+    (stand_for nodes before (roots ++ (others ++ after)) first at below whole long))
+    (stand_for nodes (before ++ (own ++ roots)) after next from more behind
+    (omega (arith, far, both, long, length-below first at below, length-roots first at below)))
+
+-- ---- trees of symbols
 
 module _ (rules : List Rule) where
-  pub as_many : {nodes roots : List Node} {xs : List Symbol} {at : ℕ} {ts rs : List ℕ} →
-      AreRoots rules nodes roots xs at ts rs → length roots ≡ length xs
+  pub as_many : {xs : List Symbol} {f : Trees} → AreTrees rules xs f → width f ≡ length xs
   as_many nothing = refl
-  as_many (token rest) = omega (arith, as_many rest)
+  as_many (terminal rest) = omega (arith, as_many rest)
   as_many (by_rule is below rest) = omega (arith, as_many rest)
 
-  pub grown : {nodes roots : List Node} {xs : List Symbol} {at : ℕ} {ts rs : List ℕ} (more : List Node) →
-      AreRoots rules nodes roots xs at ts rs → AreRoots rules (nodes ++ more) roots xs at ts rs
-  grown more nothing = nothing
-  grown more (token rest) = token (grown more rest)
-  grown {nodes} more (by_rule {first = f} {at = at} {rule = rule} {ts = ts} {rs = rs} is below rest) =
-      by_rule is (subst (λ (l : List Node). AreRoots rules (nodes ++ more) l rule.right.items at ts rs)
-      (sym (still_at nodes more f (length rule.right.items) (as_many below))) (grown more below)) (grown more rest)
-
-  -- where trees begin
-  pub start : {nodes roots : List Node} {xs : List Symbol} {at : ℕ} {ts rs : List ℕ} →
-      AreRoots rules nodes roots xs at ts rs → start_of roots (at + length ts) ≡ at
-  start nothing = omega arith
-  start (token rest) = refl
-  start (by_rule is below rest) = refl
-
-  pub joined : {nodes roots others : List Node} {xs ys : List Symbol} {at : ℕ} {ts us rs ss : List ℕ} →
-      AreRoots rules nodes roots xs at ts rs → AreRoots rules nodes others ys (at + length ts) us ss →
-      AreRoots rules nodes (roots ++ others) (xs ++ ys) at (ts ++ us) (rs ++ ss)
-  joined {nodes = nodes} {others = others} {ys = ys} {at = at} {us = us} {ss = ss} nothing b =
-      subst (λ (n : ℕ). AreRoots rules nodes others ys n us ss) (omega arith) b
-  joined {nodes = nodes} {others = others} {ys = ys} {at = at} {us = us} {ss = ss} (token {ts = ts} rest) b =
-      token (joined rest (subst (λ (n : ℕ). AreRoots rules nodes others ys n us ss) (omega arith) b))
-  joined {nodes = nodes} {others = others} {ys = ys} {us = us} {ss = ss}
-      (by_rule {r = r} {first = f} {at = at} {rule = rule} {roots = roots} {xs = xs} {ts = ts} {us = ms} {rs = rs} {ss = ns}
-      is below rest) b =
-      let same : at + length (ts ++ ms) ≡ (at + length ts) + length ms = omega (arith, length-append ts ms) in
-      let own : Node = record {
-        rule = Some r;
-        first = f;
-        count = length rule.right.items;
-        from = at;
-        to = at + length ts;
-      } in
-      let whole : AreRoots rules nodes (own ∷ (roots ++ others)) (Nonterminal rule.left ∷ (xs ++ ys)) at
-      (ts ++ (ms ++ us)) (rs ++ r ∷ (ns ++ ss)) =
-      by_rule is below (joined rest
-      (subst (λ (n : ℕ). AreRoots rules nodes others ys n us ss) same b)) in
-      subst (λ (l : List ℕ). AreRoots rules nodes (own ∷ (roots ++ others)) (Nonterminal rule.left ∷ (xs ++ ys)) at l
-      ((rs ++ r ∷ ns) ++ ss)) (sym (append_assoc ts ms us))
-      (subst (λ (l : List ℕ). AreRoots rules nodes (own ∷ (roots ++ others)) (Nonterminal rule.left ∷ (xs ++ ys)) at
-      (ts ++ (ms ++ us)) l) (sym (append_assoc rs (r ∷ ns) ss)) whole)
+  pub joined : {xs ys : List Symbol} {f g : Trees} → AreTrees rules xs f → AreTrees rules ys g →
+      AreTrees rules (xs ++ ys) (beside f g)
+  joined nothing b = b
+  joined (terminal rest) b = terminal (joined rest b)
+  joined (by_rule is below rest) b = by_rule is below (joined rest b)
 
   -- trees in two parts
-  pub record Parts (nodes roots : List Node) (xs ys : List Symbol) (at : ℕ) (vs qs : List ℕ) : Type 0 where
-    pub one : List Node
-    pub other : List Node
-    pub ts : List ℕ
-    pub us : List ℕ
-    pub rs : List ℕ
-    pub ss : List ℕ
-    pub roots_are : roots ≡ one ++ other
-    pub tokens_are : vs ≡ ts ++ us
-    pub rules_are : qs ≡ rs ++ ss
-    pub first : AreRoots rules nodes one xs at ts rs
-    pub second : AreRoots rules nodes other ys (at + length ts) us ss
+  pub record Parts (xs ys : List Symbol) (f : Trees) : Type 0 where
+    pub one : Trees
+    pub other : Trees
+    pub trees_are : f ≡ beside one other
+    pub first : AreTrees rules xs one
+    pub second : AreTrees rules ys other
 
-  pub parts : (xs ys : List Symbol) {nodes roots : List Node} {zs : List Symbol} {at : ℕ} {vs qs : List ℕ} →
-      AreRoots rules nodes roots zs at vs qs → zs ≡ xs ++ ys → Parts nodes roots xs ys at vs qs
-  parts [] ys {nodes = nodes} {roots = roots} {at = at} {vs = vs} {qs = qs} b e = record {
-    one = [];
-    other = roots;
-    ts = [];
-    us = vs;
-    rs = [];
-    ss = qs;
-    roots_are = refl;
-    tokens_are = refl;
-    rules_are = refl;
+  pub parts : (xs ys : List Symbol) {zs : List Symbol} {f : Trees} → AreTrees rules zs f → zs ≡ xs ++ ys →
+      Parts xs ys f
+  parts [] ys {f = f} b e = record {
+    one = none;
+    other = f;
+    trees_are = refl;
     first = nothing;
-    second = subst (λ (n : ℕ). AreRoots rules nodes roots ys n vs qs) (omega arith)
-        (subst (λ (l : List Symbol). AreRoots rules nodes roots l at vs qs) e b);
+    second = subst (λ (l : List Symbol). AreTrees rules l f) e b;
   }
   parts (x ∷ xs) ys nothing e = absurd (cc)
-  parts (x ∷ xs) ys {nodes = nodes} {at = at} (token {t = t} {ts = ts} rest) e =
+  parts (x ∷ xs) ys (terminal {t = t} rest) e =
       let p = parts xs ys rest (cc) in
       let head : Terminal t ≡ x = cc in
       record {
-        one = leaf_at at ∷ p.one;
+        one = leaf t p.one;
         other = p.other;
-        ts = t ∷ p.ts;
-        us = p.us;
-        rs = p.rs;
-        ss = p.ss;
-        roots_are = ap (λ (l : List Node). leaf_at at ∷ l) p.roots_are;
-        tokens_are = ap (λ (l : List ℕ). t ∷ l) p.tokens_are;
-        rules_are = p.rules_are;
-        first = subst (λ (y : Symbol). AreRoots rules nodes (leaf_at at ∷ p.one) (y ∷ xs) at (t ∷ p.ts) p.rs) head
-            (token p.first);
-        second = subst (λ (n : ℕ). AreRoots rules nodes p.other ys n p.us p.ss) (omega arith) p.second;
+        trees_are = ap (λ (f : Trees). leaf t f) p.trees_are;
+        first = subst (λ (y : Symbol). AreTrees rules (y ∷ xs) (leaf t p.one)) head (terminal p.first);
+        second = p.second;
       }
-  parts (x ∷ xs) ys {nodes = nodes}
-      (by_rule {r = r} {first = f} {at = at} {rule = rule} {ts = ts} {rs = rs} is below rest) e =
+  parts (x ∷ xs) ys (by_rule {r = r} {rule = rule} {below = below} is under rest) e =
       let p = parts xs ys rest (cc) in
       let head : Nonterminal rule.left ≡ x = cc in
-      let own : Node = record {
-        rule = Some r;
-        first = f;
-        count = length rule.right.items;
-        from = at;
-        to = at + length ts;
-      } in
-      let long : (at + length ts) + length p.ts ≡ at + length (ts ++ p.ts) = omega (arith, length-append ts p.ts) in
       record {
-        one = own ∷ p.one;
+        one = node r below p.one;
         other = p.other;
-        ts = ts ++ p.ts;
-        us = p.us;
-        rs = rs ++ r ∷ p.rs;
-        ss = p.ss;
-        roots_are = ap (λ (l : List Node). own ∷ l) p.roots_are;
-        tokens_are = ap (λ (l : List ℕ). ts ++ l) p.tokens_are ∙ sym (append_assoc ts p.ts p.us);
-        rules_are = ap (λ (l : List ℕ). rs ++ r ∷ l) p.rules_are ∙ sym (append_assoc rs (r ∷ p.rs) p.ss);
-        first = subst (λ (y : Symbol). AreRoots rules nodes (own ∷ p.one) (y ∷ xs) at (ts ++ p.ts) (rs ++ r ∷ p.rs))
-            head (by_rule is below p.first);
-        second = subst (λ (n : ℕ). AreRoots rules nodes p.other ys n p.us p.ss) long p.second;
+        trees_are = ap (λ (f : Trees). node r below f) p.trees_are;
+        first = subst (λ (y : Symbol). AreTrees rules (y ∷ xs) (node r below p.one)) head (by_rule is under p.first);
+        second = p.second;
       }

@@ -1,7 +1,7 @@
 //! The tree of tokens that were parsed.
 ghost use Rattle.std.specs.Prelude.{◌≡◌, ◌+◌, ◌-◌, ◌<◌, ◌≤◌, ◌++◌, [], ◌∷◌, drop, length, map, reverse, slice_get, take, IfOk, OnOk, Some};
 ghost use Rattle.vob_lr.specs.Derivations.{DerivesBy, IsParse};
-ghost use Rattle.vob_lr.specs.Replays.{AreRoots, CanReplay, IsJoined, IsRedone, start_of};
+ghost use Rattle.vob_lr.specs.Replays.{AreReplayed, CanReplay, IsJoined, IsRedone, start_of};
 ghost use Rattle.vob_lr.specs.declared.grammar.Rule.{Rule};
 ghost use Rattle.vob_lr.specs.TreeNodes.{IsTree, leaf_at, nodes_at};
 ghost use Rattle.vob_lr.specs.Unwinding.{CanUnwind, Finishes, IsUndone};
@@ -24,8 +24,8 @@ pub struct Node {
     pub to: usize,
 }
 
-/// A tree in one array: the children of a node stand side by side before it. The last nodes, from `first` on, are
-/// the roots.
+/// A tree in one array: the children of a node stand side by side before it, in the order of the reductions. The
+/// last nodes, from `first` on, are the roots.
 #[derive(Drop)]
 pub struct Tree {
     pub nodes: Vec<Node>,
@@ -160,9 +160,7 @@ fn replayed(
     parsed: &[usize],
 ) -> Result<Tree, AllocError>
     requires { DerivesBy rules.now tokens.now symbols.now (reverse parsed.now) }
-    ensures trees { IfOk result (λ tree. AreRoots rules.now tree.nodes.items
-        (drop tree.first tree.nodes.items) symbols.now 0 tokens.now parsed.now) }
-    ensures count { IfOk result (λ tree. length tree.nodes.items ≡ length tokens.now + length parsed.now) }
+    ensures { IfOk result (AreReplayed rules.now symbols.now tokens.now parsed.now) }
 {
     let mut moves = unwound(alloc, rules, symbols, tokens, parsed)?;
     let mut forest = Forest {

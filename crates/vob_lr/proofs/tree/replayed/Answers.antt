@@ -19,16 +19,8 @@ nodes_are c = c.in_ok-extend_from_slice.ensures.items ∙ ap (λ (l : List Node)
 first_is : (c : goal.After-drop-moves-2) → c.len-first.result ≡ length c.moves.forest.nodes.items
 first_is c = omega (arith, c.len-first.ensures, c.moves.forest.nodes.ok.0)
 
-pub returns-clause-trees : goal.returns-clause-trees
-returns-clause-trees c =
+pub returns : goal.returns
+returns c =
     let none : reverse c.moves.moves.items ≡ [] = search rules in
-    let end = ended c.args.rules.now c.args.tokens.now c.args.parsed.now c.args.symbols.now c.moves.forest
-    (reverse c.moves.moves.items) none c.moves.invariant in
-    rw (nodes_are c, first_is c) end.0
-
-pub returns-clause-count : goal.returns-clause-count
-returns-clause-count c =
-    let none : reverse c.moves.moves.items ≡ [] = search rules in
-    let end = ended c.args.rules.now c.args.tokens.now c.args.parsed.now c.args.symbols.now c.moves.forest
-    (reverse c.moves.moves.items) none c.moves.invariant in
-    ap (λ (l : List Node). length l) (nodes_are c) ∙ end.1
+    ended c.args.rules.now c.args.tokens.now c.args.parsed.now c.args.symbols.now c.moves.forest
+    (reverse c.moves.moves.items) _ none (nodes_are c) (first_is c) c.moves.invariant

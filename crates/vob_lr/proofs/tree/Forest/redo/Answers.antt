@@ -2,8 +2,12 @@
 use Rattle.std.proofs.Common.{◌+◌, ap, ℕ, refl, List, length, subst, arith}
 use Rattle.vob_lr.specs.Replays.{IsJoined}
 use Rattle.vob_lr.specs.declared.grammar.Symbol.{Symbol}
-use Rattle.vob_lr.proofs.ReplayLemmas.{has_roots, redone_rule, redone_token}
+use Rattle.vob_lr.proofs.ReplayLemmas.{has_roots, redone_rule, redone_token, room}
 use Rattle.vob_lr.proofs.tree.Forest.redo.Goals as goal
+
+pub overflow_add-self-in-None : goal.overflow_add-self-in-None
+overflow_add-self-in-None c =
+    omega (arith, room c.args.rules.now c.args.self.now c.args.made c.in-None.is c.requires)
 
 pub right_of-requires : goal.right_of-requires
 right_of-requires c = (has_roots c.args.rules.now c.args.self.now c.args.made c.in-Some.rule c.in-Some.is c.requires).there
