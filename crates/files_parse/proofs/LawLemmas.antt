@@ -4,13 +4,16 @@ use Rattle.std.proofs.Common.{Option, None, Some, ◌≡◌, inl, inr, ℕ, List
 use Rattle.std.proofs.lemmas.Bool.{cases_lt}
 use Rattle.std.proofs.lemmas.Option.{get_or_from_slice_get, slice_get_within}
 use Rattle.vob_lr.specs.Derivations.{IsParse}
-use Rattle.vob_lr.specs.Trees.{ParsesHaveOneTree}
+use Rattle.vob_lr.specs.TreeNodes.{inner, nodes_of}
+use Rattle.vob_lr.specs.Trees.{AreTreesOf, ParsesHaveOneTree, Trees}
 use Rattle.vob_flow.specs.Lists.{lists_of}
 use Rattle.files_grammar.specs.declared.file.GrammarFile.{GrammarFile}
 use Rattle.files_grammar.specs.declared.file.SymbolNames.{SymbolNames}
 use Rattle.files_text.specs.Words.{Token}
 use Rattle.files_text.proofs.OneLemmas.{words_one}
-use Rattle.files_parse.specs.ParseLaws.{IsOfLines, OutputsAreOne, TokensAreOne}
+use Rattle.files_parse.specs.DotText.{dot_text}
+use Rattle.files_parse.specs.JsonText.{json_text}
+use Rattle.files_parse.specs.ParseLaws.{OutputsAreOne, TokensAreOne}
 use Rattle.files_parse.specs.Parses.{ListsParse}
 use Rattle.files_parse.specs.Tokens.{AreTokens, IsLast, IsTerminal}
 use Rattle.files_parse.specs.Tokens.IsTerminal.{by_name, by_identifier, by_character}
@@ -71,17 +74,23 @@ tokens_one names text words other_words tokens others a b =
     )
 
 module _ (trees_one : ParsesHaveOneTree) (file : GrammarFile) (words : List Token) (tokens parsed : List ℕ) where
-  one_text : (form : Option TreeForm) → IsOfLines form → (text other : List ℕ) →
+  one : {trees others : Trees} → AreTreesOf file.grammar.rules.items tokens parsed trees →
+      AreTreesOf file.grammar.rules.items tokens parsed others → trees ≡ others
+  one {trees} {others} own other = trees_one file.grammar.rules.items tokens parsed trees others own other
+
+  one_text : (form : Option TreeForm) → (text other : List ℕ) →
       ListsParse file words tokens parsed form text → ListsParse file words tokens parsed form other → text ≡ other
-  one_text None lines text other a b = a ∙ sym b
-  one_text (Some Lines) lines text other a b =
-      a.lines ∙ ap (tree_text file words 0 0)
-      (trees_one file.grammar.rules.items tokens parsed a.trees b.trees a.are_trees b.are_trees) ∙ sym b.lines
-  one_text (Some Dot) lines text other a b = absurd lines
-  one_text (Some Json) lines text other a b = absurd lines
+  one_text None text other a b = a ∙ sym b
+  one_text (Some Lines) text other a b =
+      a.lines ∙ ap (tree_text file words 0 0) (one a.are_trees b.are_trees) ∙ sym b.lines
+  one_text (Some Dot) text other a b =
+      a.lines ∙ ap (λ trees. dot_text file tokens (nodes_of trees)) (one a.are_trees b.are_trees) ∙ sym b.lines
+  one_text (Some Json) text other a b =
+      a.lines ∙ ap (λ trees. json_text file words tokens (nodes_of trees) (inner trees))
+      (one a.are_trees b.are_trees) ∙ sym b.lines
 
 pub outputs_one : ParsesHaveOneTree → OutputsAreOne
-outputs_one trees_one file text form old new other one lines a b =
+outputs_one trees_one file text form old new other one a b =
     let (words, tokens) = tokens_one file.names text a.words b.words a.tokens b.tokens a.has_tokens b.has_tokens in
     let rules = file.grammar.rules.items in
     let parsed = one b.tokens a.parsed b.parsed
@@ -89,5 +98,5 @@ outputs_one trees_one file text form old new other one lines a b =
     let own = subst (λ list. ListsParse file b.words b.tokens list form a.written.0) parsed
     (subst (λ list. ListsParse file b.words list a.parsed form a.written.0) tokens
     (subst (λ list. ListsParse file list a.tokens a.parsed form a.written.0) words a.written.2)) in
-    let same = one_text trees_one file b.words b.tokens b.parsed form lines a.written.0 b.written.0 own b.written.2 in
+    let same = one_text trees_one file b.words b.tokens b.parsed form a.written.0 b.written.0 own b.written.2 in
     a.written.1 ∙ ap (λ more. old ++ more) same ∙ sym b.written.1

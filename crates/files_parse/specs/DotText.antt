@@ -2,9 +2,9 @@
 use Rattle.std.specs.Prelude.{◌≡◌, ◌==◌, ◌||◌, ℕ, List, [], ◌∷◌, ◌++◌, Option, None, Some, codes, cond, length, slice_get}
 use Rattle.std.specs.Fmt.{decimal}
 use Rattle.std.specs.List.{flat_map, range_with_len}
-use Rattle.vob_lr.specs.TreeNodes.{IsTree, nodes_at}
+use Rattle.vob_lr.specs.TreeNodes.{nodes_at, nodes_of}
+use Rattle.vob_lr.specs.Trees.{AreTreesOf, Trees}
 use Rattle.vob_lr.specs.declared.tree.Node.{Node}
-use Rattle.vob_lr.specs.declared.tree.Tree.{Tree}
 use Rattle.files_grammar.specs.declared.file.GrammarFile.{GrammarFile}
 use Rattle.files_text.specs.Printed.{line_end}
 use Rattle.files_parse.specs.NodeNames.{node_name}
@@ -44,14 +44,13 @@ abbrev pub dot_head : List ℕ
 dot_head = (codes "digraph tree {" ++ line_end) ++ (codes "  ordering=out;" ++ line_end)
     ++ (codes "  node [shape=plain];" ++ line_end)
 
--- a graph of all nodes of a tree
-abbrev pub dot_text : GrammarFile → (tokens : List ℕ) → Tree → List ℕ
-dot_text file tokens tree = dot_head
-    ++ flat_map (dot_at file tokens tree.nodes.items) (range_with_len 0 (length tree.nodes.items))
-    ++ (codes "}" ++ line_end)
+-- a graph of nodes, numbered from 0 on
+abbrev pub dot_text : GrammarFile → (tokens : List ℕ) → List Node → List ℕ
+dot_text file tokens nodes =
+    dot_head ++ flat_map (dot_at file tokens nodes) (range_with_len 0 (length nodes)) ++ (codes "}" ++ line_end)
 
--- the graph of a tree of a parse
+-- the graph of the trees of a parse. Their nodes stand in the order of the reductions, and the roots last
 pub record ListsDot (file : GrammarFile) (tokens parsed text : List ℕ) : Type 0 where
-  pub tree : Tree
-  pub is_tree : IsTree file.grammar.rules.items tokens parsed tree
-  pub lines : text ≡ dot_text file tokens tree
+  pub trees : Trees
+  pub are_trees : AreTreesOf file.grammar.rules.items tokens parsed trees
+  pub lines : text ≡ dot_text file tokens (nodes_of trees)

@@ -5,9 +5,9 @@ use Rattle.std.specs.List.{flat_map, range_with_len}
 use Rattle.std.specs.Str.Lossy.{utf8_lossy}
 use Rattle.serde_json.specs.Data.{string}
 use Rattle.serde_json.specs.Written.{compact_text}
-use Rattle.vob_lr.specs.TreeNodes.{IsTree, nodes_at}
+use Rattle.vob_lr.specs.TreeNodes.{inner, nodes_at, nodes_of}
+use Rattle.vob_lr.specs.Trees.{AreTreesOf, Trees}
 use Rattle.vob_lr.specs.declared.tree.Node.{Node}
-use Rattle.vob_lr.specs.declared.tree.Tree.{Tree}
 use Rattle.files_grammar.specs.declared.file.GrammarFile.{GrammarFile}
 use Rattle.files_text.specs.Printed.{line_end}
 use Rattle.files_text.specs.Words.{Token}
@@ -60,16 +60,15 @@ json_by file words tokens nodes number (Some node) =
 abbrev pub json_at : GrammarFile → List Token → (tokens : List ℕ) → List Node → ℕ → List ℕ
 json_at file words tokens nodes number = json_by file words tokens nodes number (slice_get nodes number)
 
--- all nodes of a tree, and the numbers of the roots
-abbrev pub json_text : GrammarFile → List Token → (tokens : List ℕ) → Tree → List ℕ
-json_text file words tokens tree = codes "{\"nodes\": ["
-    ++ flat_map (json_at file words tokens tree.nodes.items) (range_with_len 0 (length tree.nodes.items))
-    ++ (line_end ++ codes "], \"roots\": [")
-    ++ listed (codes ", ") tree.first (length (drop tree.first tree.nodes.items))
+-- nodes, numbered from 0 on, and the numbers of the roots, which are the nodes from `first` on
+abbrev pub json_text : GrammarFile → List Token → (tokens : List ℕ) → List Node → (first : ℕ) → List ℕ
+json_text file words tokens nodes first = codes "{\"nodes\": ["
+    ++ flat_map (json_at file words tokens nodes) (range_with_len 0 (length nodes))
+    ++ (line_end ++ codes "], \"roots\": [") ++ listed (codes ", ") first (length (drop first nodes))
     ++ (codes "]}" ++ line_end)
 
--- the JSON of a tree of a parse
+-- the JSON of the trees of a parse. Their nodes stand in the order of the reductions, and the roots last
 pub record ListsJson (file : GrammarFile) (words : List Token) (tokens parsed text : List ℕ) : Type 0 where
-  pub tree : Tree
-  pub is_tree : IsTree file.grammar.rules.items tokens parsed tree
-  pub lines : text ≡ json_text file words tokens tree
+  pub trees : Trees
+  pub are_trees : AreTreesOf file.grammar.rules.items tokens parsed trees
+  pub lines : text ≡ json_text file words tokens (nodes_of trees) (inner trees)

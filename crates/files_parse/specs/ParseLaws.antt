@@ -1,5 +1,5 @@
 -- A text has one list of tokens, and equal texts give equal bytes.
-use Rattle.std.specs.Prelude.{◌≡◌, ℕ, List, Option, None, Some, ⊤}
+use Rattle.std.specs.Prelude.{◌≡◌, ℕ, List, Option, Some}
 use Rattle.vob_lr.specs.Derivations.{IsParse}
 use Rattle.vob_lr.specs.declared.grammar.Rule.{Rule}
 use Rattle.files_grammar.specs.declared.file.GrammarFile.{GrammarFile}
@@ -7,7 +7,6 @@ use Rattle.files_grammar.specs.declared.file.SymbolNames.{SymbolNames}
 use Rattle.files_text.specs.Words.{Token}
 use Rattle.files_parse.specs.Parses.{HasTokens, WritesParse}
 use Rattle.files_parse.specs.declared.tree.TreeForm.{TreeForm}
-use Rattle.files_parse.specs.declared.tree.TreeForm.TheVariants.{Text as Lines}
 
 -- a text has one list of tokens
 abbrev pub TokensAreOne : Type 0
@@ -20,16 +19,10 @@ abbrev pub AreUnambiguous : List Rule → Type 0
 AreUnambiguous rules = (tokens parsed other : List ℕ) → IsParse rules tokens parsed →
     IsParse rules tokens other → parsed ≡ other
 
--- a derivation, or the lines of a tree
-abbrev pub IsOfLines : Option TreeForm → Type 0
-IsOfLines None = ⊤
-IsOfLines (Some Lines) = ⊤
-IsOfLines (Some form) = ⊥
-
 -- equal texts give equal bytes: two outputs are equal if both grew from the same bytes by the parse of one text, by
 -- a grammar in which tokens have no two
 abbrev pub OutputsAreOne : Type 0
 OutputsAreOne = (file : GrammarFile) (text : List ℕ) (form : Option TreeForm) (old new other : List ℕ) →
-    AreUnambiguous file.grammar.rules.items → IsOfLines form →
+    AreUnambiguous file.grammar.rules.items →
     WritesParse file text form (Some old) (Some new) → WritesParse file text form (Some old) (Some other) →
     new ≡ other

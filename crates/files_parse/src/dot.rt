@@ -89,7 +89,7 @@ impl WordTree<'_> {
     /// Writes the nodes and their edges as a graph.
     pub(crate) fn put_dot<W: Write>(&self, output: &mut W) -> io::Result<()>
         ensures { OnOk result (Appends (W.contents output.old) (W.contents output.new)
-            (dot_text self.now.file.now self.now.tokens.now self.now.tree.now)) }
+            (dot_text self.now.file.now self.now.tokens.now self.now.tree.now.nodes.items)) }
     {
         output.write_all(b"digraph tree {\n  ordering=out;\n  node [shape=plain];\n")?;
         self.put_nodes(output)?;

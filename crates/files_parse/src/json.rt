@@ -171,7 +171,7 @@ impl WordTree<'_> {
     ) -> Result<(), GrammarFault>
         ensures ok { OnOk result (Appends (W.contents output.old) (W.contents output.new)
             (json_text self.now.file.now (map word_token self.now.words.now) self.now.tokens.now
-            self.now.tree.now)) }
+            self.now.tree.now.nodes.items self.now.tree.now.first)) }
         ensures err { IfErr result (λ fault. IsUnwritten fault
             (W.contents output.old) (W.contents output.new)) }
     {

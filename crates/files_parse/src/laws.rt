@@ -8,9 +8,8 @@ pub fn tokens_are_one()
     ensures { TokensAreOne }
 {}
 
-/// The derivations that are written for one text are one, and so are the lines of the trees, if tokens
-/// have no two parses. In an LALR(1) grammar they have none: see
-/// `vob_lr::laws::sentences_have_one_parse`.
+/// What is written for one text in a form is one, if tokens have no two parses. In an LALR(1) grammar they have
+/// none: see `vob_lr::laws::sentences_have_one_parse`.
 pub fn outputs_are_one()
     ensures { OutputsAreOne }
 {

@@ -1,6 +1,9 @@
 -- The tree of the parse has lines, and they are what is written.
-use Rattle.std.proofs.Common.{map, refl}
+use Rattle.std.proofs.Common.{map, ap, ◌∙◌}
 use Rattle.files_text.specs.Words.{token_of}
+use Rattle.vob_lr.specs.TreeNodes.{nodes_of}
+use Rattle.files_parse.specs.DotText.{dot_text}
+use Rattle.files_parse.specs.JsonText.{json_text}
 use Rattle.files_parse.proofs.LineLemmas.{tree_has_lines, tree_lists}
 use Rattle.files_parse.proofs.parse.put_tree.Goals as goal
 
@@ -20,10 +23,27 @@ returns-in-Text-clause-ok g c =
 pub returns-in-Dot-clause-ok : goal.returns-in-Dot-clause-ok
 returns-in-Dot-clause-ok g c =
     let is = rw c.deref.ensures.value at c.in_ok-tree.ensures in
-    rw c.in-Dot.is (_, c.in_ok-put_dot-in-Dot.ensures, record { tree = c.in_ok-tree.tree; is_tree = is; lines = refl })
+    rw c.in-Dot.is (
+      _,
+      c.in_ok-put_dot-in-Dot.ensures,
+      record {
+        trees = is.trees;
+        are_trees = is.are;
+        lines = ap (λ nodes. dot_text c.args.file.now c.args.tokens.now nodes) is.nodes;
+      },
+    )
 
 pub returns-clause-ok : goal.returns-clause-ok
 returns-clause-ok g c =
     let is = rw c.deref.ensures.value at c.in_ok-tree.ensures in
-    rw c.in-Json.is
-    (_, c.in_ok-put_json-in-Json.ensures.ok, record { tree = c.in_ok-tree.tree; is_tree = is; lines = refl })
+    let words = map token_of c.args.words.now in
+    rw c.in-Json.is (
+      _,
+      c.in_ok-put_json-in-Json.ensures.ok,
+      record {
+        trees = is.trees;
+        are_trees = is.are;
+        lines = ap (λ nodes. json_text c.args.file.now words c.args.tokens.now nodes c.in_ok-tree.tree.first) is.nodes
+            ∙ ap (λ first. json_text c.args.file.now words c.args.tokens.now (nodes_of is.trees) first) is.first;
+      },
+    )
