@@ -5,7 +5,7 @@ use Rattle.vob_lr.specs.Lookaheads.{HasMove, Machine}
 use Rattle.vob_lr.specs.Parses.{Config, IsAccepted, IsReached, IsTaken, Steps, beginning, replaced, top}
 use Rattle.vob_lr.specs.Parses.IsReached.{begins, then_steps}
 use Rattle.vob_lr.specs.States.{AreStates}
-use Rattle.vob_lr.specs.Stops.{IsTooLong, IsUnexpected}
+use Rattle.vob_lr.specs.Stops.{IsTooLong, IsUnexpected, StepsAreOne}
 use Rattle.vob_lr.specs.Tables.{TableView}
 use Rattle.vob_lr.specs.declared.grammar.Rule.{Rule}
 use Rattle.vob_lr.specs.declared.grammar.Symbol.{Symbol}
@@ -139,3 +139,6 @@ module _ (table : TableView) (tokens : List ℕ)
           omega (arith, same, long.more)
       | inr leads ↦ omega (arith, leads_grows leads, long.more)
     ]
+
+pub steps_are_one : StepsAreOne
+steps_are_one table sound tokens c d e one other = one_step table tokens sound.states c d e one other

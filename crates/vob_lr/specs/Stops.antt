@@ -42,6 +42,11 @@ pub record IsSound (table : TableView) : Type 0 where
   pub states : AreStates table.machine.grammar.rules.items table.machine.sets table.machine.moves
   pub actions : AreSound table.machine table.cells
 
+-- a parser takes one way: what a step leads to is one
+abbrev pub StepsAreOne : Type 0
+StepsAreOne = (table : TableView) → IsSound table → (tokens : List ℕ) (c d e : Config) →
+    Steps table tokens c d → Steps table tokens c e → d ≡ e
+
 -- rule r is there, and as many states as its right side has symbols
 pub record CanReplace (rules : List Rule) (r : ℕ) (c : Config) : Type 0 where
   pub rule : Rule

@@ -10,6 +10,7 @@ ghost use Rattle.vob_lr.specs.Languages.{AcceptedAreSentences, ErrorsAreEarly, E
 ghost use Rattle.vob_lr.specs.Nesting.{OperatorsNest};
 ghost use Rattle.vob_lr.specs.OperatorTables.{AcceptedAreNested, NestedAreParsed};
 ghost use Rattle.vob_lr.specs.Operations.{NestedTreesAreOne};
+ghost use Rattle.vob_lr.specs.Stops.{StepsAreOne};
 ghost use Rattle.vob_lr.specs.Trees.{ParsesHaveOneTree, ParsesHaveTrees};
 
 /// Symbols can become empty exactly if they derive nothing. So `nullable` finds the nonterminals
@@ -84,6 +85,11 @@ pub fn sentences_have_one_parse()
 /// begin no sentence.
 pub fn errors_are_early()
     ensures { ErrorsAreEarly }
+{}
+
+/// A parser takes one way: what a step leads to is one.
+pub fn steps_are_one()
+    ensures { StepsAreOne }
 {}
 
 /// By a table a parser enters no states but those of `Table::entered`.
