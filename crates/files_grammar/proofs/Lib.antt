@@ -4,7 +4,7 @@ mod GrammarLemmas
 mod ItemLemmas
 mod LeftLemmas
 mod NumberLemmas
-mod OrderLemmas
+pub mod OrderLemmas
 mod RuleLemmas
 mod SetTextLemmas
 mod StateLemmas

@@ -1,7 +1,11 @@
+mod FittingLemmas
 mod JsonLemmas
 mod LawLemmas
 mod LineLemmas
+mod MarkLemmas
 mod ParseLemmas
+mod ParserLemmas
+mod StackLemmas
 mod TerminalLemmas
 mod TokenLemmas
 mod UnfoldLemmas

@@ -2,8 +2,9 @@
 use Rattle.std.specs.Prelude.{slice_get}
 use Rattle.std.below.core.specs.declared.int.usize.TheConstants.{MAX}
 use Rattle.std.specs.Io.KnownBytes.{Keeps}
-use Rattle.std.proofs.Common.{Option, Some, ◌≡◌, ℕ, zero, suc, ◌+◌, ◌-◌, ◌<◌, ◌≤◌, List, [], ◌∷◌, length, map, min, take, get_or, reverse, refl, ap, ◌∙◌, arith, subst}
-use Rattle.std.proofs.lemmas.List.{reverse-append, take_more}
+use Rattle.std.proofs.Common.{Option, Some, ◌≡◌, inl, inr, ℕ, zero, suc, ◌+◌, ◌-◌, ◌<◌, ◌≤◌, List, [], ◌∷◌, length, map, min, take, get_or, reverse, refl, ap, sym, ◌∙◌, arith, subst}
+use Rattle.std.proofs.lemmas.Bool.{cases_lt}
+use Rattle.std.proofs.lemmas.List.{reverse-append, take_all, take_more}
 use Rattle.vob_lr.specs.Derivations.{IsParse}
 use Rattle.vob_lr.specs.Stops.{AcceptsBy}
 use Rattle.vob_lr.specs.Tables.{TableView}
@@ -48,6 +49,13 @@ pub none_taken : (xs : List ℕ) (k : ℕ) → k ≤ 0 → reverse (take k xs) �
 none_taken xs zero past = refl
 none_taken xs (suc k) past = absurd (omega (arith, past))
 
+-- no more is taken of a list than it has
+pub take_within : (xs : List ℕ) (n m : ℕ) → m ≡ min n (length xs) → take m xs ≡ take n xs
+take_within xs n m is = elim (cases_lt n (length xs)) [
+  | inl less ↦ ap (λ k. take k xs) (omega (arith, is, less))
+  | inr past ↦ take_all m xs (omega (arith, is, past)) ∙ sym (take_all n xs past)
+]
+
 -- nothing was written yet
 module _ (file : GrammarFile) (text : List ℕ) (old new : Option (List ℕ)) where
   pub table_fails : Keeps old new → (fault : GrammarFault) → HasNoTable file.grammar fault →
@@ -69,7 +77,7 @@ module _ (file : GrammarFile) (text : List ℕ) (old new : Option (List ℕ)) wh
   tokens_fail same words are (Line line column expected) is = ((words, are, is), same)
 
   pub parse_fails : Keeps old new → (words : List Token) (tokens : List ℕ) → HasTokens file.names text words tokens →
-      (table : TableView) → HasTable file table → (fault : GrammarFault) → IsRefused table words tokens fault →
+      (table : TableView) → HasTable file table → (fault : GrammarFault) → IsRefused table file.names words tokens fault →
       FailsBy file text fault old new
   parse_fails same words tokens has table own (Text Memory) is = same
   parse_fails same words tokens has table own (Text (Output error)) is = tt

@@ -1,11 +1,14 @@
 pub mod DotText
 pub mod Failures
+pub mod Fitting
 pub mod JsonNames
 pub mod JsonText
+pub mod Marks
 pub mod NodeNames
 pub mod ParseFaults
 pub mod ParseLaws
 pub mod Parses
+pub mod Stacks
 pub mod Terminals
 pub mod Tokens
 pub mod TreeLines

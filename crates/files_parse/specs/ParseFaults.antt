@@ -1,6 +1,5 @@
--- Why a text has no derivation: the first word that is no token, the first token that doesn't fit, and a parser that
--- needs more reductions than suffice.
-use Rattle.std.specs.Prelude.{◌≡◌, ℕ, ◌+◌, List, [], ◌∷◌, ◌++◌, Option, None, Some, codes, length, min, slice_get, ⊤}
+-- Why a text has no derivation: a word that is no token, a token that doesn't fit, or a parser that never ends.
+use Rattle.std.specs.Prelude.{◌≡◌, ℕ, ◌+◌, List, [], ◌∷◌, ◌++◌, Option, None, Some, codes, length, min, slice_get, take, ⊤}
 use Rattle.std.below.core.specs.declared.int.usize.TheConstants.{MAX}
 use Rattle.std.specs.Str.Lossy.{utf8_lossy}
 use Rattle.vob_lr.specs.Languages.{MoreThanSuffice}
@@ -13,6 +12,7 @@ use Rattle.files_text.specs.declared.fault.Fault.TheVariants.{Line, Memory}
 use Rattle.files_grammar.specs.declared.fault.GrammarFault.{GrammarFault}
 use Rattle.files_grammar.specs.declared.fault.GrammarFault.TheVariants.{Endless, Text, Token as Unexpected}
 use Rattle.std.specs.String.{string_bytes}
+use Rattle.files_parse.specs.Fitting.{ListsExpected, NeverEnds}
 use Rattle.files_parse.specs.Tokens.{AreTokens, IsTerminal}
 
 -- the first word that names no terminal begins at a line and a column
@@ -54,24 +54,27 @@ abbrev pub called : Option Token → List ℕ
 called None = codes "end of input"
 called (Some word) = utf8_lossy word.text
 
--- no action takes a token, or the end, that is called so and begins at a line and a column
-pub record IsUnfit (table : TableView) (words : List Token) (tokens : List ℕ) (line column : ℕ) (name : List ℕ)
-    : Type 0 where
+-- no action takes a token, or the end, that is called so and begins at a line and a column. What fits there is listed
+pub record IsUnfit (table : TableView) (names : SymbolNames) (words : List Token) (tokens : List ℕ) (line column : ℕ)
+    (name expected : List ℕ) : Type 0 where
   pub at : ℕ
   pub unexpected : IsUnexpected table tokens at
   pub place : place_of words at ≡ (line, column)
   pub is_called : called (slice_get words at) ≡ name
+  pub lists : ListsExpected table names (take at tokens) expected
 
--- a parser makes more reductions than suffice for so many tokens. The place is that of a token, or the end
+-- a parser makes more reductions than suffice for so many tokens: before one that begins at a line and a column, or
+-- before the end, it never ends
 pub record IsEndless (table : TableView) (words : List Token) (tokens : List ℕ) (line column : ℕ) : Type 0 where
   pub more : MoreThanSuffice table tokens
   pub at : ℕ
+  pub never_ends : NeverEnds table tokens at
   pub place : place_of words at ≡ (line, column)
 
 -- why a table's parser takes tokens for no sentence, unless memory ran out
-abbrev pub IsRefused : TableView → List Token → List ℕ → GrammarFault → Type 0
-IsRefused table words tokens (Text Memory) = ⊤
-IsRefused table words tokens (Unexpected line column name expected) =
-    IsUnfit table words tokens line column (string_bytes name)
-IsRefused table words tokens (Endless line column) = IsEndless table words tokens line column
-IsRefused table words tokens fault = ⊥
+abbrev pub IsRefused : TableView → SymbolNames → List Token → List ℕ → GrammarFault → Type 0
+IsRefused table names words tokens (Text Memory) = ⊤
+IsRefused table names words tokens (Unexpected line column name expected) =
+    IsUnfit table names words tokens line column (string_bytes name) (string_bytes expected)
+IsRefused table names words tokens (Endless line column) = IsEndless table words tokens line column
+IsRefused table names words tokens fault = ⊥

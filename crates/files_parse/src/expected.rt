@@ -1,228 +1,194 @@
-//! Which tokens a parser takes after others, and before which token it never ends.
+//! Which terminals a parser takes after tokens, and how a message lists them.
+ghost use Rattle.std.specs.Prelude.{◌≡◌, ◌≢◌, ◌↔◌, ◌⊎◌, ◌+◌, ◌<◌, ◌++◌, ℕ, List, [], codes, cond, length, map, nat_eq, reverse, IfNone, IfOk, IfSome, IsTrue, OnOk};
+ghost use Rattle.std.specs.Fmt.{decimal};
+ghost use Rattle.std.specs.String.{string_bytes};
+ghost use Rattle.vob_lr.specs.Those.{AreThose};
+ghost use Rattle.files_parse.specs.Fitting.{Fits, IsExpected, IsToken, ListsExpected, items_of, joined, separator, shown};
+ghost use Rattle.files_parse.specs.Stacks.{HasRead, IsAdded};
 
+use crate::parser::{Outcome, start, take};
 use files_grammar::SymbolNames;
 use std::alloc::{AllocError, Global};
-use vob_lr::{Action, Symbol, Table};
+use vob_lr::Table;
 
-/// How many tokens are named.
+/// How many terminals are named.
 const NAMED: usize = 5;
 
 /// What messages call the end of the tokens.
-pub const END: &str = "end of input";
+pub(crate) const END: &str = "end of input";
 
-/// The states on the stack of a parser, the newest last.
-#[derive(Drop)]
-struct Stack<'a> {
-    table: &'a Table<'a>,
-    states: Vec<usize>,
-}
-
-/// A state that a parser entered since it took a token, and how many states it entered there so far,
-/// above the same other ones.
-#[derive(Clone, Copy)]
-struct Entered {
-    state: usize,
-    times: usize,
-}
-
-/// What becomes of a token.
-#[derive(Clone, Copy, PartialEq, Eq)]
-enum Outcome {
-    Taken,
-    Refused,
-    // The parser reduces without end.
-    Endless,
-}
-
-/// A stack without its newest states, but for the first `depth`, and with others above them.
-#[derive(Drop)]
-struct Trial<'a> {
-    stack: &'a Stack<'a>,
-    depth: usize,
-    above: Vec<Entered>,
-}
-
-impl Trial<'_> {
-    /// Returns the newest state.
-    fn state(&self) -> usize {
-        match self.above.last() {
-            Some(entered) => entered.state,
-            None => self.stack.state_below(self.depth),
-        }
-    }
-
-    /// Leaves the newest states. Returns how many were entered so far where the next one will be.
-    fn leave(&mut self, count: usize) -> usize {
-        let Some(kept) = self.above.len().checked_sub(count) else {
-            let below = count.saturating_sub(self.above.len());
-            self.depth = self.depth.saturating_sub(below);
-            self.above.clear();
-            return 0;
-        };
-        let times = self.above.get(kept).map_or(0, |entered| entered.times);
-        self.above.truncate(kept);
-        times
-    }
-
-    /// Reduces by a rule. Returns `Refused` if no state follows by its left side.
-    ///
-    /// A parser that enters more states than there are above the same other ones, without taking a
-    /// token, enters one of them twice, and so goes round for ever. So it does if as many stand above
-    /// those that were there when it took the last one.
-    fn reduce(&mut self, number: usize) -> Result<Outcome, AllocError> {
-        let states = self.stack.table.lookaheads();
-        let Some(rule) = states.items().grammar().rules.get(number) else {
-            return Ok(Outcome::Refused);
-        };
-        let times = self.leave(rule.right.len()).saturating_add(1);
-        let Some(state) = states.next(self.state(), Symbol::Nonterminal(rule.left)) else {
-            return Ok(Outcome::Refused);
-        };
-        self.above.push(Entered { state, times })?;
-        let most = states.automaton().sets.len();
-        if times > most || self.above.len() > most {
-            return Ok(Outcome::Endless);
-        }
-        Ok(Outcome::Taken)
-    }
-
-    /// Reduces until a terminal is shifted, and enters the state that follows; the end is accepted.
-    fn take(&mut self, terminal: usize) -> Result<Outcome, AllocError> {
-        for _ in 0..usize::MAX {
-            match self.stack.table.action(self.state(), terminal) {
-                Some(Action::Shift(state)) => {
-                    self.above.push(Entered { state, times: 0 })?;
-                    return Ok(Outcome::Taken);
-                }
-                Some(Action::Accept) => return Ok(Outcome::Taken),
-                Some(Action::Reduce(rule)) => match self.reduce(rule)? {
-                    Outcome::Taken => {}
-                    outcome => return Ok(outcome),
-                },
-                None => return Ok(Outcome::Refused),
-            }
-        }
-        Ok(Outcome::Endless)
-    }
-}
-
-impl<'a> Stack<'a> {
-    /// Returns the stack of a parser that has taken nothing.
-    fn new(alloc: Global, table: &'a Table<'a>) -> Result<Stack<'a>, AllocError> {
-        let mut states = Vec::new(alloc);
-        states.push(0)?;
-        Ok(Stack { table, states })
-    }
-
-    /// Returns the newest of the first `depth` states.
-    fn state_below(&self, depth: usize) -> usize {
-        let newest = self.states.get(depth.saturating_sub(1));
-        newest.copied().unwrap_or(0)
-    }
-
-    /// Returns the stack, to be changed.
-    fn trial(&'a self, alloc: Global) -> Trial<'a> {
-        Trial {
-            stack: self,
-            depth: self.states.len(),
-            above: Vec::new(alloc),
-        }
-    }
-
-    /// Returns what becomes of a token, how many states stay, and the states that are entered then.
-    fn tried(
-        &self,
-        alloc: Global,
-        token: usize,
-    ) -> Result<(Outcome, usize, Vec<Entered>), AllocError> {
-        let mut trial = self.trial(alloc);
-        let outcome = trial.take(token)?;
-        let Trial { depth, above, .. } = trial;
-        Ok((outcome, depth, above))
-    }
-
-    /// Takes a token. If that doesn't come to an end, or no action takes it, nothing changes.
-    fn take(&mut self, alloc: Global, token: usize) -> Result<Outcome, AllocError> {
-        let (outcome, depth, above) = self.tried(alloc, token)?;
-        if outcome == Outcome::Taken {
-            self.states.truncate(depth);
-            for entered in above.iter() {
-                self.states.push(entered.state)?;
-            }
-        }
-        Ok(outcome)
-    }
-
-    /// Returns the terminals that can be next, but for `error`.
-    fn expected(&self, alloc: Global, names: &SymbolNames) -> Result<Vec<usize>, AllocError> {
-        let mut expected = Vec::new(alloc);
-        for (terminal, name) in names.terminals.iter().enumerate() {
-            let is_token = terminal == 0 || name.as_slice() != b"error".as_slice();
-            if is_token && self.trial(alloc).take(terminal)? == Outcome::Taken {
-                expected.push(terminal)?;
-            }
-        }
-        Ok(expected)
-    }
-}
-
-/// Returns the number of the first token before which a parser reduces without end, or of the end, if
-/// there is one.
-pub fn endless_at(
+/// Returns the states of a parser that has taken tokens, the newest last, or `None` if it doesn't take
+/// them all.
+fn after(
     alloc: Global,
     table: &Table<'_>,
     tokens: &[usize],
-) -> Result<Option<usize>, AllocError> {
-    let mut stack = Stack::new(alloc, table)?;
-    for (at, token) in tokens.iter().enumerate() {
-        match stack.take(alloc, *token)? {
+) -> Result<Option<Vec<usize>>, AllocError>
+    ensures some { IfOk result (λ found. IfSome found (λ states.
+        HasRead table.now tokens.now (reverse states.items))) }
+    ensures none { IfOk result (λ found. IfNone found ((t : ℕ) → ¬ Fits table.now tokens.now t)) }
+{
+    let mut states = start(alloc)?;
+    // A proof knows from these calls that there is no other way for the parser.
+    vob_lr::laws::steps_are_one();
+    let _states = table.lookaheads();
+    for at in 0..tokens.len() {
+        match take(table, tokens[at], &mut states)? {
             Outcome::Taken => {}
             Outcome::Refused => return Ok(None),
-            Outcome::Endless => return Ok(Some(at)),
+            Outcome::Endless => return Ok(None),
         }
     }
-    let is_endless = stack.take(alloc, 0)? == Outcome::Endless;
-    Ok(if is_endless { Some(tokens.len()) } else { None })
+    Ok(Some(states))
 }
 
-/// Returns the tokens that a parser takes after others, as `NUMBER, '(' or '-'`. If there are more than
-/// five, the others are counted.
-pub fn expected_after(
+/// Returns whether a parser with these states takes a terminal.
+fn takes(
+    alloc: Global,
+    table: &Table<'_>,
+    states: &[usize],
+    terminal: usize,
+) -> Result<bool, AllocError>
+    ensures { IfOk result (λ takes. (tokens : List ℕ) → HasRead table.now tokens (reverse states.now)
+        → IsTrue takes ↔ Fits table.now tokens terminal) }
+{
+    // A proof knows from these calls that there is no other way for the parser.
+    vob_lr::laws::steps_are_one();
+    let _states = table.lookaheads();
+    let mut own = states.to_vec(alloc)?;
+    match take(table, terminal, &mut own)? {
+        Outcome::Taken => Ok(true),
+        Outcome::Refused => Ok(false),
+        Outcome::Endless => Ok(false),
+    }
+}
+
+/// Returns whether a terminal is the end, or isn't called `error`.
+fn is_token(names: &SymbolNames, terminal: usize) -> bool
+    ensures { IsTrue result ↔ IsToken names.now terminal }
+{
+    terminal == 0 || names.terminal(terminal) != b"error".as_slice()
+}
+
+/// Adds a terminal to others if it is a token that a parser with these states takes.
+fn add_if_taken(
+    alloc: Global,
+    table: &Table<'_>,
+    names: &SymbolNames,
+    states: &[usize],
+    terminal: usize,
+    terminals: &mut Vec<usize>,
+) -> Result<(), AllocError>
+    ensures { OnOk result ((tokens : List ℕ) → HasRead table.now tokens (reverse states.now)
+        → terminal < length names.now.terminals.items
+        → IsAdded (IsExpected table.now names.now tokens) terminal
+        terminals.old.items terminals.new.items) }
+{
+    if !is_token(names, terminal) {
+        return Ok(());
+    }
+    if !takes(alloc, table, states, terminal)? {
+        return Ok(());
+    }
+    terminals.push(terminal)?;
+    Ok(())
+}
+
+/// Returns the terminals that a parser takes after tokens, but for `error`. Fails if memory runs out.
+fn expected(
     alloc: Global,
     table: &Table<'_>,
     names: &SymbolNames,
     tokens: &[usize],
-) -> Result<String, AllocError> {
-    let mut stack = Stack::new(alloc, table)?;
-    for token in tokens.iter() {
-        stack.take(alloc, *token)?;
+) -> Result<Vec<usize>, AllocError>
+    ensures { IfOk result (λ terminals.
+        AreThose (IsExpected table.now names.now tokens.now) terminals.items) }
+{
+    let mut terminals = Vec::new(alloc);
+    let Some(states) = after(alloc, table, tokens)? else {
+        return Ok(terminals);
+    };
+    for terminal in 0..names.terminals.len() {
+        add_if_taken(alloc, table, names, &states, terminal, &mut terminals)?;
     }
-    list(alloc, names, &stack.expected(alloc, names)?)
+    Ok(terminals)
 }
 
-/// Returns the names of terminals as a list.
-fn list(alloc: Global, names: &SymbolNames, terminals: &[usize]) -> Result<String, AllocError> {
-    let others = terminals.len().saturating_sub(NAMED);
-    let mut text = String::new(alloc);
-    for (place, terminal) in terminals.iter().take(NAMED).enumerate() {
-        let is_last = place.saturating_add(1) == terminals.len();
-        text.push_str(match place {
-            0 => "",
-            _ if is_last => " or ",
-            _ => ", ",
-        })?;
-        match *terminal {
-            0 => text.push_str(END)?,
-            _ => {
-                let name = String::from_utf8_lossy(alloc, names.terminal(*terminal))?;
-                text.push_str(&name)?;
-            }
-        }
+/// Returns what a message calls a terminal.
+fn shown(alloc: Global, names: &SymbolNames, terminal: usize) -> Result<String, AllocError>
+    ensures { IfOk result (λ text. string_bytes text ≡ shown names.now terminal) }
+{
+    if terminal == 0 {
+        return String::from_str(alloc, END);
     }
-    if others > 0 {
-        let end = if others == 1 { "" } else { "s" };
-        let count = format!(in alloc; " or {others} other{end}")?;
-        text.push_str(&count)?;
+    String::from_utf8_lossy(alloc, names.terminal(terminal))
+}
+
+/// Returns how many others there are, as an item of a list.
+fn others(alloc: Global, count: usize) -> Result<String, AllocError>
+    ensures { IfOk result (λ text. string_bytes text
+        ≡ decimal count ++ codes " other" ++ cond (nat_eq count 1) [] (codes "s")) }
+{
+    let mut text = count.to_string(alloc)?;
+    text.push_str(" other")?;
+    if count == 1 {
+        return Ok(text);
+    }
+    text.push_str("s")?;
+    Ok(text)
+}
+
+/// Returns the first five terminals, and how many others there are, as items of a list.
+fn items(alloc: Global, names: &SymbolNames, terminals: &[usize]) -> Result<Vec<String>, AllocError>
+    ensures { IfOk result (λ items. map (λ item. string_bytes item) items.items
+        ≡ items_of names.now terminals.now) }
+{
+    let named = terminals.len().min(NAMED);
+    let mut items = Vec::new(alloc);
+    for place in 0..named {
+        items.push(shown(alloc, names, terminals[place])?)?;
+    }
+    if terminals.len() > NAMED {
+        items.push(others(alloc, terminals.len() - NAMED)?)?;
+    }
+    Ok(items)
+}
+
+/// Returns what comes after an item of a list, by how many follow it.
+fn separator(left: usize) -> &'static str
+    ensures { result.now ≡ separator left }
+{
+    match left {
+        0 => "",
+        1 => " or ",
+        _ => ", ",
+    }
+}
+
+/// Returns items as a list in a sentence. Fails if memory runs out.
+fn join(alloc: Global, items: &[String]) -> Result<String, AllocError>
+    ensures { IfOk result (λ text. string_bytes text
+        ≡ joined (map (λ item. string_bytes item) items.now)) }
+{
+    let mut text = String::new(alloc);
+    for place in 0..items.len() {
+        text.push_str(&items[place])?;
+        text.push_str(separator(items.len() - place - 1))?;
     }
     Ok(text)
+}
+
+/// Returns the terminals that a parser takes after tokens, as `NUMBER, '(' or '-'`. If there are more than
+/// five, the others are counted. Fails if memory runs out.
+pub(crate) fn expected_after(
+    alloc: Global,
+    table: &Table<'_>,
+    names: &SymbolNames,
+    tokens: &[usize],
+) -> Result<String, AllocError>
+    ensures { IfOk result (λ text.
+        ListsExpected table.now names.now tokens.now (string_bytes text)) }
+{
+    let terminals = expected(alloc, table, names, tokens)?;
+    join(alloc, &items(alloc, names, &terminals)?)
 }

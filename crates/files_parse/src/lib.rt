@@ -7,6 +7,7 @@ mod json;
 pub mod laws;
 mod lines;
 mod parse;
+mod parser;
 mod terminals;
 mod tokens;
 mod tree;

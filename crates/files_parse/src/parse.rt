@@ -13,7 +13,8 @@ ghost use Rattle.files_parse.specs.Tokens.{AreWordsOf};
 ghost use Rattle.files_parse.specs.Writing.{IsUnwritten};
 ghost use Rattle.files_parse.specs.Parses.{HasTable, ListsForm, WritesParse, derivation_text, numbered_line};
 
-use crate::expected::{END, endless_at, expected_after};
+use crate::expected::{END, expected_after};
+use crate::parser::endless_at;
 use crate::tokens::tokens_of;
 use crate::tree::{TreeForm, WordTree};
 use files_grammar::{GrammarFault, GrammarFile, put_rule};
@@ -65,10 +66,10 @@ fn unfit(
     at: usize,
 ) -> Result<GrammarFault, AllocError>
     requires { IsUnexpected table.now tokens.now at }
-    ensures { IfOk result (IsRefused table.now (map word_token words.now) tokens.now) }
+    ensures { IfOk result (IsRefused table.now file.now.names (map word_token words.now) tokens.now) }
 {
-    let taken = tokens.get(..at).unwrap_or_default();
-    let expected = expected_after(alloc, table, &file.names, taken)?;
+    let before = &tokens[..at.min(tokens.len())];
+    let expected = expected_after(alloc, table, &file.names, before)?;
     let name = called(alloc, words, at)?;
     let (line, column) = place_of(words, at);
     Ok(GrammarFault::Token {
@@ -98,7 +99,7 @@ fn refused(
     error: ParseError,
 ) -> Result<GrammarFault, AllocError>
     requires { (at : ℕ) → error ≡ ParseError.Unexpected at → IsUnexpected table.now tokens.now at }
-    ensures { IfOk result (IsRefused table.now (map word_token words.now) tokens.now) }
+    ensures { IfOk result (IsRefused table.now file.now.names (map word_token words.now) tokens.now) }
 {
     let ParseError::Unexpected { at } = error else {
         return Ok(GrammarFault::Text(Fault::Memory));
@@ -117,7 +118,7 @@ fn parse_long(
     ensures derives { IfOk result (λ rules.
         IsParse table.now.machine.grammar.rules.items tokens.now rules.items) }
     ensures accepted { IfOk result (λ rules. AcceptsBy table.now tokens.now rules.items) }
-    ensures err { IfErr result (IsRefused table.now (map word_token words.now) tokens.now) }
+    ensures err { IfErr result (IsRefused table.now file.now.names (map word_token words.now) tokens.now) }
 {
     match table.parse_within(alloc, tokens, usize::MAX) {
         Ok(rules) => Ok(rules),
@@ -137,7 +138,7 @@ fn parse_tokens(
     ensures derives { IfOk result (λ rules.
         IsParse table.now.machine.grammar.rules.items tokens.now rules.items) }
     ensures accepted { IfOk result (λ rules. AcceptsBy table.now tokens.now rules.items) }
-    ensures err { IfErr result (IsRefused table.now (map word_token words.now) tokens.now) }
+    ensures err { IfErr result (IsRefused table.now file.now.names (map word_token words.now) tokens.now) }
 {
     let error = match table.parse(alloc, tokens) {
         Ok(rules) => return Ok(rules),
@@ -236,13 +237,11 @@ fn words_of(alloc: Global, text: &[u8]) -> Result<Vec<Word<'_>>, AllocError>
 /// or the tree in a form. Conflicts that precedence leaves are decided as in bison: for the shift, or
 /// else for the rule that comes first. Returns the status, 0.
 ///
-/// Fails at the first word that is no terminal, at the first token that doesn't fit, or before which
+/// Fails at the first word that is no terminal, or at the first token that doesn't fit. The fault
+/// then lists what fits there: the terminals that the parser takes after the tokens before, in the
+/// order of their numbers, the first five by name. Fails at the first token, or the end, before which
 /// the parser would reduce without end. Fails too if memory runs out. Nothing is written then. Fails
 /// if the output can't be written.
-///
-/// No clause says which tokens the fault of one that doesn't fit names as expected. If a parser needs
-/// more reductions than suffice for a sentence, no clause says that it needs them without end, nor
-/// where it begins to.
 pub fn print_parse<W: Write>(
     alloc: Global,
     file: &GrammarFile,
