@@ -78,7 +78,8 @@ none_fits table tokens at less not t (c, reached, past) =
 -- ---- the terminals that fit
 
 module _ (P : ℕ → Type 0) where
-  pub added : (k : ℕ) (old new : List ℕ) → AreThose (Below P k) old → IsAdded P k old new → AreThose (Below P (k + 1)) new
+  pub added : (k : ℕ) (old new : List ℕ) → AreThose (Below P k) old → IsAdded P k old new →
+      AreThose (Below P (k + 1)) new
   added k old new are (inl (own, is)) = rw is (below_with P k old are own)
   added k old new are (inr (none, is)) = rw is (below_without P k old are none)
 

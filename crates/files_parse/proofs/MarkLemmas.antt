@@ -40,7 +40,8 @@ module _ (table : TableView) (t : ℕ) where
       let left = drop-append-le count above (b ∷ other) fits in
       let mine = drop-append-le count above (b ∷ rest) fits in
       let shown : top (drop count xs) ≡ top (drop count (above ++ b ∷ other)) =
-      ap (λ (l : List ℕ). top (drop count l)) cut ∙ ap top mine ∙ same_top (drop count above) b rest other ∙ sym (ap top left) in
+      ap (λ (l : List ℕ). top (drop count l)) cut ∙ ap top mine ∙ same_top (drop count above) b rest other
+      ∙ sym (ap top left) in
       record {
         rule = by.rule;
         is = by.is;

@@ -77,7 +77,8 @@ module _ (file : GrammarFile) (text : List ℕ) (old new : Option (List ℕ)) wh
   tokens_fail same words are (Line line column expected) is = ((words, are, is), same)
 
   pub parse_fails : Keeps old new → (words : List Token) (tokens : List ℕ) → HasTokens file.names text words tokens →
-      (table : TableView) → HasTable file table → (fault : GrammarFault) → IsRefused table file.names words tokens fault →
+      (table : TableView) → HasTable file table → (fault : GrammarFault) →
+      IsRefused table file.names words tokens fault →
       FailsBy file text fault old new
   parse_fails same words tokens has table own (Text Memory) is = same
   parse_fails same words tokens has table own (Text (Output error)) is = tt

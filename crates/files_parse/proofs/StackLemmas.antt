@@ -175,18 +175,21 @@ module _ (one : StepsAreOne) (table : TableView) (sound : IsSound table) (tokens
         | inr past ↦ (d, then_steps reached step, omega (arith, less, past), omega arith)
       ]
 
-  same : {c d : Config} → IsReached table tokens c → IsReached table tokens d → count table tokens c ≡ count table tokens d → c ≡ d
+  same : {c d : Config} → IsReached table tokens c → IsReached table tokens d →
+      count table tokens c ≡ count table tokens d → c ≡ d
   same (begins a) (begins b) is = a ∙ sym b
   same {c} {d} (begins a) (then_steps {c = e} reached step) is =
       absurd (omega (arith, is, none_counted table tokens c a, (counts table tokens e d step).0))
   same {c} {d} (then_steps {c = e} reached step) (begins b) is =
       absurd (omega (arith, is, none_counted table tokens d b, (counts table tokens e c step).0))
   same {c} {d} (then_steps {c = e} reached step) (then_steps {c = f} other next) is =
-      let before = same reached other (omega (arith, is, (counts table tokens e c step).0, (counts table tokens f d next).0)) in
+      let before = same reached other
+      (omega (arith, is, (counts table tokens e c step).0, (counts table tokens f d next).0)) in
       one table sound tokens f c d (subst (λ (x : Config). Steps table tokens x c) before step) next
 
   -- what is reached at least as early has read no more
-  no_more : {c e : Config} → IsReached table tokens c → IsReached table tokens e → count table tokens e ≤ count table tokens c → e.read ≤ c.read
+  no_more : {c e : Config} → IsReached table tokens c → IsReached table tokens e →
+      count table tokens e ≤ count table tokens c → e.read ≤ c.read
   no_more {c} {e} reached other less =
       let (d, there, is, read) = earlier reached (count table tokens e) less in
       let equal = ap (λ (x : Config). x.read) (same there other is) in

@@ -29,8 +29,8 @@ IsUnparsed file text (Text (Line line column expected)) =
     (words : List Token) × AreWordsOf text words × IsNoTokens file.names words (Line line column expected)
 IsUnparsed file text (Rules error) = HasNoTable file.grammar (Rules error)
 IsUnparsed file text (Unexpected line column name expected) =
-    IsInTokens file text
-    (λ table words tokens. IsUnfit table file.names words tokens line column (string_bytes name) (string_bytes expected))
+    IsInTokens file text (λ table words tokens.
+    IsUnfit table file.names words tokens line column (string_bytes name) (string_bytes expected))
 IsUnparsed file text (Endless line column) =
     IsInTokens file text (λ table words tokens. IsEndless table words tokens line column)
 IsUnparsed file text fault = ⊥

@@ -17,7 +17,8 @@ pub returns-in-Endless : goal.returns-in-Endless
 returns-in-Endless c =
     let tokens = c.args.tokens.now in
     let at = c.loop-at.at in
-    never_ends c.args.table.now tokens (take at tokens) (drop at tokens) at (get_or tokens at 0) (reverse c.loop-at.states.items) []
+    never_ends c.args.table.now tokens (take at tokens) (drop at tokens) at (get_or tokens at 0)
+    (reverse c.loop-at.states.items) []
     (take-append-drop at tokens) (length-take-le at tokens (omega (arith, c.loop-at-test.true))) refl
     c.loop-at.invariant (rw c.in-Endless.is at c.in_ok-take.ensures)
 
