@@ -5,8 +5,8 @@ use clap::builder::ValueParser;
 use clap::{Arg, ArgAction, ArgMatches, Command};
 use files_code::{FORMS, Form};
 use files_filter::Shows;
-use files_flow::{ANALYSES, Analysis};
-use files_graph::Part;
+use files_flow::{ANALYSES, Analysis, FLOW_FORMS};
+use files_graph::{GRAPH_FORMS, GraphForm, Part};
 use files_parse::{TREE_FORMS, TreeForm};
 use std::alloc::{AllocError, Global};
 
@@ -60,8 +60,7 @@ Example: ./conthiral closure --from curl examples/files/edges.txt";
 
 /// What the help of `flow` says of its input, of its output and of the exit status.
 const FLOW_HELP: &str = "\
-A line is a node, the first one the entry; each part may be missing. White space
-separates names, which have no comma. Words that begin with # begin a comment.
+A line is a node, the first the entry. Names have no comma; # begins a comment.
   loop: reads i n; writes t; next body done
   live         variables that may be read before they are written
   reaching     definitions that may still hold: x@n is what node n writes to x
@@ -69,8 +68,7 @@ separates names, which have no comma. Words that begin with # begin a comment.
   busy         expressions computed on all paths from here, before they change
   dominators   nodes that all paths from the entry pass
   immediate    the nearest of these, but the node itself
-An expression is what a node reads: (i n) above. A node that no path reaches
-has all expressions available, and all nodes dominate it, none immediately.
+An expression is what a node reads: (i n) above. Where no path leads, all hold.
 
 Exit status: 0; 2 after a fault.
 Example: ./conthiral flow examples/files/flow.txt --analysis live";
@@ -107,11 +105,13 @@ pub enum Task<'a> {
     Closure {
         file: &'a str,
         part: Part<'a>,
+        form: Option<GraphForm>,
     },
     /// An analysis of a flow graph.
     Flow {
         file: &'a str,
         analysis: Analysis,
+        json: bool,
     },
     /// The rows of a table of which a condition is true.
     Filter {
@@ -198,11 +198,18 @@ fn closure_command<'a>(alloc: Global) -> Result<Command<'a>, AllocError> {
         "reduce",
         "Print the fewest edges that have the same closure",
     );
+    let output = Arg::new(alloc, "output")
+        .long("output")
+        .value_name("FORM")
+        .value_parser(GRAPH_FORMS.as_slice())
+        .hide_possible_values(true)
+        .help("Print a graph in a form: dot or json");
     Command::new(alloc, "closure")
         .about("Print the edges of the closure of a graph")
         .after_help(CLOSURE_HELP)
         .arg(from)?
         .arg(reduce)?
+        .arg(output)?
         .arg(file)
 }
 
@@ -216,10 +223,17 @@ fn flow_command<'a>(alloc: Global) -> Result<Command<'a>, AllocError> {
         .value_parser(ANALYSES.as_slice())
         .hide_possible_values(true)
         .help("What to find: one of the analyses below");
+    let output = Arg::new(alloc, "output")
+        .long("output")
+        .value_name("FORM")
+        .value_parser(FLOW_FORMS.as_slice())
+        .hide_possible_values(true)
+        .help("Print it in a form: json");
     Command::new(alloc, "flow")
         .about("Print what holds before and after each node of a flow graph")
         .after_help(FLOW_HELP)
         .arg(analysis)?
+        .arg(output)?
         .arg(file)
 }
 
@@ -265,6 +279,11 @@ fn form_of(matches: &ArgMatches<'_>) -> Option<Form> {
 /// Returns the form in which a tree is to be printed, if one is asked for.
 fn tree_form_of(matches: &ArgMatches<'_>) -> Option<TreeForm> {
     TreeForm::of(matches.get_str("output")?)
+}
+
+/// Returns the form in which a graph is to be printed, if one is asked for.
+fn graph_form_of(matches: &ArgMatches<'_>) -> Option<GraphForm> {
+    GraphForm::of(matches.get_str("output")?)
 }
 
 /// Returns what of a closure is to be printed.
@@ -330,10 +349,12 @@ pub fn task_of<'a>(matches: &ArgMatches<'a>) -> Option<Task<'a>> {
         "closure" => Some(Task::Closure {
             file,
             part: part_of(own),
+            form: graph_form_of(own),
         }),
         "flow" => Some(Task::Flow {
             file,
             analysis: Analysis::of(own.get_str("analysis")?)?,
+            json: own.get_str("output").is_some(),
         }),
         "filter" => Some(Task::Filter {
             file,

@@ -12,3 +12,4 @@ mod SameGraphLemmas
 mod SameNodesLemmas
 mod SameProblemLemmas
 mod SameSolutionLemmas
+mod WorkedFlow

@@ -171,9 +171,10 @@ module _ (vars : ℕ) (nodes : List Flow) (near far : List (List Bool)) where
         }
 
 -- the lines of the problem's solution are those of live variables
-pub lists_live : (graph : FlowGraph) (problem : Problem) (text : List ℕ) → IsLiveProblem graph problem → IsSound problem →
-    ListsSolution graph.names problem text → ListsLive graph text
-lists_live graph problem text is fit l =
+pub lists_live : (json : Bool) (graph : FlowGraph) (problem : Problem) (text : List ℕ) →
+    IsLiveProblem graph problem → IsSound problem → ListsSolution json graph.names problem text →
+    ListsLive json graph text
+lists_live json graph problem text is fit l =
     let places : length problem.labels.items ≡ length graph.variables =
     sym (length-map problem.labels.items (λ (v : Vec ℕ Global). v.items)) ∙ ap length is.labels in
     let h = rw (is.paths, is.from, is.by_variable, is.writes, is.generates, places) at l.solved.solved in
@@ -183,6 +184,6 @@ lists_live graph problem text is fit l =
       solution = live_solution (length graph.variables) graph.nodes.items _ _ (λ n less. small n [] less) h;
       least = live_least (length graph.variables) graph.nodes.items _ _ (λ n less. small n [] less) h;
       lines = (rw (is.backward, is.labels) at l.lines)
-          ∙ ap (λ far. sides_text graph.names graph.variables far l.near) l.solved.far_is
-          ∙ ap (λ near. sides_text graph.names graph.variables (map members l.solved.far_sets) near) l.solved.near_is;
+          ∙ ap (λ far. sides_text json graph.names graph.variables far l.near) l.solved.far_is
+          ∙ ap (λ near. sides_text json graph.names graph.variables (map members l.solved.far_sets) near) l.solved.near_is;
     }

@@ -1,7 +1,7 @@
 -- A text has one text for each analysis of its flow graph.
 use Rattle.std.specs.Prelude.{Contains, slice_get}
 use Rattle.std.specs.List.{Any}
-use Rattle.std.proofs.Common.{◌≡◌, ◌↔◌, ◌⊎◌, inl, inr, ℕ, ◌<◌, ◌≤◌, Bool, Some, List, [], ◌++◌, codes, length, map, get_or, arith, refl, sym, ap, subst, ◌∙◌}
+use Rattle.std.proofs.Common.{◌≡◌, ◌↔◌, ◌⊎◌, inl, inr, ℕ, Bool, Some, List, [], ◌++◌, length, map, get_or, arith, sym, ap, subst, ◌∙◌}
 use Rattle.std.proofs.lemmas.Bool.{cases_lt}
 use Rattle.std.proofs.lemmas.List.{get_or-map, get_or_past}
 use Rattle.std.proofs.lemmas.Option.{get_or_from_slice_get, slice_get_cases, slice_get_within}
@@ -9,19 +9,18 @@ use Rattle.vob_rows.specs.Sparse.{members}
 use Rattle.vob_flow.specs.Draws.{IsIn}
 use Rattle.vob_flow.specs.LiveEquations.{AreSets, IsSolution}
 use Rattle.vob_flow.specs.declared.live.Flow.{Flow}
-use Rattle.files_text.specs.Printed.{line_end, name_at}
-use Rattle.files_text.proofs.ListLemmas.{sorted_one}
 use Rattle.files_flow.specs.declared.analysis.Analysis.{Analysis}
 use Rattle.files_flow.specs.declared.analysis.Analysis.TheVariants.{Live, Reaching, Available, Busy, Dominators, Immediate}
 use Rattle.files_flow.specs.declared.flow.FlowGraph.{FlowGraph}
 use Rattle.files_flow.specs.declared.problem.Problem.{Problem}
 use Rattle.files_flow.specs.Analyses.{ListsAnalysis}
+use Rattle.files_flow.specs.FlowForms.{head, tail}
 use Rattle.files_flow.specs.FlowLaws.{AreAlike, OutputsAreOne}
-use Rattle.files_flow.specs.FlowText.{ListsLive, ListsSolution, labels_text, sides_text}
+use Rattle.files_flow.specs.FlowText.{ListsLive, ListsSolution, sides_text}
 use Rattle.files_flow.proofs.OneDominatorLemmas.{all_dominators_one, all_immediate_one}
 use Rattle.files_flow.proofs.SameGraphLemmas.{graphs_one}
-use Rattle.files_flow.proofs.SameProblemLemmas.{same_available, same_before, same_busy, same_count, same_nexts, same_reaching, same_reads, same_writes}
-use Rattle.files_flow.proofs.SameSolutionLemmas.{HaveSameNumbers, same_back, sets_one, solution_one}
+use Rattle.files_flow.proofs.SameProblemLemmas.{same_available, same_busy, same_count, same_nexts, same_reaching, same_reads, same_writes}
+use Rattle.files_flow.proofs.SameSolutionLemmas.{sets_one, solution_one}
 
 -- ---- live variables
 
@@ -75,8 +74,8 @@ within_one vars count sets others a b each = sets_one sets others (a.count ∙ s
     ]) each
 
 module _ (graph other : FlowGraph) (same : AreAlike graph other) where
-  live_one : (text text' : List ℕ) → ListsLive graph text → ListsLive other text' → text ≡ text'
-  live_one text text' a b =
+  live_one : (json : Bool) (text text' : List ℕ) → ListsLive json graph text → ListsLive json other text' → text ≡ text'
+  live_one json text text' a b =
       let k = length other.variables in
       let reads = same_reads graph other same in
       let writes = same_writes graph other same in
@@ -94,31 +93,35 @@ module _ (graph other : FlowGraph) (same : AreAlike graph other) where
       (λ n v. (less.0 n v, more.0 n v)) in
       let afters = within_one k (length others) a.after b.after over.after_sets b.solution.after_sets
       (λ n v. (less.1 n v, more.1 n v)) in
-      a.lines ∙ ap (λ l. sides_text l graph.variables (map members a.before) (map members a.after)) same.names
-      ∙ ap (λ l. sides_text other.names l (map members a.before) (map members a.after)) same.variables
-      ∙ ap (λ l. sides_text other.names other.variables (map members l) (map members a.after)) befores
-      ∙ ap (λ l. sides_text other.names other.variables (map members b.before) (map members l)) afters ∙ sym b.lines
+      a.lines ∙ ap (λ l. sides_text json l graph.variables (map members a.before) (map members a.after)) same.names
+      ∙ ap (λ l. sides_text json other.names l (map members a.before) (map members a.after)) same.variables
+      ∙ ap (λ l. sides_text json other.names other.variables (map members l) (map members a.after)) befores
+      ∙ ap (λ l. sides_text json other.names other.variables (map members b.before) (map members l)) afters ∙ sym b.lines
 
 -- ---- all analyses
 
-module _ (graph other : FlowGraph) (same : AreAlike graph other) (text text' : List ℕ) where
-  named_one : {problem : Problem} → ListsSolution graph.names problem text → ListsSolution other.names problem text
-  named_one {problem} a = subst (λ l. ListsSolution l problem text) same.names a
+module _ (json : Bool) (graph other : FlowGraph) (same : AreAlike graph other) (text text' : List ℕ) where
+  named_one : {problem : Problem} → ListsSolution json graph.names problem text →
+      ListsSolution json other.names problem text
+  named_one {problem} a = subst (λ l. ListsSolution json l problem text) same.names a
 
-  analysis_one : (analysis : Analysis) → ListsAnalysis analysis graph text →
-      ListsAnalysis analysis other text' → text ≡ text'
-  analysis_one Live a b = live_one graph other same text text' a b
+  analysis_one : (analysis : Analysis) → ListsAnalysis analysis json graph text →
+      ListsAnalysis analysis json other text' → text ≡ text'
+  analysis_one Live a b = live_one graph other same json text text' a b
   analysis_one Reaching a b = solution_one a.problem b.problem
-      (same_reaching graph other same a.problem b.problem a.of b.of) other.names text text' (named_one a.lists) b.lists
+      (same_reaching graph other same a.problem b.problem a.of b.of) json other.names text text' (named_one a.lists) b.lists
   analysis_one Available a b = solution_one a.problem b.problem
-      (same_available graph other same a.problem b.problem a.of b.of) other.names text text' (named_one a.lists) b.lists
+      (same_available graph other same a.problem b.problem a.of b.of) json other.names text text' (named_one a.lists) b.lists
   analysis_one Busy a b = solution_one a.problem b.problem
-      (same_busy graph other same a.problem b.problem a.of b.of) other.names text text' (named_one a.lists) b.lists
-  analysis_one Dominators a b = all_dominators_one graph other same text text' a b
-  analysis_one Immediate a b = all_immediate_one graph other same text text' a b
+      (same_busy graph other same a.problem b.problem a.of b.of) json other.names text text' (named_one a.lists) b.lists
+  analysis_one Dominators a b = all_dominators_one json graph other same text text' a b
+  analysis_one Immediate a b = all_immediate_one json graph other same text text' a b
 
 pub outputs_one : OutputsAreOne
-outputs_one text analysis old new other a b =
+outputs_one text analysis json old new other a b =
     let same = graphs_one text a.graph b.graph a.graph_is b.graph_is in
-    let texts = analysis_one a.graph b.graph same a.written.0 b.written.0 analysis a.written.2 b.written.2 in
-    a.written.1 ∙ ap (λ more. old ++ more) texts ∙ sym b.written.1
+    let (body, lists, is) = a.written.2 in
+    let (body', lists', is') = b.written.2 in
+    let bodies = analysis_one json a.graph b.graph same body body' analysis lists lists' in
+    a.written.1 ∙ ap (λ more. old ++ more) (is ∙ ap (λ l. head json ++ l ++ tail json) bodies ∙ sym is')
+    ∙ sym b.written.1

@@ -259,12 +259,12 @@ module _ (problem other : Problem) (same : AreSame problem other) where
         a.far_is ∙ ap (map members) fars ∙ sym b.far_is,
       )
 
-  pub solution_one : (names : List (List ℕ)) (text text' : List ℕ) → ListsSolution names problem text →
-      ListsSolution names other text' → text ≡ text'
-  solution_one names text text' a b =
+  pub solution_one : (json : Bool) (names : List (List ℕ)) (text text' : List ℕ) →
+      ListsSolution json names problem text → ListsSolution json names other text' → text ≡ text'
+  solution_one json names text text' a b =
       let (nears, fars) = solved_one a.solved b.solved in
       let form = λ (on : Bool) (labels near far : List (List ℕ)).
-      cond on (sides_text names labels near far) (sides_text names labels far near) in
+      cond on (sides_text json names labels near far) (sides_text json names labels far near) in
       let labels = lists_of problem.labels.items in
       let labels' = lists_of other.labels.items in
       a.lines ∙ ap (λ on. form on labels a.near a.far) same.forward

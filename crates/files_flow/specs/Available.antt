@@ -1,5 +1,5 @@
 -- The problems of available and busy expressions.
-use Rattle.std.specs.Prelude.{◌≡◌, ℕ, true, false, List, [], ◌∷◌, ◌++◌, length, map}
+use Rattle.std.specs.Prelude.{◌≡◌, ℕ, Bool, true, false, List, [], ◌∷◌, ◌++◌, length, map}
 use Rattle.std.specs.List.{AllZip}
 use Rattle.vob_flow.specs.declared.lists.Paths.TheVariants.{AllFrom}
 use Rattle.files_flow.specs.declared.flow.FlowGraph.{FlowGraph}
@@ -45,13 +45,13 @@ pub record IsBusyProblem (graph : FlowGraph) (problem : Problem) : Type 0 where
       ≡ map (λ node. after_of (length graph.nodes.items) node.next.items) graph.nodes.items ++ [] ∷ []
 
 -- the expressions that were computed on all paths from the first node, before and after each node
-pub record ListsAvailable (graph : FlowGraph) (text : List ℕ) : Type 0 where
+pub record ListsAvailable (json : Bool) (graph : FlowGraph) (text : List ℕ) : Type 0 where
   pub problem : Problem
   pub of : IsAvailableProblem graph problem
-  pub lists : ListsSolution graph.names problem text
+  pub lists : ListsSolution json graph.names problem text
 
 -- the expressions that will be computed on all paths, before and after each node
-pub record ListsBusy (graph : FlowGraph) (text : List ℕ) : Type 0 where
+pub record ListsBusy (json : Bool) (graph : FlowGraph) (text : List ℕ) : Type 0 where
   pub problem : Problem
   pub of : IsBusyProblem graph problem
-  pub lists : ListsSolution graph.names problem text
+  pub lists : ListsSolution json graph.names problem text

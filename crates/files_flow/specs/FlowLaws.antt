@@ -1,5 +1,5 @@
 -- A text has one flow graph, and each analysis of it is written in one way.
-use Rattle.std.specs.Prelude.{◌≡◌, ℕ, List, Some, map}
+use Rattle.std.specs.Prelude.{◌≡◌, ℕ, Bool, List, Some, map}
 use Rattle.files_flow.specs.Analyses.{WritesAnalysis}
 use Rattle.files_flow.specs.Flows.{IsFlowOf, list_of}
 use Rattle.files_flow.specs.declared.analysis.Analysis.{Analysis}
@@ -19,5 +19,6 @@ GraphsAreOne = (text : List ℕ) (graph other : FlowGraph) → IsFlowOf text gra
 
 -- equal texts give equal bytes: by one analysis of one text the same bytes grow to the same
 abbrev pub OutputsAreOne : Type 0
-OutputsAreOne = (text : List ℕ) (analysis : Analysis) (old new other : List ℕ) →
-    WritesAnalysis text analysis (Some old) (Some new) → WritesAnalysis text analysis (Some old) (Some other) → new ≡ other
+OutputsAreOne = (text : List ℕ) (analysis : Analysis) (json : Bool) (old new other : List ℕ) →
+    WritesAnalysis text analysis json (Some old) (Some new) →
+    WritesAnalysis text analysis json (Some old) (Some other) → new ≡ other

@@ -3,6 +3,7 @@ pub mod Available
 pub mod Definitions
 pub mod Expressions
 pub mod FlowFaults
+pub mod FlowForms
 pub mod FlowLaws
 pub mod FlowText
 pub mod Flows

@@ -5,7 +5,8 @@ ghost use Rattle.files_text.specs.Printed.{Writes};
 ghost use Rattle.files_flow.specs.Analyses.{FailsBy, IsOutputFault, ListsAnalysis, WritesAnalysis};
 ghost use Rattle.files_flow.specs.Flows.{IsInRange};
 ghost use Rattle.files_flow.specs.Problems.{IsSolved, IsSound, lists_of};
-ghost use Rattle.files_flow.specs.FlowText.{ListsLive, ListsReaching, ListsSolution, labels_text, set_text, sides_text};
+ghost use Rattle.files_flow.specs.FlowForms.{IsFramed, labels_text};
+ghost use Rattle.files_flow.specs.FlowText.{ListsLive, ListsReaching, ListsSolution, set_text, sides_text};
 ghost use Rattle.files_flow.specs.Available.{ListsAvailable, ListsBusy};
 
 use crate::definitions::reaching_problem;
@@ -13,10 +14,11 @@ use crate::dominance::{print_dominators, print_immediate};
 use crate::expressions::{available_problem, busy_problem};
 use crate::fault::FlowFault;
 use crate::flow::{FlowGraph, read_flow};
+use crate::form::{put_either, put_label, put_node_head};
 use crate::problem::{Problem, graph_of, live_problem};
-use files_text::{Fault, Names, end_line, put_name, put_next};
+use files_forms::{first_of, is_first};
+use files_text::{Fault, Names};
 use std::alloc::{AllocError, Global};
-use std::io;
 use std::io::Write;
 use vob_flow::{Lists, SparseSides, solve_lists};
 use vob_rows::SparseRows;
@@ -93,13 +95,22 @@ fn label_at(labels: &[Vec<u8>], place: usize) -> &[u8]
     }
 }
 
-/// Writes the labels of some places, a space before each.
-fn put_labels<W: Write>(output: &mut W, labels: &[Vec<u8>], places: &[usize]) -> io::Result<()>
-    ensures { OnOk result (Appends (W.contents output.old) (W.contents output.new)
-        (labels_text (lists_of labels.now) places.now)) }
+/// Writes the labels of some places.
+fn put_labels<W: Write>(
+    alloc: Global,
+    output: &mut W,
+    json: bool,
+    labels: &[Vec<u8>],
+    places: &[usize],
+) -> Result<(), Fault>
+    ensures ok { OnOk result (Appends (W.contents output.old) (W.contents output.new)
+        (labels_text json (lists_of labels.now) places.now)) }
+    ensures err { IfErr result IsOutputFault }
 {
+    let first = first_of(places);
     for place in places {
-        put_next(output, label_at(labels, *place))?;
+        let is_first = is_first(first, *place);
+        put_label(alloc, output, json, is_first, label_at(labels, *place))?;
     }
     Ok(())
 }
@@ -108,17 +119,18 @@ fn put_labels<W: Write>(output: &mut W, labels: &[Vec<u8>], places: &[usize]) ->
 fn put_places<W: Write>(
     alloc: Global,
     output: &mut W,
+    json: bool,
     labels: &[Vec<u8>],
     sets: &SparseRows,
     node: usize,
 ) -> Result<(), Fault>
     ensures ok { OnOk result (Appends (W.contents output.old) (W.contents output.new)
-        (set_text (lists_of labels.now) sets.now.rows node)) }
+        (set_text json (lists_of labels.now) sets.now.rows node)) }
     ensures err { IfErr result IsOutputFault }
 {
     if node < sets.rows() {
         let places = sets.members(alloc, node)?;
-        put_labels(output, labels, &places)?;
+        put_labels(alloc, output, json, labels, &places)?;
     }
     Ok(())
 }
@@ -127,22 +139,23 @@ fn put_places<W: Write>(
 fn put_sides<W: Write>(
     alloc: Global,
     output: &mut W,
+    json: bool,
     names: &Names<'_>,
     labels: &[Vec<u8>],
     before: &SparseRows,
     after: &SparseRows,
 ) -> Result<(), Fault>
     ensures ok { OnOk result (Appends (W.contents output.old) (W.contents output.new)
-        (sides_text names.now (lists_of labels.now) before.now.rows after.now.rows)) }
+        (sides_text json names.now (lists_of labels.now) before.now.rows after.now.rows)) }
     ensures err { IfErr result IsOutputFault }
 {
     for node in 0..names.len() {
-        put_name(output, names.name(node))?;
-        output.write_all(b": before")?;
-        put_places(alloc, output, labels, before, node)?;
-        output.write_all(b"; after")?;
-        put_places(alloc, output, labels, after, node)?;
-        end_line(output)?;
+        put_node_head(alloc, output, json, names, node)?;
+        put_either(output, json, b",\"before\":[", b": before")?;
+        put_places(alloc, output, json, labels, before, node)?;
+        put_either(output, json, b"],\"after\":[", b"; after")?;
+        put_places(alloc, output, json, labels, after, node)?;
+        put_either(output, json, b"]}", b"\n")?;
     }
     Ok(())
 }
@@ -152,11 +165,12 @@ fn print_solution<W: Write>(
     alloc: Global,
     names: &Names<'_>,
     problem: &Problem,
+    json: bool,
     output: &mut W,
 ) -> Result<(), Fault>
     requires { IsSound problem.now }
     ensures ok { OnOk result (Writes (W.contents output.old) (W.contents output.new)
-        (ListsSolution names.now problem.now)) }
+        (ListsSolution json names.now problem.now)) }
     ensures err { IfErr result IsOutputFault }
 {
     let sides = solve(alloc, problem)?;
@@ -164,6 +178,7 @@ fn print_solution<W: Write>(
         put_sides(
             alloc,
             output,
+            json,
             names,
             &problem.labels,
             &sides.near,
@@ -174,6 +189,7 @@ fn print_solution<W: Write>(
     put_sides(
         alloc,
         output,
+        json,
         names,
         &problem.labels,
         &sides.far,
@@ -183,14 +199,19 @@ fn print_solution<W: Write>(
 }
 
 /// Writes the variables that may still be read before and after each node.
-fn print_live<W: Write>(alloc: Global, graph: &FlowGraph<'_>, output: &mut W) -> Result<(), Fault>
+fn print_live<W: Write>(
+    alloc: Global,
+    graph: &FlowGraph<'_>,
+    json: bool,
+    output: &mut W,
+) -> Result<(), Fault>
     requires { IsInRange graph.now }
     ensures ok { OnOk result (Writes (W.contents output.old) (W.contents output.new)
-        (ListsLive graph.now)) }
+        (ListsLive json graph.now)) }
     ensures err { IfErr result IsOutputFault }
 {
     let problem = live_problem(alloc, graph)?;
-    print_solution(alloc, &graph.names, &problem, output)?;
+    print_solution(alloc, &graph.names, &problem, json, output)?;
     Ok(())
 }
 
@@ -198,15 +219,16 @@ fn print_live<W: Write>(alloc: Global, graph: &FlowGraph<'_>, output: &mut W) ->
 fn print_reaching<W: Write>(
     alloc: Global,
     graph: &FlowGraph<'_>,
+    json: bool,
     output: &mut W,
 ) -> Result<(), Fault>
     requires { IsInRange graph.now }
     ensures ok { OnOk result (Writes (W.contents output.old) (W.contents output.new)
-        (ListsReaching graph.now)) }
+        (ListsReaching json graph.now)) }
     ensures err { IfErr result IsOutputFault }
 {
     let problem = reaching_problem(alloc, graph)?;
-    print_solution(alloc, &graph.names, &problem, output)?;
+    print_solution(alloc, &graph.names, &problem, json, output)?;
     Ok(())
 }
 
@@ -214,27 +236,33 @@ fn print_reaching<W: Write>(
 fn print_available<W: Write>(
     alloc: Global,
     graph: &FlowGraph<'_>,
+    json: bool,
     output: &mut W,
 ) -> Result<(), Fault>
     requires { IsInRange graph.now }
     ensures ok { OnOk result (Writes (W.contents output.old) (W.contents output.new)
-        (ListsAvailable graph.now)) }
+        (ListsAvailable json graph.now)) }
     ensures err { IfErr result IsOutputFault }
 {
     let problem = available_problem(alloc, graph)?;
-    print_solution(alloc, &graph.names, &problem, output)?;
+    print_solution(alloc, &graph.names, &problem, json, output)?;
     Ok(())
 }
 
 /// Writes the expressions that will be computed on all paths before and after each node.
-fn print_busy<W: Write>(alloc: Global, graph: &FlowGraph<'_>, output: &mut W) -> Result<(), Fault>
+fn print_busy<W: Write>(
+    alloc: Global,
+    graph: &FlowGraph<'_>,
+    json: bool,
+    output: &mut W,
+) -> Result<(), Fault>
     requires { IsInRange graph.now }
     ensures ok { OnOk result (Writes (W.contents output.old) (W.contents output.new)
-        (ListsBusy graph.now)) }
+        (ListsBusy json graph.now)) }
     ensures err { IfErr result IsOutputFault }
 {
     let problem = busy_problem(alloc, graph)?;
-    print_solution(alloc, &graph.names, &problem, output)?;
+    print_solution(alloc, &graph.names, &problem, json, output)?;
     Ok(())
 }
 
@@ -243,25 +271,45 @@ fn print_analysis<W: Write>(
     alloc: Global,
     graph: &FlowGraph<'_>,
     analysis: Analysis,
+    json: bool,
     output: &mut W,
 ) -> Result<(), Fault>
     requires { IsInRange graph.now }
     ensures ok { OnOk result (Writes (W.contents output.old) (W.contents output.new)
-        (ListsAnalysis analysis graph.now)) }
+        (ListsAnalysis analysis json graph.now)) }
     ensures err { IfErr result IsOutputFault }
 {
     match analysis {
-        Analysis::Live => print_live(alloc, graph, output),
-        Analysis::Reaching => print_reaching(alloc, graph, output),
-        Analysis::Available => print_available(alloc, graph, output),
-        Analysis::Busy => print_busy(alloc, graph, output),
-        Analysis::Dominators => print_dominators(alloc, graph, output),
-        Analysis::Immediate => print_immediate(alloc, graph, output),
+        Analysis::Live => print_live(alloc, graph, json, output),
+        Analysis::Reaching => print_reaching(alloc, graph, json, output),
+        Analysis::Available => print_available(alloc, graph, json, output),
+        Analysis::Busy => print_busy(alloc, graph, json, output),
+        Analysis::Dominators => print_dominators(alloc, graph, json, output),
+        Analysis::Immediate => print_immediate(alloc, graph, json, output),
     }
 }
 
-/// Reads a flow graph, and writes what an analysis finds at each node. Returns the status, 0. Equal
-/// texts give equal bytes.
+/// Writes what an analysis finds at each node, as lines or as JSON.
+fn print_framed<W: Write>(
+    alloc: Global,
+    graph: &FlowGraph<'_>,
+    analysis: Analysis,
+    json: bool,
+    output: &mut W,
+) -> Result<(), Fault>
+    requires { IsInRange graph.now }
+    ensures ok { OnOk result (Writes (W.contents output.old) (W.contents output.new)
+        (IsFramed json (ListsAnalysis analysis json graph.now))) }
+    ensures err { IfErr result IsOutputFault }
+{
+    put_either(output, json, b"{\"nodes\": [", b"")?;
+    print_analysis(alloc, graph, analysis, json, output)?;
+    put_either(output, json, b"\n]}\n", b"")?;
+    Ok(())
+}
+
+/// Reads a flow graph, and writes what an analysis finds at each node, as lines or, if `json`, as
+/// JSON. Returns the status, 0. Equal texts give equal bytes.
 ///
 /// Fails at the first word of the text that can't stand where it does, or else at the first name to
 /// which a node leads that no node has. Nothing is written then. Fails too if memory runs out, or if
@@ -270,15 +318,16 @@ pub fn print_flow<W: Write>(
     alloc: Global,
     text: &[u8],
     analysis: Analysis,
+    json: bool,
     output: &mut W,
 ) -> Result<u8, FlowFault>
     ensures status { IfOk result (λ status. status ≡ 0) }
     ensures ok { OnOk result
-        (WritesAnalysis text.now analysis (W.contents output.old) (W.contents output.new)) }
+        (WritesAnalysis text.now analysis json (W.contents output.old) (W.contents output.new)) }
     ensures err { IfErr result (λ fault. FailsBy text.now fault
         (W.contents output.old) (W.contents output.new)) }
 {
     let graph = read_flow(alloc, text)?;
-    print_analysis(alloc, &graph, analysis, output)?;
+    print_framed(alloc, &graph, analysis, json, output)?;
     Ok(0)
 }

@@ -7,9 +7,11 @@ mod dominance;
 mod expressions;
 mod fault;
 mod flow;
+mod form;
 pub mod laws;
 mod nodes;
 mod problem;
 
 pub use analysis::{ANALYSES, Analysis, print_flow};
 pub use fault::FlowFault;
+pub use form::FLOW_FORMS;

@@ -1,14 +1,15 @@
 -- The edges that sets stand for, in order and each once.
 use Rattle.std.specs.Prelude.{◌↔◌, AllPairs, Contains}
-use Rattle.std.specs.List.{flat_map}
-use Rattle.std.proofs.Common.{◌≡◌, ℕ, zero, suc, ◌+◌, ◌<◌, ◌≤◌, inl, inr, Bool, true, List, [], length, refl, sym, ap, ◌∙◌, arith, slice_index_or, subst}
+use Rattle.std.proofs.Common.{◌≡◌, Option, ℕ, zero, suc, ◌+◌, ◌<◌, ◌≤◌, inl, inr, Bool, true, List, [], length, refl, sym, ap, ◌∙◌, arith, slice_index_or, subst}
 use Rattle.std.proofs.lemmas.Bool.{cases_lt, false≢true}
 use Rattle.std.proofs.lemmas.List.{get_or_past}
 use Rattle.std.proofs.lemmas.List.Elements.{Contains-append_left, Contains-append_right, Contains-append_cases}
 use Rattle.vob_block.specs.Packing.{item}
 use Rattle.vob_flow.specs.Draws.{IsIn}
-use Rattle.files_text.specs.Printed.{members, name_line}
-use Rattle.files_graph.specs.ClosureText.{IsBefore, ListsEdges, ListsNodes, edge_line, edges_from, edges_of}
+use Rattle.files_text.specs.Printed.{members}
+use Rattle.files_graph.specs.ClosureText.{IsBefore, ListsEdges, ListsNodes, edges_from, edges_of}
+use Rattle.files_graph.specs.GraphForms.{edges_text, nodes_text}
+use Rattle.files_graph.specs.declared.form.GraphForm.{GraphForm}
 use Rattle.files_text.proofs.ListLemmas.{AllPairs-append, AllPairs-map, AllPairs-none, Contains-map, map-Contains, nothing}
 use Rattle.files_text.proofs.PrintedLemmas.{members-has, members-rise}
 
@@ -74,13 +75,13 @@ module _ (sets : List (List Bool)) where
     | inr past ↦ absurd (false≢true (ap (λ row. item row m) (sym (get_or_past sets n [] past)) ∙ there))
   ]
 
-  -- the lines of all edges of some sets
-  pub lists_edges : (names : List (List ℕ)) (P : ℕ → ℕ → Type 0) (count : ℕ) → length sets ≡ count →
-      ((n m : ℕ) → IsIn sets n m ↔ P n m) →
-      ListsEdges names P (flat_map (edge_line names) (edges_of sets 0 count))
-  lists_edges names P count long same = record {
+  -- all edges of some sets
+  pub lists_edges : (form : Option GraphForm) (names : List (List ℕ)) (P : ℕ → ℕ → Type 0) (count : ℕ) →
+      length sets ≡ count → ((n m : ℕ) → IsIn sets n m ↔ P n m) →
+      ListsEdges form names P (edges_text form names (edges_of sets 0 count))
+  lists_edges form names P count long same = record {
     edges = edges_of sets 0 count;
-    lines = refl;
+    is = refl;
     each = λ n m. (
       (λ there. (same n m).0 ((edges_of-only 0 count n m there).1)),
       (λ there. let own = (same n m).1 there in
@@ -89,13 +90,12 @@ module _ (sets : List (List Bool)) where
     order = edges_of-order 0 count;
   }
 
--- the lines of all nodes of a set
-pub lists_nodes : (set : List Bool) (names : List (List ℕ)) (P : ℕ → Type 0) →
-    ((n : ℕ) → (item set n ≡ true) ↔ P n) →
-    ListsNodes names P (flat_map (name_line names) (members set))
-lists_nodes set names P same = record {
+-- all nodes of a set
+pub lists_nodes : (set : List Bool) (form : Option GraphForm) (names : List (List ℕ)) (P : ℕ → Type 0) →
+    ((n : ℕ) → (item set n ≡ true) ↔ P n) → ListsNodes form names P (nodes_text form names (members set))
+lists_nodes set form names P same = record {
   nodes = members set;
-  lines = refl;
+  is = refl;
   each = λ n. (
     (λ there. (same n).0 ((members-has set n).0 there)),
     (λ there. (members-has set n).1 ((same n).1 there)),

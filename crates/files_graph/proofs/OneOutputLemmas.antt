@@ -1,14 +1,14 @@
 -- A text has one graph, and one text for each part of its closure.
-use Rattle.std.proofs.Common.{◌≡◌, ◌↔◌, inl, inr, ℕ, ◌<◌, List, [], ◌∷◌, ◌++◌, map, arith, refl, sym, ap, subst, ◌∙◌}
-use Rattle.std.specs.List.{flat_map}
+use Rattle.std.proofs.Common.{◌≡◌, ◌↔◌, Option, inl, inr, ℕ, ◌<◌, List, [], ◌∷◌, ◌++◌, map, arith, refl, sym, ap, subst, ◌∙◌}
 use Rattle.vob_flow.specs.Closure.{IsEdge, Leads}
 use Rattle.files_text.specs.Names.{names_in}
-use Rattle.files_text.specs.Printed.{name_line}
 use Rattle.files_text.specs.Words.{Token}
 use Rattle.files_text.proofs.ListLemmas.{sorted_one}
 use Rattle.files_text.proofs.OneLemmas.{words_one}
 use Rattle.files_graph.specs.ClosureLaws.{GraphsAreOne, HaveSameEdges, OutputsAreOne}
-use Rattle.files_graph.specs.ClosureText.{IsBefore, ListsEdges, ListsNodes, ListsPart, edge_line}
+use Rattle.files_graph.specs.ClosureText.{IsBefore, ListsEdges, ListsNodes, ListsPart}
+use Rattle.files_graph.specs.GraphForms.{edges_text, nodes_text}
+use Rattle.files_graph.specs.declared.form.GraphForm.{GraphForm}
 use Rattle.files_graph.specs.Edges.{AreEdges}
 use Rattle.files_graph.specs.Graphs.{IsGraphOf, JoinsNames}
 use Rattle.files_graph.specs.declared.closure.Part.{Part}
@@ -58,15 +58,15 @@ graphs_one text names next others other a b = (same_names a b, λ n m. (edge_ove
 
 -- ---- one text
 
-module _ (names : List (List ℕ)) where
+module _ (form : Option GraphForm) (names : List (List ℕ)) where
   edge_lines_one : {P Q : ℕ → ℕ → Type 0} {text text' : List ℕ} → ((n m : ℕ) → P n m ↔ Q n m) →
-      ListsEdges names P text → ListsEdges names Q text' → text ≡ text'
+      ListsEdges form names P text → ListsEdges form names Q text' → text ≡ text'
   edge_lines_one same a b =
       let edges = sorted_one IsBefore one_way a.edges b.edges a.order b.order (λ edge. (
         (λ has. (b.each edge.0 edge.1).1 ((same edge.0 edge.1).0 ((a.each edge.0 edge.1).0 has))),
         (λ has. (a.each edge.0 edge.1).1 ((same edge.0 edge.1).1 ((b.each edge.0 edge.1).0 has))),
       )) in
-      a.lines ∙ ap (flat_map (edge_line names)) edges ∙ sym b.lines
+      a.is ∙ ap (edges_text form names) edges ∙ sym b.is
     where
       one_way : (edge other : ℕ × ℕ) → IsBefore edge other → ¬ IsBefore other edge
       one_way edge other (inl less) (inl more) = omega (arith, less, more)
@@ -75,28 +75,28 @@ module _ (names : List (List ℕ)) where
       one_way edge other (inr less) (inr more) = omega (arith, less.1, more.1)
 
   node_lines_one : {P Q : ℕ → Type 0} {text text' : List ℕ} → ((n : ℕ) → P n ↔ Q n) →
-      ListsNodes names P text → ListsNodes names Q text' → text ≡ text'
+      ListsNodes form names P text → ListsNodes form names Q text' → text ≡ text'
   node_lines_one same a b =
       let nodes = sorted_one (λ (n m : ℕ). n < m) (λ n m less more. omega (arith, less, more)) a.nodes b.nodes
       a.order b.order (λ n. (
         (λ has. (b.each n).1 ((same n).0 ((a.each n).0 has))),
         (λ has. (a.each n).1 ((same n).1 ((b.each n).0 has))),
       )) in
-      a.lines ∙ ap (flat_map (name_line names)) nodes ∙ sym b.lines
+      a.is ∙ ap (nodes_text form names) nodes ∙ sym b.is
 
   part_one : (next other : List (List ℕ)) → HaveSameEdges next other → Distinct names → (part : Part) →
-      (text text' : List ℕ) → ListsPart names next part text → ListsPart names other part text' → text ≡ text'
+      (text text' : List ℕ) → ListsPart form names next part text → ListsPart form names other part text' → text ≡ text'
   part_one next other same distinct Edges text text' a b = edge_lines_one (leads_same next other same) a b
   part_one next other same distinct (From name) text text' a b =
       let node = distinct b.0 a.0 name.now b.1 a.1 in
       node_lines_one (leads_same next other same a.0) a.2
-      (subst (λ n. ListsNodes names (Leads other n) text') node b.2)
+      (subst (λ n. ListsNodes form names (Leads other n) text') node b.2)
   part_one next other same distinct Fewest text text' a b = edge_lines_one (reduced_same next other same) a b
 
 pub outputs_one : OutputsAreOne
-outputs_one text part old new other a b =
+outputs_one text part form old new other a b =
     let (names, edges) = graphs_one text a.names a.next b.names b.next a.graph b.graph in
     let apart = names_apart text b.names b.next b.graph in
-    let same = part_one b.names a.next b.next edges apart part a.written.0 b.written.0
-    (subst (λ list. ListsPart list a.next part a.written.0) names a.written.2) b.written.2 in
+    let same = part_one form b.names a.next b.next edges apart part a.written.0 b.written.0
+    (subst (λ list. ListsPart form list a.next part a.written.0) names a.written.2) b.written.2 in
     a.written.1 ∙ ap (λ more. old ++ more) same ∙ sym b.written.1

@@ -1,9 +1,10 @@
 -- A text has one graph, and each part of its closure is written in one way.
-use Rattle.std.specs.Prelude.{◌≡◌, ◌↔◌, ℕ, List, Some}
+use Rattle.std.specs.Prelude.{◌≡◌, ◌↔◌, ℕ, List, Option, Some}
 use Rattle.vob_flow.specs.Closure.{IsEdge}
 use Rattle.files_graph.specs.Closures.{WritesPart}
 use Rattle.files_graph.specs.Graphs.{IsGraphOf}
 use Rattle.files_graph.specs.declared.closure.Part.{Part}
+use Rattle.files_graph.specs.declared.form.GraphForm.{GraphForm}
 
 -- each edge of one graph is one of the other, and the other way round
 abbrev pub HaveSameEdges : (next other : List (List ℕ)) → Type 0
@@ -16,8 +17,8 @@ GraphsAreOne = (text : List ℕ) (names next other_names other_next : List (List
     (names ≡ other_names) × HaveSameEdges next other_next
 
 -- equal texts give equal bytes: two outputs are equal if both grew from the same bytes by the same
--- part of the closure of one text
+-- part of the closure of one text, in one form
 abbrev pub OutputsAreOne : Type 0
-OutputsAreOne = (text : List ℕ) (part : Part) (old new other : List ℕ) →
-    WritesPart text part (Some old) (Some new) → WritesPart text part (Some old) (Some other) →
+OutputsAreOne = (text : List ℕ) (part : Part) (form : Option GraphForm) (old new other : List ℕ) →
+    WritesPart text part form (Some old) (Some new) → WritesPart text part form (Some old) (Some other) →
     new ≡ other

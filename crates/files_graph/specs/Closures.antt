@@ -10,14 +10,16 @@ use Rattle.files_graph.specs.Graphs.{IsGraphOf}
 use Rattle.files_graph.specs.declared.closure.Part.{Part}
 use Rattle.files_graph.specs.declared.closure.Part.TheVariants.{From}
 use Rattle.files_graph.specs.declared.fault.GraphFault.{GraphFault}
+use Rattle.files_graph.specs.declared.form.GraphForm.{GraphForm}
 use Rattle.files_graph.specs.declared.fault.GraphFault.TheVariants.{Text, Name}
 
--- known bytes grew by a part of the closure of the text's graph
-pub record WritesPart (text : List ℕ) (part : Part) (old new : Option (List ℕ)) : Type 0 where
+-- known bytes grew by a part of the closure of the text's graph, in a form
+pub record WritesPart (text : List ℕ) (part : Part) (form : Option GraphForm) (old new : Option (List ℕ))
+    : Type 0 where
   pub names : List (List ℕ)
   pub next : List (List ℕ)
   pub graph : IsGraphOf text names next
-  pub written : Writes old new (ListsPart names next part)
+  pub written : Writes old new (ListsPart form names next part)
 
 -- a part is what the node with a name leads to
 abbrev pub IsFrom : Part → List ℕ → Type 0

@@ -3,6 +3,7 @@ pub mod ClosureText
 pub mod Closures
 pub mod Direct
 pub mod Edges
+pub mod GraphForms
 pub mod Graphs
 pub mod Parts
 pub mod Reading

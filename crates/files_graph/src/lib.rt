@@ -5,6 +5,7 @@ mod closure;
 mod direct;
 mod edges;
 mod fault;
+mod form;
 mod graph;
 pub mod laws;
 mod parts;
@@ -12,3 +13,4 @@ mod reduction;
 
 pub use closure::{Part, print_closure};
 pub use fault::GraphFault;
+pub use form::{GRAPH_FORMS, GraphForm};

@@ -5,23 +5,23 @@ use Rattle.files_flow.proofs.FaultLemmas.{output_fails, unread_fails}
 use Rattle.files_flow.proofs.FittingLemmas.{in_range}
 use Rattle.files_flow.proofs.analysis.print_flow.Goals as goal
 
-pub print_analysis-requires : goal.print_analysis-requires
-print_analysis-requires g c = in_range c.args.text.now c.in_ok-graph.graph c.in_ok-graph.ensures.ok
+pub print_framed-requires : goal.print_framed-requires
+print_framed-requires g c = in_range c.args.text.now c.in_ok-graph.graph c.in_ok-graph.ensures.ok
 
 pub returns-in_err-graph-clause-err : goal.returns-in_err-graph-clause-err
 returns-in_err-graph-clause-err g c =
     let p = err_from_is_err_and c.from_residual.result c.from_residual.ensures.1 in
     rw (p.1, p.2) (unread_fails c.args.text.now _ _ (Keeps-refl _) c.in_err-graph.field-0.0 c.in_err-graph.ensures.err)
 
-pub returns-in_err-print_analysis-clause-err : goal.returns-in_err-print_analysis-clause-err
-returns-in_err-print_analysis-clause-err g c =
-    let p = err_from_is_err_and c.from_residual-in_err-print_analysis.result
-    c.from_residual-in_err-print_analysis.ensures.1 in
-    rw (p.1, p.2) (output_fails c.args.text.now _ _ c.in_err-print_analysis.field-0.0 c.in_err-print_analysis.ensures.err)
+pub returns-in_err-print_framed-clause-err : goal.returns-in_err-print_framed-clause-err
+returns-in_err-print_framed-clause-err g c =
+    let p = err_from_is_err_and c.from_residual-in_err-print_framed.result
+    c.from_residual-in_err-print_framed.ensures.1 in
+    rw (p.1, p.2) (output_fails c.args.text.now _ _ c.in_err-print_framed.field-0.0 c.in_err-print_framed.ensures.err)
 
 pub returns-clause-ok : goal.returns-clause-ok
 returns-clause-ok g c = record {
   graph = c.in_ok-graph.graph;
   graph_is = c.in_ok-graph.ensures.ok;
-  written = c.in_ok-print_analysis.ensures.ok;
+  written = c.in_ok-print_framed.ensures.ok;
 }

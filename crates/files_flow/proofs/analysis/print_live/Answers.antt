@@ -12,6 +12,6 @@ returns-clause-ok g c =
     let text = c.in_ok-print_solution.ensures.ok in (
       text.0,
       text.1,
-      lists_live c.args.graph.now c.in_ok-problem.problem _ c.in_ok-problem.ensures
+      lists_live c.args.json c.args.graph.now c.in_ok-problem.problem _ c.in_ok-problem.ensures
           (live_sound c.args.graph.now c.requires c.in_ok-problem.problem c.in_ok-problem.ensures) text.2,
     )

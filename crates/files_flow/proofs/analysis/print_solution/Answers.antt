@@ -12,8 +12,8 @@ returns-then-problem-clause-ok g c = (
     near = _;
     far = _;
     solved = c.in_ok-sides.ensures;
-    lines = sym (ap (λ b. cond b (sides_text c.args.names.now (lists_of c.args.problem.now.labels.items)
-        c.in_ok-sides.sides.near.rows c.in_ok-sides.sides.far.rows) (sides_text c.args.names.now
+    lines = sym (ap (λ b. cond b (sides_text c.args.json c.args.names.now (lists_of c.args.problem.now.labels.items)
+        c.in_ok-sides.sides.near.rows c.in_ok-sides.sides.far.rows) (sides_text c.args.json c.args.names.now
         (lists_of c.args.problem.now.labels.items) c.in_ok-sides.sides.far.rows c.in_ok-sides.sides.near.rows))
         c.if-problem.true);
   },
@@ -27,8 +27,8 @@ returns-clause-ok g c = (
     near = _;
     far = _;
     solved = c.in_ok-sides.ensures;
-    lines = sym (ap (λ b. cond b (sides_text c.args.names.now (lists_of c.args.problem.now.labels.items)
-        c.in_ok-sides.sides.near.rows c.in_ok-sides.sides.far.rows) (sides_text c.args.names.now
+    lines = sym (ap (λ b. cond b (sides_text c.args.json c.args.names.now (lists_of c.args.problem.now.labels.items)
+        c.in_ok-sides.sides.near.rows c.in_ok-sides.sides.far.rows) (sides_text c.args.json c.args.names.now
         (lists_of c.args.problem.now.labels.items) c.in_ok-sides.sides.far.rows c.in_ok-sides.sides.near.rows))
         c.if-problem.false);
   },

@@ -14,12 +14,11 @@ loop-node-preserved g c =
     items_more _ _ _ _ _ _ _ _ (range_more c.loop-node.node (length c.args.names.now)
     (omega (arith, c.loop-node-test.true, c.len-node-end.ensures))) c.loop-node.invariant
     (Appends-both _ _ _ _ _ (Appends-both _ _ _ _ _ (Appends-both _ _ _ _ _ (Appends-both _ _ _ _ _
-    (Appends-both _ _ _ _ _ (rw (← c.name.ensures) c.in_ok-put_name.ensures)
-    c.in_ok-write_all.ensures.bytes)
+    (Appends-both _ _ _ _ _ c.in_ok-put_node_head.ensures.ok c.in_ok-put_either.ensures)
     c.in_ok-put_places.ensures.ok)
-    c.in_ok-write_all-2.ensures.bytes)
+    c.in_ok-put_either-2.ensures)
     c.in_ok-put_places-2.ensures.ok)
-    c.in_ok-end_line.ensures)
+    c.in_ok-put_either-3.ensures)
 
 pub returns-clause-ok : goal.returns-clause-ok
 returns-clause-ok g c =

@@ -8,6 +8,6 @@ use Rattle.files_flow.proofs.analysis.put_sides.Given as goal
 
 abbrev pub invariant-loop-node : goal.invariant-loop-node
 invariant-loop-node g l =
-    AppendsItems (sides_line l.names (lists_of l.labels) l.before.rows l.after.rows)
+    AppendsItems (sides_line l.json l.names (lists_of l.labels) l.before.rows l.after.rows)
     (g.W.Write.contents l.fn.output) (g.W.Write.contents l.output) (range_with_len 0 (length l.names))
     (range_with_len l.node (length l.names - l.node))

@@ -1,4 +1,4 @@
--- The lines are those of the nodes that were found.
+-- What is written are the nodes that were found.
 use Rattle.files_graph.proofs.ClosureTextLemmas.{lists_nodes}
 use Rattle.files_graph.proofs.closure.print_nodes.Goals as goal
 
@@ -9,7 +9,7 @@ returns-clause-ok g c =
       found.1,
       (
         _,
-        c.in_ok-put_nodes.ensures,
-        lists_nodes c.in_ok-nodes.nodes.bits c.args.graph.now.names _ found.2,
+        rw (← c.in_ok-names.ensures.0, ← c.in_ok-names.ensures.1) c.in_ok-put_node_set.ensures,
+        lists_nodes c.in_ok-nodes.nodes.bits c.args.form c.args.graph.now.names _ found.2,
       ),
     )

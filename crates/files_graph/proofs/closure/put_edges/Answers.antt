@@ -1,7 +1,7 @@
 -- The walk gives the next node of the set, and its line is written.
 use Rattle.std.proofs.Common.{◌∙◌, ap}
 use Rattle.files_text.specs.Printed.{members}
-use Rattle.files_graph.specs.ClosureText.{edge_line}
+use Rattle.files_graph.specs.GraphForms.{edge_item}
 use Rattle.files_text.proofs.PrintedLemmas.{flat_map-map, items_all, items_more, items_none}
 use Rattle.files_graph.proofs.closure.put_edges.Goals as goal
 
@@ -24,5 +24,5 @@ loop-node-preserved g c = record {
 
 pub returns : goal.returns
 returns g c =
-    rw (flat_map-map (edge_line c.args.names.now) (λ to. (c.args.from, to)) (members c.args.set.now))
+    rw (flat_map-map (edge_item c.args.names.now.form c.args.names.now.names c.args.first) (λ to. (c.args.from, to)) (members c.args.set.now))
     (items_none _ _ _ _ _ c.in-None.ensures.steps.gives.0 c.loop-node.invariant.wrote)

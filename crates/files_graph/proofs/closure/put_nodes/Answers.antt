@@ -1,6 +1,6 @@
--- The walk gives the next node of the set, and its line is written.
+-- The walk gives the next node of the set, and it is written.
 use Rattle.std.proofs.Common.{◌∙◌, ap}
-use Rattle.files_text.proofs.PrintedLemmas.{Appends-both, items_all, items_more, items_none}
+use Rattle.files_text.proofs.PrintedLemmas.{items_all, items_more, items_none}
 use Rattle.files_graph.proofs.closure.put_nodes.Goals as goal
 
 pub loop-node-init : goal.loop-node-init
@@ -17,7 +17,7 @@ loop-node-preserved g c = record {
   can_next = tt;
   is_finite = tt;
   wrote = items_more _ _ _ _ _ _ _ _ c.in-Some.ensures.steps.gives c.loop-node.invariant.wrote
-      (Appends-both _ _ _ _ _ (rw (← c.name.ensures) c.in_ok-put_name.ensures) c.in_ok-end_line.ensures);
+      c.in_ok-put_node.ensures;
 }
 
 pub returns : goal.returns

@@ -1,5 +1,6 @@
 -- The lines of the nodes that are left are still to be written.
-use Rattle.files_text.specs.Printed.{members, name_line}
+use Rattle.files_text.specs.Printed.{members}
+use Rattle.files_graph.specs.GraphForms.{node_item}
 use Rattle.files_text.proofs.PrintedLemmas.{AppendsItems}
 use Rattle.files_graph.proofs.closure.put_nodes.Given as goal
 
@@ -7,6 +8,6 @@ abbrev pub invariant-loop-node : goal.invariant-loop-node
 invariant-loop-node g l = record {
   can_next : (goal.iterator-loop-node g).can_next l.node-iterator;
   is_finite : (goal.iterator-loop-node g).is_finite l.node-iterator;
-  wrote : AppendsItems (name_line l.names) (g.W.Write.contents l.fn.output)
+  wrote : AppendsItems (node_item l.names.form l.names.names l.first) (g.W.Write.contents l.fn.output)
       (g.W.Write.contents l.output) (members l.set.bits) l.node-iterator.rest;
 }

@@ -1,7 +1,8 @@
 -- The edges from the next node are written.
 use Rattle.std.proofs.Common.{◌≡◌, ◌-◌, ◌<◌, [], ap, arith, length, slice_index_or}
 use Rattle.std.specs.List.{range_with_len}
-use Rattle.files_graph.specs.ClosureText.{edge_line, edges_from}
+use Rattle.files_graph.specs.ClosureText.{edges_from}
+use Rattle.files_graph.specs.GraphForms.{edge_item}
 use Rattle.files_text.proofs.PrintedLemmas.{flat_map-flat_map, items_all, items_more, items_none, range_more, range_none}
 use Rattle.files_graph.proofs.closure.put_sets.Goals as goal
 
@@ -20,6 +21,6 @@ loop-from-preserved g c =
 pub returns : goal.returns
 returns g c =
     let sets = c.args.sets.now.rows in
-    rw (flat_map-flat_map (edge_line c.args.names.now) (λ n. edges_from n (slice_index_or sets n []))
+    rw (flat_map-flat_map (edge_item c.args.names.now.form c.args.names.now.names c.args.first) (λ n. edges_from n (slice_index_or sets n []))
     (range_with_len 0 (length sets)))
     (items_none _ _ _ _ _ (range_none c.loop-from.from (length sets) (omega arith)) c.loop-from.invariant)
