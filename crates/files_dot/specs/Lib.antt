@@ -1,0 +1,5 @@
+pub mod Ids
+pub mod Pieces
+pub mod Places
+pub mod Scanning
+pub mod Tokens
