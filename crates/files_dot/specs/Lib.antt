@@ -1,5 +1,9 @@
+pub mod Graphs
+pub mod Held
 pub mod Ids
 pub mod Pieces
 pub mod Places
+pub mod Reading
 pub mod Scanning
+pub mod States
 pub mod Tokens

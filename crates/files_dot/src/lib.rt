@@ -2,13 +2,18 @@
 #![tactic(auto)]
 
 mod bare;
+mod graph;
+mod nodes;
 mod pieces;
 mod place;
 mod quoted;
+mod reader;
 mod scanner;
+mod stage;
 mod token;
 mod tokens;
 
+pub use graph::{DotGraph, read_dot};
 pub use place::Place;
 pub use token::{Mark, Token, Word};
 pub use tokens::{DotTokens, dot_tokens};
