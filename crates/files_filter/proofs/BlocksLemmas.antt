@@ -7,9 +7,9 @@ use Rattle.std.proofs.lemmas.List.Elements.{All-map, All-push}
 use Rattle.csv.specs.Records.{fields_of}
 use Rattle.vob_filter.specs.Columns.{row_at, value_at}
 use Rattle.files_filter.specs.Answers.{AreAnswers}
-use Rattle.files_filter.specs.Blocks.{AnswerAll, answers_at}
+use Rattle.files_filter.specs.Blocks.{AnswerAll, HasAsked, answers_at}
 use Rattle.files_filter.specs.FilterText.{Answered, answered, true_rows}
-use Rattle.files_filter.specs.Reading.{Cells, HasRead}
+use Rattle.files_filter.specs.Reading.{Cells}
 use Rattle.files_filter.specs.Written.{cells_of}
 use Rattle.files_filter.proofs.AnswersLemmas.{answers_count}
 use Rattle.files_filter.proofs.FilterTextLemmas.{filtered}
@@ -18,14 +18,15 @@ use Rattle.vob_filter.specs.Filter.{IsFilter}
 use Rattle.vob_filter.specs.declared.filter.Expression.{Expression}
 use Rattle.files_filter.specs.declared.block.Row.{Row}
 use Rattle.files_filter.specs.declared.comparing.Test.{Test}
+use Rattle.files_filter.specs.declared.questions.Questions.{Questions}
 use Rattle.files_filter.specs.declared.table.Table.{Table}
 
 -- one more row of a block
 pub block_more : {R : Type 0} (remaining : R → Option (List ℕ)) (text : Option (List ℕ)) (before : List Cells)
-    (rows : List Row) (row : Row) (table : Table R) →
-    HasRead remaining text ((before ++ map (λ r. r.0) (map answered rows)) ++ fields_of row.cells ∷ []) table →
-    HasRead remaining text (before ++ map (λ r. r.0) (map answered (rows ++ row ∷ []))) table
-block_more remaining text before rows row table read =
+    (rows : List Row) (row : Row) (table : Table R) (questions : Questions) →
+    HasAsked remaining text ((before ++ map (λ r. r.0) (map answered rows)) ++ fields_of row.cells ∷ []) table questions →
+    HasAsked remaining text (before ++ map (λ r. r.0) (map answered (rows ++ row ∷ []))) table questions
+block_more remaining text before rows row table questions read =
     rw (
       map-append answered rows (row ∷ []),
       map-append (λ (r : Answered). r.0) (map answered rows) (answered row ∷ []),

@@ -8,10 +8,10 @@ use Rattle.std.proofs.lemmas.List.Elements.{All-append}
 use Rattle.files_text.proofs.PrintedLemmas.{Appends-both, Appends-none}
 use Rattle.vob_filter.specs.declared.filter.Expression.{Expression}
 use Rattle.files_filter.specs.Answers.{AreAnswers}
-use Rattle.files_filter.specs.Blocks.{AnswerAll, Follows}
+use Rattle.files_filter.specs.Blocks.{AnswerAll, Follows, HasAsked}
 use Rattle.files_filter.specs.FilterText.{Answered, row_line, rows_text, shown, true_rows, windowed}
 use Rattle.files_filter.specs.Filtered.{AreWritten, IsFiltered, IsShown, heading}
-use Rattle.files_filter.specs.Reading.{AreAllRows, AreFirstRows, Cells, HasRead}
+use Rattle.files_filter.specs.Reading.{AreAllRows, Cells}
 use Rattle.files_filter.specs.declared.block.Next.{Next}
 use Rattle.files_filter.specs.declared.block.Next.TheVariants.{End, Fault, Rows}
 use Rattle.files_filter.specs.RowFaults.{IsRowFault}
@@ -19,15 +19,16 @@ use Rattle.files_filter.specs.FilterFaults.{WritesShown, WritesWindow}
 use Rattle.files_filter.specs.declared.fault.FilterFault.{FilterFault}
 use Rattle.files_filter.specs.declared.comparing.Test.{Test}
 use Rattle.files_filter.specs.declared.filter.Shows.{Shows}
+use Rattle.files_filter.specs.declared.questions.Questions.{Questions}
 use Rattle.files_filter.specs.declared.table.Table.{Table}
 use Rattle.files_filter.proofs.FilterTextLemmas.{true_join, windowed_join}
 
 -- rows were read of a text after some, and are written; what is left of the window
 pub record HasFiltered {R : Type 0} (remaining : R → Option (List ℕ)) (text : Option (List ℕ)) (before : List Cells)
     (tests : List Test) (expression : Expression) (skip : ℕ) (most : Option ℕ) (old new : Option (List ℕ))
-    (table : Table R) (found after : ℕ) (left : Option ℕ) : Type 0 where
+    (table : Table R) (questions : Questions) (found after : ℕ) (left : Option ℕ) : Type 0 where
   pub rows : List Answered
-  pub read : HasRead remaining text (before ++ map (λ row. row.0) rows) table
+  pub read : HasAsked remaining text (before ++ map (λ row. row.0) rows) table questions
   pub written : AreWritten tests expression skip most old new found rows
   pub now : after ≡ skip - found
   pub still : left ≡ option_map (λ n. n - length (windowed skip most (true_rows expression rows))) most
@@ -39,9 +40,9 @@ windowed_none skip (Some most) = ap (take most) (drop_all skip [] (omega arith))
 -- no row was read yet
 pub none_yet : {R : Type 0} (remaining : R → Option (List ℕ)) (text : Option (List ℕ)) (before : List Cells)
     (tests : List Test) (expression : Expression) (skip : ℕ) (most : Option ℕ) (known : Option (List ℕ))
-    (table : Table R) → HasRead remaining text before table →
-    HasFiltered remaining text before tests expression skip most known known table 0 skip most
-none_yet remaining text before tests expression skip most known table read =
+    (table : Table R) (questions : Questions) → HasAsked remaining text before table questions →
+    HasFiltered remaining text before tests expression skip most known known table questions 0 skip most
+none_yet remaining text before tests expression skip most known table questions read =
     let none = windowed_none skip most in record {
       rows = [];
       read = rw (append-nil before) read;
@@ -119,8 +120,8 @@ cells_after before rows block =
 
 module _ {R : Type 0} (remaining : R → Option (List ℕ)) (text : Option (List ℕ)) (before : List Cells)
     (tests : List Test) (expression : Expression) (skip : ℕ) (most : Option ℕ) (old now new : Option (List ℕ))
-    (table : Table R) (found after : ℕ) (left : Option ℕ)
-    (so : HasFiltered remaining text before tests expression skip most old now table found after left)
+    (table : Table R) (questions : Questions) (found after : ℕ) (left : Option ℕ)
+    (so : HasFiltered remaining text before tests expression skip most old now table questions found after left)
     (block : List Answered) (answers : AnswerAll tests block) (kept sum : ℕ)
     (same : kept ≡ length (true_rows expression block)) (adds : sum ≡ found + kept)
     (wrote : Appends now new (rows_text (windowed after left (true_rows expression block)))) where
@@ -130,12 +131,12 @@ module _ {R : Type 0} (remaining : R → Option (List ℕ)) (text : Option (List
       so.still answers wrote kept same)
 
   -- rows may come after the block
-  pub more_filtered : (written next : ℕ) (rest : Option ℕ) (last : Table R) →
+  pub more_filtered : (written next : ℕ) (rest : Option ℕ) (last : Table R) (asked : Questions) →
       written ≡ length (windowed after left (true_rows expression block)) → next ≡ after - kept →
       rest ≡ option_map (λ n. n - written) left →
-      HasRead remaining text ((before ++ map (λ row. row.0) so.rows) ++ map (λ row. row.0) block) last →
-      HasFiltered remaining text before tests expression skip most old new last sum next rest
-  more_filtered written next rest last many past smaller read = record {
+      HasAsked remaining text ((before ++ map (λ row. row.0) so.rows) ++ map (λ row. row.0) block) last asked →
+      HasFiltered remaining text before tests expression skip most old new last asked sum next rest
+  more_filtered written next rest last asked many past smaller read = record {
     rows = so.rows ++ block;
     read = rw (cells_after before so.rows block) read;
     written = all_written;
@@ -154,13 +155,12 @@ module _ {R : Type 0} (remaining : R → Option (List ℕ)) (text : Option (List
   }
 
   -- or a fault
-  pub first_filtered : (fault : FilterFault) → IsRowFault fault
-      × AreFirstRows text ((before ++ map (λ row. row.0) so.rows) ++ map (λ row. row.0) block) →
+  pub first_filtered : (fault : FilterFault) →
+      IsRowFault text ((before ++ map (λ row. row.0) so.rows) ++ map (λ row. row.0) block) tests fault →
       sum < 2 ^ 64 → WritesWindow text before tests expression skip most old new fault
-  first_filtered fault first less = record {
-    fault_is = first.0;
+  first_filtered fault is less = record {
     rows = so.rows ++ block;
-    first = rw (cells_after before so.rows block) first.1;
+    fault_is = rw (cells_after before so.rows block) is;
     answers = all_written.answers;
     wrote = all_written.wrote;
     few = rw all_written.count at less;
@@ -168,15 +168,15 @@ module _ {R : Type 0} (remaining : R → Option (List ℕ)) (text : Option (List
 
 -- what comes after a block
 module _ {R : Type 0} (remaining : R → Option (List ℕ)) (text : Option (List ℕ)) (rows : List Cells) (table : Table R)
-    (next : Next) (follows : Follows remaining text rows table next) where
-  pub then_rows : next ≡ Rows → HasRead remaining text rows table
-  then_rows same = subst (λ n. Follows remaining text rows table n) same follows
+    (questions : Questions) (next : Next) (follows : Follows remaining text rows table questions next) where
+  pub then_rows : next ≡ Rows → HasAsked remaining text rows table questions
+  then_rows same = subst (λ n. Follows remaining text rows table questions n) same follows
 
   pub then_none : next ≡ End → AreAllRows text rows
-  then_none same = subst (λ n. Follows remaining text rows table n) same follows
+  then_none same = subst (λ n. Follows remaining text rows table questions n) same follows
 
-  pub then_fault : (fault : FilterFault) → next ≡ Fault fault → IsRowFault fault × AreFirstRows text rows
-  then_fault fault same = subst (λ n. Follows remaining text rows table n) same follows
+  pub then_fault : (fault : FilterFault) → next ≡ Fault fault → IsRowFault text rows questions.tests.items fault
+  then_fault fault same = subst (λ n. Follows remaining text rows table questions n) same follows
 
 -- the header and the rows of a window are what is shown
 pub shown_all : (text : Option (List ℕ)) (header : Cells) (tests : List Test) (expression : Expression) (shows : Shows)
@@ -199,9 +199,8 @@ pub shown_first : (text : Option (List ℕ)) (header : Cells) (tests : List Test
     Appends old now (heading shows header) → WritesWindow text (header ∷ []) tests expression skip most now new fault →
     WritesShown text header tests expression shows old new fault
 shown_first text header tests expression shows skip most old now new fault window head is = record {
-  fault_is = is.fault_is;
   rows = is.rows;
-  first = is.first;
+  fault_is = is.fault_is;
   answers = is.answers;
   wrote = Appends-both old now new _ _ head (rw (window (true_rows expression is.rows) is.few) at is.wrote);
 }

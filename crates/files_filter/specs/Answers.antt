@@ -44,7 +44,7 @@ AnswersKind (Missing true) cell cells answer = answer ≡ Some (length cell == 0
 AnswersKind (Missing false) cell cells answer = answer ≡ Some (not (length cell == 0))
 AnswersKind (Compared relation other) [] cells answer = answer ≡ None
 AnswersKind (Compared relation (Text text)) (byte ∷ bytes) cells answer =
-    answer ≡ Some (holds relation (slice_cmp nat_cmp (byte ∷ bytes) text.now))
+    answer ≡ Some (holds relation (slice_cmp nat_cmp (byte ∷ bytes) text.text.now))
 AnswersKind (Compared relation (Number number)) (byte ∷ bytes) cells answer =
     (order : Ordering) × IsOrderWith (byte ∷ bytes) number order × (answer ≡ Some (holds relation order))
 AnswersKind (Compared relation (Column place)) (byte ∷ bytes) cells answer =

@@ -1,5 +1,5 @@
 -- Why a filter fails, and what it has written then.
-use Rattle.std.specs.Prelude.{◌≡◌, ◌⊎◌, ◌++◌, ◌∷◌, ◌<◌, ◌^◌, ℕ, List, [], Option, codes, length, map, ⊤}
+use Rattle.std.specs.Prelude.{◌≡◌, ◌⊎◌, ◌++◌, ◌∷◌, ◌<◌, ◌^◌, ℕ, List, [], Option, length, map}
 use Rattle.std.specs.Io.KnownBytes.{Appends, Keeps}
 use Rattle.vob_filter.specs.declared.filter.Expression.{Expression}
 use Rattle.files_condition.specs.declared.condition.Comparison.{Comparison}
@@ -7,16 +7,16 @@ use Rattle.files_condition.specs.declared.fault.ConditionFault.{ConditionFault}
 use Rattle.files_condition.specs.declared.fault.ConditionFault.TheVariants as condition
 use Rattle.files_condition.specs.Conditions.{IsCondition, test_of, tree_of}
 use Rattle.files_condition.specs.Places.{IsConditionFault}
-use Rattle.files_text.specs.declared.fault.Fault.TheVariants.{Memory, Output}
+use Rattle.files_text.specs.declared.fault.Fault.TheVariants.{Memory}
 use Rattle.files_filter.specs.Blocks.{AnswerAll}
-use Rattle.files_filter.specs.Columns.{AreTests, IsNoColumn}
+use Rattle.files_filter.specs.Columns.{AreNames, AreTests, IsNoColumn}
 use Rattle.files_filter.specs.Filtered.{heading}
 use Rattle.files_filter.specs.RowFaults.{IsColumnFault, IsHeaderFault, IsOutputFault, IsRowFault}
 use Rattle.files_filter.specs.FilterText.{Answered, rows_text, shown, true_rows, windowed}
 use Rattle.files_filter.specs.Reading.{AreFirstRows, Cells}
 use Rattle.files_filter.specs.declared.comparing.Test.{Test}
 use Rattle.files_filter.specs.declared.fault.FilterFault.{FilterFault}
-use Rattle.files_filter.specs.declared.fault.FilterFault.TheVariants.{Cell, Column, Columns, Condition, Row, Text, Twice}
+use Rattle.files_filter.specs.declared.fault.FilterFault.TheVariants.{Condition, Text}
 use Rattle.files_filter.specs.declared.filter.Shows.{Shows}
 
 -- a comparison asks about a name that no column has, and those before it don't
@@ -36,13 +36,12 @@ pub record IsUnknown (text : Option (List ℕ)) (comparisons : List Comparison) 
   pub first : AreFirstRows text (header ∷ [])
   pub asks : AsksInVain header comparisons fault
 
--- of the rows of a text after some, those up to a fault are read; in a window those are written of which a condition is
+-- rows of a text after some are read, and then there is a fault; in a window those are written of which a condition is
 -- true by its tests. Their number fits a usize
 pub record WritesWindow (text : Option (List ℕ)) (before : List Cells) (tests : List Test) (expression : Expression)
     (skip : ℕ) (most : Option ℕ) (old new : Option (List ℕ)) (fault : FilterFault) : Type 0 where
-  pub fault_is : IsRowFault fault
   pub rows : List Answered
-  pub first : AreFirstRows text (before ++ map (λ row. row.0) rows)
+  pub fault_is : IsRowFault text (before ++ map (λ row. row.0) rows) tests fault
   pub answers : AnswerAll tests rows
   pub wrote : Appends old new (rows_text (windowed skip most (true_rows expression rows)))
   pub few : length (true_rows expression rows) < 2 ^ 64
@@ -50,9 +49,8 @@ pub record WritesWindow (text : Option (List ℕ)) (before : List Cells) (tests 
 -- so are those below its header
 pub record WritesShown (text : Option (List ℕ)) (header : Cells) (tests : List Test) (expression : Expression)
     (shows : Shows) (old new : Option (List ℕ)) (fault : FilterFault) : Type 0 where
-  pub fault_is : IsRowFault fault
   pub rows : List Answered
-  pub first : AreFirstRows text (header ∷ map (λ row. row.0) rows)
+  pub fault_is : IsRowFault text (header ∷ map (λ row. row.0) rows) tests fault
   pub answers : AnswerAll tests rows
   pub wrote : Appends old new (heading shows header ++ rows_text (shown shows (true_rows expression rows)))
 
@@ -61,6 +59,7 @@ pub record WritesFirst (text : Option (List ℕ)) (comparisons : List Comparison
     (old new : Option (List ℕ)) (fault : FilterFault) : Type 0 where
   pub header : Cells
   pub tests : List Test
+  pub names : AreNames header
   pub tests_are : AreTests header comparisons tests
   pub written : WritesShown text header tests expression shows old new fault
 
@@ -68,7 +67,7 @@ pub record WritesFirst (text : Option (List ℕ)) (comparisons : List Comparison
 abbrev pub Fails : Option (List ℕ) → List Comparison → Expression → Shows → (old new : Option (List ℕ)) → FilterFault →
     Type 0
 Fails text comparisons expression shows old new fault =
-    ((IsHeaderFault fault ⊎ IsUnknown text comparisons fault) × Keeps old new)
+    ((IsHeaderFault text fault ⊎ IsUnknown text comparisons fault) × Keeps old new)
     ⊎ WritesFirst text comparisons expression shows old new fault
 
 -- a condition's fault, as a filter's

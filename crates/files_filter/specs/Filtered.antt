@@ -7,7 +7,7 @@ use Rattle.files_condition.specs.declared.condition.Comparison.{Comparison}
 use Rattle.files_condition.specs.Conditions.{IsCondition, test_of, tree_of}
 use Rattle.files_text.specs.Printed.{line_end}
 use Rattle.files_filter.specs.Blocks.{AnswerAll}
-use Rattle.files_filter.specs.Columns.{AreTests}
+use Rattle.files_filter.specs.Columns.{AreNames, AreTests}
 use Rattle.files_filter.specs.FilterText.{Answered, row_line, rows_text, shown, true_rows, windowed}
 use Rattle.files_filter.specs.Reading.{AreAllRows, Cells}
 use Rattle.files_filter.specs.declared.comparing.Test.{Test}
@@ -65,6 +65,7 @@ pub record Filters (text : Option (List ℕ)) (comparisons : List Comparison) (e
   pub header : Cells
   pub tests : List Test
   pub rows : List Answered
+  pub names : AreNames header
   pub tests_are : AreTests header comparisons tests
   pub all : AreAllRows text (header ∷ map (λ row. row.0) rows)
   pub answers : AnswerAll tests rows

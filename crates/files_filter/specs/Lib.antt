@@ -1,8 +1,10 @@
-pub mod RowFaults
 pub mod FilterText
 pub mod Reading
 pub mod Answers
 pub mod Columns
+pub mod Refusals
+pub mod Watching
+pub mod RowFaults
 pub mod Blocks
 pub mod Written
 pub mod Filtered

@@ -4,10 +4,10 @@ ghost use Rattle.csv.specs.Records.{fields_of};
 ghost use Rattle.vob_filter.specs.Columns.{row_at, value_at};
 ghost use Rattle.vob_filter.specs.Filter.{AreRows};
 ghost use Rattle.files_filter.specs.Answers.{AreAnswers};
-ghost use Rattle.files_filter.specs.Blocks.{AnswerAll, ReadsBlock, ReadsRow, answers_at};
+ghost use Rattle.files_filter.specs.Blocks.{AnswerAll, AsksBlock, AsksRow, HasAsked, answers_at};
 ghost use Rattle.files_filter.specs.FilterText.{answered};
 ghost use Rattle.files_filter.specs.RowFaults.{IsRowFault};
-ghost use Rattle.files_filter.specs.Reading.{Cells, HasRead};
+ghost use Rattle.files_filter.specs.Reading.{Cells};
 
 use crate::fault::FilterFault;
 use crate::questions::Questions;
@@ -78,9 +78,11 @@ fn next_row<R: Read + Drop>(
     ensures answers { IfOk result (λ next. IfSome next (λ row.
         AreAnswers questions.old.tests.items (fields_of row.cells) row.answers.items)) }
     ensures row { IfOk result (λ next. (text : Option (List ℕ)) (rows : List Cells) →
-        HasRead R.remaining text rows table.old →
-        ReadsRow R.remaining text rows table.new next) }
-    ensures err { IfErr result IsRowFault }
+        HasAsked R.remaining text rows table.old questions.old →
+        AsksRow R.remaining text rows table.new questions.new next) }
+    ensures err { IfErr result (λ fault. (text : Option (List ℕ)) (rows : List Cells) →
+        HasAsked R.remaining text rows table.old questions.old →
+        IsRowFault text rows questions.old.tests.items fault) }
 {
     let mut row = Row::from_spare(alloc, spare);
     if !table.next(&mut row.cells)? {
@@ -102,8 +104,8 @@ pub fn read_block<R: Read + Drop>(
     ensures answers { IfOk result (λ block.
         AnswerAll questions.old.tests.items (map answered block.rows.items)) }
     ensures rows { IfOk result (λ block. (text : Option (List ℕ)) (rows : List Cells) →
-        HasRead R.remaining text rows table.old →
-        ReadsBlock R.remaining text rows table.new block) }
+        HasAsked R.remaining text rows table.old questions.old →
+        AsksBlock R.remaining text rows table.new questions.new block) }
 {
     let mut rows = Vec::new(alloc);
     let mut bytes: usize = 0;

@@ -1,9 +1,11 @@
 //! What a condition asks of each row of a table.
-ghost use Rattle.std.specs.Prelude.{◌≡◌, ◌⊎◌, IfErr, IfNone, IfOk, IfSome};
+ghost use Rattle.std.specs.Prelude.{◌≡◌, ◌≢◌, ◌⊎◌, ◌++◌, ◌∷◌, [], ℕ, IfErr, IfNone, IfOk, IfSome, List, Option};
 ghost use Rattle.csv.specs.Records.{fields_of};
 ghost use Rattle.files_filter.specs.Answers.{Answers, AnswersBoth, IsNumeric, IsOrder, IsOrderWith, cell_at};
 ghost use Rattle.files_filter.specs.Columns.{IsNoColumn, IsOther, IsTest};
-ghost use Rattle.files_filter.specs.RowFaults.{IsColumnFault, IsOutputFault, IsRowFault};
+ghost use Rattle.files_filter.specs.Reading.{Cells};
+ghost use Rattle.files_filter.specs.Refusals.{IsMemory, Refuses};
+ghost use Rattle.files_filter.specs.RowFaults.{IsColumnFault, IsOutputFault};
 
 use crate::fault::FilterFault;
 use crate::table::Table;
@@ -16,7 +18,7 @@ use std::io::Read;
 /// What a cell is compared with.
 #[derive(Drop)]
 pub enum Other<'a> {
-    Text(&'a [u8]),
+    Text(Operand<'a>),
     Number(Number<'a>),
     // The cell in the column at a place.
     Column(usize),
@@ -39,17 +41,17 @@ pub struct Test<'a> {
 /// Returns what a value of a condition is. A quoted one is a text. Another is the column of that
 /// name, or else a number if it reads as one, or else a text.
 fn other_of<'a, R: Read + Drop>(table: &Table<R>, value: &Operand<'a>) -> Other<'a>
-    ensures { IsOther (fields_of table.now.header) value.now.text.now value.now.is_quoted result }
+    ensures { IsOther (fields_of table.now.header) value.now value.now.is_quoted result }
 {
     if value.is_quoted {
-        return Other::Text(value.text);
+        return Other::Text(*value);
     }
     if let Some(place) = table.place(value.text) {
         return Other::Column(place);
     }
     match Number::of(value.text) {
         Some(number) => Other::Number(number),
-        None => Other::Text(value.text),
+        None => Other::Text(*value),
     }
 }
 
@@ -102,7 +104,9 @@ impl<'a> Test<'a> {
         row: &ByteRecord,
     ) -> Result<Option<bool>, FilterFault>
         ensures ok { IfOk result (λ answer. Answers self.now (fields_of row.now) answer) }
-        ensures err { IfErr result IsRowFault }
+        ensures err { IfErr result (λ fault. IsMemory fault ⊎ ((text : Option (List ℕ))
+            (rows : List Cells) → Refuses text (fields_of table.now.header)
+            (rows ++ fields_of row.now ∷ []) self.now fault)) }
     {
         let first = cell(row, self.place);
         match &self.kind {
@@ -110,7 +114,7 @@ impl<'a> Test<'a> {
             Kind::Missing(false) => Ok(Some(!first.is_empty())),
             Kind::Compared(_, _) if first.is_empty() => Ok(None),
             Kind::Compared(relation, Other::Text(text)) => {
-                Ok(Some(relation.holds(first.cmp(text))))
+                Ok(Some(relation.holds(first.cmp(text.text))))
             }
             Kind::Compared(relation, Other::Number(number)) => match order_with(first, number) {
                 Some(order) => Ok(Some(relation.holds(order))),
@@ -131,9 +135,13 @@ impl<'a> Test<'a> {
         relation: Relation,
         place: usize,
     ) -> Result<Option<bool>, FilterFault>
+        requires kind { self.now.kind ≡ Kind.Compared relation (Other.Column place) }
+        requires some { cell_at (fields_of row.now) self.now.place ≢ [] }
         ensures ok { IfOk result (AnswersBoth relation (cell_at (fields_of row.now) self.now.place)
             (cell_at (fields_of row.now) place)) }
-        ensures err { IfErr result IsRowFault }
+        ensures err { IfErr result (λ fault. IsMemory fault ⊎ ((text : Option (List ℕ))
+            (rows : List Cells) → Refuses text (fields_of table.now.header)
+            (rows ++ fields_of row.now ∷ []) self.now fault)) }
     {
         if cell(row, place).is_empty() {
             return Ok(None);
@@ -152,9 +160,14 @@ impl<'a> Test<'a> {
         relation: Relation,
         place: usize,
     ) -> Result<Ordering, FilterFault>
+        requires kind { self.now.kind ≡ Kind.Compared relation (Other.Column place) }
+        requires first { cell_at (fields_of row.now) self.now.place ≢ [] }
+        requires second { cell_at (fields_of row.now) place ≢ [] }
         ensures ok { IfOk result (IsOrder (cell_at (fields_of row.now) self.now.place)
             (cell_at (fields_of row.now) place)) }
-        ensures err { IfErr result IsRowFault }
+        ensures err { IfErr result (λ fault. IsMemory fault ⊎ ((text : Option (List ℕ))
+            (rows : List Cells) → Refuses text (fields_of table.now.header)
+            (rows ++ fields_of row.now ∷ []) self.now fault)) }
     {
         let (first, second) = (cell(row, self.place), cell(row, place));
         match (Number::of(first), Number::of(second)) {

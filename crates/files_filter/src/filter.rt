@@ -9,7 +9,8 @@ ghost use Rattle.files_filter.specs.RowFaults.{IsOutputFault};
 ghost use Rattle.files_filter.specs.Filtered.{Filters, FiltersBy, IsFiltered, IsShown, count_line, heading, status_of};
 ghost use Rattle.files_filter.specs.FilterText.{IsReady, answered, row_line, rows_text, shown, true_rows, windowed};
 ghost use Rattle.files_text.specs.Printed.{members};
-ghost use Rattle.files_filter.specs.Reading.{Cells, HasRead};
+ghost use Rattle.files_filter.specs.Blocks.{HasAsked};
+ghost use Rattle.files_filter.specs.Reading.{Cells};
 ghost use Rattle.files_filter.specs.Written.{cells_of};
 
 use crate::block::{Block, Next, Row, columns_of, read_block};
@@ -200,12 +201,12 @@ fn put_true_rows<R: Read + Drop, W: Write>(
     output: &mut W,
 ) -> Result<usize, FilterFault>
     ensures ok { IfOk result (λ count. (text : Option (List ℕ)) (rows : List Cells) →
-        HasRead R.remaining text rows table.old →
+        HasAsked R.remaining text rows table.old questions.old →
         IsFiltered text rows questions.old.tests.items expression.now window.skip window.most
         (W.contents output.old) (W.contents output.new) count) }
     ensures err { IfErr result (λ fault. IsOutputFault fault ⊎ ((text : Option (List ℕ))
-        (rows : List Cells) → HasRead R.remaining text rows table.old → WritesWindow text rows
-        questions.old.tests.items expression.now window.skip window.most
+        (rows : List Cells) → HasAsked R.remaining text rows table.old questions.old →
+        WritesWindow text rows questions.old.tests.items expression.now window.skip window.most
         (W.contents output.old) (W.contents output.new) fault)) }
 {
     let width = questions.len();
@@ -240,11 +241,11 @@ fn put_shown<R: Read + Drop, W: Write>(
     output: &mut W,
 ) -> Result<usize, FilterFault>
     ensures ok { IfOk result (λ count. (text : Option (List ℕ)) →
-        HasRead R.remaining text (fields_of table.old.header ∷ []) table.old →
+        HasAsked R.remaining text (fields_of table.old.header ∷ []) table.old questions.old →
         IsShown text (fields_of table.old.header) questions.old.tests.items expression.now shows
         (W.contents output.old) (W.contents output.new) count) }
     ensures err { IfErr result (λ fault. IsOutputFault fault ⊎ ((text : Option (List ℕ)) →
-        HasRead R.remaining text (fields_of table.old.header ∷ []) table.old →
+        HasAsked R.remaining text (fields_of table.old.header ∷ []) table.old questions.old →
         WritesShown text (fields_of table.old.header) questions.old.tests.items expression.now shows
         (W.contents output.old) (W.contents output.new) fault)) }
 {

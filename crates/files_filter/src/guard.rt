@@ -1,13 +1,16 @@
 //! Comparisons that can't be meant: of numbers with texts.
-ghost use Rattle.std.specs.Prelude.{IfErr};
-ghost use Rattle.files_filter.specs.RowFaults.{IsRowFault};
+ghost use Rattle.std.specs.Prelude.{◌≡◌, ◌⊎◌, ◌++◌, ◌∷◌, [], ℕ, IfErr, IfSome, List, OnOk, Option};
+ghost use Rattle.csv.specs.Records.{fields_of};
+ghost use Rattle.files_filter.specs.Reading.{AreAllRows, Cells};
+ghost use Rattle.files_filter.specs.Refusals.{IsMemory, IsMisread, Refuses};
+ghost use Rattle.files_filter.specs.Watching.{Watches};
 
 use crate::comparing::{Kind, Other, Test, cell};
 use crate::fault::{FilterFault, WrongCell};
 use crate::table::Table;
 use csv::ByteRecord;
-use files_condition::{Comparison, Number, Question};
-use std::alloc::Global;
+use files_condition::Number;
+use std::alloc::{AllocError, Global};
 use std::io::Read;
 
 /// A comparison with a text without quotes, and what the cells of its column are so far. It is
@@ -25,7 +28,7 @@ pub struct TextGuard {
 impl TextGuard {
     /// Returns the fault of a text that is compared with numbers.
     fn fault(&self) -> FilterFault
-        ensures { IsRowFault result }
+        ensures { IsMisread result self.now.at }
     {
         FilterFault::Condition {
             column: self.at,
@@ -35,7 +38,12 @@ impl TextGuard {
 
     /// Looks at the next row.
     fn look(&mut self, row: &ByteRecord) -> Result<(), FilterFault>
-        ensures { IfErr result IsRowFault }
+        ensures ok { OnOk result ((header : Cells) (rows : List Cells) (test : Test) →
+            Watches header rows test (Guard.Text self.old) →
+            Watches header (rows ++ fields_of row.now ∷ []) test (Guard.Text self.new)) }
+        ensures err { IfErr result (λ fault. (text : Option (List ℕ)) (header : Cells)
+            (rows : List Cells) (test : Test) → Watches header rows test (Guard.Text self.old) →
+            Refuses text header (rows ++ fields_of row.now ∷ []) test fault) }
     {
         let cell = cell(row, self.place);
         if cell.is_empty() {
@@ -43,12 +51,28 @@ impl TextGuard {
         }
         if Number::of(cell).is_none() {
             self.have_texts = true;
-        } else if self.is_order {
-            return Err(self.fault());
-        } else {
-            self.have_numbers = true;
+            return Ok(());
         }
+        if self.is_order {
+            return Err(self.fault());
+        }
+        self.have_numbers = true;
         Ok(())
+    }
+
+    /// Fails at the end of a table if all cells that were compared are numbers.
+    fn finish(&self) -> Result<(), FilterFault>
+        ensures { IfErr result (λ fault. (text : Option (List ℕ)) (header : Cells)
+            (rows : List Cells) (test : Test) → Watches header rows test (Guard.Text self.now) →
+            AreAllRows text (header ∷ rows) → Refuses text header rows test fault) }
+    {
+        if !self.have_numbers {
+            return Ok(());
+        }
+        if self.have_texts {
+            return Ok(());
+        }
+        Err(self.fault())
     }
 }
 
@@ -64,6 +88,54 @@ pub struct ColumnsGuard {
 }
 
 impl ColumnsGuard {
+    /// Sees what the next row compares, the last one that was read.
+    fn see<R: Read + Drop>(
+        &mut self,
+        alloc: Global,
+        table: &Table<R>,
+        row: &ByteRecord,
+    ) -> Result<(), AllocError>
+        ensures { OnOk result ((rows : List Cells) (test : Test) →
+            Watches (fields_of table.now.header) rows test (Guard.Columns self.old) →
+            Watches (fields_of table.now.header) (rows ++ fields_of row.now ∷ []) test
+            (Guard.Columns self.new)) }
+    {
+        let first = cell(row, self.place);
+        if first.is_empty() {
+            return Ok(());
+        }
+        if cell(row, self.other).is_empty() {
+            return Ok(());
+        }
+        if Number::of(first).is_some() {
+            self.have_numbers = true;
+            return Ok(());
+        }
+        if self.text.is_some() {
+            return Ok(());
+        }
+        self.text = Some(table.wrong_cell(alloc, row, self.place)?);
+        Ok(())
+    }
+
+    /// Fails at the first text if numbers are compared too.
+    fn judge(&mut self) -> Result<(), FilterFault>
+        ensures ok { OnOk result ((header : Cells) (rows : List Cells) (test : Test) →
+            Watches header rows test (Guard.Columns self.old) →
+            Watches header rows test (Guard.Columns self.new)) }
+        ensures err { IfErr result (λ fault. (text : Option (List ℕ)) (header : Cells)
+            (rows : List Cells) (test : Test) → Watches header rows test (Guard.Columns self.old) →
+            Refuses text header rows test fault) }
+    {
+        if !self.have_numbers {
+            return Ok(());
+        }
+        match self.text.take() {
+            Some(cell) => Err(FilterFault::Cell(cell)),
+            None => Ok(()),
+        }
+    }
+
     /// Looks at the next row, the last one that was read.
     fn look<R: Read + Drop>(
         &mut self,
@@ -71,24 +143,18 @@ impl ColumnsGuard {
         table: &Table<R>,
         row: &ByteRecord,
     ) -> Result<(), FilterFault>
-        ensures { IfErr result IsRowFault }
+        ensures ok { OnOk result ((rows : List Cells) (test : Test) →
+            Watches (fields_of table.now.header) rows test (Guard.Columns self.old) →
+            Watches (fields_of table.now.header) (rows ++ fields_of row.now ∷ []) test
+            (Guard.Columns self.new)) }
+        ensures err { IfErr result (λ fault. IsMemory fault ⊎ ((text : Option (List ℕ))
+            (rows : List Cells) (test : Test) →
+            Watches (fields_of table.now.header) rows test (Guard.Columns self.old) →
+            Refuses text (fields_of table.now.header) (rows ++ fields_of row.now ∷ []) test
+            fault)) }
     {
-        let first = cell(row, self.place);
-        if first.is_empty() || cell(row, self.other).is_empty() {
-            return Ok(());
-        }
-        if Number::of(first).is_some() {
-            self.have_numbers = true;
-        } else if self.text.is_none() {
-            self.text = Some(table.wrong_cell(alloc, row, self.place)?);
-        }
-        match self.text.take() {
-            Some(cell) if self.have_numbers => Err(FilterFault::Cell(cell)),
-            cell => {
-                self.text = cell;
-                Ok(())
-            }
-        }
+        self.see(alloc, table, row)?;
+        self.judge()
     }
 }
 
@@ -101,21 +167,20 @@ pub enum Guard {
 
 impl Guard {
     /// Makes the guard of a comparison, if it needs one.
-    pub fn new(comparison: &Comparison<'_>, test: &Test<'_>) -> Option<Guard> {
-        let Question::Compared(relation, value) = &comparison.question else {
-            return None;
-        };
+    pub fn new(test: &Test<'_>) -> Option<Guard>
+        ensures { IfSome result (λ guard. (header : Cells) → Watches header [] test.now guard) }
+    {
         match &test.kind {
-            Kind::Compared(_, Other::Text(_)) if !value.is_quoted => {
+            Kind::Compared(relation, Other::Text(text)) if !text.is_quoted => {
                 Some(Guard::Text(TextGuard {
                     place: test.place,
-                    at: value.at,
+                    at: text.at,
                     is_order: relation.is_order(),
                     have_numbers: false,
                     have_texts: false,
                 }))
             }
-            Kind::Compared(_, Other::Column(other)) if relation.is_order() => {
+            Kind::Compared(relation, Other::Column(other)) if relation.is_order() => {
                 Some(Guard::Columns(ColumnsGuard {
                     place: test.place,
                     other: *other,
@@ -134,7 +199,14 @@ impl Guard {
         table: &Table<R>,
         row: &ByteRecord,
     ) -> Result<(), FilterFault>
-        ensures { IfErr result IsRowFault }
+        ensures ok { OnOk result ((rows : List Cells) (test : Test) →
+            Watches (fields_of table.now.header) rows test self.old →
+            Watches (fields_of table.now.header) (rows ++ fields_of row.now ∷ []) test self.new) }
+        ensures err { IfErr result (λ fault. IsMemory fault ⊎ ((text : Option (List ℕ))
+            (rows : List Cells) (test : Test) →
+            Watches (fields_of table.now.header) rows test self.old →
+            Refuses text (fields_of table.now.header) (rows ++ fields_of row.now ∷ []) test
+            fault)) }
     {
         match self {
             Guard::Text(guard) => guard.look(row),
@@ -144,11 +216,13 @@ impl Guard {
 
     /// Fails at the end of a table if all cells that were compared with a text are numbers.
     pub fn finish(&self) -> Result<(), FilterFault>
-        ensures { IfErr result IsRowFault }
+        ensures { IfErr result (λ fault. (text : Option (List ℕ)) (header : Cells)
+            (rows : List Cells) (test : Test) → Watches header rows test self.now →
+            AreAllRows text (header ∷ rows) → Refuses text header rows test fault) }
     {
         match self {
-            Guard::Text(guard) if guard.have_numbers && !guard.have_texts => Err(guard.fault()),
-            _ => Ok(()),
+            Guard::Text(guard) => guard.finish(),
+            Guard::Columns(_) => Ok(()),
         }
     }
 }

@@ -1,10 +1,14 @@
 //! The questions of a condition on the rows of a table.
-ghost use Rattle.std.specs.Prelude.{◌≡◌, ◌⊎◌, length, IfErr, IfOk, OnOk};
+ghost use Rattle.std.specs.Prelude.{◌≡◌, ◌⊎◌, ◌++◌, ◌∷◌, [], ℕ, All, IfErr, IfOk, List, OnOk, Option, length};
+ghost use Rattle.std.specs.List.{Any};
 ghost use Rattle.csv.specs.Records.{fields_of};
 ghost use Rattle.files_filter.specs.Answers.{AreAnswers};
 ghost use Rattle.files_filter.specs.Columns.{AreTests};
 ghost use Rattle.files_filter.specs.FilterFaults.{AsksInVain};
-ghost use Rattle.files_filter.specs.RowFaults.{IsOutputFault, IsRowFault};
+ghost use Rattle.files_filter.specs.Reading.{AreAllRows, Cells};
+ghost use Rattle.files_filter.specs.Refusals.{IsMemory, RefusesBy};
+ghost use Rattle.files_filter.specs.RowFaults.{IsOutputFault};
+ghost use Rattle.files_filter.specs.Watching.{IsWatched};
 
 use crate::comparing::Test;
 use crate::fault::FilterFault;
@@ -31,7 +35,9 @@ fn set_answers<R: Read + Drop>(
     answers: &mut Vec<Option<bool>>,
 ) -> Result<(), FilterFault>
     ensures ok { OnOk result (AreAnswers tests.now (fields_of row.now) answers.new.items) }
-    ensures err { IfErr result IsRowFault }
+    ensures err { IfErr result (λ fault. IsMemory fault ⊎ ((text : Option (List ℕ))
+        (rows : List Cells) → RefusesBy text (fields_of table.now.header)
+        (rows ++ fields_of row.now ∷ []) tests.now fault)) }
 {
     answers.clear();
     for test in tests {
@@ -57,19 +63,52 @@ fn tests_of<'a, R: Read + Drop>(
     Ok(tests)
 }
 
-/// Returns the guards of comparisons.
-fn guards_of(
-    alloc: Global,
-    comparisons: &[Comparison<'_>],
-    tests: &[Test<'_>],
-) -> Result<Vec<Guard>, AllocError> {
+/// Adds the guard of a test, if it needs one.
+fn add_guard(guards: &mut Vec<Guard>, test: &Test<'_>) -> Result<(), AllocError>
+    ensures { OnOk result ((header : Cells) (tests : List Test) → Any (λ own. own ≡ test.now) tests →
+        All (IsWatched header [] tests) guards.old.items →
+        All (IsWatched header [] tests) guards.new.items) }
+{
+    let Some(guard) = Guard::new(test) else {
+        return Ok(());
+    };
+    guards.push(guard)?;
+    Ok(())
+}
+
+/// Returns the guards of tests.
+fn guards_of(alloc: Global, tests: &[Test<'_>]) -> Result<Vec<Guard>, AllocError>
+    ensures { IfOk result (λ guards. (header : Cells) →
+        All (IsWatched header [] tests.now) guards.items) }
+{
     let mut guards = Vec::new(alloc);
-    for (comparison, test) in comparisons.iter().zip(tests) {
-        if let Some(guard) = Guard::new(comparison, test) {
-            guards.push(guard)?;
-        }
+    for test in tests {
+        add_guard(&mut guards, test)?;
     }
     Ok(guards)
+}
+
+/// Has each guard look at the next row, the last one that was read.
+fn look<R: Read + Drop>(
+    alloc: Global,
+    guards: &mut [Guard],
+    table: &Table<R>,
+    row: &ByteRecord,
+) -> Result<(), FilterFault>
+    ensures ok { OnOk result ((rows : List Cells) (tests : List Test) →
+        All (IsWatched (fields_of table.now.header) rows tests) guards.old →
+        All (IsWatched (fields_of table.now.header) (rows ++ fields_of row.now ∷ []) tests)
+        guards.new) }
+    ensures err { IfErr result (λ fault. IsMemory fault ⊎ ((text : Option (List ℕ))
+        (rows : List Cells) (tests : List Test) →
+        All (IsWatched (fields_of table.now.header) rows tests) guards.old →
+        RefusesBy text (fields_of table.now.header) (rows ++ fields_of row.now ∷ []) tests
+        fault)) }
+{
+    for guard in guards.iter_mut() {
+        guard.look(alloc, table, row)?;
+    }
+    Ok(())
 }
 
 impl<'a> Questions<'a> {
@@ -81,11 +120,13 @@ impl<'a> Questions<'a> {
     ) -> Result<Questions<'a>, FilterFault>
         ensures ok { IfOk result (λ questions. AreTests (fields_of table.now.header)
             condition.now.comparisons.items questions.tests.items) }
+        ensures watched { IfOk result (λ questions. (header : Cells) →
+            All (IsWatched header [] questions.tests.items) questions.guards.items) }
         ensures err { IfErr result (λ fault. IsOutputFault fault
             ⊎ AsksInVain (fields_of table.now.header) condition.now.comparisons.items fault) }
     {
         let tests = tests_of(alloc, table, &condition.comparisons)?;
-        let guards = guards_of(alloc, &condition.comparisons, &tests)?;
+        let guards = guards_of(alloc, &tests)?;
         Ok(Questions { tests, guards })
     }
 
@@ -108,17 +149,28 @@ impl<'a> Questions<'a> {
         ensures tests { self.new.tests ≡ self.old.tests }
         ensures answers { OnOk result
             (AreAnswers self.old.tests.items (fields_of row.now) answers.new.items) }
-        ensures err { IfErr result IsRowFault }
+        ensures watched { OnOk result ((rows : List Cells) →
+            All (IsWatched (fields_of table.now.header) rows self.old.tests.items)
+            self.old.guards.items →
+            All (IsWatched (fields_of table.now.header) (rows ++ fields_of row.now ∷ [])
+            self.old.tests.items) self.new.guards.items) }
+        ensures err { IfErr result (λ fault. IsMemory fault ⊎ ((text : Option (List ℕ))
+            (rows : List Cells) →
+            All (IsWatched (fields_of table.now.header) rows self.old.tests.items)
+            self.old.guards.items → RefusesBy text (fields_of table.now.header)
+            (rows ++ fields_of row.now ∷ []) self.old.tests.items fault)) }
     {
-        for guard in self.guards.iter_mut() {
-            guard.look(alloc, table, row)?;
-        }
+        look(alloc, &mut self.guards, table, row)?;
         set_answers(alloc, &self.tests, table, row, answers)
     }
 
     /// Fails at the end of a table if numbers alone were compared with a text.
     pub fn finish(&self) -> Result<(), FilterFault>
-        ensures { IfErr result IsRowFault }
+        ensures { IfErr result (λ fault. (text : Option (List ℕ)) (header : Cells)
+            (rows : List Cells) →
+            All (IsWatched header rows self.now.tests.items) self.now.guards.items →
+            AreAllRows text (header ∷ rows) →
+            RefusesBy text header rows self.now.tests.items fault) }
     {
         for guard in self.guards.iter() {
             guard.finish()?;

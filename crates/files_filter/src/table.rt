@@ -1,11 +1,15 @@
 //! Tables of CSV: a header, and rows of as many cells.
-ghost use Rattle.std.specs.Prelude.{◌≡◌, ◌↔◌, ◌∷◌, [], IfErr, IfNone, IfOk, IfSome, ℕ, List, Option, Some};
+ghost use Rattle.std.specs.Prelude.{◌≡◌, ◌↔◌, ◌⊎◌, ◌+◌, ◌<◌, ◌∷◌, [], IfErr, IfNone, IfOk, IfSome, OnOk, ℕ, List, Option, Some, length, string_bytes};
 ghost use Rattle.std.specs.Bool.{IsTrue};
+ghost use Rattle.csv.specs.Reading.{error_kind};
 ghost use Rattle.csv.specs.Records.{field_at, fields_of};
-ghost use Rattle.files_filter.specs.Columns.{IsColumn, IsNoColumn};
-ghost use Rattle.files_filter.specs.RowFaults.{IsColumnFault, IsHeaderFault, IsTextFault};
+ghost use Rattle.files_filter.specs.Columns.{AreNames, HoldNames, IsColumn, IsNoColumn, IsRepeated};
+ghost use Rattle.files_filter.specs.Answers.{cell_at};
+ghost use Rattle.files_filter.specs.Refusals.{IsMemory, IsShown};
+ghost use Rattle.files_filter.specs.RowFaults.{IsColumnFault, IsHeaderFault, IsLost, IsRepeatedAt, IsTextFault, IsTwiceIn};
 ghost use Rattle.files_filter.specs.Reading.{Cells, HasRead, ReadsNext};
 
+use crate::comparing::cell;
 use crate::fault::{FilterFault, WrongCell};
 use csv::{ByteRecord, ErrorKind, Position, Reader, ReaderBuilder};
 use files_condition::{Operand, is_word};
@@ -21,15 +25,18 @@ const MOST_NAMES: usize = 10;
 const MOST_BYTES: usize = 40;
 
 /// Returns a text as it stands in a condition: in quotes if it needs them. A long one is cut.
-fn shown(alloc: Global, text: &[u8]) -> Result<String, AllocError> {
-    let start = String::from_utf8_lossy(alloc, text.get(..MOST_BYTES).unwrap_or(text))?;
+fn shown(alloc: Global, text: &[u8]) -> Result<String, AllocError>
+    ensures { IfOk result (λ shown. IsShown text.now (string_bytes shown)) }
+{
     if text.len() > MOST_BYTES {
-        return format!(in alloc; "{:?} ..", start.as_str());
+        let start = text.get(..MOST_BYTES).unwrap_or_default();
+        return format!(in alloc; "{:?} ..", String::from_utf8_lossy(alloc, start)?.as_str());
     }
+    let whole = String::from_utf8_lossy(alloc, text)?;
     if is_word(text) {
-        return Ok(start);
+        return Ok(whole);
     }
-    format!(in alloc; "{:?}", start.as_str())
+    format!(in alloc; "{:?}", whole.as_str())
 }
 
 /// Returns the names of the first columns, with commas between.
@@ -56,20 +63,28 @@ pub struct Table<R> {
 }
 
 impl<R: Read + Drop> Table<R> {
-    /// Reads the header of a table. Fails if there is none, if two columns have one name, or if RFC
-    /// 4180 refuses a byte of it. Columns without a name may be many.
-    pub fn read(alloc: Global, input: R) -> Result<Table<R>, FilterFault>
-        ensures err { IfErr result IsHeaderFault }
-        ensures ok { IfOk result (λ table.
-            HasRead R.remaining (R.remaining input) (fields_of table.header ∷ []) table) }
+    /// Makes a table of which nothing was read.
+    fn new(alloc: Global, input: R) -> Table<R>
+        ensures { HasRead R.remaining (R.remaining input) [] result }
     {
         let reader = ReaderBuilder::new()
             .has_headers(false)
             .from_reader(alloc, WholeRows::new(alloc, input));
-        let mut table = Table {
+        Table {
             reader,
             header: ByteRecord::new(alloc),
-        };
+        }
+    }
+
+    /// Reads the header of a table. Fails if there is none, if two columns have one name, or if RFC
+    /// 4180 refuses a byte of it. Columns without a name may be many.
+    pub fn read(alloc: Global, input: R) -> Result<Table<R>, FilterFault>
+        ensures err { IfErr result (IsHeaderFault (R.remaining input)) }
+        ensures names { IfOk result (λ table. AreNames (fields_of table.header)) }
+        ensures ok { IfOk result (λ table.
+            HasRead R.remaining (R.remaining input) (fields_of table.header ∷ []) table) }
+    {
+        let mut table = Table::new(alloc, input);
         let mut header = ByteRecord::new(alloc);
         if !table.next(&mut header)? {
             return Err(FilterFault::Text(Fault::Line {
@@ -87,7 +102,8 @@ impl<R: Read + Drop> Table<R> {
     /// or at a row that has more cells than the header, or fewer.
     pub fn next(&mut self, row: &mut ByteRecord) -> Result<bool, FilterFault>
         ensures header { self.new.header ≡ self.old.header }
-        ensures err { IfErr result IsTextFault }
+        ensures err { IfErr result (λ fault. (text : Option (List ℕ)) (rows : List Cells) →
+            HasRead R.remaining text rows self.old → IsTextFault text rows fault) }
         ensures next { IfOk result (λ found. (text : Option (List ℕ)) (rows : List Cells) →
             HasRead R.remaining text rows self.old →
             ReadsNext R.remaining text rows self.new found (fields_of row.new)) }
@@ -100,7 +116,7 @@ impl<R: Read + Drop> Table<R> {
 
     /// Returns the fault of a row that can't be read.
     fn no_row(&self, error: csv::Error) -> FilterFault
-        ensures { IsTextFault result }
+        ensures { IsLost (error_kind error) result }
     {
         match error.into_kind() {
             ErrorKind::Io(error) => FilterFault::Text(self.no_text(error)),
@@ -162,24 +178,46 @@ impl<R: Read + Drop> Table<R> {
         None
     }
 
+    /// Adds the name of the column at a place to those before. Fails if it is one of them. An empty
+    /// one isn't added.
+    fn add_name<'a>(
+        &'a self,
+        alloc: Global,
+        names: &mut Names<'a>,
+        place: usize,
+    ) -> Result<(), FilterFault>
+        requires { place < length (fields_of self.now.header) }
+        ensures ok { HoldNames names.old (fields_of self.now.header) place → OnOk result
+            (HoldNames names.new (fields_of self.now.header) (place + 1)
+            × ¬ IsRepeated (fields_of self.now.header) place) }
+        ensures err { HoldNames names.old (fields_of self.now.header) place → IfErr result (λ fault.
+            IsMemory fault ⊎ IsRepeatedAt (fields_of self.now.header) place fault) }
+    {
+        let name = cell(&self.header, place);
+        if name.is_empty() {
+            return Ok(());
+        }
+        if names.find(name).is_some() {
+            let (line, column) = self.cell_place(self.header.position(), place);
+            return Err(FilterFault::Twice {
+                line,
+                column,
+                name: shown(alloc, name)?,
+            });
+        }
+        names.number(name)?;
+        Ok(())
+    }
+
     /// Fails at the first column that has the name of one before.
     fn check_names(&self, alloc: Global) -> Result<(), FilterFault>
-        ensures { IfErr result IsHeaderFault }
+        ensures ok { OnOk result (AreNames (fields_of self.now.header)) }
+        ensures err { IfErr result (λ fault.
+            IsMemory fault ⊎ IsTwiceIn (fields_of self.now.header) fault) }
     {
         let mut names = Names::new(alloc);
         for place in 0..self.header.len() {
-            let name = self.header.get(place).unwrap_or_default();
-            if names.find(name).is_some() {
-                let (line, column) = self.cell_place(self.header.position(), place);
-                return Err(FilterFault::Twice {
-                    line,
-                    column,
-                    name: shown(alloc, name)?,
-                });
-            }
-            if !name.is_empty() {
-                names.number(name)?;
-            }
+            self.add_name(alloc, &mut names, place)?;
         }
         Ok(())
     }
@@ -201,13 +239,18 @@ impl<R: Read + Drop> Table<R> {
         alloc: Global,
         row: &ByteRecord,
         place: usize,
-    ) -> Result<WrongCell, AllocError> {
+    ) -> Result<WrongCell, AllocError>
+        ensures name { IfOk result (λ wrong.
+            IsShown (cell_at (fields_of self.now.header) place) (string_bytes wrong.name)) }
+        ensures cell { IfOk result (λ wrong.
+            IsShown (cell_at (fields_of row.now) place) (string_bytes wrong.cell)) }
+    {
         let (line, column) = self.cell_place(row.position(), place);
         Ok(WrongCell {
             line,
             column,
-            name: shown(alloc, self.header.get(place).unwrap_or_default())?,
-            cell: shown(alloc, row.get(place).unwrap_or_default())?,
+            name: shown(alloc, cell(&self.header, place))?,
+            cell: shown(alloc, cell(row, place))?,
         })
     }
 }

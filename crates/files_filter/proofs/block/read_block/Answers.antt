@@ -2,7 +2,6 @@
 use Rattle.std.proofs.Common.{◌≡◌, ◌∙◌, true, rules}
 use Rattle.std.specs.Result.{is_ok}
 use Rattle.files_filter.proofs.BlocksLemmas.{answers_more_rows, block_more}
-use Rattle.files_filter.proofs.ReadingLemmas.{first_rows}
 use Rattle.files_filter.proofs.block.read_block.Goals as goal
 
 pub loop-preserved : goal.loop-preserved
@@ -14,7 +13,7 @@ loop-preserved g c =
       rows = λ text rows has.
           let read = rw c.in-Ok-Some.field-0-is at c.in-Ok-Some.ensures.row text _ (now.rows text rows has) in
           rw (c.in_ok-push-in-Ok-Some.ensures.items)
-          (block_more g.R.Read.remaining text rows c.loop.rows.items row c.next_row.new.table read);
+          (block_more g.R.Read.remaining text rows c.loop.rows.items row c.next_row.new.table c.next_row.new.questions read);
       answers =
           let are = rw (c.in-Ok-Some.field-0-is, now.tests) at c.in-Ok-Some.ensures.answers in
           rw (c.in_ok-push-in-Ok-Some.ensures.items)
@@ -23,4 +22,4 @@ loop-preserved g c =
 
 pub returns-in-Err-clause-rows : goal.returns-in-Err-clause-rows
 returns-in-Err-clause-rows g c = λ text rows has.
-    (c.in-Err.ensures.err, first_rows g.R.Read.remaining text _ c.loop.table (c.loop.invariant.rows text rows has))
+    rw (c.in-Err.ensures.tests) (c.in-Err.ensures.err text _ (c.loop.invariant.rows text rows has))

@@ -1,5 +1,5 @@
 -- What is shown, and then how many rows are kept.
-use Rattle.std.proofs.Common.{inl, inr, rules, ap, ◌∙◌, subst}
+use Rattle.std.proofs.Common.{inl, inr, refl, rules, ap, ◌∙◌, subst}
 use Rattle.std.specs.Io.KnownBytes.{Appends, Keeps}
 use Rattle.csv.specs.Records.{fields_of}
 use Rattle.files_filter.proofs.ReadingLemmas.{first_rows}
@@ -14,10 +14,16 @@ returns-clause-ok g c =
     let old = g.W.Write.contents c.args.output.now in
     let middle = g.W.Write.contents c.put_shown.new.output in
     let new = g.W.Write.contents c.put_count.new.output in
-    let so = c.in_ok-count.ensures.ok (g.R.Read.remaining c.args.input) c.in_ok-table.ensures.ok in record {
+    let so = c.in_ok-count.ensures.ok (g.R.Read.remaining c.args.input) (record {
+      read = c.in_ok-table.ensures.ok;
+      some = λ same. cc same;
+      header = refl;
+      watched = c.in_ok-questions.ensures.watched header;
+    }) in record {
       header = header;
       tests = c.in_ok-questions.questions.tests.items;
       rows = so.rows;
+      names = c.in_ok-table.ensures.names;
       tests_are = c.in_ok-questions.ensures.ok;
       all = so.all;
       answers = so.answers;

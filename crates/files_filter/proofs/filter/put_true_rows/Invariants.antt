@@ -1,6 +1,7 @@
 -- The rows that were read are written.
 use Rattle.std.proofs.Common.{◌≡◌, ℕ, List, Option, length}
-use Rattle.files_filter.specs.Reading.{Cells, HasRead}
+use Rattle.files_filter.specs.Blocks.{HasAsked}
+use Rattle.files_filter.specs.Reading.{Cells}
 use Rattle.files_filter.proofs.FilteredLemmas.{HasFiltered}
 use Rattle.files_filter.proofs.filter.put_true_rows.Given as goal
 
@@ -8,8 +9,8 @@ abbrev pub invariant-loop : goal.invariant-loop
 invariant-loop g l = record {
   tests : l.questions.tests ≡ l.fn.questions.tests;
   width : l.width ≡ length l.fn.questions.tests.items;
-  filtered : (text : Option (List ℕ)) (rows : List Cells) → HasRead g.R.Read.remaining text rows l.fn.table →
-      HasFiltered g.R.Read.remaining text rows l.fn.questions.tests.items l.expression l.fn.window.skip
-      l.fn.window.most (g.W.Write.contents l.fn.output) (g.W.Write.contents l.output) l.table l.count
+  filtered : (text : Option (List ℕ)) (rows : List Cells) →
+      HasAsked g.R.Read.remaining text rows l.fn.table l.fn.questions → HasFiltered g.R.Read.remaining text rows l.fn.questions.tests.items l.expression l.fn.window.skip
+      l.fn.window.most (g.W.Write.contents l.fn.output) (g.W.Write.contents l.output) l.table l.questions l.count
       l.window.skip l.window.most;
 }

@@ -1,21 +1,34 @@
 -- The header is the first row.
-use Rattle.std.proofs.Common.{◌≡◌, ◌∷◌, ◌∙◌, true, inr, refl, rules, []}
+use Rattle.std.proofs.Common.{◌≡◌, ◌∷◌, [], inl, inr, refl, rules, true}
+use Rattle.std.proofs.lemmas.Result.{err_from_is_err_and}
 use Rattle.csv.specs.Records.{fields_of}
-use Rattle.files_csv.specs.Whole.{unread}
-use Rattle.files_filter.specs.declared.table.Table.{Table}
-use Rattle.files_filter.proofs.ReadingLemmas.{begins, same_reader}
+use Rattle.files_filter.proofs.ReadingLemmas.{first_rows, header_fault, memory_fault, same_reader, twice_fault}
 use Rattle.files_filter.proofs.table.Table.read.Goals as goal
+
+pub returns-in_err-next-clause-err : goal.returns-in_err-next-clause-err
+returns-in_err-next-clause-err g c =
+    let p = err_from_is_err_and c.from_residual.result c.from_residual.ensures.1 in
+    let text = g.R.Read.remaining c.args.input in
+    rw (p.1, p.2) (header_fault text c.in_err-next.field-0.0 (c.in_err-next.ensures.err text [] c.new-table.ensures))
 
 pub returns-clause-ok : goal.returns-clause-ok
 returns-clause-ok g c =
     let remaining = g.R.Read.remaining in
     let text = remaining c.args.input in
-    let reader = c.from_reader-reader.ensures in
-    let setup = c.has_headers.ensures in
-    let fresh : Table g.row.R.Denot = record { reader = c.from_reader-reader.result; header = c.new-3.result } in
-    let has = begins remaining text (unread remaining c.new-2.result) fresh c.new-2.ensures.unread
-    (rw setup at reader.trim ∙ c.new.ensures.trim) (inr (inr (rw setup at reader.has_headers, reader.headers)))
-    (rw setup at reader.config ∙ c.new.ensures.config) reader.state reader.source in
     let found : c.in_ok-next.field-0 ≡ true = search rules in
     same_reader remaining text (fields_of c.next.new.row ∷ []) c.next.new.self _ refl
-    (rw found at c.in_ok-next.ensures.next text [] has)
+    (rw found at c.in_ok-next.ensures.next text [] c.new-table.ensures)
+
+pub returns-in_err-check_names-clause-err : goal.returns-in_err-check_names-clause-err
+returns-in_err-check_names-clause-err g c =
+    let p = err_from_is_err_and c.from_residual-in_err-check_names.result c.from_residual-in_err-check_names.ensures.1 in
+    let remaining = g.R.Read.remaining in
+    let text = remaining c.args.input in
+    let header = fields_of c.next.new.row in
+    let found : c.in_ok-next.field-0 ≡ true = search rules in
+    let first = first_rows remaining text (header ∷ []) c.next.new.self
+    (rw found at c.in_ok-next.ensures.next text [] c.new-table.ensures) in
+    rw (p.1, p.2) (elim c.in_err-check_names.ensures.err [
+      | inl memory ↦ memory_fault text c.in_err-check_names.field-0.0 memory
+      | inr twice ↦ twice_fault text header c.in_err-check_names.field-0.0 first twice
+    ])
