@@ -75,13 +75,12 @@ Example: ./conthiral flow examples/files/flow.txt --analysis live";
 
 /// What the help of `filter` says of conditions and of the exit status.
 const FILTER_HELP: &str = "\
-A condition compares by =, !=, <, <=, > and >=, and joins by !, & and | (not,
-and, or), which bind in this order, and parentheses. Names and values that hold
-spaces or marks need double quotes. A value in quotes is a text. Without, it is
-the column of that name, or else a number, as all cells of the column then are,
-or else a text. Two cells compare as numbers if both are, else as texts; by <
-and its like never one of each. A comparison with an empty cell is missing: its
-row isn't kept, nor by !. `NAME is missing`, `NAME is not missing` ask for them.
+A condition compares by =, !=, <, <=, > and >=, and joins by !, & and |, which
+bind in this order, and parentheses. Names and values with spaces or marks need
+double quotes. A value in quotes is a text; without, it is a column's name, or
+else a number, as all cells of the column then are, or else a text. Two cells
+compare as numbers if both are, else as texts; by < never one of each. An empty
+cell keeps no row by a comparison, nor by its !; ask `NAME is [not] missing`.
 
 Exit status: 0; 1 if --quiet keeps no row; 2 at a fault: rows before it stand.
 Example: ./conthiral filter examples/files/cities.csv 'elevation>5 | city=Oslo'";
@@ -258,7 +257,14 @@ fn filter_command<'a>(alloc: Global) -> Result<Command<'a>, AllocError> {
         .long("page")
         .value_name("K")
         .value_parser(ValueParser::unsigned(1, u64::MAX))
-        .help("Print the K-th page of 20 of the rows that are kept")
+        .help("Print the K-th page of the rows that are kept")
+        .conflicts_with("count")?
+        .conflicts_with("quiet")?;
+    let page_rows = Arg::new(alloc, "page-size")
+        .long("page-size")
+        .value_name("N")
+        .value_parser(ValueParser::unsigned(1, u64::MAX))
+        .help("A page has N rows, and else 20; alone, the first page")
         .conflicts_with("count")?
         .conflicts_with("quiet")?;
     Command::new(alloc, "filter")
@@ -267,6 +273,7 @@ fn filter_command<'a>(alloc: Global) -> Result<Command<'a>, AllocError> {
         .arg(count)?
         .arg(quiet)?
         .arg(page)?
+        .arg(page_rows)?
         .arg(file)?
         .arg(condition)
 }
@@ -308,11 +315,19 @@ fn shows_of(matches: &ArgMatches<'_>) -> Shows {
     }
 }
 
+/// How many rows a page has, if that isn't said.
+const PAGE_ROWS: usize = 20;
+
 /// Returns which page is to be printed, or all rows.
 fn page_of(matches: &ArgMatches<'_>) -> Shows {
-    match matches.get_one::<usize>("page") {
-        Some(page) => Shows::Page(page),
-        None => Shows::Rows,
+    let number = matches.get_one::<usize>("page");
+    let rows = matches.get_one::<usize>("page-size");
+    if number.is_none() && rows.is_none() {
+        return Shows::Rows;
+    }
+    Shows::Page {
+        number: number.unwrap_or(1),
+        rows: rows.unwrap_or(PAGE_ROWS),
     }
 }
 

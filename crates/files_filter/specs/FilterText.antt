@@ -45,9 +45,9 @@ abbrev pub windowed : ℕ → Option ℕ → List Cells → List Cells
 windowed skip None rows = drop skip rows
 windowed skip (Some most) rows = take most (drop skip rows)
 
--- what is shown of rows: all, a page of 20, counted from 1, or none
+-- what is shown of rows: all, a page of some number of them, counted from 1, or none
 abbrev pub shown : Shows → List Cells → List Cells
 shown Rows rows = rows
-shown (Page page) rows = take 20 (drop ((page - 1) * 20) rows)
+shown (Page number most) rows = take most (drop ((number - 1) * most) rows)
 shown Count rows = []
 shown Nothing rows = []

@@ -32,7 +32,7 @@ pub record IsFiltered (text : Option (List ℕ)) (before : List Cells) (tests : 
 -- what stands above rows: the header, if they are shown
 abbrev pub heading : Shows → Cells → List ℕ
 heading Rows header = row_line header
-heading (Page page) header = row_line header
+heading (Page number rows) header = row_line header
 heading Count header = []
 heading Nothing header = []
 
@@ -48,14 +48,14 @@ pub record IsShown (text : Option (List ℕ)) (header : Cells) (tests : List Tes
 -- the line of how many rows are kept
 abbrev pub count_line : Shows → ℕ → List ℕ
 count_line Rows found = []
-count_line (Page page) found = []
+count_line (Page number rows) found = []
 count_line Count found = decimal found ++ line_end
 count_line Nothing found = []
 
 -- the status: 1 if nothing is to be shown and no row is kept
 abbrev pub status_of : Shows → ℕ → ℕ
 status_of Rows found = 0
-status_of (Page page) found = 0
+status_of (Page number rows) found = 0
 status_of Count found = 0
 status_of Nothing found = if found == 0 then 1 else 0
 

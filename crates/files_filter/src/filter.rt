@@ -27,16 +27,13 @@ use vob::Vob;
 use vob_filter::filter::{Expression, select};
 use vob_filter::rows::page;
 
-/// How many rows a page has.
-pub const PAGE_ROWS: usize = 20;
-
 /// What a filter prints.
 #[derive(Clone, Copy, PartialEq, Eq)]
 pub enum Shows {
     /// The header and the rows that are kept.
     Rows,
-    /// The header and the rows of a page, counted from 1, of those that are kept.
-    Page(usize),
+    /// The header and the rows of a page, counted from 1, of those that are kept: at most a number.
+    Page { number: usize, rows: usize },
     /// The number of rows that are kept.
     Count,
     /// Nothing: the status says whether a row is kept.
@@ -59,9 +56,9 @@ impl Window {
     {
         let (skip, most) = match shows {
             Shows::Rows => (0, None),
-            Shows::Page(page) => (
-                page.saturating_sub(1).saturating_mul(PAGE_ROWS),
-                Some(PAGE_ROWS),
+            Shows::Page { number, rows } => (
+                number.saturating_sub(1).saturating_mul(rows),
+                Some(rows),
             ),
             Shows::Count | Shows::Nothing => (0, Some(0)),
         };
@@ -139,7 +136,7 @@ fn put_heading<W: Write>(
     ensures err { IfErr result IsOutputFault }
 {
     match shows {
-        Shows::Rows | Shows::Page(_) => {
+        Shows::Rows | Shows::Page { .. } => {
             output.write_all(&header_line(alloc, header)?)?;
             Ok(())
         }
@@ -262,7 +259,7 @@ fn put_count<W: Write>(shows: Shows, count: usize, output: &mut W) -> io::Result
         (count_line shows count)) }
 {
     match shows {
-        Shows::Rows | Shows::Page(_) => Ok(0),
+        Shows::Rows | Shows::Page { .. } => Ok(0),
         Shows::Count => {
             writeln!(output, "{count}")?;
             Ok(0)
