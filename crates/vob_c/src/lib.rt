@@ -1,0 +1,5 @@
+//! Calls on bits in words that the caller owns, for C and for each language that calls C.
+#![tactic(auto)]
+
+mod bits;
+mod status;
