@@ -1,1 +1,4 @@
+pub mod CombineLemmas
+pub mod MovesLemmas
+pub mod RangeLemmas
 pub mod StatusLemmas

@@ -2,4 +2,8 @@
 #![tactic(auto)]
 
 mod bits;
+mod moves;
+mod ranges;
+mod sets;
 mod status;
+mod whole;
