@@ -1,4 +1,5 @@
 pub mod CombineLemmas
+pub mod FoundLemmas
 pub mod MovesLemmas
 pub mod RangeLemmas
 pub mod StatusLemmas

@@ -2,8 +2,11 @@
 #![tactic(auto)]
 
 mod bits;
+mod compare;
+mod counts;
 mod moves;
 mod ranges;
+mod search;
 mod sets;
 mod status;
 mod whole;

@@ -1,0 +1,183 @@
+/* Proved calls on bits in words that the caller owns. tools/make/header writes this file from crates/vob_c.
+
+   Bit i stands in word i / 64, at the place of weight 2 ^ (i % 64). `bits` bits need (bits + 63) / 64 words, and the
+   places of the last word past the last bit are 0: such words are canonical. conthiral_mask makes words canonical.
+
+   Each call tests this and its own conditions first, and returns a status. If that isn't CONTHIRAL_OK, nothing is
+   written. No call asks for memory, keeps a pointer, or has a state: calls on different arrays may run at once.
+
+   What a caller must see to, for no call can test it:
+   - a pointer and the count after it are one array, which stays while the call runs; it may be null if the count is 0;
+   - a pointer to one result (as `changed`) isn't null; what stood there isn't read;
+   - the arrays and results of a call don't overlap, unless both arrays are const. */
+#ifndef CONTHIRAL_H
+#define CONTHIRAL_H
+
+#include <stdbool.h>
+#include <stddef.h>
+#include <stdint.h>
+
+#ifdef __cplusplus
+extern "C" {
+#endif
+
+/* A size_t must have 64 bits. */
+typedef char conthiral_has_64_bits[sizeof(size_t) == 8 ? 1 : -1];
+
+typedef uint8_t conthiral_status;
+enum {
+    /* Every condition of the call is met. */
+    CONTHIRAL_OK = 0,
+    /* The words are more or fewer than the bits need. */
+    CONTHIRAL_LENGTH = 1,
+    /* An index is past the bits. */
+    CONTHIRAL_RANGE = 2,
+    /* A bit past the last one is set. */
+    CONTHIRAL_NOT_CANONICAL = 4,
+};
+
+/* All bits: made one value, negated; tested, and made canonical. */
+
+/* Returns how many words `bits` bits need. */
+size_t conthiral_word_count(size_t bits);
+
+/* Tests whether the words hold `bits` bits as each call wants them. Reads the last word alone. */
+conthiral_status conthiral_check(const uint64_t *words, size_t word_count, size_t bits);
+
+/* Makes each bit past the last one false, whatever it was. Then the words are canonical. */
+conthiral_status conthiral_mask(uint64_t *words, size_t word_count, size_t bits);
+
+/* Makes each bit `value`. */
+conthiral_status conthiral_fill(uint64_t *words, size_t word_count, size_t bits, bool value);
+
+/* Negates each bit. */
+conthiral_status conthiral_negate(uint64_t *words, size_t word_count, size_t bits);
+
+/* One bit: read, written or negated. */
+
+/* Reads bit `index` into `value`. */
+conthiral_status conthiral_get(const uint64_t *words, size_t word_count, size_t bits, size_t index, bool *value);
+
+/* Writes bit `index`, and says whether it changed. */
+conthiral_status conthiral_set(uint64_t *words, size_t word_count, size_t bits, size_t index, bool value,
+    bool *changed);
+
+/* Negates bit `index`, and writes its new value into `value`. */
+conthiral_status conthiral_flip(uint64_t *words, size_t word_count, size_t bits, size_t index, bool *value);
+
+/* The bits of a range: made one value, negated, moved, or written over others. */
+
+/* Makes the bits from index `start` to below `stop` `value`, and says whether one changed. The range must lie within
+   the bits; it is empty if `start` is `stop`. */
+conthiral_status conthiral_set_range(uint64_t *words, size_t word_count, size_t bits, size_t start, size_t stop,
+    bool value, bool *changed);
+
+/* Negates the bits from index `start` to below `stop`. The range must lie within the bits. */
+conthiral_status conthiral_negate_range(uint64_t *words, size_t word_count, size_t bits, size_t start, size_t stop);
+
+/* Writes `count` bits from index `start` on over those from `at` on, as if all were read first: the two ranges may
+   overlap. Both must lie within the bits. */
+conthiral_status conthiral_move(uint64_t *words, size_t word_count, size_t bits, size_t at, size_t start,
+    size_t count);
+
+/* Writes `count` bits of `other` from index `start` on over those of `own` from `at` on. Both ranges must lie within
+   the bits of their arrays. */
+conthiral_status conthiral_copy(uint64_t *own, size_t own_count, size_t bits, size_t at, const uint64_t *other,
+    size_t other_count, size_t other_bits, size_t start, size_t count);
+
+/* All bits moved: shifted, reversed or rotated. */
+
+/* Moves each bit up by `n` indices. The bits below `n` become false, and those that pass the last one are dropped. */
+conthiral_status conthiral_shift_up(uint64_t *words, size_t word_count, size_t bits, size_t n);
+
+/* Moves each bit down by `n` indices. The first `n` bits are dropped, and the last `n` become false. */
+conthiral_status conthiral_shift_down(uint64_t *words, size_t word_count, size_t bits, size_t n);
+
+/* Reverses the order of the bits: the last one becomes the first. */
+conthiral_status conthiral_reverse(uint64_t *words, size_t word_count, size_t bits);
+
+/* Rotates the bits down by `n` indices: the first `n` bits are put after the others. `n` is taken modulo the number
+   of bits. */
+conthiral_status conthiral_rotate_down(uint64_t *words, size_t word_count, size_t bits, size_t n);
+
+/* Rotates the bits up by `n` indices: the last `n` bits are put before the others. `n` is taken modulo the number of
+   bits. */
+conthiral_status conthiral_rotate_up(uint64_t *words, size_t word_count, size_t bits, size_t n);
+
+/* Two arrays of words combined, bit by bit. */
+
+/* Keeps the bits that both have. */
+conthiral_status conthiral_and(uint64_t *own, size_t own_count, const uint64_t *other, size_t other_count,
+    size_t bits, bool *changed);
+
+/* Adds the bits that the other has. */
+conthiral_status conthiral_or(uint64_t *own, size_t own_count, const uint64_t *other, size_t other_count, size_t bits,
+    bool *changed);
+
+/* Keeps the bits that exactly one has. */
+conthiral_status conthiral_xor(uint64_t *own, size_t own_count, const uint64_t *other, size_t other_count,
+    size_t bits, bool *changed);
+
+/* Removes the bits that the other has. */
+conthiral_status conthiral_and_not(uint64_t *own, size_t own_count, const uint64_t *other, size_t other_count,
+    size_t bits, bool *changed);
+
+/* Adds the bits that `first` and `second` both have. */
+conthiral_status conthiral_or_and(uint64_t *own, size_t own_count, const uint64_t *first, size_t first_count,
+    const uint64_t *second, size_t second_count, size_t bits, bool *changed);
+
+/* Adds the bits that `first` has and `second` hasn't. */
+conthiral_status conthiral_or_and_not(uint64_t *own, size_t own_count, const uint64_t *first, size_t first_count,
+    const uint64_t *second, size_t second_count, size_t bits, bool *changed);
+
+/* Two arrays of words compared, as sets and as lists. */
+
+/* Writes into `answer` whether each bit that is set in `own` is set in `other` too. */
+conthiral_status conthiral_is_subset(const uint64_t *own, size_t own_count, const uint64_t *other, size_t other_count,
+    size_t bits, bool *answer);
+
+/* Writes into `answer` whether no bit is set in both. */
+conthiral_status conthiral_is_disjoint(const uint64_t *own, size_t own_count, const uint64_t *other,
+    size_t other_count, size_t bits, bool *answer);
+
+/* Writes into `answer` whether both have the same bits. */
+conthiral_status conthiral_equal(const uint64_t *own, size_t own_count, const uint64_t *other, size_t other_count,
+    size_t bits, bool *answer);
+
+/* Writes into `index` the first index at which the bits differ, or `bits` if they are the same. The list whose bit
+   there is set is the greater one. */
+conthiral_status conthiral_first_difference(const uint64_t *own, size_t own_count, const uint64_t *other,
+    size_t other_count, size_t bits, size_t *index);
+
+/* How many bits are set, and which index has a rank. */
+
+/* Writes into `count` how many bits are set. */
+conthiral_status conthiral_count_ones(const uint64_t *words, size_t word_count, size_t bits, size_t *count);
+
+/* Writes into `count` how many bits are set below `index`: all of them if it is past the last one. */
+conthiral_status conthiral_rank(const uint64_t *words, size_t word_count, size_t bits, size_t index, size_t *count);
+
+/* Writes into `index` the index of the set bit below which `rank` bits are set, or `bits` if at most `rank` bits are
+   set. */
+conthiral_status conthiral_select(const uint64_t *words, size_t word_count, size_t bits, size_t rank, size_t *index);
+
+/* The next or the previous index of a bit of one value, and the first stretch of unset bits. */
+
+/* Writes into `index` the first index at or above `from` whose bit is `value`, or `bits` if there is none. */
+conthiral_status conthiral_next(const uint64_t *words, size_t word_count, size_t bits, bool value, size_t from,
+    size_t *index);
+
+/* Writes into `index` the last index at or below `upto` whose bit is `value`, or `bits` if there is none. */
+conthiral_status conthiral_previous(const uint64_t *words, size_t word_count, size_t bits, bool value, size_t upto,
+    size_t *index);
+
+/* Writes into `index` the least index from which on `count` bits in a row are false, or `bits` if there is none.
+   `count` is at least 1. */
+conthiral_status conthiral_first_unset_run(const uint64_t *words, size_t word_count, size_t bits, size_t count,
+    size_t *index);
+
+#ifdef __cplusplus
+}
+#endif
+
+#endif

@@ -1,0 +1,36 @@
+-- The first run that is long enough begins with room, and there is no room elsewhere.
+use Rattle.std.proofs.Common.{◌≡◌, ◌<◌, ◌∙◌, ap, arith, false, length, map, not, subst}
+use Rattle.vob_block.specs.Packing.{unpacking}
+use Rattle.vob_block.proofs.PackingLemmas.{length-unpacking}
+use Rattle.vob_walk.specs.RunSteps.{seen}
+use Rattle.vob_walk.proofs.SeenLemmas.{seen-negated}
+use Rattle.std.proofs.lemmas.List.{map-id}
+use Rattle.vob.proofs.RoomLemmas.{HasNoRoom-end, IsBelowRoom-next, IsBelowRoom-start, IsFirstRoom-run}
+use Rattle.vob_c.proofs.search.room_or_end.Goals as goal
+
+pub returns-then-run-count : goal.returns-then-run-count
+returns-then-run-count c = ?
+
+pub loop-run-preserved : goal.loop-run-preserved
+loop-run-preserved c = record {
+  can_next = tt;
+  is_finite = tt;
+  bits = c.in-Some.ensures.steps.bits ∙ c.loop-run.invariant.bits;
+  passed = IsBelowRoom-next c.args.count c.requires.some (unpacking c.args.bits c.args.words.now 64)
+      c.loop-run.run-iterator c.loop-run.invariant.bits c.loop-run.invariant.passed
+      c.in-Some.ensures.steps (omega (arith, c.if-run-count.false));
+}
+
+pub loop-run-init : goal.loop-run-init
+loop-run-init c = record {
+  can_next = tt;
+  is_finite = tt;
+  bits = c.over.ensures.bits ∙ ap (λ ys. seen false 0 (unpacking c.args.bits ys 64))
+      (map-id c.new.result.items ∙ c.new.ensures.items)
+      ∙ seen-negated (unpacking c.args.bits c.args.words.now 64);
+  passed = IsBelowRoom-start c.args.count (unpacking c.args.bits c.args.words.now 64) _
+      c.over.ensures.start;
+}
+
+pub returns : goal.returns
+returns c = ?
