@@ -1,2 +1,4 @@
+pub mod Bytes
 pub mod Found
+pub mod Indices
 pub mod Status

@@ -2,8 +2,10 @@
 #![tactic(auto)]
 
 mod bits;
+mod bytes;
 mod compare;
 mod counts;
+mod indices;
 mod moves;
 mod ranges;
 mod search;

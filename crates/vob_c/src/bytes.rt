@@ -1,0 +1,103 @@
+//! Bits in bytes: read from some, and written into some, with the least or the most significant bit of a
+//! byte first.
+ghost use Rattle.std.specs.Prelude.{◌≡◌, ◌≢◌, ◌↔◌, ℕ, ◌+◌, ◌-◌, ◌*◌, ◌<◌, if◌then◌else◌, length};
+ghost use Rattle.vob_block.specs.Packing.{item, need, bit_at, unpacking, IsCanonical, Stores};
+ghost use Rattle.vob_block.specs.Places.{place};
+ghost use Rattle.vob_c.specs.Bytes.{bits_of_bytes, byte_bit};
+ghost use Rattle.vob_c.specs.Status.{HasWords, TellsWords};
+
+use crate::status::{LENGTH, OK, status_of};
+use vob_store::load_store::write_bits;
+use vob_store::mask::mask_last;
+use vob_store::room::block_count;
+
+/// Returns a byte, with its bits in reverse order if the most significant one comes first.
+fn turned(byte: u8, most_first: bool) -> u8
+    ensures { (j : ℕ) → j < 8
+        → place j result ≡ place (if most_first then 7 - j else j) byte }
+{
+    if most_first { byte.reverse_bits() } else { byte }
+}
+
+/// Returns byte `k` of some words, the least significant bit first.
+fn low_byte(words: &[usize], k: usize) -> u8
+    requires { k < 8 * length words.now }
+    ensures { (j : ℕ) → j < 8 → place j result ≡ bit_at words.now 64 (8 * k + j) }
+{
+    words[k / 8].to_le_bytes()[k % 8]
+}
+
+/// Writes the bits of bytes into words.
+fn load_bytes(words: &mut [usize], bits: usize, bytes: &[u8], most_first: bool)
+    requires words { HasWords bits words.old }
+    requires bytes { length bytes.now ≡ need bits 8 }
+    ensures { Stores 64 bits words.new (bits_of_bytes most_first bits bytes.now) }
+{
+    for k in 0..bytes.len() {
+        let byte = turned(bytes[k], most_first);
+        write_bits(words, 8 * k, usize::from(byte), (bits - 8 * k).min(8));
+    }
+    mask_last(words, bits);
+}
+
+/// Writes the bits of words into bytes.
+fn store_bytes(words: &[usize], bits: usize, bytes: &mut [u8], most_first: bool)
+    requires canonical { IsCanonical bits words.now 64 }
+    requires bytes { length bytes.old ≡ need bits 8 }
+    ensures { (i : ℕ) → byte_bit most_first bytes.new i ≡ item (unpacking bits words.now 64) i }
+{
+    for k in 0..bytes.len() {
+        bytes[k] = turned(low_byte(words, k), most_first);
+    }
+}
+
+/// Writes the first `bits` bits of the bytes into the words, whatever these hold. Bit 0 is the least
+/// significant bit of byte 0, or its most significant bit with `most_first`. `bits` bits need
+/// (bits + 7) / 8 bytes; what the last byte has past them isn't read.
+#[unsafe(no_mangle)]
+pub extern "C" fn conthiral_from_bytes(
+    words: &mut [usize],
+    bits: usize,
+    bytes: &[u8],
+    most_first: bool,
+) -> u8
+    ensures ok { (result ≡ 0) ↔ (HasWords bits words.old × (length bytes.now ≡ need bits 8)) }
+    ensures length { (result ≡ 1) ↔ (¬ (HasWords bits words.old × (length bytes.now ≡ need bits 8))) }
+    ensures bits { result ≡ 0
+        → Stores 64 bits words.new (bits_of_bytes most_first bits bytes.now) }
+    ensures refused { result ≢ 0 → words.new ≡ words.old }
+{
+    if words.len() != block_count::<usize>(bits) || bytes.len() != block_count::<u8>(bits) {
+        return LENGTH;
+    }
+    load_bytes(words, bits, bytes, most_first);
+    OK
+}
+
+/// Writes the bits into the bytes. Bit 0 becomes the least significant bit of byte 0, or its most
+/// significant bit with `most_first`. `bits` bits need (bits + 7) / 8 bytes; the last one is filled with
+/// false bits.
+#[unsafe(no_mangle)]
+pub extern "C" fn conthiral_to_bytes(
+    words: &[usize],
+    bits: usize,
+    bytes: &mut [u8],
+    most_first: bool,
+) -> u8
+    ensures status { TellsWords result
+        (HasWords bits words.now × (length bytes.old ≡ need bits 8))
+        (IsCanonical bits words.now 64) }
+    ensures bits { result ≡ 0
+        → (i : ℕ) → byte_bit most_first bytes.new i ≡ item (unpacking bits words.now 64) i }
+    ensures refused { result ≢ 0 → bytes.new ≡ bytes.old }
+{
+    if words.len() != block_count::<usize>(bits) || bytes.len() != block_count::<u8>(bits) {
+        return LENGTH;
+    }
+    let status = status_of(words, bits);
+    if status != OK {
+        return status;
+    }
+    store_bytes(words, bits, bytes, most_first);
+    OK
+}
