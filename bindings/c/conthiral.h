@@ -30,8 +30,10 @@ enum {
     CONTHIRAL_OK = 0,
     /* The words are more or fewer than the bits need. */
     CONTHIRAL_LENGTH = 1,
-    /* An index is past the bits. */
+    /* An index or a range is past the bits. */
     CONTHIRAL_RANGE = 2,
+    /* Memory ran out. No call on bits asks for any. */
+    CONTHIRAL_MEMORY = 3,
     /* A bit past the last one is set. */
     CONTHIRAL_NOT_CANONICAL = 4,
 };
@@ -175,6 +177,27 @@ conthiral_status conthiral_previous(const uint64_t *words, size_t word_count, si
    `count` is at least 1. */
 conthiral_status conthiral_first_unset_run(const uint64_t *words, size_t word_count, size_t bits, size_t count,
     size_t *index);
+
+/* The indices of the bits of one value, a block of them at a time. */
+
+/* Writes the indices from `from` on of the bits that are `value` into `indices`, the least ones first and as many as
+   there is room for, and writes into `count` how many. The rest of the array stays. If the array is full, the next
+   call goes on behind the last index. */
+conthiral_status conthiral_indices(const uint64_t *words, size_t word_count, size_t bits, bool value, size_t from,
+    size_t *indices, size_t index_count, size_t *count);
+
+/* Bits read from bytes and written into bytes, the least or the most significant bit of a byte first. */
+
+/* Writes the first `bits` bits of the bytes into the words, whatever these hold. Bit 0 is the least significant bit
+   of byte 0, or its most significant bit with `most_first`. `bits` bits need (bits + 7) / 8 bytes; what the last byte
+   has past them isn't read. */
+conthiral_status conthiral_from_bytes(uint64_t *words, size_t word_count, size_t bits, const uint8_t *bytes,
+    size_t byte_count, bool most_first);
+
+/* Writes the bits into the bytes. Bit 0 becomes the least significant bit of byte 0, or its most significant bit with
+   `most_first`. `bits` bits need (bits + 7) / 8 bytes; the last one is filled with false bits. */
+conthiral_status conthiral_to_bytes(const uint64_t *words, size_t word_count, size_t bits, uint8_t *bytes,
+    size_t byte_count, bool most_first);
 
 #ifdef __cplusplus
 }

@@ -28,6 +28,11 @@ struct state {
     bool value;
     bool flag;
     size_t number;
+    // An array of indices with room for some, and one of bytes.
+    size_t numbers[WORDS + 1];
+    size_t room;
+    uint8_t bytes[BYTES + 1];
+    size_t byte_count;
 };
 
 static uint64_t seed;
@@ -330,6 +335,39 @@ LISTS(first_unset_run) {
     return s->c ? CONTHIRAL_OK : CONTHIRAL_RANGE;
 }
 
+CALL(indices) {
+    return conthiral_indices(OWN, BITS, s->value, s->a, s->room ? s->numbers : NULL, s->room, &s->number);
+}
+LISTS(indices) {
+    s->number = 0;
+    for (size_t i = s->a; i < BITS && s->number < s->room; i++) {
+        if (s->own.list[i] == s->value) {
+            s->numbers[s->number++] = i;
+        }
+    }
+    return CONTHIRAL_OK;
+}
+
+// Where bit i stands in bytes.
+static int place(const struct state *s, size_t i) { return s->value ? 7 - i % 8 : i % 8; }
+
+CALL(from_bytes) {
+    return conthiral_from_bytes(OWN, BITS, s->byte_count ? s->bytes : NULL, s->byte_count, s->value);
+}
+LISTS(from_bytes) {
+    EACH(i) s->own.list[i] = s->bytes[i / 8] >> place(s, i) & 1;
+    return CONTHIRAL_OK;
+}
+
+CALL(to_bytes) {
+    return conthiral_to_bytes(OWN, BITS, s->byte_count ? s->bytes : NULL, s->byte_count, s->value);
+}
+LISTS(to_bytes) {
+    memset(s->bytes, 0, s->byte_count);
+    EACH(i) s->bytes[i / 8] |= s->own.list[i] << place(s, i);
+    return CONTHIRAL_OK;
+}
+
 // ---- the table of calls, each with how many arrays it takes
 
 struct call {
@@ -349,7 +387,8 @@ static const struct call CALLS[] = {
     ROW(or, 2),          ROW(xor, 2),         ROW(and_not, 2),      ROW(or_and, 3),
     ROW(or_and_not, 3),  ROW(is_subset, 2),   ROW(is_disjoint, 2),  ROW(equal, 2),
     ROW(first_difference, 2), ROW(count_ones, 1), ROW(rank, 1),     ROW(select, 1),
-    ROW(next, 1),        ROW(previous, 1),    ROW(first_unset_run, 1),
+    ROW(next, 1),        ROW(previous, 1),    ROW(first_unset_run, 1), ROW(indices, 1),
+    ROW(from_bytes, 1),  ROW(to_bytes, 1),
 };
 
 static int wrong;
@@ -363,8 +402,10 @@ static void is(bool right, const struct call *call, const char *what, const stru
 }
 
 static bool same_arrays(const struct state *s, const struct state *t) {
-    return !memcmp(s->own.room, t->own.room, sizeof s->own.room) && !memcmp(s->first.room, t->first.room, sizeof s->own.room)
-        && !memcmp(s->second.room, t->second.room, sizeof s->own.room);
+    return !memcmp(s->own.room, t->own.room, sizeof s->own.room)
+        && !memcmp(s->first.room, t->first.room, sizeof s->first.room)
+        && !memcmp(s->second.room, t->second.room, sizeof s->second.room)
+        && !memcmp(s->numbers, t->numbers, sizeof s->numbers) && !memcmp(s->bytes, t->bytes, sizeof s->bytes);
 }
 
 // Runs a call that must be refused.
@@ -388,7 +429,8 @@ static void spoiled(const struct call *call, const struct state *s) {
         } else {
             array->count--;
         }
-        if (array->bits % 64) {
+        // words that are only written may hold anything
+        if (array->bits % 64 && call->run != run_from_bytes) {
             array->room[GUARD + array->bits / 64] |= (uint64_t)1 << (array->bits % 64 + below(64 - array->bits % 64));
             refused(call, &t, CONTHIRAL_NOT_CANONICAL, "a bit past the last one is taken");
         }
@@ -408,6 +450,11 @@ static void tries(const struct call *call, const struct state *s) {
     is(t.flag == wanted.flag, call, "another flag", s);
     is(t.number == wanted.number, call, "another number", s);
     spoiled(call, s);
+    if (call->run == run_from_bytes || call->run == run_to_bytes) {
+        t = *s;
+        t.byte_count++;
+        refused(call, &t, CONTHIRAL_LENGTH, "a byte too many is taken");
+    }
 }
 
 // An argument: mostly within the bits, or at their end, or far past it.
@@ -424,6 +471,7 @@ static size_t argument(size_t bits) {
 static void one_round(void) {
     static const size_t edges[] = {0, 1, 63, 64, 65, 127, 128, 129, 192, 320, MOST};
     struct state s;
+    memset(&s, 0, sizeof s);
     size_t bits = below(2) ? edges[below(sizeof edges / sizeof *edges)] : below(MOST + 1);
     draw(&s.own, bits);
     draw(&s.first, bits);
@@ -444,6 +492,14 @@ static void one_round(void) {
     s.value = below(2);
     s.flag = below(2);
     s.number = below(1000);
+    s.room = below(WORDS + 2);
+    for (size_t k = 0; k < sizeof s.numbers / sizeof *s.numbers; k++) {
+        s.numbers[k] = random_word();
+    }
+    for (size_t k = 0; k < sizeof s.bytes; k++) {
+        s.bytes[k] = random_word();
+    }
+    s.byte_count = bits / 8 + (bits % 8 != 0);
     for (size_t k = 0; k < sizeof CALLS / sizeof *CALLS; k++) {
         struct state t = s;
         if (CALLS[k].run == run_copy) {

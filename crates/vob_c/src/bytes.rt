@@ -1,5 +1,4 @@
-//! Bits in bytes: read from some, and written into some, with the least or the most significant bit of a
-//! byte first.
+//! Bits read from bytes and written into bytes, the least or the most significant bit of a byte first.
 ghost use Rattle.std.specs.Prelude.{◌≡◌, ◌≢◌, ◌↔◌, ℕ, ◌+◌, ◌-◌, ◌*◌, ◌<◌, if◌then◌else◌, length};
 ghost use Rattle.vob_block.specs.Packing.{item, need, bit_at, unpacking, IsCanonical, Stores};
 ghost use Rattle.vob_block.specs.Places.{place};

@@ -1,14 +1,14 @@
 //! Calls on bits in words that the caller owns, for C and for each language that calls C.
 #![tactic(auto)]
 
-mod bits;
-mod bytes;
-mod compare;
-mod counts;
-mod indices;
-mod moves;
-mod ranges;
-mod search;
-mod sets;
-mod status;
-mod whole;
+pub mod bits;
+pub mod bytes;
+pub mod compare;
+pub mod counts;
+pub mod indices;
+pub mod moves;
+pub mod ranges;
+pub mod search;
+pub mod sets;
+pub mod status;
+pub mod whole;

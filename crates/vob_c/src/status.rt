@@ -12,8 +12,11 @@ pub const OK: u8 = 0;
 /// The words are more or fewer than the bits need.
 pub const LENGTH: u8 = 1;
 
-/// An index is past the bits.
+/// An index or a range is past the bits.
 pub const RANGE: u8 = 2;
+
+/// Memory ran out. No call on bits asks for any.
+pub const MEMORY: u8 = 3;
 
 /// A bit past the last one is set.
 pub const NOT_CANONICAL: u8 = 4;
