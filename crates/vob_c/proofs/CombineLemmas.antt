@@ -23,26 +23,26 @@ module _ (f : Bool → Bool → Bool) (none : f false false ≡ false) (n : ℕ)
 module _ (f : Bool → Bool → Bool) (none : f false false ≡ false) (n : ℕ) (xs ys ws zs : List ℕ)
     (changed : Bool) (g : IsCanonical n xs 64) (h : IsCanonical n ys 64) (k : IsCanonical n ws 64)
     (done : (both : List ℕ) → IsPointwise 64 f ys ws both → IsCombined 64 ◌||◌ xs both zs changed)
-    where
-  abbrev both_bits : List Bool
-  both_bits = pointwise f (unpacking n ys 64) (unpacking n ws 64)
+  where
+    abbrev both_bits : List Bool
+    both_bits = pointwise f (unpacking n ys 64) (unpacking n ws 64)
 
-  as_long : length (unpacking n ys 64) ≡ length (unpacking n ws 64)
-  as_long = length-unpacking n ys 64 ∙ sym (length-unpacking n ws 64)
+    as_long : length (unpacking n ys 64) ≡ length (unpacking n ws 64)
+    as_long = length-unpacking n ys 64 ∙ sym (length-unpacking n ws 64)
 
-  both_stored : Stores 64 n (packing both_bits 64) both_bits
-  both_stored = packing_is 64 (omega arith) both_bits n (packing both_bits 64) refl
-      (length-pointwise f (unpacking n ys 64) (unpacking n ws 64) as_long ∙ length-unpacking n ys 64)
+    both_stored : Stores 64 n (packing both_bits 64) both_bits
+    both_stored = packing_is 64 (omega arith) both_bits n (packing both_bits 64) refl
+        (length-pointwise f (unpacking n ys 64) (unpacking n ws 64) as_long ∙ length-unpacking n ys 64)
 
-  added : IsCombined 64 ◌||◌ xs (packing both_bits 64) zs changed
-  added = done (packing both_bits 64) (pointwise_blocks 64 (omega arith) f none (unpacking n ys 64)
-      (unpacking n ws 64) as_long ys ws (sym (packing-unpacking 64 (omega arith) n ys h))
-      (sym (packing-unpacking 64 (omega arith) n ws k)))
+    added : IsCombined 64 ◌||◌ xs (packing both_bits 64) zs changed
+    added = done (packing both_bits 64) (pointwise_blocks 64 (omega arith) f none (unpacking n ys 64)
+        (unpacking n ws 64) as_long ys ws (sym (packing-unpacking 64 (omega arith) n ys h))
+        (sym (packing-unpacking 64 (omega arith) n ws k)))
 
-  pub added_stores : Stores 64 n zs (pointwise ◌||◌ (unpacking n xs 64) both_bits)
-  added_stores = rw both_stored.bits at (combined_stores ◌||◌ refl n xs (packing both_bits 64) zs
-      changed g both_stored.canonical added)
+    pub added_stores : Stores 64 n zs (pointwise ◌||◌ (unpacking n xs 64) both_bits)
+    added_stores = rw both_stored.bits at (combined_stores ◌||◌ refl n xs (packing both_bits 64) zs
+        changed g both_stored.canonical added)
 
-  pub added_changes : IsTrue changed ↔ (unpacking n zs 64 ≢ unpacking n xs 64)
-  added_changes = combined_changes ◌||◌ refl n xs (packing both_bits 64) zs changed g
-      both_stored.canonical added
+    pub added_changes : IsTrue changed ↔ (unpacking n zs 64 ≢ unpacking n xs 64)
+    added_changes = combined_changes ◌||◌ refl n xs (packing both_bits 64) zs changed g
+        both_stored.canonical added

@@ -92,7 +92,7 @@ module _ (n : ℕ) (xs ys : List ℕ) (g : IsCanonical n xs 64) (h : IsCanonical
         take_all (length xs) xs (omega arith),
         take_all (length xs) ys (omega (arith, g.count, h.count)),
       ) at (decide 64 (omega arith) n n xs ys (unpacking n xs 64) (unpacking n ys 64) g refl h refl
-          (length xs) (g.count ∙ ap (λ m. need m 64) half))
+      (length xs) (g.count ∙ ap (λ m. need m 64) half))
 
   pub difference_found : (r : ℕ) (answer : Option ℕ) → r ≡ unwrap_or answer n
       → MatchOption answer (HaveNone differ 64 0 (length xs) xs ys) (IsFirstCombined differ 64 xs ys)

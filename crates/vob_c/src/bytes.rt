@@ -15,7 +15,11 @@ fn turned(byte: u8, most_first: bool) -> u8
     ensures { (j : ℕ) → j < 8
         → place j result ≡ place (if most_first then 7 - j else j) byte }
 {
-    if most_first { byte.reverse_bits() } else { byte }
+    if most_first {
+        byte.reverse_bits()
+    } else {
+        byte
+    }
 }
 
 /// Returns byte `k` of some words, the least significant bit first.

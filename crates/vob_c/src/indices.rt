@@ -51,20 +51,20 @@ pub extern "C" fn conthiral_indices(
 }
 
 /// Writes the first indices into `out`, and returns how many.
-fn found_indices(
-    words: &[usize],
-    bits: usize,
-    value: bool,
-    from: usize,
-    out: &mut [usize],
-) -> usize
+fn found_indices(words: &[usize], bits: usize, value: bool, from: usize, out: &mut [usize]) -> usize
     requires { IsCanonical bits words.now 64 }
     ensures { AreFirst (matches (unpacking bits words.now 64) value (Included from) Unbounded)
         out.old out.new result }
 {
     if value {
-        write_indices(&mut IterSetBits::over(Blocks::new(words), bits, from..), out)
+        write_indices(
+            &mut IterSetBits::over(Blocks::new(words), bits, from..),
+            out,
+        )
     } else {
-        write_indices(&mut IterUnsetBits::over(Blocks::new(words), bits, from..), out)
+        write_indices(
+            &mut IterUnsetBits::over(Blocks::new(words), bits, from..),
+            out,
+        )
     }
 }

@@ -101,13 +101,7 @@ pub extern "C" fn conthiral_negate_range(
 }
 
 /// Writes `count` bits from index `start` on over those from `at` on, as if all were read first.
-pub(crate) fn move_between(
-    words: &mut [usize],
-    bits: usize,
-    at: usize,
-    start: usize,
-    count: usize,
-)
+pub(crate) fn move_between(words: &mut [usize], bits: usize, at: usize, start: usize, count: usize)
     requires canonical { IsCanonical bits words.old 64 }
     requires source { start + count ≤ bits }
     requires inside { at + count ≤ bits }

@@ -9,12 +9,7 @@ use vob_block::{And, Blocks, Combine, Kernel, Or, Without, Xor};
 use vob_store::fused::or_combined;
 
 /// Combines the bits of `other` into those of `own`, and says whether one changed.
-fn combine<C: Combine>(
-    own: &mut [usize],
-    other: &[usize],
-    bits: usize,
-    changed: &mut bool,
-) -> u8
+fn combine<C: Combine>(own: &mut [usize], other: &[usize], bits: usize, changed: &mut bool) -> u8
     requires none { C.of_bits false false ≡ false }
     ensures status { TellsWords result (HasWords bits own.old × HasWords bits other.now)
         (IsCanonical bits own.old 64 × IsCanonical bits other.now 64) }

@@ -88,7 +88,11 @@ pub(crate) fn status_between(words: &[usize], bits: usize, start: usize, stop: u
     if status != OK {
         return status;
     }
-    if start <= stop && stop <= bits { OK } else { RANGE }
+    if start <= stop && stop <= bits {
+        OK
+    } else {
+        RANGE
+    }
 }
 
 /// Returns whether `count` bits from index `at` on are below `bits`.

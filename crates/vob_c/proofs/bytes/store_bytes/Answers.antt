@@ -23,5 +23,9 @@ loop-k-preserved c =
 pub returns : goal.returns
 returns c = stored_all c.args.most_first c.args.bits c.args.words.now c.loop-k.bytes
     c.requires.canonical (c.loop-k.invariant.long ∙ c.requires.bytes)
-    (λ i less. c.loop-k.invariant.each i (omega (arith, less, c.loop-k.invariant.long,
-    c.loop-k.auto.k-end)))
+    (λ i less. c.loop-k.invariant.each i (omega (
+      arith,
+      less,
+      c.loop-k.invariant.long,
+      c.loop-k.auto.k-end,
+    )))
