@@ -1,12 +1,11 @@
 -- Bits of words as bits of bytes.
-use Rattle.std.specs.Int.{reverse_bits, reverse_bits_onto, w8, w64, from_le_bytes}
-use Rattle.std.specs.List.{range_with_len}
-use Rattle.std.proofs.Common.{◌≡◌, ℕ, zero, suc, ◌+◌, ◌-◌, ◌*◌, ◌/◌, ◌%◌, ◌^◌, ◌<◌, ◌≤◌, Bool, true, false, if◌then◌else◌, List, [], ◌∷◌, length, map, set, get_or, eqb, min, refl, sym, ap, ◌∙◌, arith, inl, inr, div-one, pow-suc, add-one, zero-add}
+use Rattle.std.specs.Int.{reverse_bits, reverse_bits_onto, w8}
+use Rattle.std.proofs.Common.{◌≡◌, ℕ, zero, suc, ◌+◌, ◌-◌, ◌*◌, ◌/◌, ◌%◌, ◌^◌, ◌<◌, Bool, true, false, if◌then◌else◌, List, [], ◌∷◌, length, set, get_or, eqb, min, sym, ap, ◌∙◌, arith, inl, inr, div-one, pow-suc, add-one, zero-add}
 use native.Mathlib.Nat.{div-div-eq-div-mul}
 use Rattle.std.proofs.lemmas.Bool.{cases_lt}
 use Rattle.std.proofs.lemmas.List.{get_or_past, get_or-set_other, get_or-set_same}
 use Rattle.std.proofs.lemmas.List.FromFn.{length-map-range_with_len, get_or-map-range_with_len}
-use Rattle.vob_block.specs.Packing.{item, bit_at, need, unpacking, IsCanonical, Stores}
+use Rattle.vob_block.specs.Packing.{item, bit_at, need, unpacking, IsCanonical}
 use Rattle.vob_block.specs.Places.{place, HasPlaces}
 use Rattle.vob_block.proofs.NeedLemmas.{need_enough, need_least}
 use Rattle.vob_block.proofs.PackingLemmas.{bit_at-in_block, bit_at-is_item, length-unpacking, unpacking_from_items}

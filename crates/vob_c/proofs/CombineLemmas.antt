@@ -1,5 +1,5 @@
 -- Words of two arrays combined.
-use Rattle.std.proofs.Common.{◌≡◌, ◌≢◌, ◌↔◌, ◌||◌, ℕ, Bool, false, true, List, IsTrue, length, refl, sym, ap, ◌∙◌, subst, arith}
+use Rattle.std.proofs.Common.{◌≡◌, ◌≢◌, ◌↔◌, ◌||◌, ℕ, Bool, false, List, IsTrue, length, refl, sym, ap, ◌∙◌, arith}
 use Rattle.vob_block.specs.Packing.{packing, unpacking, IsCanonical, Stores}
 use Rattle.vob_block.specs.Pointwise.{pointwise, IsCombined, IsPointwise}
 use Rattle.vob_block.proofs.PackingLemmas.{length-unpacking, packing-unpacking, packing_is}

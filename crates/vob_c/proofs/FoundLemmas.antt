@@ -1,9 +1,9 @@
 -- What is found in words is found in their bits.
 use Rattle.std.specs.Prelude.{Option, Some, None, IfSome, MatchOption, unwrap_or}
-use Rattle.std.proofs.Common.{◌≡◌, ◌↔◌, ℕ, ◌+◌, ◌*◌, ◌<◌, ◌≤◌, Bool, true, false, List, IsTrue, length, map, min, refl, sym, ap, ◌∙◌, subst, arith, inl, inr}
+use Rattle.std.proofs.Common.{◌≡◌, ◌↔◌, ℕ, ◌+◌, ◌*◌, ◌<◌, ◌≤◌, Bool, true, false, List, IsTrue, length, map, min, refl, sym, ap, ◌∙◌, subst, arith}
 use Rattle.std.proofs.lemmas.Bool.{cond-true, cond-false, lt-ltb, le-ltb}
 use Rattle.std.proofs.lemmas.List.{map-id, take_all}
-use Rattle.vob_block.specs.Packing.{item, need, bit_at, packing, unpacking, IsCanonical}
+use Rattle.vob_block.specs.Packing.{item, need, packing, unpacking, IsCanonical}
 use Rattle.vob_block.proofs.PackingLemmas.{length-unpacking, packing-unpacking}
 use Rattle.vob_block.specs.Pointwise.{differ}
 use Rattle.vob_block.proofs.NeedLemmas.{need_enough}

@@ -1,6 +1,6 @@
 -- Words whose bits are turned around.
 use Rattle.std.specs.Prelude.{All}
-use Rattle.std.proofs.Common.{◌≡◌, ℕ, ◌+◌, ◌-◌, ◌%◌, ◌^◌, ◌<◌, ◌≤◌, Bool, false, List, ◌++◌, length, drop, take, sym, ◌∙◌, arith}
+use Rattle.std.proofs.Common.{◌≡◌, ℕ, ◌+◌, ◌-◌, ◌^◌, ◌<◌, ◌≤◌, Bool, false, List, ◌++◌, length, drop, take, sym, ◌∙◌, arith}
 use Rattle.std.proofs.lemmas.List.{ext_get_or, length-append, length-drop, length-take}
 use Rattle.vob_block.specs.Packing.{unpacking, IsCanonical}
 use Rattle.vob_block.proofs.PackingLemmas.{bit_at-is_item, length-unpacking}

@@ -1,6 +1,5 @@
 -- Which status says what.
-use Rattle.std.proofs.Common.{◌≡◌, ◌≢◌, ◌↔◌, ℕ, ◌<◌, Bool, true, false, IsTrue, ltb, arith, ltb-true, lt-ltb, inl, inr, refl}
-use Rattle.std.proofs.lemmas.Bool.{false≢true}
+use Rattle.std.proofs.Common.{◌≡◌, ◌↔◌, ℕ, ◌<◌, IsTrue, ltb, arith, ltb-true, lt-ltb, inl, inr, refl}
 use Rattle.vob_c.specs.Status.{Tells, TellsWords}
 
 module _ {words canonical : Type 0} where

@@ -1,6 +1,6 @@
 -- What the status of a call says.
 use Rattle.std.specs.Prelude.{◌≡◌, ◌⊎◌, ◌↔◌, ℕ, List, length}
-use Rattle.vob_block.specs.Packing.{need, IsCanonical}
+use Rattle.vob_block.specs.Packing.{need}
 
 -- as many words as some bits need
 -- Example: 65 bits need 2

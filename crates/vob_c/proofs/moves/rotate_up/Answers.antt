@@ -1,5 +1,5 @@
 -- The number of bits is the length of their list, and no bits stay.
-use Rattle.std.proofs.Common.{◌∙◌, arith}
+use Rattle.std.proofs.Common.{arith}
 use Rattle.vob_block.proofs.PackingLemmas.{length-unpacking}
 use Rattle.vob_c.proofs.MovesLemmas.{rotated_nothing}
 use Rattle.vob_c.proofs.moves.rotate_up.Goals as goal

@@ -1,5 +1,5 @@
 -- The bits are moved up, and those below become false.
-use Rattle.std.proofs.Common.{arith, ap, refl, ◌∙◌, length}
+use Rattle.std.proofs.Common.{arith}
 use Rattle.vob_block.proofs.PackingLemmas.{length-unpacking}
 use Rattle.vob.proofs.MovesLemmas.{IsMovedUp-by, moved_up}
 use Rattle.vob_c.proofs.moves.shift_up.Goals as goal

@@ -1,5 +1,5 @@
 -- The first run that is long enough begins with room, and there is no room elsewhere.
-use Rattle.std.proofs.Common.{◌≡◌, ◌<◌, ◌∙◌, ap, arith, false, length, map, not, subst}
+use Rattle.std.proofs.Common.{◌∙◌, ap, arith, false}
 use Rattle.vob_block.specs.Packing.{unpacking}
 use Rattle.vob_block.proofs.PackingLemmas.{length-unpacking}
 use Rattle.vob_walk.specs.RunSteps.{seen}

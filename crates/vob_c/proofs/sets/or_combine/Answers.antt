@@ -1,5 +1,4 @@
 -- Both others combined are words too, which are added.
-use Rattle.std.proofs.Common.{◌||◌, refl}
 use Rattle.std.proofs.lemmas.List.{map-id}
 use Rattle.vob_c.proofs.CombineLemmas.{added_stores, added_changes}
 use Rattle.vob_c.proofs.sets.or_combine.Goals as goal
