@@ -1,0 +1,87 @@
+//! The calls of `conthiral.h` that are used here.
+
+macro_rules! calls {
+    ($(fn $name:ident($($argument:ident: $type:ty),* $(,)?);)*) => {
+        extern "C" {
+            $(pub fn $name($($argument: $type),*) -> u8;)*
+        }
+    };
+}
+
+calls! {
+    fn conthiral_mask(words: *mut u64, word_count: usize, bits: usize);
+    fn conthiral_fill(words: *mut u64, word_count: usize, bits: usize, value: bool);
+    fn conthiral_negate(words: *mut u64, word_count: usize, bits: usize);
+    fn conthiral_set_range(
+        words: *mut u64, word_count: usize, bits: usize,
+        start: usize, stop: usize, value: bool, changed: *mut bool,
+    );
+    fn conthiral_negate_range(words: *mut u64, word_count: usize, bits: usize, start: usize, stop: usize);
+    fn conthiral_move(words: *mut u64, word_count: usize, bits: usize, at: usize, start: usize, count: usize);
+    fn conthiral_copy(
+        own: *mut u64, own_count: usize, bits: usize, at: usize,
+        other: *const u64, other_count: usize, other_bits: usize, start: usize, count: usize,
+    );
+    fn conthiral_shift_up(words: *mut u64, word_count: usize, bits: usize, n: usize);
+    fn conthiral_shift_down(words: *mut u64, word_count: usize, bits: usize, n: usize);
+    fn conthiral_reverse(words: *mut u64, word_count: usize, bits: usize);
+    fn conthiral_rotate_down(words: *mut u64, word_count: usize, bits: usize, n: usize);
+    fn conthiral_rotate_up(words: *mut u64, word_count: usize, bits: usize, n: usize);
+    fn conthiral_and(
+        own: *mut u64, own_count: usize, other: *const u64, other_count: usize, bits: usize, changed: *mut bool,
+    );
+    fn conthiral_or(
+        own: *mut u64, own_count: usize, other: *const u64, other_count: usize, bits: usize, changed: *mut bool,
+    );
+    fn conthiral_xor(
+        own: *mut u64, own_count: usize, other: *const u64, other_count: usize, bits: usize, changed: *mut bool,
+    );
+    fn conthiral_and_not(
+        own: *mut u64, own_count: usize, other: *const u64, other_count: usize, bits: usize, changed: *mut bool,
+    );
+    fn conthiral_or_and(
+        own: *mut u64, own_count: usize, first: *const u64, first_count: usize,
+        second: *const u64, second_count: usize, bits: usize, changed: *mut bool,
+    );
+    fn conthiral_or_and_not(
+        own: *mut u64, own_count: usize, first: *const u64, first_count: usize,
+        second: *const u64, second_count: usize, bits: usize, changed: *mut bool,
+    );
+    fn conthiral_is_subset(
+        own: *const u64, own_count: usize, other: *const u64, other_count: usize, bits: usize, answer: *mut bool,
+    );
+    fn conthiral_is_disjoint(
+        own: *const u64, own_count: usize, other: *const u64, other_count: usize, bits: usize, answer: *mut bool,
+    );
+    fn conthiral_first_difference(
+        own: *const u64, own_count: usize, other: *const u64, other_count: usize, bits: usize, index: *mut usize,
+    );
+    fn conthiral_count_ones(words: *const u64, word_count: usize, bits: usize, count: *mut usize);
+    fn conthiral_rank(words: *const u64, word_count: usize, bits: usize, index: usize, count: *mut usize);
+    fn conthiral_select(words: *const u64, word_count: usize, bits: usize, rank: usize, index: *mut usize);
+    fn conthiral_next(
+        words: *const u64, word_count: usize, bits: usize, value: bool, from: usize, index: *mut usize,
+    );
+    fn conthiral_previous(
+        words: *const u64, word_count: usize, bits: usize, value: bool, upto: usize, index: *mut usize,
+    );
+    fn conthiral_first_unset_run(
+        words: *const u64, word_count: usize, bits: usize, count: usize, index: *mut usize,
+    );
+    fn conthiral_indices(
+        words: *const u64, word_count: usize, bits: usize, value: bool, from: usize,
+        indices: *mut usize, room: usize, count: *mut usize,
+    );
+    fn conthiral_from_bytes(
+        words: *mut u64, word_count: usize, bits: usize, bytes: *const u8, byte_count: usize, most_first: bool,
+    );
+    fn conthiral_to_bytes(
+        words: *const u64, word_count: usize, bits: usize, bytes: *mut u8, byte_count: usize, most_first: bool,
+    );
+}
+
+/// Panics unless a call met its conditions. The callers here meet them all.
+#[inline]
+pub fn done(status: u8) {
+    assert_eq!(status, 0, "conthiral: a call was refused");
+}

@@ -1,0 +1,59 @@
+//! Bit vectors under the names of the crate `vob`, whose calls on words are proved.
+//!
+//! A program that uses `vob::Vob` takes `conthiral::Vob` instead. The calls on more than one bit go to
+//! `libconthiral`, whose contracts are proved: `conthiral.h` says what each does. Single bits are read and
+//! written here, by plain Rust: `get`, `set`, `push`, `pop`, `iter` and what stands on these. So are lengths
+//! and storage.
+//!
+//! ```
+//! use conthiral::{vob, Vob};
+//!
+//! let mut seen = Vob::from_elem(false, 100);
+//! seen.set(7, true);
+//! assert!(seen.or(&Vob::from_elem(true, 100)));
+//! assert_eq!(seen.count_ones(), 100);
+//! assert_eq!(vob![true, false, true].iter_set_bits(..).collect::<Vec<_>>(), [0, 2]);
+//! ```
+//!
+//! What differs from `vob` 4.0.1: blocks are 64-bit words for every storage type, so that `capacity` is a
+//! multiple of 64. The storage type `T` is the type of the blocks that `iter_storage` returns.
+
+mod bits;
+mod ffi;
+mod iter;
+mod ops;
+mod words;
+
+pub use bits::{Bits, Block};
+pub use iter::{Iter, IterSetBits, IterUnsetBits, StorageIter};
+
+/// A bit vector, by the name that it has in the crate `vob`.
+pub type Vob<T = usize> = Bits<T>;
+
+/// Makes a bit vector of the values of its bits, or of one value and a length.
+///
+/// ```
+/// use conthiral::vob;
+///
+/// assert_eq!(vob![true; 3], vob![true, true, true]);
+/// ```
+#[macro_export]
+macro_rules! vob {
+    ($value:expr; $len:expr) => {
+        $crate::Vob::from_elem($value, $len)
+    };
+    ($($value:expr),* $(,)?) => {
+        {
+            #[allow(unused_mut)]
+            let mut bits = $crate::Vob::new();
+            $(bits.push($value);)*
+            bits
+        }
+    };
+}
+
+#[cfg(all(test, vob_tests))]
+use bits::{block_offset, blocks_required};
+
+#[cfg(all(test, vob_tests))]
+include!(env!("CONTHIRAL_VOB_TESTS"));
