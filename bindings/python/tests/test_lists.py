@@ -2,6 +2,7 @@
 
 import doctest
 import os
+import pathlib
 import random
 import time
 import unittest
@@ -162,6 +163,10 @@ class Lists(unittest.TestCase):
 def load_tests(loader, tests, pattern):
     for module in (conthiral, _bits):
         tests.addTests(doctest.DocTestSuite(module))
+    page = pathlib.Path(__file__).parents[1] / "README.md"
+    # what ends a block of text isn't printed
+    text = page.read_text().replace("\n```", "\n\n")
+    tests.addTest(doctest.DocTestCase(doctest.DocTestParser().get_doctest(text, {}, page.name, str(page), 0)))
     return tests
 
 

@@ -52,6 +52,10 @@ macro_rules! vob {
     };
 }
 
+#[cfg(doctest)]
+#[doc = include_str!("../README.md")]
+struct Readme;
+
 #[cfg(all(test, vob_tests))]
 use bits::{block_offset, blocks_required};
 
