@@ -79,3 +79,13 @@ module _ {list before left out : List ℕ} {k : ℕ} (h : IsWriting list before 
     first = λ i less. h.first i (omega (arith, less, full));
     rest = λ i past. h.rest i (omega (arith, past, full));
   }
+
+  -- the same by the first item that is left, if there is one
+  pub IsWriting-next : (index : ℕ) (after : List ℕ) → left ≡ index ∷ after → k < length out
+      → IsWriting list before (k + 1) after (set out k index)
+  unfolding end_item without_end
+  IsWriting-next index after is inside = IsWriting-more index after (rw is refl) (rw is refl) inside
+
+  pub AreFirst-none : left ≡ [] → k ≤ length out → AreFirst list before out k
+  unfolding end_item
+  AreFirst-none none inside = AreFirst-all (rw none refl) inside

@@ -9,14 +9,28 @@ ghost use Rattle.vob_c.specs.Status.{HasWords, TellsWords};
 
 use crate::status::{OK, status_of};
 use vob_block::Blocks;
-use vob_walk::{End, IndexWalk, IterSetBits, IterUnsetBits};
+use vob_walk::{IterSetBits, IterUnsetBits};
 
-/// Writes the first indices of a walk into `out`, as many as it has room for, and returns how many.
-fn write_indices<W: IndexWalk>(walk: &mut W, out: &mut [usize]) -> usize
-    ensures { AreFirst (W.walk walk.old).rest out.old out.new result }
+/// Writes the first indices of a walk over set bits into `out`, as many as it has room for, and returns
+/// how many.
+fn write_set(mut walk: IterSetBits<'_, usize>, out: &mut [usize]) -> usize
+    ensures { AreFirst walk.entry.rest out.old out.new result }
 {
     for k in 0..out.len() {
-        let Some(index) = walk.pull(End::Front) else {
+        let Some(index) = walk.next() else {
+            return k;
+        };
+        out[k] = index;
+    }
+    out.len()
+}
+
+/// Writes those of a walk over unset bits.
+fn write_unset(mut walk: IterUnsetBits<'_, usize>, out: &mut [usize]) -> usize
+    ensures { AreFirst walk.entry.rest out.old out.new result }
+{
+    for k in 0..out.len() {
+        let Some(index) = walk.next() else {
             return k;
         };
         out[k] = index;
@@ -56,15 +70,10 @@ fn found_indices(words: &[usize], bits: usize, value: bool, from: usize, out: &m
     ensures { AreFirst (matches (unpacking bits words.now 64) value (Included from) Unbounded)
         out.old out.new result }
 {
+    let blocks = Blocks::new(words);
     if value {
-        write_indices(
-            &mut IterSetBits::over(Blocks::new(words), bits, from..),
-            out,
-        )
+        write_set(IterSetBits::over(blocks, bits, from..), out)
     } else {
-        write_indices(
-            &mut IterUnsetBits::over(Blocks::new(words), bits, from..),
-            out,
-        )
+        write_unset(IterUnsetBits::over(blocks, bits, from..), out)
     }
 }
