@@ -146,10 +146,11 @@ conthiral_status conthiral_is_disjoint(const uint64_t *own, size_t own_count, co
 conthiral_status conthiral_equal(const uint64_t *own, size_t own_count, const uint64_t *other, size_t other_count,
     size_t bits, bool *answer);
 
-/* Writes into `index` the first index at which the bits differ, or `bits` if they are the same. The list whose bit
-   there is set is the greater one. */
-conthiral_status conthiral_first_difference(const uint64_t *own, size_t own_count, const uint64_t *other,
-    size_t other_count, size_t bits, size_t *index);
+/* Writes into `index` the first index below both numbers of bits at which the bits differ, or the lesser number if
+   there is none: then one list begins the other. The order of lists is that of these bits, or else of their
+   numbers. */
+conthiral_status conthiral_first_difference(const uint64_t *own, size_t own_count, size_t bits, const uint64_t *other,
+    size_t other_count, size_t other_bits, size_t *index);
 
 /* How many bits are set, and which index has a rank. */
 

@@ -267,10 +267,11 @@ ASKS(is_subset, !own || first)
 ASKS(is_disjoint, !own || !first)
 ASKS(equal, own == first)
 
-CALL(first_difference) { return conthiral_first_difference(OWN, FIRST, BITS, &s->number); }
+CALL(first_difference) { return conthiral_first_difference(OWN, BITS, FIRST, s->first.bits, &s->number); }
 LISTS(first_difference) {
+    size_t end = BITS < s->first.bits ? BITS : s->first.bits;
     s->number = 0;
-    while (s->number < BITS && s->own.list[s->number] == s->first.list[s->number]) {
+    while (s->number < end && s->own.list[s->number] == s->first.list[s->number]) {
         s->number++;
     }
     return CONTHIRAL_OK;
@@ -504,6 +505,11 @@ static void one_round(void) {
         struct state t = s;
         if (CALLS[k].run == run_copy) {
             draw(&t.first, below(MOST + 1));
+        } else if (CALLS[k].run == run_first_difference && below(2)) {
+            // one list may begin the other
+            t.first.bits = below(bits + 1);
+            memset(t.first.list + t.first.bits, 0, MOST - t.first.bits);
+            pack(&t.first);
         }
         tries(&CALLS[k], &t);
     }

@@ -1,12 +1,12 @@
 -- What is found in words is found in their bits.
 use Rattle.std.specs.Prelude.{Option, Some, None, IfSome, MatchOption, unwrap_or}
-use Rattle.std.proofs.Common.{◌≡◌, ◌↔◌, ℕ, ◌+◌, ◌*◌, ◌<◌, ◌≤◌, Bool, true, false, List, IsTrue, length, map, min, refl, sym, ap, ◌∙◌, subst, arith}
-use Rattle.std.proofs.lemmas.Bool.{cond-true, cond-false, lt-ltb, le-ltb}
-use Rattle.std.proofs.lemmas.List.{map-id, take_all}
+use Rattle.std.proofs.Common.{◌≡◌, ◌↔◌, ℕ, ◌+◌, ◌*◌, ◌<◌, ◌≤◌, Bool, true, false, List, IsTrue, length, map, min, take, refl, sym, ap, ◌∙◌, subst, arith, inl, inr}
+use Rattle.std.proofs.lemmas.Bool.{cases_lt, cond-true, cond-false, lt-ltb, le-ltb}
+use Rattle.std.proofs.lemmas.List.{map-id}
 use Rattle.vob_block.specs.Packing.{item, need, packing, unpacking, IsCanonical}
 use Rattle.vob_block.proofs.PackingLemmas.{length-unpacking, packing-unpacking}
 use Rattle.vob_block.specs.Pointwise.{differ}
-use Rattle.vob_block.proofs.NeedLemmas.{need_enough}
+use Rattle.vob_block.proofs.NeedLemmas.{need_enough, need-le-need}
 use Rattle.vob_block.proofs.PointwiseLemmas.{same_from_lists}
 use Rattle.vob_store.specs.Combined.{HaveNone, IsFirstCombined}
 use Rattle.vob_walk.specs.Count.{ones_between}
@@ -20,12 +20,17 @@ use Rattle.vob.proofs.SelectLemmas.{IsIndexOfRank-blocks}
 use Rattle.vob.proofs.SetsLemmas.{IsIndexOfRank-inside, IsNext-blocks, IsNext-inside, IsPrevious-blocks, IsPrevious-inside}
 use Rattle.vob_c.specs.Found.{found_below}
 
+found_none : (n r : ℕ) → n ≤ r → found_below n r ≡ None
+found_none n r past = cond-false _ _ _ (le-ltb r n past)
+
+found_some : (n r i : ℕ) → r ≡ i → i < n → found_below n r ≡ Some i
+found_some n r i is below = cond-true _ _ _ (lt-ltb r n (omega (arith, is, below))) ∙ ap Some is
+
 -- an answer by the index that stands for it
 pub found_is : (n r : ℕ) (answer : Option ℕ) → r ≡ unwrap_or answer n → IfSome answer (λ i. i < n)
     → found_below n r ≡ answer
-found_is n r None is below = cond-false _ _ _ (le-ltb r n (omega (arith, is)))
-found_is n r (Some i) is below = cond-true _ _ _ (lt-ltb r n (omega (arith, is, below)))
-    ∙ ap Some is
+found_is n r None is below = found_none n r (omega (arith, is))
+found_is n r (Some i) is below = found_some n r i is below
 
 pub found_most : (n r : ℕ) (answer : Option ℕ) → r ≡ unwrap_or answer n → IfSome answer (λ i. i < n)
     → r ≤ n
@@ -84,34 +89,33 @@ module _ (n : ℕ) (xs items : List ℕ) (g : IsCanonical n xs 64) (same : items
 
 -- ---- two arrays of words
 
+-- the first words of both, as many as the shorter list needs
+module _ (n m : ℕ) (xs ys : List ℕ) (g : IsCanonical n xs 64) (h : IsCanonical m ys 64) (k : ℕ)
+    (counted : k ≡ need (min n m) 64) where
+  pub decided : DecideFirst 64 n m k (take k xs) (take k ys) (unpacking n xs 64) (unpacking m ys 64)
+  decided = decide 64 (omega arith) n m xs ys (unpacking n xs 64) (unpacking m ys 64) g refl h refl k
+      counted
+
+  pub enough_words : (k ≤ length xs) × (k ≤ length ys)
+  enough_words = (
+    omega (arith, counted, g.count, need-le-need 64 (omega arith) (min n m) n (omega arith)),
+    omega (arith, counted, h.count, need-le-need 64 (omega arith) (min n m) m (omega arith)),
+  )
+
+  pub difference_found : (r : ℕ) (answer : Option ℕ) → r ≡ min (unwrap_or answer (min n m)) (min n m)
+      → MatchOption answer (HaveNone differ 64 0 k (take k xs) (take k ys))
+      (IsFirstCombined differ 64 (take k xs) (take k ys))
+      → IsDifference (unpacking n xs 64) (unpacking m ys 64) (found_below (min n m) r)
+  difference_found r None is none = subst (λ a. IsDifference (unpacking n xs 64) (unpacking m ys 64) a)
+      (sym (found_none (min n m) r (omega (arith, is)))) (decided.none none)
+  difference_found r (Some i) is first = elim (cases_lt i (min n m)) [
+    | inl less ↦ subst (λ a. IsDifference (unpacking n xs 64) (unpacking m ys 64) a)
+        (sym (found_some (min n m) r i (omega (arith, is, less)) less)) (decided.inside i first less)
+    | inr past ↦ subst (λ a. IsDifference (unpacking n xs 64) (unpacking m ys 64) a)
+        (sym (found_none (min n m) r (omega (arith, is, past)))) (decided.past i first past)
+  ]
+
 module _ (n : ℕ) (xs ys : List ℕ) (g : IsCanonical n xs 64) (h : IsCanonical n ys 64) where
-  pub decided : DecideFirst 64 n n (length xs) xs ys (unpacking n xs 64) (unpacking n ys 64)
-  decided =
-      let half : n ≡ min n n = omega arith in
-      rw (
-        take_all (length xs) xs (omega arith),
-        take_all (length xs) ys (omega (arith, g.count, h.count)),
-      ) at (decide 64 (omega arith) n n xs ys (unpacking n xs 64) (unpacking n ys 64) g refl h refl
-      (length xs) (g.count ∙ ap (λ m. need m 64) half))
-
-  pub difference_found : (r : ℕ) (answer : Option ℕ) → r ≡ unwrap_or answer n
-      → MatchOption answer (HaveNone differ 64 0 (length xs) xs ys) (IsFirstCombined differ 64 xs ys)
-      → IsDifference (unpacking n xs 64) (unpacking n ys 64) (found_below n r)
-  difference_found r None is none = subst (λ a. IsDifference (unpacking n xs 64) (unpacking n ys 64) a)
-      (sym (found_is n r None is tt)) (decided.none none)
-  difference_found r (Some i) is first =
-      let less = decided.below i first.there in
-      subst (λ a. IsDifference (unpacking n xs 64) (unpacking n ys 64) a)
-      (sym (found_is n r (Some i) is (omega (arith, less))))
-      (decided.inside i first (omega (arith, less)))
-
-  pub difference_most : (r : ℕ) (answer : Option ℕ) → r ≡ unwrap_or answer n
-      → MatchOption answer (HaveNone differ 64 0 (length xs) xs ys) (IsFirstCombined differ 64 xs ys)
-      → r ≤ n
-  difference_most r None is none = omega (arith, is)
-  difference_most r (Some i) is first =
-      let less = decided.below i first.there in omega (arith, is, less)
-
   pub none_found : (f : Bool → Bool → Bool) → f false false ≡ false → (items : List ℕ) → items ≡ ys
       → (r : Bool) → (IsTrue r ↔ HaveNone f 64 0 (length xs) (map (λ x. x) xs) (map (λ x. x) items))
       → IsTrue r ↔ ((i : ℕ) → f (item (unpacking n xs 64) i) (item (unpacking n ys 64) i) ≡ false)

@@ -1,5 +1,5 @@
 //! Two arrays of words compared, as sets and as lists.
-ghost use Rattle.std.specs.Prelude.{◌≡◌, ◌≢◌, ◌↔◌, ◌≤◌, ◌&&◌, ℕ, false, IsTrue};
+ghost use Rattle.std.specs.Prelude.{◌≡◌, ◌≢◌, ◌↔◌, ◌≤◌, ◌&&◌, ℕ, false, min, IsTrue};
 ghost use Rattle.vob_block.specs.Packing.{item, unpacking, IsCanonical};
 ghost use Rattle.vob.specs.Order.{IsDifference};
 ghost use Rattle.vob.specs.Sets.{AreDisjoint, IsSubset};
@@ -10,6 +10,7 @@ use crate::status::{OK, status_of_two};
 use vob_block::{And, Blocks, Combine, Without, Xor};
 use vob_store::combined::has_none;
 use vob_store::first::first_combined;
+use vob_store::room::block_count;
 use vob_store::same::same_blocks;
 
 /// Returns whether no bit of both combined is set.
@@ -52,16 +53,19 @@ fn are_equal(own: &[usize], other: &[usize], bits: usize) -> bool
     same_blocks(own, other)
 }
 
-/// Returns the first index at which the bits differ, or `bits` if there is none.
-fn difference_or_end(own: &[usize], other: &[usize], bits: usize) -> usize
+/// Returns the first index below both numbers of bits at which the bits differ, or the lesser number if
+/// there is none.
+fn difference_or_end(own: &[usize], bits: usize, other: &[usize], other_bits: usize) -> usize
     requires own { IsCanonical bits own.now 64 }
-    requires other { IsCanonical bits other.now 64 }
-    ensures first { IsDifference (unpacking bits own.now 64) (unpacking bits other.now 64)
-        (found_below bits result) }
-    ensures most { result ≤ bits }
+    requires other { IsCanonical other_bits other.now 64 }
+    ensures first { IsDifference (unpacking bits own.now 64) (unpacking other_bits other.now 64)
+        (found_below (min bits other_bits) result) }
+    ensures most { result ≤ min bits other_bits }
 {
-    let found = first_combined::<Xor, usize>(own, &mut Blocks::new(other));
-    found.unwrap_or(bits)
+    let shorter = bits.min(other_bits);
+    let count = block_count::<usize>(shorter);
+    let found = first_combined::<Xor, usize>(&own[..count], &mut Blocks::new(&other[..count]));
+    found.unwrap_or(shorter).min(shorter)
 }
 
 /// Writes into `answer` whether each bit that is set in `own` is set in `other` too.
@@ -130,26 +134,28 @@ pub extern "C" fn conthiral_equal(
     OK
 }
 
-/// Writes into `index` the first index at which the bits differ, or `bits` if they are the same. The list
-/// whose bit there is set is the greater one.
+/// Writes into `index` the first index below both numbers of bits at which the bits differ, or the lesser
+/// number if there is none: then one list begins the other. The order of lists is that of these bits, or
+/// else of their numbers.
 #[unsafe(no_mangle)]
 pub extern "C" fn conthiral_first_difference(
     own: &[usize],
-    other: &[usize],
     bits: usize,
+    other: &[usize],
+    other_bits: usize,
     index: &mut usize,
 ) -> u8
-    ensures status { TellsWords result (HasWords bits own.now × HasWords bits other.now)
-        (IsCanonical bits own.now 64 × IsCanonical bits other.now 64) }
+    ensures status { TellsWords result (HasWords bits own.now × HasWords other_bits other.now)
+        (IsCanonical bits own.now 64 × IsCanonical other_bits other.now 64) }
     ensures first { result ≡ 0 → IsDifference (unpacking bits own.now 64)
-        (unpacking bits other.now 64) (found_below bits index.new) }
-    ensures most { result ≡ 0 → index.new ≤ bits }
+        (unpacking other_bits other.now 64) (found_below (min bits other_bits) index.new) }
+    ensures most { result ≡ 0 → index.new ≤ min bits other_bits }
     ensures refused { result ≢ 0 → index.new ≡ index.old }
 {
-    let status = status_of_two(own, bits, other, bits);
+    let status = status_of_two(own, bits, other, other_bits);
     if status != OK {
         return status;
     }
-    *index = difference_or_end(own, other, bits);
+    *index = difference_or_end(own, bits, other, other_bits);
     OK
 }
