@@ -342,8 +342,10 @@ class Bits:
         return answer.value
 
     def first_difference(self, other: Bits) -> Optional[int]:
-        """Returns the first index at which two differ, if there is one."""
-        return self._found("first_difference", *self._both(other))
+        """Returns the first index that both have at which they differ, if there is one."""
+        index = c_size_t()
+        _call("first_difference", *self._own(), *other._own(), index)
+        return index.value if index.value < min(self._bits, other._bits) else None
 
     def _found(self, name: str, *arguments: Any) -> Optional[int]:
         index = c_size_t()

@@ -40,7 +40,7 @@ _CALLS = {
     "is_subset": _BOTH + _FLAG,
     "is_disjoint": _BOTH + _FLAG,
     "equal": _BOTH + _FLAG,
-    "first_difference": _BOTH + _INDEX,
+    "first_difference": _OWN + _OWN + _INDEX,
     "get": _OWN + [c_size_t] + _FLAG,
     "set": _OWN + [c_size_t, c_bool] + _FLAG,
     "flip": _OWN + [c_size_t] + _FLAG,

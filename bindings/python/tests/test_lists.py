@@ -95,6 +95,9 @@ class Lists(unittest.TestCase):
             self.assertEqual(first == second, own == other)
             differ = [i for i in range(length) if own[i] != other[i]]
             self.assertEqual(first.first_difference(second), differ[0] if differ else None)
+            more = some_list(some_length())
+            differ = [i for i in range(min(length, len(more))) if own[i] != more[i]]
+            self.assertEqual(first.first_difference(Bits.of(more)), differ[0] if differ else None)
             wanted = [a or b and c for a, b, c in zip(own, other, third)]
             self.assertEqual(first.unite_both(second, Bits.of(third)), wanted != own)
             self.same(first, wanted)

@@ -54,7 +54,8 @@ calls! {
         own: *const u64, own_count: usize, other: *const u64, other_count: usize, bits: usize, answer: *mut bool,
     );
     fn conthiral_first_difference(
-        own: *const u64, own_count: usize, other: *const u64, other_count: usize, bits: usize, index: *mut usize,
+        own: *const u64, own_count: usize, bits: usize,
+        other: *const u64, other_count: usize, other_bits: usize, index: *mut usize,
     );
     fn conthiral_count_ones(words: *const u64, word_count: usize, bits: usize, count: *mut usize);
     fn conthiral_rank(words: *const u64, word_count: usize, bits: usize, index: usize, count: *mut usize);

@@ -33,9 +33,7 @@ impl<T> Eq for Bits<T> {}
 /// As lists of bits: the first bit that differs decides, and else the length.
 impl<T> Ord for Bits<T> {
     fn cmp(&self, other: &Bits<T>) -> Ordering {
-        let both = self.len.min(other.len);
-        let (own, others) = (self.slice(..both), other.slice(..both));
-        match own.first_difference(&others) {
+        match self.first_difference(other) {
             Some(index) => self.get(index).cmp(&other.get(index)),
             None => self.len.cmp(&other.len),
         }

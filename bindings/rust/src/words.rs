@@ -283,8 +283,9 @@ impl<T> Bits<T> {
         of_both!(self, other, conthiral_is_disjoint, false)
     }
 
-    /// Returns the first index at which two differ. Panics if the lengths differ.
+    /// Returns the first index that both have at which they differ.
     pub fn first_difference(&self, other: &Bits<T>) -> Option<usize> {
-        index_below(of_both!(self, other, conthiral_first_difference, 0), self.len)
+        let index = of_words!(self, conthiral_first_difference, 0, other.vec.as_ptr(), other.vec.len(), other.len);
+        index_below(index, self.len.min(other.len))
     }
 }

@@ -126,6 +126,8 @@ fn two_and_three() {
         assert_eq!(of_own.is_subset(&of_first), (0..len).all(|i| !own[i] || first[i]));
         assert_eq!(of_own.is_disjoint(&of_first), (0..len).all(|i| !own[i] || !first[i]));
         assert_eq!(of_own.first_difference(&of_first), (0..len).find(|&i| own[i] != first[i]));
+        let third = list(some_len());
+        assert_eq!(of_own.cmp(&bits(&third)), own.cmp(&third));
         assert_eq!(of_own.cmp(&of_first), own.cmp(&first));
         assert_eq!(of_own == of_first, own == first);
     }
