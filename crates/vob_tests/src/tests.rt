@@ -3,7 +3,6 @@ mod block_types;
 mod constructors;
 mod copies;
 mod draining;
-mod examples;
 mod growing;
 mod hints;
 mod lanes;
