@@ -4,7 +4,7 @@ use crate::fault::Fault;
 use clap::builder::ValueParser;
 use clap::{Arg, ArgAction, ArgMatches, Command};
 use files_code::{FORMS, Form};
-use files_filter::Shows;
+use files_filter::{Format, Shows};
 use files_flow::{ANALYSES, Analysis, FLOW_FORMS};
 use files_graph::{GRAPH_FORMS, GraphForm, Part};
 use files_parse::{TREE_FORMS, TreeForm};
@@ -73,14 +73,14 @@ An expression is what a node reads: (i n) above. Where no path leads, all hold.
 Exit status: 0; 2 after a fault.
 Example: ./conthiral flow examples/files/flow.txt --analysis live";
 
+/// What may stand between the cells of a table.
+const DELIMITERS: [&str; 5] = [",", ";", ":", "|", "tab"];
+
 /// What the help of `filter` says of conditions and of the exit status.
 const FILTER_HELP: &str = "\
-A condition compares by =, !=, <, <=, > and >=, and joins by !, & and |, which
-bind in this order, and parentheses. Names and values with spaces or marks need
-double quotes. A value in quotes is a text; without, it is a column's name, or
-else a number, as all cells of the column then are, or else a text. Two cells
-compare as numbers if both are, else as texts; by < never one of each. An empty
-cell keeps no row by a comparison, nor by its !; ask `NAME is [not] missing`.
+A condition compares by = != < <= > >=, joined by ! & | in this order, and ().
+Double quotes hold spaces and marks, and make a text of a number or of a name.
+An empty cell keeps no row by a comparison; ask for it: `NAME is [not] missing`.
 
 Exit status: 0; 1 if --quiet keeps no row; 2 at a fault: rows before it stand.
 Example: ./conthiral filter examples/files/cities.csv 'elevation>5 | city=Oslo'";
@@ -115,6 +115,7 @@ pub enum Task<'a> {
     /// The rows of a table of which a condition is true.
     Filter {
         file: &'a str,
+        format: Format<'a>,
         condition: &'a str,
         shows: Shows,
     },
@@ -267,6 +268,27 @@ fn filter_command<'a>(alloc: Global) -> Result<Command<'a>, AllocError> {
         .help("A page has N rows, and else 20; alone, the first page")
         .conflicts_with("count")?
         .conflicts_with("quiet")?;
+    let select = Arg::new(alloc, "select")
+        .long("select")
+        .value_name("A,B")
+        .value_delimiter(',')
+        .help("Print these columns, in this order")
+        .conflicts_with("count")?
+        .conflicts_with("quiet")?;
+    let delimiter = Arg::new(alloc, "delimiter")
+        .long("delimiter")
+        .value_name("C")
+        .value_parser(DELIMITERS.as_slice())
+        .hide_possible_values(true)
+        .help("What stands between cells: a comma, or one of ; : | tab");
+    let output = Arg::new(alloc, "output")
+        .long("output")
+        .value_name("json")
+        .value_parser(["json"].as_slice())
+        .hide_possible_values(true)
+        .help("Print each row as an object of JSON, a line each")
+        .conflicts_with("count")?
+        .conflicts_with("quiet")?;
     Command::new(alloc, "filter")
         .about("Print the rows of a table of which a condition is true")
         .after_help(FILTER_HELP)
@@ -274,6 +296,9 @@ fn filter_command<'a>(alloc: Global) -> Result<Command<'a>, AllocError> {
         .arg(quiet)?
         .arg(page)?
         .arg(page_rows)?
+        .arg(select)?
+        .arg(delimiter)?
+        .arg(output)?
         .arg(file)?
         .arg(condition)
 }
@@ -301,6 +326,22 @@ fn part_of<'a>(matches: &ArgMatches<'a>) -> Part<'a> {
     match matches.get_str("from") {
         Some(from) => Part::From(from),
         None => Part::Edges,
+    }
+}
+
+/// Returns how a table is read and written.
+fn format_of<'a>(matches: &'a ArgMatches<'a>) -> Format<'a> {
+    let delimiter = match matches.get_str("delimiter") {
+        Some("tab") => b'\t',
+        Some(";") => b';',
+        Some(":") => b':',
+        Some("|") => b'|',
+        _ => b',',
+    };
+    Format {
+        delimiter,
+        columns: matches.get_strs("select"),
+        is_json: matches.get_str("output").is_some(),
     }
 }
 
@@ -347,7 +388,7 @@ pub fn command<'a>(alloc: Global) -> Result<Command<'a>, AllocError> {
 }
 
 /// Returns what the words ask for, or `None` if they name no task.
-pub fn task_of<'a>(matches: &ArgMatches<'a>) -> Option<Task<'a>> {
+pub fn task_of<'a>(matches: &'a ArgMatches<'a>) -> Option<Task<'a>> {
     let (name, own) = matches.subcommand()?;
     let file = own.get_str("file").unwrap_or(STANDARD_INPUT);
     match name {
@@ -373,6 +414,7 @@ pub fn task_of<'a>(matches: &ArgMatches<'a>) -> Option<Task<'a>> {
         }),
         "filter" => Some(Task::Filter {
             file,
+            format: format_of(own),
             condition: own.get_str("condition")?,
             shows: shows_of(own),
         }),

@@ -4,7 +4,7 @@ use crate::command::{STANDARD_INPUT, Task, command, shown_name, task_of};
 use crate::fault::{Fault, Report};
 use crate::progress::Watched;
 use files_code::{Form, print_form};
-use files_filter::{Shows, print_filter};
+use files_filter::{Format, Shows, print_filter};
 use files_flow::print_flow;
 use files_grammar::{GrammarFile, print_grammar};
 use files_graph::print_closure;
@@ -65,16 +65,17 @@ fn write_form<R: Eprint + AllocGlobal, W: Write>(
 fn filter<R: Files + Input + AllocGlobal, W: Write>(
     rt: &R,
     file: &str,
+    format: &Format<'_>,
     condition: &str,
     shows: Shows,
     output: &mut W,
 ) -> Result<u8, Fault> {
     let alloc = rt.alloc();
     if file == STANDARD_INPUT {
-        return Ok(print_filter(alloc, rt.reader(), condition, shows, output)?);
+        return Ok(print_filter(alloc, rt.reader(), format, condition, shows, output)?);
     }
     let input = File::open(rt, file).map_err(files_text::Fault::Input)?;
-    Ok(print_filter(alloc, input, condition, shows, output)?)
+    Ok(print_filter(alloc, input, format, condition, shows, output)?)
 }
 
 /// Reads the input of a task, and writes what it asks for. Returns the status.
@@ -106,9 +107,10 @@ fn write_task<R: Files + Input + Eprint + AllocGlobal, W: Write>(
         }
         Task::Filter {
             file,
+            format,
             condition,
             shows,
-        } => filter(rt, file, condition, *shows, output),
+        } => filter(rt, file, format, condition, *shows, output),
     }
 }
 

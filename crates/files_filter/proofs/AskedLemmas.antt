@@ -4,7 +4,8 @@ use Rattle.std.proofs.Common.{◌≡◌, ◌≢◌, ◌∙◌, ℕ, List, [], �
 use Rattle.std.proofs.lemmas.List.{append-nil}
 use Rattle.csv.specs.Records.{fields_of}
 use Rattle.files_filter.specs.Blocks.{HasAsked}
-use Rattle.files_filter.specs.Reading.{AreAllRows, AreFirstRows, Cells, HasRead}
+use Rattle.csv.specs.declared.parser.Config.{Config}
+use Rattle.files_filter.specs.Reading.{AreAllRows, AreFirstRows, BeginWith, Cells, Consist, Delimited, HasRead, config_of}
 use Rattle.files_filter.specs.Refusals.{RefusesBy}
 use Rattle.files_filter.specs.RowFaults.{AreRefused, below_header, header_of}
 use Rattle.files_filter.specs.Watching.{IsWatched}
@@ -29,7 +30,7 @@ some_more : (rows : List Cells) (cells : Cells) → rows ++ cells ∷ [] ≢ []
 some_more [] cells same = cc same
 some_more (header ∷ rows) cells same = cc same
 
-pub asked_more : {R : Type 0} (remaining : R → Option (List ℕ)) (text : Option (List ℕ)) (rows : List Cells)
+pub asked_more : {R : Type 0} (remaining : R → Option (List ℕ)) (text : Delimited) (rows : List Cells)
     (old new : Table R) (before after : Questions) (cells : Cells) → HasAsked remaining text rows old before →
     HasRead remaining text (rows ++ cells ∷ []) new → new.header ≡ old.header → after.tests ≡ before.tests →
     (All (IsWatched (fields_of new.header) (below_header rows) before.tests.items) before.guards.items →
@@ -46,7 +47,7 @@ asked_more remaining text rows old new before after cells has read same tests se
     }
 
 -- what follows for guards that have seen the rows below a header
-pub watched_by : {R : Type 0} (remaining : R → Option (List ℕ)) (text : Option (List ℕ)) (rows : List Cells)
+pub watched_by : {R : Type 0} (remaining : R → Option (List ℕ)) (text : Delimited) (rows : List Cells)
     (old new : Table R) (questions : Questions) → HasAsked remaining text rows old questions →
     new.header ≡ old.header → (P : Cells → Type 0) →
     (All (IsWatched (fields_of new.header) (below_header rows) questions.tests.items) questions.guards.items →
@@ -57,7 +58,7 @@ watched_by remaining text rows old new questions has same P so =
     (so (subst (λ h. All (IsWatched h (below_header rows) questions.tests.items) questions.guards.items) header has.watched))
 
 -- the row after those that were read is refused
-pub refused_next : (text : Option (List ℕ)) (rows : List Cells) (cells : Cells) (tests : List Test)
+pub refused_next : (text : Delimited) (rows : List Cells) (cells : Cells) (tests : List Test)
     (fault : FilterFault) → AreFirstRows text (rows ++ cells ∷ []) →
     RefusesBy text (header_of rows) (below_header rows ++ cells ∷ []) tests fault → AreRefused text rows tests fault
 refused_next text rows cells tests fault first refuses = record {
@@ -67,18 +68,19 @@ refused_next text rows cells tests fault first refuses = record {
   refuses = refuses;
 }
 
-all_first : (text : Option (List ℕ)) (rows : List Cells) → AreAllRows text rows → AreFirstRows text rows
-all_first None rows all = tt
-all_first (Some text) rows all = (all.0, all.1, all.2)
+all_first : (config : Config) (known : Option (List ℕ)) (rows : List Cells) → Consist config known rows →
+    BeginWith config known rows
+all_first config None rows all = tt
+all_first config (Some text) rows all = (all.0, all.1, all.2)
 
 -- all rows are refused at the end
-pub refused_all : (text : Option (List ℕ)) (rows : List Cells) (tests : List Test) (fault : FilterFault) →
+pub refused_all : (text : Delimited) (rows : List Cells) (tests : List Test) (fault : FilterFault) →
     rows ≢ [] → AreAllRows text rows →
     (AreAllRows text (header_of rows ∷ below_header rows) →
     RefusesBy text (header_of rows) (below_header rows) tests fault) → AreRefused text rows tests fault
 refused_all text rows tests fault some all refuses = record {
   late = [];
   few = omega arith;
-  first = rw (append-nil rows) (all_first text rows all);
+  first = rw (append-nil rows) (all_first (config_of text.delimiter) text.text rows all);
   refuses = rw (append-nil (below_header rows)) (refuses (rw (header_and_below rows some) all));
 }

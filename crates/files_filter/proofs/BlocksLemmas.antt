@@ -9,7 +9,7 @@ use Rattle.vob_filter.specs.Columns.{row_at, value_at}
 use Rattle.files_filter.specs.Answers.{AreAnswers}
 use Rattle.files_filter.specs.Blocks.{AnswerAll, HasAsked, answers_at}
 use Rattle.files_filter.specs.FilterText.{Answered, answered, true_rows}
-use Rattle.files_filter.specs.Reading.{Cells}
+use Rattle.files_filter.specs.Reading.{Cells, Delimited}
 use Rattle.files_filter.specs.Written.{cells_of}
 use Rattle.files_filter.proofs.AnswersLemmas.{answers_count}
 use Rattle.files_filter.proofs.FilterTextLemmas.{filtered}
@@ -22,7 +22,7 @@ use Rattle.files_filter.specs.declared.questions.Questions.{Questions}
 use Rattle.files_filter.specs.declared.table.Table.{Table}
 
 -- one more row of a block
-pub block_more : {R : Type 0} (remaining : R → Option (List ℕ)) (text : Option (List ℕ)) (before : List Cells)
+pub block_more : {R : Type 0} (remaining : R → Option (List ℕ)) (text : Delimited) (before : List Cells)
     (rows : List Row) (row : Row) (table : Table R) (questions : Questions) →
     HasAsked remaining text ((before ++ map (λ r. r.0) (map answered rows)) ++ fields_of row.cells ∷ []) table questions →
     HasAsked remaining text (before ++ map (λ r. r.0) (map answered (rows ++ row ∷ []))) table questions

@@ -23,20 +23,23 @@ use Rattle.csv.specs.declared.writer.WriterBuilder.{WriterBuilder}
 use Rattle.csv.specs.declared.writer.QuoteStyle.TheVariants.{Necessary, NonNumeric}
 use Rattle.files_text.specs.Printed.{members}
 use Rattle.files_filter.specs.FilterText.{Answered, IsReady, is_true, row_line, rows_text, true_rows, windowed}
+use Rattle.files_filter.specs.Layouts.{writer_of}
 use Rattle.files_filter.specs.Reading.{Cells}
+use Rattle.files_filter.specs.declared.layout.Layout.{Layout}
 
-module _ {W : Type 0} (contents : W → Option (List ℕ)) (old new : Writer W) (ready : IsReady old) where
+module _ {W : Type 0} (contents : W → Option (List ℕ)) (delimiter : ℕ) (old new : Writer W)
+    (ready : IsReady delimiter old) where
   -- a writer writes a row as a line
   pub row_written : (cells shown : List (List ℕ)) → shown ≡ cells →
       (fields_written old ≡ 0 → has_written old ≡ false → (writer_setup old).style ≢ NonNumeric →
       Appends (text_written contents old) (text_written contents new)
       (row_text (writer_setup old) cells)) →
-      Appends (text_written contents old) (text_written contents new) (row_line shown)
+      Appends (text_written contents old) (text_written contents new) (row_text (writer_of delimiter) shown)
   row_written cells shown same wrote =
-      let line : Appends (text_written contents old) (text_written contents new) (row_line cells) =
+      let line : Appends (text_written contents old) (text_written contents new) (row_text (writer_of delimiter) cells) =
       subst (λ setup. Appends (text_written contents old) (text_written contents new)
       (row_text setup cells)) ready.setup (wrote ready.fields ready.wrote other) in
-      subst (λ row. Appends (text_written contents old) (text_written contents new) (row_line row))
+      subst (λ row. Appends (text_written contents old) (text_written contents new) (row_text (writer_of delimiter) row))
       (sym same) line
     where
       other : (writer_setup old).style ≢ NonNumeric
@@ -45,7 +48,7 @@ module _ {W : Type 0} (contents : W → Option (List ℕ)) (old new : Writer W) 
           sym (ap (λ (setup : WriterBuilder). setup.style) ready.setup) ∙ same in cc
 
   pub ready_after : fields_written new ≡ 0 → has_written new ≡ false →
-      writer_setup new ≡ writer_setup old → IsReady new
+      writer_setup new ≡ writer_setup old → IsReady delimiter new
   ready_after fields wrote setup = record {
     setup = setup ∙ ready.setup;
     fields = fields;
@@ -167,7 +170,7 @@ window_inside skip count bits rows long =
     rw (← long) (All-take (λ k. k < length bits) count _
     (All-drop (λ k. k < length bits) skip (members bits) (members_inside bits)))
 
-module _ (cells : ℕ → Cells) (rows : List Cells) (bits : List Bool) (same : map cells (members bits) ≡ rows) where
+module _ (layout : Layout) (cells : ℕ → Cells) (rows : List Cells) (bits : List Bool) (same : map cells (members bits) ≡ rows) where
   -- the rows with the numbers in a window
   pub window_rows : (skip : ℕ) (most : Option ℕ) (count : ℕ) → count ≡ length bits →
       map cells (take (unwrap_or most count) (drop skip (members bits))) ≡ windowed skip most rows
@@ -181,11 +184,11 @@ module _ (cells : ℕ → Cells) (rows : List Cells) (bits : List Bool) (same : 
       ∙ ap (take most) (sym (drop-map cells skip (members bits)) ∙ ap (drop skip) same)
 
   pub window_text : (skip : ℕ) (most : Option ℕ) (count : ℕ) → count ≡ length bits →
-      flat_map (λ number. row_line (cells number)) (take (unwrap_or most count) (drop skip (members bits)))
-      ≡ rows_text (windowed skip most rows)
+      flat_map (λ number. row_line layout (cells number)) (take (unwrap_or most count) (drop skip (members bits)))
+      ≡ rows_text layout (windowed skip most rows)
   window_text skip most count long =
-      sym (flat_map-map row_line cells (take (unwrap_or most count) (drop skip (members bits))))
-      ∙ ap rows_text (window_rows skip most count long)
+      sym (flat_map-map (row_line layout) cells (take (unwrap_or most count) (drop skip (members bits))))
+      ∙ ap (rows_text layout) (window_rows skip most count long)
 
   pub window_count : (skip : ℕ) (most : Option ℕ) (count : ℕ) → count ≡ length bits →
       length (take (unwrap_or most count) (drop skip (members bits))) ≡ length (windowed skip most rows)

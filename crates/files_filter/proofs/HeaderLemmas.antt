@@ -14,19 +14,19 @@ use Rattle.files_filter.specs.Answers.{cell_at}
 use Rattle.files_filter.specs.Columns.{AreNames, HoldNames, IsRepeated}
 use Rattle.files_filter.specs.Reading.{Cells}
 
-cell_is : (header : Cells) (place : ℕ) → get_or header place [] ≡ cell_at header place
+pub cell_is : (header : Cells) (place : ℕ) → get_or header place [] ≡ cell_at header place
 unfolding field_at
 cell_is [] place = refl
 cell_is (cell ∷ header) zero = refl
 cell_is (cell ∷ header) (suc place) = cell_is header place
 
-no_cell : (header : Cells) (place : ℕ) → length header ≤ place → cell_at header place ≡ []
+pub no_cell : (header : Cells) (place : ℕ) → length header ≤ place → cell_at header place ≡ []
 unfolding field_at
 no_cell [] place within = refl
 no_cell (cell ∷ header) zero within = absurd (omega (arith, within))
 no_cell (cell ∷ header) (suc place) within = no_cell header place (omega (arith, within))
 
-one_more : (header : Cells) (place : ℕ) → place < length header →
+pub one_more : (header : Cells) (place : ℕ) → place < length header →
     take (place + 1) header ≡ take place header ++ cell_at header place ∷ []
 one_more header place less =
     take_more header place [] less ∙ ap (λ cell. take place header ++ cell ∷ []) (cell_is header place)

@@ -1,8 +1,10 @@
 pub mod FilterTextLemmas
+mod ExchangedLemmas
 mod ReadingLemmas
 mod RefusalsLemmas
 mod HeaderLemmas
 mod AnswersLemmas
+mod LayoutLemmas
 mod BlocksLemmas
 mod AskedLemmas
 mod FilteredLemmas

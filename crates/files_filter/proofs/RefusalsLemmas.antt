@@ -10,7 +10,7 @@ use Rattle.std.proofs.lemmas.List.Quantifiers.{Any-push}
 use Rattle.files_condition.specs.Numbers.{Decimal, IsNumber}
 use Rattle.files_condition.specs.declared.condition.Relation.{Relation}
 use Rattle.files_filter.specs.Answers.{IsNumeric, cell_at}
-use Rattle.files_filter.specs.Reading.{AreAllRows, Cells}
+use Rattle.files_filter.specs.Reading.{AreAllRows, Cells, Delimited}
 use Rattle.files_filter.specs.Refusals.{HasNumber, IsMisread, IsOrdering, IsShown, IsTextCell, Refuses}
 use Rattle.files_filter.specs.Watching.{WatchesColumns, WatchesText}
 use Rattle.files_filter.specs.declared.comparing.Kind.TheVariants.{Compared}
@@ -130,12 +130,12 @@ module _ (header : Cells) (rows : List Cells) (row : Cells) (test : Test) (guard
         (so.texts none) (inr (subst (λ cell. IsNumeric cell) here is));
   }
 
-  pub number_refused : (text : Option (List ℕ)) (fault : FilterFault) → IsNumeric (cell_at row guard.place) →
+  pub number_refused : (text : Delimited) (fault : FilterFault) → IsNumeric (cell_at row guard.place) →
       guard.is_order ≡ true → IsMisread fault guard.at → Refuses text header (rows ++ row ∷ []) test fault
   number_refused text fault is order misread = rw so.kind
       (so.plain, subst (IsMisread fault) so.at misread, has_number is, inl (so.is_order order))
 
-  pub numbers_refused : (text : Option (List ℕ)) (fault : FilterFault) → guard.have_numbers ≡ true →
+  pub numbers_refused : (text : Delimited) (fault : FilterFault) → guard.have_numbers ≡ true →
       guard.have_texts ≡ false → IsMisread fault guard.at → AreAllRows text (header ∷ rows) →
       Refuses text header rows test fault
   numbers_refused text fault have none misread all = rw so.kind
@@ -194,7 +194,7 @@ module _ (header : Cells) (rows : List Cells) (row : Cells) (test : Test) (guard
     texts = tt;
   }
 
-  pub text_refused : (text : Option (List ℕ)) (wrong : WrongCell) → guard.have_numbers ≡ true →
+  pub text_refused : (text : Delimited) (wrong : WrongCell) → guard.have_numbers ≡ true →
       guard.text ≡ Some wrong → Refuses text header rows test (Cell wrong)
   text_refused text wrong have is = rw so.kind (
     so.is_order,
@@ -203,7 +203,7 @@ module _ (header : Cells) (rows : List Cells) (row : Cells) (test : Test) (guard
   )
 
 -- a cell isn't the number that a test needs
-module _ (text : Option (List ℕ)) (header : Cells) (rows : List Cells) (row : Cells) (test : Test)
+module _ (text : Delimited) (header : Cells) (rows : List Cells) (row : Cells) (test : Test)
     (relation : Relation) where
   pub needs_number : (number : Decimal) (wrong : WrongCell) → test.kind ≡ Compared relation (other.Number number) →
       IsTextCell header test.place wrong row → Refuses text header (rows ++ row ∷ []) test (Cell wrong)

@@ -1,8 +1,10 @@
-pub mod FilterText
+pub mod Exchanged
 pub mod Reading
 pub mod Answers
 pub mod Columns
 pub mod Refusals
+pub mod Layouts
+pub mod FilterText
 pub mod Watching
 pub mod RowFaults
 pub mod Blocks

@@ -1,5 +1,5 @@
 -- Why a condition refuses the rows of a table: it compares numbers with texts.
-use Rattle.std.specs.Prelude.{◌≡◌, ◌≢◌, ◌≤◌, ◌⊎◌, ◌∷◌, [], ℕ, All, false, List, Option, codes, length, string_bytes}
+use Rattle.std.specs.Prelude.{◌≡◌, ◌≢◌, ◌≤◌, ◌⊎◌, ◌∷◌, [], ℕ, All, false, List, codes, length, string_bytes}
 use Rattle.std.specs.List.{Any}
 use Rattle.std.specs.Str.Lossy.{utf8_lossy}
 use Rattle.files_condition.specs.Words.{IsWordText}
@@ -7,7 +7,7 @@ use Rattle.files_condition.specs.declared.condition.Relation.{Relation}
 use Rattle.files_condition.specs.declared.condition.Relation.TheVariants.{Equal, NotEqual}
 use Rattle.files_text.specs.declared.fault.Fault.TheVariants.{Memory}
 use Rattle.files_filter.specs.Answers.{IsNumeric, cell_at}
-use Rattle.files_filter.specs.Reading.{AreAllRows, Cells}
+use Rattle.files_filter.specs.Reading.{AreAllRows, Cells, Delimited}
 use Rattle.files_filter.specs.declared.comparing.Kind.{Kind}
 use Rattle.files_filter.specs.declared.comparing.Kind.TheVariants.{Compared, Missing}
 use Rattle.files_filter.specs.declared.comparing.Other.TheVariants as other
@@ -57,7 +57,7 @@ IsMisread fault at = ⊥
 -- what is asked of the cells of a column refuses the rows below a header: a number is compared with a text; of two
 -- columns it is asked which is less, and they have a number and a text; a text without quotes is asked to be less, and the
 -- column has a number, or has nothing else to the end
-abbrev pub RefusesKind : Option (List ℕ) → (header : Cells) (rows : List Cells) (place : ℕ) → Kind → FilterFault → Type 0
+abbrev pub RefusesKind : Delimited → (header : Cells) (rows : List Cells) (place : ℕ) → Kind → FilterFault → Type 0
 RefusesKind text header rows place (Compared relation (other.Number number)) fault = IsAtText header rows place fault
 RefusesKind text header rows place (Compared relation (other.Column second)) fault = IsOrdering relation
     × (HasNumber rows place ⊎ HasNumber rows second)
@@ -68,9 +68,9 @@ RefusesKind text header rows place (Compared relation (other.Text operand)) faul
 RefusesKind text header rows place (Missing wanted) fault = ⊥
 
 -- a test refuses the rows below a header
-abbrev pub Refuses : Option (List ℕ) → (header : Cells) (rows : List Cells) → Test → FilterFault → Type 0
+abbrev pub Refuses : Delimited → (header : Cells) (rows : List Cells) → Test → FilterFault → Type 0
 Refuses text header rows test fault = RefusesKind text header rows test.place test.kind fault
 
 -- one of some tests does
-abbrev pub RefusesBy : Option (List ℕ) → (header : Cells) (rows : List Cells) → List Test → FilterFault → Type 0
+abbrev pub RefusesBy : Delimited → (header : Cells) (rows : List Cells) → List Test → FilterFault → Type 0
 RefusesBy text header rows tests fault = Any (λ test. Refuses text header rows test fault) tests

@@ -1,9 +1,9 @@
 -- What faults are about.
-use Rattle.std.specs.Prelude.{◌≡◌, ◌≢◌, ◌≤◌, ◌<◌, ◌⊎◌, ◌++◌, ◌∷◌, [], ℕ, List, Option, drop, length, slice_index_or, string_bytes, ⊤}
+use Rattle.std.specs.Prelude.{◌≡◌, ◌≢◌, ◌≤◌, ◌<◌, ◌⊎◌, ◌++◌, ◌∷◌, [], ℕ, List, drop, length, slice_index_or, string_bytes, ⊤}
 use Rattle.csv.specs.declared.error.ErrorKind.{ErrorKind}
 use Rattle.csv.specs.declared.error.ErrorKind.TheVariants.{UnequalLengths}
 use Rattle.files_text.specs.declared.fault.Fault.TheVariants.{Memory, Output}
-use Rattle.files_filter.specs.Reading.{AreFirstRows, Cells}
+use Rattle.files_filter.specs.Reading.{AreFirstRows, Cells, Delimited}
 use Rattle.files_filter.specs.Answers.{cell_at}
 use Rattle.files_filter.specs.Columns.{IsRepeated}
 use Rattle.files_filter.specs.Refusals.{IsShown, RefusesBy}
@@ -26,7 +26,7 @@ abbrev pub below_header : List Cells → List Cells
 below_header rows = drop 1 rows
 
 -- the row after the header and some more of a text has another number of cells than the header, and both are told
-pub record IsUneven (text : Option (List ℕ)) (rows : List Cells) (cells header : ℕ) : Type 0 where
+pub record IsUneven (text : Delimited) (rows : List Cells) (cells header : ℕ) : Type 0 where
   pub row : Cells
   pub some : rows ≢ []
   pub first : AreFirstRows text (rows ++ row ∷ [])
@@ -35,20 +35,20 @@ pub record IsUneven (text : Option (List ℕ)) (rows : List Cells) (cells header
   pub differ : header ≢ cells
 
 -- what comes after the first rows of a text can't be read, or is an uneven row
-abbrev pub IsTextFault : Option (List ℕ) → List Cells → FilterFault → Type 0
+abbrev pub IsTextFault : Delimited → List Cells → FilterFault → Type 0
 IsTextFault text rows (Text fault) = AreFirstRows text rows
 IsTextFault text rows (Row line cells header) = IsUneven text rows cells header
 IsTextFault text rows fault = ⊥
 
 -- tests refuse the first rows of a text, its header among them, with one more at most
-pub record AreRefused (text : Option (List ℕ)) (rows : List Cells) (tests : List Test) (fault : FilterFault) : Type 0 where
+pub record AreRefused (text : Delimited) (rows : List Cells) (tests : List Test) (fault : FilterFault) : Type 0 where
   pub late : List Cells
   pub few : length late ≤ 1
   pub first : AreFirstRows text (rows ++ late)
   pub refuses : RefusesBy text (header_of rows) (below_header rows ++ late) tests fault
 
 -- the one or the other
-abbrev pub IsRowFault : Option (List ℕ) → List Cells → List Test → FilterFault → Type 0
+abbrev pub IsRowFault : Delimited → List Cells → List Test → FilterFault → Type 0
 IsRowFault text rows tests fault = IsTextFault text rows fault ⊎ AreRefused text rows tests fault
 
 -- the fault of a row that the reader of records couldn't give
@@ -75,7 +75,7 @@ IsTwiceIn header (Twice line column name) = IsTwice header (string_bytes name)
 IsTwiceIn header fault = ⊥
 
 -- the header of a text can't be read, or two columns have one name
-abbrev pub IsHeaderFault : Option (List ℕ) → FilterFault → Type 0
+abbrev pub IsHeaderFault : Delimited → FilterFault → Type 0
 IsHeaderFault text (Text fault) = ⊤
 IsHeaderFault text (Twice line column name) =
     (header : Cells) × AreFirstRows text (header ∷ []) × IsTwice header (string_bytes name)

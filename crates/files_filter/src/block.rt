@@ -7,7 +7,7 @@ ghost use Rattle.files_filter.specs.Answers.{AreAnswers};
 ghost use Rattle.files_filter.specs.Blocks.{AnswerAll, AsksBlock, AsksRow, HasAsked, answers_at};
 ghost use Rattle.files_filter.specs.FilterText.{answered};
 ghost use Rattle.files_filter.specs.RowFaults.{IsRowFault};
-ghost use Rattle.files_filter.specs.Reading.{Cells};
+ghost use Rattle.files_filter.specs.Reading.{Cells, Delimited};
 
 use crate::fault::FilterFault;
 use crate::questions::Questions;
@@ -77,10 +77,10 @@ fn next_row<R: Read + Drop>(
     ensures tests { questions.new.tests ≡ questions.old.tests }
     ensures answers { IfOk result (λ next. IfSome next (λ row.
         AreAnswers questions.old.tests.items (fields_of row.cells) row.answers.items)) }
-    ensures row { IfOk result (λ next. (text : Option (List ℕ)) (rows : List Cells) →
+    ensures row { IfOk result (λ next. (text : Delimited) (rows : List Cells) →
         HasAsked R.remaining text rows table.old questions.old →
         AsksRow R.remaining text rows table.new questions.new next) }
-    ensures err { IfErr result (λ fault. (text : Option (List ℕ)) (rows : List Cells) →
+    ensures err { IfErr result (λ fault. (text : Delimited) (rows : List Cells) →
         HasAsked R.remaining text rows table.old questions.old →
         IsRowFault text rows questions.old.tests.items fault) }
 {
@@ -103,7 +103,7 @@ pub fn read_block<R: Read + Drop>(
     ensures tests { questions.new.tests ≡ questions.old.tests }
     ensures answers { IfOk result (λ block.
         AnswerAll questions.old.tests.items (map answered block.rows.items)) }
-    ensures rows { IfOk result (λ block. (text : Option (List ℕ)) (rows : List Cells) →
+    ensures rows { IfOk result (λ block. (text : Delimited) (rows : List Cells) →
         HasAsked R.remaining text rows table.old questions.old →
         AsksBlock R.remaining text rows table.new questions.new block) }
 {

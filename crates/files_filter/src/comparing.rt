@@ -3,7 +3,7 @@ ghost use Rattle.std.specs.Prelude.{◌≡◌, ◌≢◌, ◌⊎◌, ◌++◌, �
 ghost use Rattle.csv.specs.Records.{fields_of};
 ghost use Rattle.files_filter.specs.Answers.{Answers, AnswersBoth, IsNumeric, IsOrder, IsOrderWith, cell_at};
 ghost use Rattle.files_filter.specs.Columns.{IsNoColumn, IsOther, IsTest};
-ghost use Rattle.files_filter.specs.Reading.{Cells};
+ghost use Rattle.files_filter.specs.Reading.{Cells, Delimited};
 ghost use Rattle.files_filter.specs.Refusals.{IsMemory, Refuses};
 ghost use Rattle.files_filter.specs.RowFaults.{IsColumnFault, IsOutputFault};
 
@@ -104,7 +104,7 @@ impl<'a> Test<'a> {
         row: &ByteRecord,
     ) -> Result<Option<bool>, FilterFault>
         ensures ok { IfOk result (λ answer. Answers self.now (fields_of row.now) answer) }
-        ensures err { IfErr result (λ fault. IsMemory fault ⊎ ((text : Option (List ℕ))
+        ensures err { IfErr result (λ fault. IsMemory fault ⊎ ((text : Delimited)
             (rows : List Cells) → Refuses text (fields_of table.now.header)
             (rows ++ fields_of row.now ∷ []) self.now fault)) }
     {
@@ -139,7 +139,7 @@ impl<'a> Test<'a> {
         requires some { cell_at (fields_of row.now) self.now.place ≢ [] }
         ensures ok { IfOk result (AnswersBoth relation (cell_at (fields_of row.now) self.now.place)
             (cell_at (fields_of row.now) place)) }
-        ensures err { IfErr result (λ fault. IsMemory fault ⊎ ((text : Option (List ℕ))
+        ensures err { IfErr result (λ fault. IsMemory fault ⊎ ((text : Delimited)
             (rows : List Cells) → Refuses text (fields_of table.now.header)
             (rows ++ fields_of row.now ∷ []) self.now fault)) }
     {
@@ -165,7 +165,7 @@ impl<'a> Test<'a> {
         requires second { cell_at (fields_of row.now) place ≢ [] }
         ensures ok { IfOk result (IsOrder (cell_at (fields_of row.now) self.now.place)
             (cell_at (fields_of row.now) place)) }
-        ensures err { IfErr result (λ fault. IsMemory fault ⊎ ((text : Option (List ℕ))
+        ensures err { IfErr result (λ fault. IsMemory fault ⊎ ((text : Delimited)
             (rows : List Cells) → Refuses text (fields_of table.now.header)
             (rows ++ fields_of row.now ∷ []) self.now fault)) }
     {

@@ -31,6 +31,15 @@ pub enum FilterFault {
         name: String,
         names: String,
     },
+    /// No column of the table has a name that is selected. The names are those of the first ones.
+    Selected {
+        name: String,
+        names: String,
+    },
+    /// A column without a name is to be written in JSON: its number among those written, from 1.
+    Nameless {
+        column: usize,
+    },
     /// A second column has a name.
     Twice {
         line: usize,
@@ -49,6 +58,22 @@ pub enum FilterFault {
     Columns,
 }
 
+impl WrongCell {
+    /// Writes what is wrong. `file` is what the file with the table is called. Fails if `f` does.
+    fn write<W: fmt::Write>(&self, f: &mut fmt::Formatter<W>, file: &str) -> fmt::Result {
+        let WrongCell {
+            line,
+            column,
+            name,
+            cell,
+        } = self;
+        write!(
+            f,
+            "{file}:{line}:{column}: expected a number in column {name}, found {cell}"
+        )
+    }
+}
+
 impl FilterFault {
     /// Writes what is wrong. `file` is what the file with the table is called. Fails if `f` does.
     pub fn write<W: fmt::Write>(&self, f: &mut fmt::Formatter<W>, file: &str) -> fmt::Result {
@@ -65,6 +90,12 @@ impl FilterFault {
                 f,
                 "the condition:{column}: no column is called {name}; the columns are {names}"
             ),
+            FilterFault::Selected { name, names } => {
+                write!(f, "no column is called {name}; the columns are {names}")
+            }
+            FilterFault::Nameless { column } => {
+                write!(f, "{file}: column {column} has no name, which JSON needs")
+            }
             FilterFault::Twice { line, column, name } => {
                 write!(
                     f,
@@ -79,17 +110,7 @@ impl FilterFault {
                 f,
                 "{file}:{line}: expected {header} cells, as in the header, found {cells}"
             ),
-            FilterFault::Cell(
-                WrongCell {
-                    line,
-                    column,
-                    name,
-                    cell,
-                },
-            ) => write!(
-                f,
-                "{file}:{line}:{column}: expected a number in column {name}, found {cell}"
-            ),
+            FilterFault::Cell(wrong) => wrong.write(f, file),
             FilterFault::Columns => write!(f, "{file}: the rows differ in length"),
         }
     }

@@ -10,14 +10,16 @@ ghost use Rattle.files_filter.specs.Filtered.{Filters, FiltersBy, IsFiltered, Is
 ghost use Rattle.files_filter.specs.FilterText.{IsReady, answered, row_line, rows_text, shown, true_rows, windowed};
 ghost use Rattle.files_text.specs.Printed.{members};
 ghost use Rattle.files_filter.specs.Blocks.{HasAsked};
-ghost use Rattle.files_filter.specs.Reading.{Cells};
+ghost use Rattle.files_filter.specs.Reading.{Cells, Delimited};
 ghost use Rattle.files_filter.specs.Written.{cells_of};
 
 use crate::block::{Block, Next, Row, columns_of, read_block};
 use crate::fault::FilterFault;
+use crate::layout::{Format, Layout};
+use crate::lines::{lines_of, top_line};
 use crate::questions::Questions;
 use crate::table::Table;
-use csv::{ByteRecord, Writer, WriterBuilder};
+use csv::ByteRecord;
 use files_condition::{Condition, read_condition};
 use files_text::Fault;
 use std::alloc::{AllocError, Global};
@@ -77,67 +79,21 @@ impl Window {
     }
 }
 
-/// Writes the rows with some numbers.
-fn put_rows<W: Write + Drop>(
-    writer: &mut Writer<W>,
-    rows: &[Row],
-    numbers: &[usize],
-) -> Result<(), FilterFault>
-    requires numbers { All (λ number. number < length rows.now) numbers.now }
-    requires ready { IsReady writer.old }
-    ensures ok { OnOk result (Appends (text_written W.contents writer.old)
-        (text_written W.contents writer.new)
-        (flat_map (λ number. row_line (cells_of rows.now number)) numbers.now)) }
-    ensures err { IfErr result IsOutputFault }
-{
-    for number in numbers {
-        writer.write_byte_record(&rows[*number].cells)?;
-    }
-    Ok(())
-}
-
-/// Returns the lines of the rows with some numbers.
-fn lines_of(alloc: Global, rows: &[Row], numbers: &[usize]) -> Result<Vec<u8>, FilterFault>
-    requires { All (λ number. number < length rows.now) numbers.now }
-    ensures ok { IfOk result (λ text. text.items
-        ≡ flat_map (λ number. row_line (cells_of rows.now number)) numbers.now) }
-    ensures err { IfErr result IsOutputFault }
-{
-    let mut writer = WriterBuilder::new().from_writer(Vec::new(alloc));
-    put_rows(&mut writer, rows, numbers)?;
-    match writer.into_inner() {
-        Ok(text) => Ok(text),
-        Err(error) => Err(FilterFault::from(error.into_error())),
-    }
-}
-
-/// Returns the line of a header.
-fn header_line(alloc: Global, header: &ByteRecord) -> Result<Vec<u8>, FilterFault>
-    ensures ok { IfOk result (λ text. text.items ≡ row_line (fields_of header.now)) }
-    ensures err { IfErr result IsOutputFault }
-{
-    let mut writer = WriterBuilder::new().from_writer(Vec::new(alloc));
-    writer.write_byte_record(header)?;
-    match writer.into_inner() {
-        Ok(text) => Ok(text),
-        Err(error) => Err(FilterFault::from(error.into_error())),
-    }
-}
-
 /// Writes the header of a table, if rows are to be shown.
 fn put_heading<W: Write>(
     alloc: Global,
+    layout: &Layout,
     header: &ByteRecord,
     shows: Shows,
     output: &mut W,
 ) -> Result<(), FilterFault>
     ensures ok { OnOk result (Appends (W.contents output.old) (W.contents output.new)
-        (heading shows (fields_of header.now))) }
+        (heading layout.now shows (fields_of header.now))) }
     ensures err { IfErr result IsOutputFault }
 {
     match shows {
         Shows::Rows | Shows::Page { .. } => {
-            output.write_all(&header_line(alloc, header)?)?;
+            output.write_all(&top_line(alloc, layout, header)?)?;
             Ok(())
         }
         Shows::Count | Shows::Nothing => Ok(()),
@@ -168,6 +124,7 @@ fn put_block<W: Write>(
     width: usize,
     expression: &Expression,
     window: Window,
+    layout: &Layout,
     output: &mut W,
 ) -> Result<(usize, usize), FilterFault>
     requires { All (λ row. length row.answers.items ≡ width) rows.now }
@@ -176,14 +133,14 @@ fn put_block<W: Write>(
     ensures written { IfOk result (λ counts. counts.1 ≡ length (windowed window.skip window.most
         (true_rows expression.now (map answered rows.now)))) }
     ensures wrote { OnOk result (Appends (W.contents output.old) (W.contents output.new)
-        (rows_text (windowed window.skip window.most
+        (rows_text layout.now (windowed window.skip window.most
         (true_rows expression.now (map answered rows.now))))) }
     ensures err { IfErr result IsOutputFault }
 {
     let kept = kept_rows(alloc, rows, width, expression)?;
     let most = window.most.unwrap_or(kept.len());
     let numbers = page(alloc, &kept, window.skip, most)?;
-    output.write_all(&lines_of(alloc, rows, &numbers)?)?;
+    output.write_all(&lines_of(alloc, layout, rows, &numbers)?)?;
     Ok((kept.count_ones(), numbers.len()))
 }
 
@@ -195,15 +152,17 @@ fn put_true_rows<R: Read + Drop, W: Write>(
     questions: &mut Questions<'_>,
     expression: &Expression,
     mut window: Window,
+    layout: &Layout,
     output: &mut W,
 ) -> Result<usize, FilterFault>
-    ensures ok { IfOk result (λ count. (text : Option (List ℕ)) (rows : List Cells) →
+    ensures ok { IfOk result (λ count. (text : Delimited) (rows : List Cells) →
         HasAsked R.remaining text rows table.old questions.old →
-        IsFiltered text rows questions.old.tests.items expression.now window.skip window.most
+        IsFiltered text rows questions.old.tests.items expression.now layout.now window.skip window.most
         (W.contents output.old) (W.contents output.new) count) }
-    ensures err { IfErr result (λ fault. IsOutputFault fault ⊎ ((text : Option (List ℕ))
+    ensures err { IfErr result (λ fault. IsOutputFault fault ⊎ ((text : Delimited)
         (rows : List Cells) → HasAsked R.remaining text rows table.old questions.old →
-        WritesWindow text rows questions.old.tests.items expression.now window.skip window.most
+        WritesWindow text rows questions.old.tests.items expression.now layout.now window.skip
+        window.most
         (W.contents output.old) (W.contents output.new) fault)) }
 {
     let width = questions.len();
@@ -211,7 +170,7 @@ fn put_true_rows<R: Read + Drop, W: Write>(
     let mut spare = Vec::new(alloc);
     for _ in 0..usize::MAX {
         let Block { rows, next } = read_block(alloc, table, questions, &mut spare)?;
-        let (kept, written) = put_block(alloc, &rows, width, expression, window, output)?;
+        let (kept, written) = put_block(alloc, &rows, width, expression, window, layout, output)?;
         window = window.after(kept, written);
         let Some(sum) = count.checked_add(kept) else {
             return Err(FilterFault::Text(Fault::Memory));
@@ -235,20 +194,21 @@ fn put_shown<R: Read + Drop, W: Write>(
     questions: &mut Questions<'_>,
     expression: &Expression,
     shows: Shows,
+    layout: &Layout,
     output: &mut W,
 ) -> Result<usize, FilterFault>
-    ensures ok { IfOk result (λ count. (text : Option (List ℕ)) →
+    ensures ok { IfOk result (λ count. (text : Delimited) →
         HasAsked R.remaining text (fields_of table.old.header ∷ []) table.old questions.old →
-        IsShown text (fields_of table.old.header) questions.old.tests.items expression.now shows
+        IsShown text (fields_of table.old.header) questions.old.tests.items expression.now layout.now shows
         (W.contents output.old) (W.contents output.new) count) }
-    ensures err { IfErr result (λ fault. IsOutputFault fault ⊎ ((text : Option (List ℕ)) →
+    ensures err { IfErr result (λ fault. IsOutputFault fault ⊎ ((text : Delimited) →
         HasAsked R.remaining text (fields_of table.old.header ∷ []) table.old questions.old →
-        WritesShown text (fields_of table.old.header) questions.old.tests.items expression.now shows
+        WritesShown text (fields_of table.old.header) questions.old.tests.items expression.now layout.now shows
         (W.contents output.old) (W.contents output.new) fault)) }
 {
-    put_heading(alloc, &table.header, shows, output)?;
+    put_heading(alloc, layout, &table.header, shows, output)?;
     let window = Window::of(shows);
-    let count = put_true_rows(alloc, table, questions, expression, window, output)?;
+    let count = put_true_rows(alloc, table, questions, expression, window, layout, output)?;
     Ok(count)
 }
 
@@ -272,20 +232,30 @@ fn put_count<W: Write>(shows: Shows, count: usize, output: &mut W) -> io::Result
 fn filter_by<R: Read + Drop, W: Write>(
     alloc: Global,
     input: R,
+    format: &Format<'_>,
     condition: &Condition<'_>,
     shows: Shows,
     output: &mut W,
 ) -> Result<u8, FilterFault>
-    ensures ok { IfOk result (Filters (R.remaining input) condition.now.comparisons.items
+    ensures ok { IfOk result (Filters (R.remaining input) format.now condition.now.comparisons.items
         condition.now.expression shows (W.contents output.old) (W.contents output.new)) }
     ensures err { IfErr result (λ fault. IsOutputFault fault
-        ⊎ Fails (R.remaining input) condition.now.comparisons.items condition.now.expression shows
-        (W.contents output.old) (W.contents output.new) fault) }
+        ⊎ Fails (R.remaining input) format.now condition.now.comparisons.items
+        condition.now.expression shows (W.contents output.old) (W.contents output.new) fault) }
 {
-    let mut table = Table::read(alloc, input)?;
+    let mut table = Table::read(alloc, input, format.delimiter)?;
     let mut questions = Questions::new(alloc, &table, condition)?;
+    let layout = Layout::new(alloc, &table, format)?;
     let expression = &condition.expression;
-    let count = put_shown(alloc, &mut table, &mut questions, expression, shows, output)?;
+    let count = put_shown(
+        alloc,
+        &mut table,
+        &mut questions,
+        expression,
+        shows,
+        &layout,
+        output,
+    )?;
     Ok(put_count(shows, count, output)?)
 }
 
@@ -293,21 +263,23 @@ fn filter_by<R: Read + Drop, W: Write>(
 /// empty cell is missing, and so is each comparison with it. Returns the status: 1 if nothing is to
 /// be shown and no row is kept, else 0.
 ///
-/// Fails if the condition can't be read or names no column, or if the text is no table. Fails at the
-/// first cell that should be a number, or if numbers are compared with texts: the rows that are kept
-/// before are written then. Fails too if memory runs out, or if the output can't be written.
+/// Fails if the condition can't be read or names no column, if no column has a name that is selected,
+/// or if the text is no table. Fails at the first cell that should be a number, or if numbers are
+/// compared with texts: the rows that are kept before are written then. Fails too if memory runs out,
+/// or if the output can't be written.
 pub fn print_filter<R: Read + Drop, W: Write>(
     alloc: Global,
     input: R,
+    format: &Format<'_>,
     condition: &str,
     shows: Shows,
     output: &mut W,
 ) -> Result<u8, FilterFault>
-    ensures ok { IfOk result (FiltersBy (R.remaining input) condition.now shows
+    ensures ok { IfOk result (FiltersBy (R.remaining input) format.now condition.now shows
         (W.contents output.old) (W.contents output.new)) }
-    ensures err { IfErr result (FailsBy (R.remaining input) condition.now shows
+    ensures err { IfErr result (FailsBy (R.remaining input) format.now condition.now shows
         (W.contents output.old) (W.contents output.new)) }
 {
     let condition = read_condition(alloc, condition)?;
-    filter_by(alloc, input, &condition, shows, output)
+    filter_by(alloc, input, format, &condition, shows, output)
 }

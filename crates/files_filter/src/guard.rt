@@ -1,7 +1,7 @@
 //! Comparisons that can't be meant: of numbers with texts.
 ghost use Rattle.std.specs.Prelude.{◌≡◌, ◌⊎◌, ◌++◌, ◌∷◌, [], ℕ, IfErr, IfSome, List, OnOk, Option};
 ghost use Rattle.csv.specs.Records.{fields_of};
-ghost use Rattle.files_filter.specs.Reading.{AreAllRows, Cells};
+ghost use Rattle.files_filter.specs.Reading.{AreAllRows, Cells, Delimited};
 ghost use Rattle.files_filter.specs.Refusals.{IsMemory, IsMisread, Refuses};
 ghost use Rattle.files_filter.specs.Watching.{Watches};
 
@@ -41,7 +41,7 @@ impl TextGuard {
         ensures ok { OnOk result ((header : Cells) (rows : List Cells) (test : Test) →
             Watches header rows test (Guard.Text self.old) →
             Watches header (rows ++ fields_of row.now ∷ []) test (Guard.Text self.new)) }
-        ensures err { IfErr result (λ fault. (text : Option (List ℕ)) (header : Cells)
+        ensures err { IfErr result (λ fault. (text : Delimited) (header : Cells)
             (rows : List Cells) (test : Test) → Watches header rows test (Guard.Text self.old) →
             Refuses text header (rows ++ fields_of row.now ∷ []) test fault) }
     {
@@ -62,7 +62,7 @@ impl TextGuard {
 
     /// Fails at the end of a table if all cells that were compared are numbers.
     fn finish(&self) -> Result<(), FilterFault>
-        ensures { IfErr result (λ fault. (text : Option (List ℕ)) (header : Cells)
+        ensures { IfErr result (λ fault. (text : Delimited) (header : Cells)
             (rows : List Cells) (test : Test) → Watches header rows test (Guard.Text self.now) →
             AreAllRows text (header ∷ rows) → Refuses text header rows test fault) }
     {
@@ -123,7 +123,7 @@ impl ColumnsGuard {
         ensures ok { OnOk result ((header : Cells) (rows : List Cells) (test : Test) →
             Watches header rows test (Guard.Columns self.old) →
             Watches header rows test (Guard.Columns self.new)) }
-        ensures err { IfErr result (λ fault. (text : Option (List ℕ)) (header : Cells)
+        ensures err { IfErr result (λ fault. (text : Delimited) (header : Cells)
             (rows : List Cells) (test : Test) → Watches header rows test (Guard.Columns self.old) →
             Refuses text header rows test fault) }
     {
@@ -147,7 +147,7 @@ impl ColumnsGuard {
             Watches (fields_of table.now.header) rows test (Guard.Columns self.old) →
             Watches (fields_of table.now.header) (rows ++ fields_of row.now ∷ []) test
             (Guard.Columns self.new)) }
-        ensures err { IfErr result (λ fault. IsMemory fault ⊎ ((text : Option (List ℕ))
+        ensures err { IfErr result (λ fault. IsMemory fault ⊎ ((text : Delimited)
             (rows : List Cells) (test : Test) →
             Watches (fields_of table.now.header) rows test (Guard.Columns self.old) →
             Refuses text (fields_of table.now.header) (rows ++ fields_of row.now ∷ []) test
@@ -202,7 +202,7 @@ impl Guard {
         ensures ok { OnOk result ((rows : List Cells) (test : Test) →
             Watches (fields_of table.now.header) rows test self.old →
             Watches (fields_of table.now.header) (rows ++ fields_of row.now ∷ []) test self.new) }
-        ensures err { IfErr result (λ fault. IsMemory fault ⊎ ((text : Option (List ℕ))
+        ensures err { IfErr result (λ fault. IsMemory fault ⊎ ((text : Delimited)
             (rows : List Cells) (test : Test) →
             Watches (fields_of table.now.header) rows test self.old →
             Refuses text (fields_of table.now.header) (rows ++ fields_of row.now ∷ []) test
@@ -216,7 +216,7 @@ impl Guard {
 
     /// Fails at the end of a table if all cells that were compared with a text are numbers.
     pub fn finish(&self) -> Result<(), FilterFault>
-        ensures { IfErr result (λ fault. (text : Option (List ℕ)) (header : Cells)
+        ensures { IfErr result (λ fault. (text : Delimited) (header : Cells)
             (rows : List Cells) (test : Test) → Watches header rows test self.now →
             AreAllRows text (header ∷ rows) → Refuses text header rows test fault) }
     {

@@ -5,7 +5,7 @@ ghost use Rattle.csv.specs.Records.{fields_of};
 ghost use Rattle.files_filter.specs.Answers.{AreAnswers};
 ghost use Rattle.files_filter.specs.Columns.{AreTests};
 ghost use Rattle.files_filter.specs.FilterFaults.{AsksInVain};
-ghost use Rattle.files_filter.specs.Reading.{AreAllRows, Cells};
+ghost use Rattle.files_filter.specs.Reading.{AreAllRows, Cells, Delimited};
 ghost use Rattle.files_filter.specs.Refusals.{IsMemory, RefusesBy};
 ghost use Rattle.files_filter.specs.RowFaults.{IsOutputFault};
 ghost use Rattle.files_filter.specs.Watching.{IsWatched};
@@ -35,7 +35,7 @@ fn set_answers<R: Read + Drop>(
     answers: &mut Vec<Option<bool>>,
 ) -> Result<(), FilterFault>
     ensures ok { OnOk result (AreAnswers tests.now (fields_of row.now) answers.new.items) }
-    ensures err { IfErr result (λ fault. IsMemory fault ⊎ ((text : Option (List ℕ))
+    ensures err { IfErr result (λ fault. IsMemory fault ⊎ ((text : Delimited)
         (rows : List Cells) → RefusesBy text (fields_of table.now.header)
         (rows ++ fields_of row.now ∷ []) tests.now fault)) }
 {
@@ -99,7 +99,7 @@ fn look<R: Read + Drop>(
         All (IsWatched (fields_of table.now.header) rows tests) guards.old →
         All (IsWatched (fields_of table.now.header) (rows ++ fields_of row.now ∷ []) tests)
         guards.new) }
-    ensures err { IfErr result (λ fault. IsMemory fault ⊎ ((text : Option (List ℕ))
+    ensures err { IfErr result (λ fault. IsMemory fault ⊎ ((text : Delimited)
         (rows : List Cells) (tests : List Test) →
         All (IsWatched (fields_of table.now.header) rows tests) guards.old →
         RefusesBy text (fields_of table.now.header) (rows ++ fields_of row.now ∷ []) tests
@@ -154,7 +154,7 @@ impl<'a> Questions<'a> {
             self.old.guards.items →
             All (IsWatched (fields_of table.now.header) (rows ++ fields_of row.now ∷ [])
             self.old.tests.items) self.new.guards.items) }
-        ensures err { IfErr result (λ fault. IsMemory fault ⊎ ((text : Option (List ℕ))
+        ensures err { IfErr result (λ fault. IsMemory fault ⊎ ((text : Delimited)
             (rows : List Cells) →
             All (IsWatched (fields_of table.now.header) rows self.old.tests.items)
             self.old.guards.items → RefusesBy text (fields_of table.now.header)
@@ -166,7 +166,7 @@ impl<'a> Questions<'a> {
 
     /// Fails at the end of a table if numbers alone were compared with a text.
     pub fn finish(&self) -> Result<(), FilterFault>
-        ensures { IfErr result (λ fault. (text : Option (List ℕ)) (header : Cells)
+        ensures { IfErr result (λ fault. (text : Delimited) (header : Cells)
             (rows : List Cells) →
             All (IsWatched header rows self.now.tests.items) self.now.guards.items →
             AreAllRows text (header ∷ rows) →

@@ -5,11 +5,13 @@ ghost use Rattle.csv.specs.Reading.{error_kind};
 ghost use Rattle.csv.specs.Records.{field_at, fields_of};
 ghost use Rattle.files_filter.specs.Columns.{AreNames, HoldNames, IsColumn, IsNoColumn, IsRepeated};
 ghost use Rattle.files_filter.specs.Answers.{cell_at};
+ghost use Rattle.files_filter.specs.Layouts.{IsSelectedName};
 ghost use Rattle.files_filter.specs.Refusals.{IsMemory, IsShown};
 ghost use Rattle.files_filter.specs.RowFaults.{IsColumnFault, IsHeaderFault, IsLost, IsRepeatedAt, IsTextFault, IsTwiceIn};
-ghost use Rattle.files_filter.specs.Reading.{Cells, HasRead, ReadsNext};
+ghost use Rattle.files_filter.specs.Reading.{Cells, Delimited, HasRead, ReadsNext, delimited};
 
 use crate::comparing::cell;
+use crate::exchanged::Exchanged;
 use crate::fault::{FilterFault, WrongCell};
 use csv::{ByteRecord, ErrorKind, Position, Reader, ReaderBuilder};
 use files_condition::{Operand, is_word};
@@ -58,18 +60,24 @@ fn names_shown(alloc: Global, header: &ByteRecord) -> Result<String, AllocError>
 /// A table that is read row by row, and its header.
 #[derive(Drop)]
 pub struct Table<R> {
-    reader: Reader<WholeRows<R>>,
+    reader: Reader<Exchanged<WholeRows<Exchanged<R>>>>,
     pub header: ByteRecord,
 }
 
 impl<R: Read + Drop> Table<R> {
-    /// Makes a table of which nothing was read.
-    fn new(alloc: Global, input: R) -> Table<R>
-        ensures { HasRead R.remaining (R.remaining input) [] result }
+    /// Makes a table of which nothing was read. Whole rows are found with commas between cells.
+    fn new(alloc: Global, input: R, delimiter: u8) -> Table<R>
+        ensures { HasRead R.remaining (delimited delimiter (R.remaining input)) [] result }
     {
+        let commas = Exchanged { input, delimiter };
+        let rows = Exchanged {
+            input: WholeRows::new(alloc, commas),
+            delimiter,
+        };
         let reader = ReaderBuilder::new()
+            .delimiter(delimiter)
             .has_headers(false)
-            .from_reader(alloc, WholeRows::new(alloc, input));
+            .from_reader(alloc, rows);
         Table {
             reader,
             header: ByteRecord::new(alloc),
@@ -78,13 +86,13 @@ impl<R: Read + Drop> Table<R> {
 
     /// Reads the header of a table. Fails if there is none, if two columns have one name, or if RFC
     /// 4180 refuses a byte of it. Columns without a name may be many.
-    pub fn read(alloc: Global, input: R) -> Result<Table<R>, FilterFault>
-        ensures err { IfErr result (IsHeaderFault (R.remaining input)) }
+    pub fn read(alloc: Global, input: R, delimiter: u8) -> Result<Table<R>, FilterFault>
+        ensures err { IfErr result (IsHeaderFault (delimited delimiter (R.remaining input))) }
         ensures names { IfOk result (λ table. AreNames (fields_of table.header)) }
-        ensures ok { IfOk result (λ table.
-            HasRead R.remaining (R.remaining input) (fields_of table.header ∷ []) table) }
+        ensures ok { IfOk result (λ table. HasRead R.remaining
+            (delimited delimiter (R.remaining input)) (fields_of table.header ∷ []) table) }
     {
-        let mut table = Table::new(alloc, input);
+        let mut table = Table::new(alloc, input, delimiter);
         let mut header = ByteRecord::new(alloc);
         if !table.next(&mut header)? {
             return Err(FilterFault::Text(Fault::Line {
@@ -102,9 +110,9 @@ impl<R: Read + Drop> Table<R> {
     /// or at a row that has more cells than the header, or fewer.
     pub fn next(&mut self, row: &mut ByteRecord) -> Result<bool, FilterFault>
         ensures header { self.new.header ≡ self.old.header }
-        ensures err { IfErr result (λ fault. (text : Option (List ℕ)) (rows : List Cells) →
+        ensures err { IfErr result (λ fault. (text : Delimited) (rows : List Cells) →
             HasRead R.remaining text rows self.old → IsTextFault text rows fault) }
-        ensures next { IfOk result (λ found. (text : Option (List ℕ)) (rows : List Cells) →
+        ensures next { IfOk result (λ found. (text : Delimited) (rows : List Cells) →
             HasRead R.remaining text rows self.old →
             ReadsNext R.remaining text rows self.new found (fields_of row.new)) }
     {
@@ -138,7 +146,7 @@ impl<R: Read + Drop> Table<R> {
 
     /// Returns the fault of a text that can't be read.
     fn no_text(&self, error: io::Error) -> Fault {
-        match self.reader.get_ref().fault() {
+        match self.reader.get_ref().input.fault() {
             Some(fault) => fault,
             None if error.kind() == io::ErrorKind::OutOfMemory => Fault::Memory,
             None => Fault::Input(error),
@@ -149,7 +157,7 @@ impl<R: Read + Drop> Table<R> {
     /// stood before it.
     fn cell_place(&self, position: Option<Position>, cell: usize) -> (usize, usize) {
         let byte = position.map(|position| position.byte()).unwrap_or(0);
-        self.reader.get_ref().cell_place(byte, cell)
+        self.reader.get_ref().input.cell_place(byte, cell)
     }
 
     /// Returns whether the column at a place has a name.
@@ -229,6 +237,16 @@ impl<R: Read + Drop> Table<R> {
         Ok(FilterFault::Column {
             column: column.at,
             name: shown(alloc, column.text)?,
+            names: names_shown(alloc, &self.header)?,
+        })
+    }
+
+    /// Returns the fault of a name that is selected and that no column has.
+    pub fn not_selected(&self, alloc: Global, name: &[u8]) -> Result<FilterFault, AllocError>
+        ensures { IfOk result (IsSelectedName name.now) }
+    {
+        Ok(FilterFault::Selected {
+            name: shown(alloc, name)?,
             names: names_shown(alloc, &self.header)?,
         })
     }

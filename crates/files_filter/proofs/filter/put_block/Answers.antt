@@ -11,18 +11,18 @@ lines_of-requires g c =
 
 pub returns-clause-kept : goal.returns-clause-kept
 returns-clause-kept g c =
-    rows_count (cells_of c.args.rows.now) _ c.in_ok-kept.kept.bits c.in_ok-kept.ensures.rows c.count_ones.result
+    rows_count c.args.layout.now (cells_of c.args.rows.now) _ c.in_ok-kept.kept.bits c.in_ok-kept.ensures.rows c.count_ones.result
     c.count_ones.ensures.count
 
 pub returns-clause-written : goal.returns-clause-written
 returns-clause-written g c =
     let len : c.len-2.result ≡ length c.in_ok-numbers.numbers.items = search rules in
-    len ∙ rw (c.in_ok-numbers.ensures, c.unwrap_or-most.ensures) (window_count (cells_of c.args.rows.now) _
+    len ∙ rw (c.in_ok-numbers.ensures, c.unwrap_or-most.ensures) (window_count c.args.layout.now (cells_of c.args.rows.now) _
     c.in_ok-kept.kept.bits c.in_ok-kept.ensures.rows c.args.window.skip c.args.window.most c.len.result c.len.ensures.len)
 
 pub returns-clause-wrote : goal.returns-clause-wrote
 returns-clause-wrote g c =
-    let text = window_text (cells_of c.args.rows.now) _ c.in_ok-kept.kept.bits c.in_ok-kept.ensures.rows
+    let text = window_text c.args.layout.now (cells_of c.args.rows.now) _ c.in_ok-kept.kept.bits c.in_ok-kept.ensures.rows
     c.args.window.skip c.args.window.most c.len.result c.len.ensures.len in
     rw (
       c.deref-2.ensures.value,

@@ -9,7 +9,7 @@ pub returns-clause-ok : goal.returns-clause-ok
 returns-clause-ok g c = λ text has.
     let fits : c.in_ok-count.count < 2 ^ 64 = search rules in
     shown_all text (fields_of c.args.table.now.header) c.args.questions.now.tests.items c.args.expression.now
-    c.args.shows c.of-window.result.skip c.of-window.result.most _ _ _ c.in_ok-count.count c.of-window.ensures fits
+    c.args.layout.now c.args.shows c.of-window.result.skip c.of-window.result.most _ _ _ c.in_ok-count.count c.of-window.ensures fits
     c.in_ok-put_heading.ensures.ok (c.in_ok-count.ensures.ok text _ has)
 
 pub returns-in_err-count-clause-err : goal.returns-in_err-count-clause-err
@@ -19,6 +19,6 @@ returns-in_err-count-clause-err g c =
       | inl none ↦ inl none
       | inr written ↦ inr (λ text has.
           shown_first text (fields_of c.args.table.now.header) c.args.questions.now.tests.items c.args.expression.now
-          c.args.shows c.of-window.result.skip c.of-window.result.most _ _ _ _ c.of-window.ensures
+          c.args.layout.now c.args.shows c.of-window.result.skip c.of-window.result.most _ _ _ _ c.of-window.ensures
           c.in_ok-put_heading.ensures.ok (written text _ has))
     ])

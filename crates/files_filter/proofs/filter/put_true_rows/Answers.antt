@@ -11,7 +11,7 @@ loop-init g c = record {
   tests = refl;
   width = c.len-width.ensures;
   filtered = λ text rows has.
-      none_yet g.R.Read.remaining text rows c.args.questions.now.tests.items c.args.expression.now c.args.window.skip
+      none_yet g.R.Read.remaining text rows c.args.questions.now.tests.items c.args.expression.now c.args.layout.now c.args.window.skip
       c.args.window.most (g.W.Write.contents c.args.output.now) c.args.table.now c.args.questions.now has;
 }
 
@@ -34,7 +34,7 @@ loop-preserved g c =
           let read = then_rows g.R.Read.remaining text _ c.read_block.new.table c.read_block.new.questions c.in_ok-rows.field-0.next
           (c.in_ok-rows.ensures.rows text _ so.read) c.in-Rows.is in
           more_filtered g.R.Read.remaining text rows c.args.questions.now.tests.items c.args.expression.now
-          c.args.window.skip c.args.window.most _ _ _ c.loop.table c.loop.questions c.loop.count c.loop.window.skip c.loop.window.most so
+          c.args.layout.now c.args.window.skip c.args.window.most _ _ _ c.loop.table c.loop.questions c.loop.count c.loop.window.skip c.loop.window.most so
           (map answered block) answers c.in_ok-kept.kept _ put.kept c.in-Some.ensures.1 put.wrote c.in_ok-kept.written _ _ _ _
           put.written c.after-window.ensures.skip c.after-window.ensures.most read;
     }
@@ -50,7 +50,7 @@ returns-in-End-clause-ok g c =
     let read = then_none g.R.Read.remaining text _ c.read_block.new.table c.read_block.new.questions c.in_ok-rows.field-0.next
     (c.in_ok-rows.ensures.rows text _ so.read) c.in-End.is in
     all_filtered g.R.Read.remaining text rows c.args.questions.now.tests.items c.args.expression.now
-    c.args.window.skip c.args.window.most _ _ _ c.loop.table c.loop.questions c.loop.count c.loop.window.skip c.loop.window.most so
+    c.args.layout.now c.args.window.skip c.args.window.most _ _ _ c.loop.table c.loop.questions c.loop.count c.loop.window.skip c.loop.window.most so
     (map answered block) answers c.in_ok-kept.kept _ put.kept c.in-Some.ensures.1 put.wrote read
 
 pub returns-in-Fault-clause-err : goal.returns-in-Fault-clause-err
@@ -65,6 +65,6 @@ returns-in-Fault-clause-err g c =
     let read = then_fault g.R.Read.remaining text _ c.read_block.new.table c.read_block.new.questions c.in_ok-rows.field-0.next
     (c.in_ok-rows.ensures.rows text _ so.read) c.in-Fault.fault c.in-Fault.is in
     first_filtered g.R.Read.remaining text rows c.args.questions.now.tests.items c.args.expression.now
-    c.args.window.skip c.args.window.most _ _ _ c.loop.table c.loop.questions c.loop.count c.loop.window.skip c.loop.window.most so
+    c.args.layout.now c.args.window.skip c.args.window.most _ _ _ c.loop.table c.loop.questions c.loop.count c.loop.window.skip c.loop.window.most so
     (map answered block) answers c.in_ok-kept.kept _ put.kept c.in-Some.ensures.1 put.wrote c.in-Fault.fault
     (rw (c.in_ok-rows.ensures.tests ∙ now.tests) at read) fits)

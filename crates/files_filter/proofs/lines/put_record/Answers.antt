@@ -1,0 +1,1 @@
+-- A row is written as it is, or those of its cells that are picked.
