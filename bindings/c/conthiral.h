@@ -152,7 +152,7 @@ conthiral_status conthiral_equal(const uint64_t *own, size_t own_count, const ui
 conthiral_status conthiral_first_difference(const uint64_t *own, size_t own_count, size_t bits, const uint64_t *other,
     size_t other_count, size_t other_bits, size_t *index);
 
-/* How many bits are set, and which index has a rank. */
+/* How many bits are set, of one array or of two combined, and which index has a rank. */
 
 /* Writes into `count` how many bits are set. */
 conthiral_status conthiral_count_ones(const uint64_t *words, size_t word_count, size_t bits, size_t *count);
@@ -163,6 +163,22 @@ conthiral_status conthiral_rank(const uint64_t *words, size_t word_count, size_t
 /* Writes into `index` the index of the set bit below which `rank` bits are set, or `bits` if at most `rank` bits are
    set. */
 conthiral_status conthiral_select(const uint64_t *words, size_t word_count, size_t bits, size_t rank, size_t *index);
+
+/* Writes into `count` how many bits are set in both. */
+conthiral_status conthiral_count_and(const uint64_t *own, size_t own_count, const uint64_t *other, size_t other_count,
+    size_t bits, size_t *count);
+
+/* Writes into `count` how many bits are set in either. */
+conthiral_status conthiral_count_or(const uint64_t *own, size_t own_count, const uint64_t *other, size_t other_count,
+    size_t bits, size_t *count);
+
+/* Writes into `count` how many bits are set in exactly one. */
+conthiral_status conthiral_count_xor(const uint64_t *own, size_t own_count, const uint64_t *other, size_t other_count,
+    size_t bits, size_t *count);
+
+/* Writes into `count` how many bits are set in `own` and not in `other`. */
+conthiral_status conthiral_count_and_not(const uint64_t *own, size_t own_count, const uint64_t *other,
+    size_t other_count, size_t bits, size_t *count);
 
 /* The next or the previous index of a bit of one value, and the first stretch of unset bits. */
 

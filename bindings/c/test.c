@@ -284,6 +284,22 @@ LISTS(count_ones) {
     return CONTHIRAL_OK;
 }
 
+#define COUNTS(name, expression)                                                             \
+    CALL(name) { return conthiral_##name(OWN, FIRST, BITS, &s->number); }                    \
+    LISTS(name) {                                                                            \
+        s->number = 0;                                                                       \
+        EACH(i) {                                                                            \
+            bool own = s->own.list[i], first = s->first.list[i];                             \
+            s->number += expression;                                                         \
+        }                                                                                    \
+        return CONTHIRAL_OK;                                                                 \
+    }
+
+COUNTS(count_and, own && first)
+COUNTS(count_or, own || first)
+COUNTS(count_xor, own != first)
+COUNTS(count_and_not, own && !first)
+
 CALL(rank) { return conthiral_rank(OWN, BITS, s->a, &s->number); }
 LISTS(rank) {
     s->number = 0;
@@ -389,7 +405,8 @@ static const struct call CALLS[] = {
     ROW(or_and_not, 3),  ROW(is_subset, 2),   ROW(is_disjoint, 2),  ROW(equal, 2),
     ROW(first_difference, 2), ROW(count_ones, 1), ROW(rank, 1),     ROW(select, 1),
     ROW(next, 1),        ROW(previous, 1),    ROW(first_unset_run, 1), ROW(indices, 1),
-    ROW(from_bytes, 1),  ROW(to_bytes, 1),
+    ROW(from_bytes, 1),  ROW(to_bytes, 1),    ROW(count_and, 2),    ROW(count_or, 2),
+    ROW(count_xor, 2),   ROW(count_and_not, 2),
 };
 
 static int wrong;

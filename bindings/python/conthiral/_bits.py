@@ -341,6 +341,31 @@ class Bits:
         _call("is_disjoint", *self._both(other), answer)
         return answer.value
 
+    def _count(self, name: str, other: Bits) -> int:
+        number = c_size_t()
+        _call(name, *self._both(other), number)
+        return number.value
+
+    def count_and(self, other: Bits) -> int:
+        """Returns how many bits are set in both: ``(self & other).count()`` without a copy.
+
+        >>> Bits.of([True, True, False]).count_and(Bits.of([True, False, True]))
+        1
+        """
+        return self._count("count_and", other)
+
+    def count_or(self, other: Bits) -> int:
+        """Returns how many bits are set in either."""
+        return self._count("count_or", other)
+
+    def count_xor(self, other: Bits) -> int:
+        """Returns how many bits are set in exactly one."""
+        return self._count("count_xor", other)
+
+    def count_and_not(self, other: Bits) -> int:
+        """Returns how many bits are set here and not in another."""
+        return self._count("count_and_not", other)
+
     def first_difference(self, other: Bits) -> Optional[int]:
         """Returns the first index that both have at which they differ, if there is one."""
         index = c_size_t()

@@ -58,6 +58,18 @@ calls! {
         other: *const u64, other_count: usize, other_bits: usize, index: *mut usize,
     );
     fn conthiral_count_ones(words: *const u64, word_count: usize, bits: usize, count: *mut usize);
+    fn conthiral_count_and(
+        own: *const u64, own_count: usize, other: *const u64, other_count: usize, bits: usize, count: *mut usize,
+    );
+    fn conthiral_count_or(
+        own: *const u64, own_count: usize, other: *const u64, other_count: usize, bits: usize, count: *mut usize,
+    );
+    fn conthiral_count_xor(
+        own: *const u64, own_count: usize, other: *const u64, other_count: usize, bits: usize, count: *mut usize,
+    );
+    fn conthiral_count_and_not(
+        own: *const u64, own_count: usize, other: *const u64, other_count: usize, bits: usize, count: *mut usize,
+    );
     fn conthiral_rank(words: *const u64, word_count: usize, bits: usize, index: usize, count: *mut usize);
     fn conthiral_select(words: *const u64, word_count: usize, bits: usize, rank: usize, index: *mut usize);
     fn conthiral_next(

@@ -283,6 +283,26 @@ impl<T> Bits<T> {
         of_both!(self, other, conthiral_is_disjoint, false)
     }
 
+    /// Returns how many bits are set in both. Panics if the lengths differ.
+    pub fn count_and(&self, other: &Bits<T>) -> usize {
+        of_both!(self, other, conthiral_count_and, 0)
+    }
+
+    /// Returns how many bits are set in either. Panics if the lengths differ.
+    pub fn count_or(&self, other: &Bits<T>) -> usize {
+        of_both!(self, other, conthiral_count_or, 0)
+    }
+
+    /// Returns how many bits are set in exactly one. Panics if the lengths differ.
+    pub fn count_xor(&self, other: &Bits<T>) -> usize {
+        of_both!(self, other, conthiral_count_xor, 0)
+    }
+
+    /// Returns how many bits are set here and not in another. Panics if the lengths differ.
+    pub fn count_and_not(&self, other: &Bits<T>) -> usize {
+        of_both!(self, other, conthiral_count_and_not, 0)
+    }
+
     /// Returns the first index that both have at which they differ.
     pub fn first_difference(&self, other: &Bits<T>) -> Option<usize> {
         let index = of_words!(self, conthiral_first_difference, 0, other.vec.as_ptr(), other.vec.len(), other.len);

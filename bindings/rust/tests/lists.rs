@@ -98,20 +98,21 @@ fn all_bits() {
 
 #[test]
 fn two_and_three() {
-    type Two = (fn(&mut Vob, &Vob) -> bool, fn(bool, bool) -> bool);
+    type Two = (fn(&mut Vob, &Vob) -> bool, fn(&Vob, &Vob) -> usize, fn(bool, bool) -> bool);
     let two: [Two; 4] = [
-        (Bits::and, |a, b| a && b),
-        (Bits::or, |a, b| a || b),
-        (Bits::xor, |a, b| a != b),
-        (Bits::and_not, |a, b| a && !b),
+        (Bits::and, Bits::count_and, |a, b| a && b),
+        (Bits::or, Bits::count_or, |a, b| a || b),
+        (Bits::xor, Bits::count_xor, |a, b| a != b),
+        (Bits::and_not, Bits::count_and_not, |a, b| a && !b),
     ];
     for _ in 0..ROUNDS {
         let len = some_len();
         let (own, first, second) = (list(len), list(len), list(len));
         let (of_own, of_first) = (bits(&own), bits(&first));
-        for (call, of_bits) in two {
+        for (call, count, of_bits) in two {
             let mut result = of_own.clone();
             let wanted: Vec<bool> = own.iter().zip(&first).map(|(&a, &b)| of_bits(a, b)).collect();
+            assert_eq!(count(&of_own, &of_first), indices(&wanted, true).len());
             assert_eq!(call(&mut result, &of_first), wanted != own);
             same(&result, &wanted);
         }

@@ -5,17 +5,18 @@ use Rattle.std.proofs.lemmas.Bool.{cases_lt, cond-true, cond-false, lt-ltb, le-l
 use Rattle.std.proofs.lemmas.List.{map-id}
 use Rattle.vob_block.specs.Packing.{item, need, packing, unpacking, IsCanonical}
 use Rattle.vob_block.proofs.PackingLemmas.{length-unpacking, packing-unpacking}
-use Rattle.vob_block.specs.Pointwise.{differ}
+use Rattle.vob_block.specs.Pointwise.{differ, pointwise}
 use Rattle.vob_block.proofs.NeedLemmas.{need_enough, need-le-need}
 use Rattle.vob_block.proofs.PointwiseLemmas.{same_from_lists}
-use Rattle.vob_store.specs.Combined.{HaveNone, IsFirstCombined}
+use Rattle.vob_store.specs.Combined.{ones_combined, HaveNone, IsFirstCombined}
 use Rattle.vob_walk.specs.Count.{ones_between}
 use Rattle.vob_walk.specs.Next.{HasNoBit, IsFirstBit, IsLastBit}
 use Rattle.vob_walk.specs.Select.{HasRank}
+use Rattle.vob.specs.Bits.{count_of}
 use Rattle.vob.specs.Order.{IsDifference}
 use Rattle.vob.specs.Sets.{IsBit, IsIndexOfRank, IsNext, IsPrevious}
 use Rattle.vob.proofs.OrderLemmas.{DecideFirst, decide}
-use Rattle.vob.proofs.PairLemmas.{flag_of}
+use Rattle.vob.proofs.PairLemmas.{flag_of, lent_ones, lent_ones-le}
 use Rattle.vob.proofs.SelectLemmas.{IsIndexOfRank-blocks}
 use Rattle.vob.proofs.SetsLemmas.{IsIndexOfRank-inside, IsNext-blocks, IsNext-inside, IsPrevious-blocks, IsPrevious-inside}
 use Rattle.vob_c.specs.Found.{found_below}
@@ -125,6 +126,23 @@ module _ (n : ℕ) (xs ys : List ℕ) (g : IsCanonical n xs 64) (h : IsCanonical
       (length-unpacking n xs 64 ∙ sym (length-unpacking n ys 64)) (words_packed n ys items h same) f
       none refl r flag ((i : ℕ) → f (item (unpacking n xs 64) i) (item (unpacking n ys 64) i) ≡ false)
       ((λ p. p), (λ p. p))
+
+  module _ (f : Bool → Bool → Bool) (none : f false false ≡ false) (items : List ℕ) (same : items ≡ ys)
+    where
+      pub ones_found : ones_combined f 64 (map (λ x. x) xs) (map (λ x. x) items) (length xs)
+          ≡ count_of true (pointwise f (unpacking n xs 64) (unpacking n ys 64))
+      ones_found = lent_ones (λ x. x) 64 (omega arith) n xs items (unpacking n xs 64)
+          (unpacking n ys 64) (subst (λ (zs : List ℕ). IsCanonical n zs 64) (sym (map-id xs)) g)
+          (ap (λ zs. unpacking n zs 64) (map-id xs))
+          (length-unpacking n xs 64 ∙ sym (length-unpacking n ys 64)) (words_packed n ys items h same)
+          f none refl
+
+      pub ones_most : ones_combined f 64 (map (λ x. x) xs) (map (λ x. x) items) (length xs) ≤ n
+      ones_most = lent_ones-le (λ x. x) 64 (omega arith) n xs items (unpacking n xs 64)
+          (unpacking n ys 64) (subst (λ (zs : List ℕ). IsCanonical n zs 64) (sym (map-id xs)) g)
+          (ap (λ zs. unpacking n zs 64) (map-id xs))
+          (length-unpacking n xs 64 ∙ sym (length-unpacking n ys 64)) (words_packed n ys items h same)
+          f none refl
 
   pub equal_found : (r : Bool) → (IsTrue r ↔ (xs ≡ ys))
       → IsTrue r ↔ (unpacking n xs 64 ≡ unpacking n ys 64)

@@ -1,13 +1,15 @@
-//! How many bits are set, and which index has a rank.
-ghost use Rattle.std.specs.Prelude.{◌≡◌, ◌≢◌, ◌≤◌, take, true};
+//! How many bits are set, of one array or of two combined, and which index has a rank.
+ghost use Rattle.std.specs.Prelude.{◌≡◌, ◌≢◌, ◌≤◌, ◌&&◌, ◌||◌, false, take, true};
 ghost use Rattle.vob_block.specs.Packing.{unpacking, IsCanonical};
+ghost use Rattle.vob_block.specs.Pointwise.{differ, pointwise, without};
 ghost use Rattle.vob.specs.Bits.{count_of};
 ghost use Rattle.vob.specs.Sets.{IsIndexOfRank};
 ghost use Rattle.vob_c.specs.Found.{found_below};
 ghost use Rattle.vob_c.specs.Status.{HasWords, TellsWords};
 
-use crate::status::{OK, status_of};
-use vob_block::Blocks;
+use crate::status::{OK, status_of, status_of_two};
+use vob_block::{And, Blocks, Combine, Or, Without, Xor};
+use vob_store::combined::count_combined;
 use vob_walk::{count_ones_in, index_of_rank};
 
 /// Returns how many bits are set below `index`.
@@ -93,4 +95,100 @@ pub extern "C" fn conthiral_select(
     }
     *index = rank_index(words, bits, rank);
     OK
+}
+
+/// Returns how many bits of both combined are set.
+fn ones_of<C: Combine>(own: &[usize], other: &[usize], bits: usize) -> usize
+    requires own { IsCanonical bits own.now 64 }
+    requires other { IsCanonical bits other.now 64 }
+    requires none { C.of_bits false false ≡ false }
+    ensures { result ≡ count_of true
+        (pointwise C.of_bits (unpacking bits own.now 64) (unpacking bits other.now 64)) }
+{
+    count_combined::<C, usize>(own, &mut Blocks::new(other))
+}
+
+/// Writes into `count` how many bits of both combined are set.
+fn count_both<C: Combine>(own: &[usize], other: &[usize], bits: usize, count: &mut usize) -> u8
+    requires none { C.of_bits false false ≡ false }
+    ensures status { TellsWords result (HasWords bits own.now × HasWords bits other.now)
+        (IsCanonical bits own.now 64 × IsCanonical bits other.now 64) }
+    ensures count { result ≡ 0 → count.new ≡ count_of true
+        (pointwise C.of_bits (unpacking bits own.now 64) (unpacking bits other.now 64)) }
+    ensures refused { result ≢ 0 → count.new ≡ count.old }
+{
+    let status = status_of_two(own, bits, other, bits);
+    if status != OK {
+        return status;
+    }
+    *count = ones_of::<C>(own, other, bits);
+    OK
+}
+
+/// Writes into `count` how many bits are set in both.
+#[unsafe(no_mangle)]
+pub extern "C" fn conthiral_count_and(
+    own: &[usize],
+    other: &[usize],
+    bits: usize,
+    count: &mut usize,
+) -> u8
+    ensures status { TellsWords result (HasWords bits own.now × HasWords bits other.now)
+        (IsCanonical bits own.now 64 × IsCanonical bits other.now 64) }
+    ensures count { result ≡ 0 → count.new ≡ count_of true
+        (pointwise ◌&&◌ (unpacking bits own.now 64) (unpacking bits other.now 64)) }
+    ensures refused { result ≢ 0 → count.new ≡ count.old }
+{
+    count_both::<And>(own, other, bits, count)
+}
+
+/// Writes into `count` how many bits are set in either.
+#[unsafe(no_mangle)]
+pub extern "C" fn conthiral_count_or(
+    own: &[usize],
+    other: &[usize],
+    bits: usize,
+    count: &mut usize,
+) -> u8
+    ensures status { TellsWords result (HasWords bits own.now × HasWords bits other.now)
+        (IsCanonical bits own.now 64 × IsCanonical bits other.now 64) }
+    ensures count { result ≡ 0 → count.new ≡ count_of true
+        (pointwise ◌||◌ (unpacking bits own.now 64) (unpacking bits other.now 64)) }
+    ensures refused { result ≢ 0 → count.new ≡ count.old }
+{
+    count_both::<Or>(own, other, bits, count)
+}
+
+/// Writes into `count` how many bits are set in exactly one.
+#[unsafe(no_mangle)]
+pub extern "C" fn conthiral_count_xor(
+    own: &[usize],
+    other: &[usize],
+    bits: usize,
+    count: &mut usize,
+) -> u8
+    ensures status { TellsWords result (HasWords bits own.now × HasWords bits other.now)
+        (IsCanonical bits own.now 64 × IsCanonical bits other.now 64) }
+    ensures count { result ≡ 0 → count.new ≡ count_of true
+        (pointwise differ (unpacking bits own.now 64) (unpacking bits other.now 64)) }
+    ensures refused { result ≢ 0 → count.new ≡ count.old }
+{
+    count_both::<Xor>(own, other, bits, count)
+}
+
+/// Writes into `count` how many bits are set in `own` and not in `other`.
+#[unsafe(no_mangle)]
+pub extern "C" fn conthiral_count_and_not(
+    own: &[usize],
+    other: &[usize],
+    bits: usize,
+    count: &mut usize,
+) -> u8
+    ensures status { TellsWords result (HasWords bits own.now × HasWords bits other.now)
+        (IsCanonical bits own.now 64 × IsCanonical bits other.now 64) }
+    ensures count { result ≡ 0 → count.new ≡ count_of true
+        (pointwise without (unpacking bits own.now 64) (unpacking bits other.now 64)) }
+    ensures refused { result ≢ 0 → count.new ≡ count.old }
+{
+    count_both::<Without>(own, other, bits, count)
 }
