@@ -216,6 +216,13 @@ conthiral_status conthiral_from_bytes(uint64_t *words, size_t word_count, size_t
 conthiral_status conthiral_to_bytes(const uint64_t *words, size_t word_count, size_t bits, uint8_t *bytes,
     size_t byte_count, bool most_first);
 
+/* Matrices of bits, one row after another, each in as many words as its bits need. Bit j of row i says whether an
+   edge leads from node i to node j. */
+
+/* Makes bit j of row i true wherever a path of one edge or more leads from node i to node j, of a matrix of `size`
+   rows of `size` bits. Says whether a bit changed: if none did, the relation was transitive. */
+conthiral_status conthiral_close(uint64_t *words, size_t word_count, size_t size, bool *changed);
+
 #ifdef __cplusplus
 }
 #endif

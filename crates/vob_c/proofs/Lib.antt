@@ -1,7 +1,10 @@
 pub mod BytesLemmas
+pub mod ClosingLemmas
 pub mod CombineLemmas
 pub mod FoundLemmas
+pub mod GainLemmas
 pub mod IndicesLemmas
 pub mod MovesLemmas
 pub mod RangeLemmas
+pub mod RowsLemmas
 pub mod StatusLemmas

@@ -1,8 +1,8 @@
 mod JoinLemmas
-mod MatrixLemmas
-mod PathLemmas
-mod ProductLemmas
-mod ShapeLemmas
+pub mod MatrixLemmas
+pub mod PathLemmas
+pub mod ProductLemmas
+pub mod ShapeLemmas
 mod TileLemmas
 mod TurnLemmas
-mod UnionLemmas
+pub mod UnionLemmas

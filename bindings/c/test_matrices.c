@@ -1,0 +1,157 @@
+// The calls of conthiral.h on matrices beside plain loops over arrays of bool, on random graphs: test_matrices [SEED
+// [ROUNDS]]. Wrong words, wrong counts and bits past the last column must give their status, and leave all as it was.
+
+#include "conthiral.h"
+
+#include <stdio.h>
+#include <stdlib.h>
+#include <string.h>
+#include <time.h>
+
+enum { MOST = 150, WORDS = MOST * (MOST / 64 + 1), GUARD = 3 };
+
+static const uint64_t MARK = 0x5bd1e995a5a5c3c3;
+
+// A matrix in words between guards, and its entries.
+struct matrix {
+    uint64_t room[GUARD + WORDS + 1 + GUARD];
+    size_t rows, columns, count;
+    bool entry[MOST][MOST];
+};
+
+static uint64_t seed;
+static long tried;
+static int wrong;
+
+static uint64_t random_word(void) {
+    seed ^= seed << 13;
+    seed ^= seed >> 7;
+    seed ^= seed << 17;
+    return seed;
+}
+
+static size_t below(size_t n) { return n ? random_word() % n : 0; }
+
+// The words of a matrix: no pointer at all if there are none.
+static uint64_t *words(struct matrix *m) { return m->count ? m->room + GUARD : NULL; }
+
+static size_t width(size_t columns) { return columns / 64 + (columns % 64 != 0); }
+
+// Stores the entries of a matrix.
+static void pack(struct matrix *m) {
+    m->count = m->rows * width(m->columns);
+    for (size_t k = 0; k < sizeof m->room / sizeof *m->room; k++) {
+        m->room[k] = MARK + k;
+    }
+    memset(m->room + GUARD, 0, m->count * sizeof *m->room);
+    for (size_t i = 0; i < m->rows; i++) {
+        for (size_t j = 0; j < m->columns; j++) {
+            m->room[GUARD + i * width(m->columns) + j / 64] |= (uint64_t)m->entry[i][j] << j % 64;
+        }
+    }
+}
+
+// Makes a matrix of random entries: none, about one a row, or some of each row.
+static void draw(struct matrix *m, size_t rows, size_t columns) {
+    size_t often = below(4);
+    m->rows = rows;
+    m->columns = columns;
+    memset(m->entry, 0, sizeof m->entry);
+    for (size_t i = 0; i < rows; i++) {
+        for (size_t j = 0; j < columns; j++) {
+            m->entry[i][j] = often == 0 ? false : often == 1 ? !below(columns) : often == 2 ? !below(20) : below(2);
+        }
+    }
+    pack(m);
+}
+
+static void is(bool right, const char *call, const char *what, const struct matrix *m) {
+    tried++;
+    if (!right && wrong++ < 20) {
+        printf("%s: %s, at %zu rows and %zu columns\n", call, what, m->rows, m->columns);
+    }
+}
+
+static bool same_words(const struct matrix *m, const struct matrix *n) {
+    return !memcmp(m->room, n->room, sizeof m->room);
+}
+
+// Spoils a matrix in one of three ways, and returns the status that it gets: a word too many, a word too few, or a
+// true bit past the last column. Returns CONTHIRAL_OK if it can't be spoiled so.
+static conthiral_status spoil(struct matrix *m, int way) {
+    if (way == 2) {
+        if (m->rows == 0 || m->columns % 64 == 0) {
+            return CONTHIRAL_OK;
+        }
+        size_t last = (1 + below(m->rows)) * width(m->columns) - 1;
+        m->room[GUARD + last] |= (uint64_t)1 << (m->columns % 64 + below(64 - m->columns % 64));
+        return CONTHIRAL_NOT_CANONICAL;
+    }
+    if (way == 1 && m->count == 0) {
+        return CONTHIRAL_OK;
+    }
+    m->count += way == 0 ? 1 : -1;
+    return CONTHIRAL_LENGTH;
+}
+
+// ---- the closure
+
+static bool closed_lists(struct matrix *m) {
+    bool changed = false;
+    for (size_t k = 0; k < m->rows; k++) {
+        for (size_t i = 0; i < m->rows; i++) {
+            for (size_t j = 0; j < m->rows; j++) {
+                bool led = m->entry[i][j] || (m->entry[i][k] && m->entry[k][j]);
+                changed |= led != m->entry[i][j];
+                m->entry[i][j] = led;
+            }
+        }
+    }
+    return changed;
+}
+
+static void closes(size_t size) {
+    static struct matrix own, wanted, spoiled, kept;
+    draw(&own, size, size);
+    wanted = own;
+    bool changes = closed_lists(&wanted), changed = below(2);
+    pack(&wanted);
+    for (int way = 0; way < 3; way++) {
+        spoiled = own;
+        conthiral_status status = spoil(&spoiled, way);
+        kept = spoiled;
+        bool flag = below(2), was = flag;
+        if (status != CONTHIRAL_OK) {
+            is(conthiral_close(words(&spoiled), spoiled.count, size, &flag) == status, "close", "another status", &own);
+            is(same_words(&spoiled, &kept) && flag == was, "close", "a refused call writes", &own);
+        }
+    }
+    is(conthiral_close(words(&own), own.count, size, &changed) == CONTHIRAL_OK, "close", "another status", &own);
+    is(same_words(&own, &wanted), "close", "other words", &own);
+    is(changed == changes, "close", "another flag", &own);
+    is(conthiral_close(words(&own), own.count, size, &changed) == CONTHIRAL_OK, "close", "another status", &own);
+    is(same_words(&own, &wanted) && !changed, "close", "a second time changes", &own);
+}
+
+// A number of rows whose words can't be counted.
+static void too_many(void) {
+    static const struct matrix none;
+    uint64_t word = 0;
+    bool changed = false;
+    is(conthiral_close(&word, 1, (size_t)1 << 62, &changed) == CONTHIRAL_LENGTH, "close", "another status", &none);
+    is(conthiral_close(NULL, 0, SIZE_MAX, &changed) == CONTHIRAL_LENGTH, "close", "another status", &none);
+}
+
+int main(int count, char **arguments) {
+    static const size_t edges[] = {0, 1, 2, 63, 64, 65, 127, 128, 129, MOST};
+    seed = count > 1 ? strtoull(arguments[1], NULL, 10) : (uint64_t)time(NULL) * 2654435761u;
+    long rounds = count > 2 ? strtol(arguments[2], NULL, 10) : 100;
+    printf("seed %llu\n", (unsigned long long)seed);
+    seed |= (uint64_t)1 << 63;
+    too_many();
+    for (long round = 0; round < rounds; round++) {
+        closes(below(2) ? edges[below(sizeof edges / sizeof *edges)] : below(MOST + 1));
+    }
+    printf("%ld passed, %d failed\n", tried - wrong, wrong);
+    return wrong != 0;
+}
