@@ -1,6 +1,6 @@
 """Bits in words, by calls that are proved.
 
->>> from conthiral import Bits
+>>> from conthiral import Bits, closure
 >>> seen = Bits(100)
 >>> seen[7] = True
 >>> seen[10:13] = True
@@ -8,9 +8,12 @@
 [7, 10, 11, 12]
 >>> (seen & Bits.of_indices(100, [7, 8])).count()
 1
+>>> closure({"a": ["b"], "b": ["c"]})
+{'a': ['b', 'c'], 'b': ['c'], 'c': []}
 """
 
 from ._bits import Bits, LengthError, NotCanonicalError
+from ._matrix import close, closure
 
-__all__ = ["Bits", "LengthError", "NotCanonicalError"]
+__all__ = ["Bits", "LengthError", "NotCanonicalError", "close", "closure"]
 __version__ = "0.1.0"

@@ -57,6 +57,7 @@ _CALLS = {
     "indices": _OWN + [c_bool, c_size_t] + _INDEX + [c_size_t] + _INDEX,
     "from_bytes": _OWN + _BYTES + [c_bool],
     "to_bytes": _OWN + _BYTES + [c_bool],
+    "close": _OWN + _FLAG,
 }
 
 

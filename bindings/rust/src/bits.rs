@@ -303,7 +303,7 @@ impl<T> Bits<T> {
 
 /// Writes the bit at an index into its word, and returns whether it changed.
 #[inline]
-fn write(word: &mut u64, index: usize, value: bool) -> bool {
+pub(crate) fn write(word: &mut u64, index: usize, value: bool) -> bool {
     let bit = 1 << (index % WORD);
     let old = *word;
     *word = if value { old | bit } else { old & !bit };

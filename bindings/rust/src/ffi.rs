@@ -91,6 +91,7 @@ calls! {
     fn conthiral_to_bytes(
         words: *const u64, word_count: usize, bits: usize, bytes: *mut u8, byte_count: usize, most_first: bool,
     );
+    fn conthiral_close(words: *mut u64, word_count: usize, size: usize, changed: *mut bool);
 }
 
 /// Panics unless a call met its conditions. The callers here meet them all.

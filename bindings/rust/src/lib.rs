@@ -21,11 +21,13 @@
 mod bits;
 mod ffi;
 mod iter;
+mod matrix;
 mod ops;
 mod words;
 
 pub use bits::{Bits, Block};
 pub use iter::{Iter, IterSetBits, IterUnsetBits, StorageIter};
+pub use matrix::BitMatrix;
 
 /// A bit vector, by the name that it has in the crate `vob`.
 pub type Vob<T = usize> = Bits<T>;

@@ -1,0 +1,116 @@
+"""Each call on matrices beside what plain lists of lists give, and networkx where it is installed. CONTHIRAL_SEED
+repeats a run."""
+
+import doctest
+import os
+import random
+import time
+import unittest
+from array import array
+
+from conthiral import LengthError, NotCanonicalError, _matrix, close, closure
+
+try:
+    import numpy
+except ImportError:
+    numpy = None
+try:
+    import networkx
+except ImportError:
+    networkx = None
+
+SEED = int(os.environ.get("CONTHIRAL_SEED") or time.time())
+ROUNDS = 12
+
+
+def some_rows(rows, columns):
+    often = random.choice([0, 0.01, 0.05, 0.5])
+    return [[random.random() < often for _ in range(columns)] for _ in range(rows)]
+
+
+def some_size():
+    return random.choice([random.randrange(3) * 64, random.randrange(130)])
+
+
+def packed(rows, columns):
+    words = array("Q")
+    for row in rows:
+        for first in range(0, columns, 64):
+            words.append(sum(bit << place for place, bit in enumerate(row[first : first + 64])))
+    return words
+
+
+def closed(rows):
+    rows = [list(row) for row in rows]
+    for k, through in enumerate(rows):
+        for row in rows:
+            if row[k]:
+                row[:] = [a or b for a, b in zip(row, through)]
+    return rows
+
+
+class Matrices(unittest.TestCase):
+    def setUp(self):
+        random.seed(SEED)
+
+    def test_close(self):
+        for _ in range(ROUNDS):
+            size = some_size()
+            rows = some_rows(size, size)
+            words = packed(rows, size)
+            wanted = closed(rows)
+            self.assertEqual(close(words, size), wanted != rows, f"CONTHIRAL_SEED={SEED}")
+            self.assertEqual(words, packed(wanted, size), f"CONTHIRAL_SEED={SEED}")
+            self.assertFalse(close(words, size))
+
+    def test_two_dimensions(self):
+        words = array("Q", [2, 4, 0])
+        self.assertTrue(close(memoryview(words).cast("B").cast("Q", [3, 1])))
+        self.assertEqual(words.tolist(), [6, 4, 0])
+        with self.assertRaises(LengthError):
+            close(memoryview(words).cast("B").cast("Q", [1, 3]))
+
+    @unittest.skipUnless(numpy, "numpy isn't installed")
+    def test_numpy(self):
+        words = numpy.array([[2], [4], [0]], dtype=numpy.uint64)
+        self.assertTrue(close(words))
+        self.assertEqual(words.tolist(), [[6], [4], [0]])
+
+    def test_closure(self):
+        for _ in range(ROUNDS):
+            size = some_size()
+            rows = some_rows(size, size)
+            names = [f"node {at}" for at in range(size)]
+            edges = {name: [names[j] for j in range(size) if row[j]] for name, row in zip(names, rows)}
+            wanted = {name: {names[j] for j in range(size) if row[j]} for name, row in zip(names, closed(rows))}
+            found = closure(edges)
+            self.assertEqual({name: set(after) for name, after in found.items()}, wanted, f"CONTHIRAL_SEED={SEED}")
+            order = list(found)
+            self.assertTrue(all(after == sorted(after, key=order.index) for after in found.values()))
+            again = closure([(name, other) for name, after in edges.items() for other in after])
+            self.assertEqual({name: set(after) for name, after in again.items()}, {name: wanted[name] for name in again})
+            if networkx:
+                graph = networkx.transitive_closure(networkx.DiGraph(edges))
+                self.assertEqual(wanted, {name: set(graph.successors(name)) for name in names})
+
+    def test_faults(self):
+        words = array("Q", [1, 2, 8])
+        with self.assertRaises(NotCanonicalError):
+            close(words, 3)
+        with self.assertRaises(LengthError):
+            close(words, 4)
+        with self.assertRaises(TypeError):
+            close(words)
+        with self.assertRaises(TypeError):
+            close(b"12345678", 1)
+        self.assertEqual(words.tolist(), [1, 2, 8])
+        self.assertEqual(closure({}), {})
+
+
+def load_tests(loader, tests, pattern):
+    tests.addTests(doctest.DocTestSuite(_matrix))
+    return tests
+
+
+if __name__ == "__main__":
+    unittest.main()
