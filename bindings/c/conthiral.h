@@ -223,6 +223,21 @@ conthiral_status conthiral_to_bytes(const uint64_t *words, size_t word_count, si
    rows of `size` bits. Says whether a bit changed: if none did, the relation was transitive. */
 conthiral_status conthiral_close(uint64_t *words, size_t word_count, size_t size, bool *changed);
 
+/* Products of matrices of bits: where an edge of the first leads, and then one of the second. */
+
+/* Writes into `made` the Boolean product of a matrix of `rows` rows and `inner` columns with one of `inner` rows and
+   `columns` columns: bit j of row i is true if `first` has bit k of row i and `second` has bit j of row k, for some
+   k. What stood in `made` isn't read. */
+conthiral_status conthiral_product(const uint64_t *first, size_t first_count, size_t rows, size_t inner,
+    const uint64_t *second, size_t second_count, size_t columns, uint64_t *made, size_t made_count);
+
+/* Transposes of matrices of bits. */
+
+/* Writes into `made` the matrix with rows and columns exchanged: `columns` rows of `rows` bits. What stood there
+   isn't read. */
+conthiral_status conthiral_transpose(const uint64_t *words, size_t word_count, size_t rows, size_t columns,
+    uint64_t *made, size_t made_count);
+
 #ifdef __cplusplus
 }
 #endif

@@ -133,6 +133,78 @@ static void closes(size_t size) {
     is(same_words(&own, &wanted) && !changed, "close", "a second time changes", &own);
 }
 
+// ---- the transpose, and the product of two
+
+static void transposes(size_t rows, size_t columns) {
+    static struct matrix own, made, wanted, spoiled, kept;
+    draw(&own, rows, columns);
+    draw(&made, columns, rows);
+    wanted = made;
+    for (size_t i = 0; i < rows; i++) {
+        for (size_t j = 0; j < columns; j++) {
+            wanted.entry[j][i] = own.entry[i][j];
+        }
+    }
+    pack(&wanted);
+    // what stood in the words isn't read
+    for (size_t k = 0; k < made.count; k++) {
+        made.room[GUARD + k] = random_word();
+    }
+    for (int way = 0; way < 5; way++) {
+        bool first = way < 3;
+        spoiled = first ? own : made;
+        conthiral_status status = spoil(&spoiled, way % 3);
+        kept = made;
+        if (status != CONTHIRAL_OK) {
+            struct matrix *from = first ? &spoiled : &own, *into = first ? &made : &spoiled;
+            is(conthiral_transpose(words(from), from->count, rows, columns, words(into), into->count) == status,
+               "transpose", "another status", &own);
+            is(same_words(first ? &made : &spoiled, &kept), "transpose", "a refused call writes", &own);
+        }
+    }
+    is(conthiral_transpose(words(&own), own.count, rows, columns, words(&made), made.count) == CONTHIRAL_OK,
+       "transpose", "another status", &own);
+    is(same_words(&made, &wanted), "transpose", "other words", &own);
+}
+
+static conthiral_status product(struct matrix *first, struct matrix *second, struct matrix *made) {
+    return conthiral_product(words(first), first->count, first->rows, first->columns, words(second), second->count,
+                             second->columns, words(made), made->count);
+}
+
+static void multiplies(size_t rows, size_t inner, size_t columns) {
+    static struct matrix first, second, made, wanted, spoiled, kept;
+    draw(&first, rows, inner);
+    draw(&second, inner, columns);
+    draw(&made, rows, columns);
+    wanted = made;
+    memset(wanted.entry, 0, sizeof wanted.entry);
+    for (size_t i = 0; i < rows; i++) {
+        for (size_t k = 0; k < inner; k++) {
+            for (size_t j = 0; j < columns; j++) {
+                wanted.entry[i][j] |= first.entry[i][k] && second.entry[k][j];
+            }
+        }
+    }
+    pack(&wanted);
+    for (size_t k = 0; k < made.count; k++) {
+        made.room[GUARD + k] = random_word();
+    }
+    for (int way = 0; way < 8; way++) {
+        struct matrix *each[] = {&first, &second, &made};
+        spoiled = *each[way / 3];
+        each[way / 3] = &spoiled;
+        conthiral_status status = spoil(&spoiled, way % 3);
+        kept = *each[2];
+        if (status != CONTHIRAL_OK) {
+            is(product(each[0], each[1], each[2]) == status, "product", "another status", &made);
+            is(same_words(each[2], &kept), "product", "a refused call writes", &made);
+        }
+    }
+    is(product(&first, &second, &made) == CONTHIRAL_OK, "product", "another status", &made);
+    is(same_words(&made, &wanted), "product", "other words", &made);
+}
+
 // A number of rows whose words can't be counted.
 static void too_many(void) {
     static const struct matrix none;
@@ -140,17 +212,27 @@ static void too_many(void) {
     bool changed = false;
     is(conthiral_close(&word, 1, (size_t)1 << 62, &changed) == CONTHIRAL_LENGTH, "close", "another status", &none);
     is(conthiral_close(NULL, 0, SIZE_MAX, &changed) == CONTHIRAL_LENGTH, "close", "another status", &none);
+    is(conthiral_transpose(NULL, 0, 0, SIZE_MAX, NULL, 0) == CONTHIRAL_OK, "transpose", "another status", &none);
+    is(conthiral_product(NULL, 0, SIZE_MAX, 0, NULL, 0, 0, NULL, 0) == CONTHIRAL_OK, "product", "another status", &none);
+    is(conthiral_product(NULL, 0, SIZE_MAX, 0, NULL, 0, SIZE_MAX, NULL, 0) == CONTHIRAL_LENGTH, "product",
+       "another status", &none);
+}
+
+static size_t some_size(void) {
+    static const size_t edges[] = {0, 1, 2, 63, 64, 65, 127, 128, 129, MOST};
+    return below(2) ? edges[below(sizeof edges / sizeof *edges)] : below(MOST + 1);
 }
 
 int main(int count, char **arguments) {
-    static const size_t edges[] = {0, 1, 2, 63, 64, 65, 127, 128, 129, MOST};
     seed = count > 1 ? strtoull(arguments[1], NULL, 10) : (uint64_t)time(NULL) * 2654435761u;
     long rounds = count > 2 ? strtol(arguments[2], NULL, 10) : 100;
     printf("seed %llu\n", (unsigned long long)seed);
     seed |= (uint64_t)1 << 63;
     too_many();
     for (long round = 0; round < rounds; round++) {
-        closes(below(2) ? edges[below(sizeof edges / sizeof *edges)] : below(MOST + 1));
+        closes(some_size());
+        transposes(some_size(), some_size());
+        multiplies(some_size(), some_size(), some_size());
     }
     printf("%ld passed, %d failed\n", tried - wrong, wrong);
     return wrong != 0;

@@ -4,6 +4,7 @@ pub mod CombineLemmas
 pub mod FoundLemmas
 pub mod GainLemmas
 pub mod IndicesLemmas
+pub mod LinkingLemmas
 pub mod MovesLemmas
 pub mod RangeLemmas
 pub mod RowsLemmas

@@ -8,10 +8,11 @@ use Rattle.vob_block.specs.Packing.{need, packing, unpacking}
 use Rattle.vob_block.specs.Pointwise.{pointwise}
 use Rattle.vob.specs.Bits.{GainsBits}
 use Rattle.vob.specs.Vobs.{AreOfLength}
-use Rattle.vob_rows.specs.Part.{blocks_of, unpacked_rows, AreCanonical, IsRowCombined}
-use Rattle.vob_rows.proofs.PartLemmas.{HoldCombined, IsRowAt, length-unpacked_rows, of_length, or_each, or_gains, packed, row_at, row_combined, unpacked}
-use Rattle.vob_matrix.specs.Matrix.{entry, GetsRow}
+use Rattle.vob_rows.specs.Part.{blocks_of, unpacked_rows, AreCanonical, IsRowCombined, IsRowPut}
+use Rattle.vob_rows.proofs.PartLemmas.{HoldCombined, HoldRows, IsRowAt, length-unpacked_rows, of_length, or_each, or_gains, packed, row_at, row_combined, unpacked}
+use Rattle.vob_matrix.specs.Matrix.{entry, GetsRow, IsEntryWritten}
 use Rattle.vob_matrix.specs.Unions.{IsUnionSet}
+use Rattle.vob_matrix.proofs.ShapeLemmas.{IsEntryWritten-at}
 use Rattle.vob_matrix.proofs.UnionLemmas.{IsUnionSet-or}
 use Rattle.vob_c.specs.Gains.{HaveGained}
 use Rattle.vob_c.specs.Rows.{AreCanonicalRows, rows_in}
@@ -133,3 +134,22 @@ module _ (rows columns : ℕ) (words : List ℕ) (h : AreCanonicalRows rows colu
     pub joined_gain : HaveGained changed table (rows_in rows columns after)
     joined_gain = added_gain i below (get_or table from []) (row_here from also).long theirs theirs_are
         after changed done
+
+  -- one bit of row i was written
+  module _ (i j : ℕ) (below : i < rows) (within : j < columns) (value : Bool) (after : List ℕ)
+      (done : IsRowPut (λ x. x) 64 columns count i words (set (unpacking columns
+      (map (λ x. x) (blocks_of count words i)) 64) j value) after) where
+    put : HoldRows (λ x. x) 64 rows columns after (set table i (set (unpacking columns
+        (map (λ x. x) (blocks_of count words i)) 64) j value))
+    put = (row_here i below).put after after (set (unpacking columns
+        (map (λ x. x) (blocks_of count words i)) 64) j value) refl done
+
+    pub written_canonical : AreCanonicalRows rows columns after
+    written_canonical = rows_back rows columns after put.canonical
+
+    pub written_entry : IsEntryWritten table i j value (rows_in rows columns after)
+    written_entry = IsEntryWritten-at table i j value (rows_in rows columns after)
+        (omega (arith, below, length-rows_in rows columns words))
+        (omega (arith, within, (row_here i below).long))
+        (sym (rows_are rows columns after) ∙ put.are
+        ∙ ap (λ bits. set table i (set bits j value)) (row_here i below).bits)

@@ -2,5 +2,6 @@ pub mod Bytes
 pub mod Found
 pub mod Gains
 pub mod Indices
+pub mod Linking
 pub mod Rows
 pub mod Status

@@ -2,6 +2,7 @@
 use Rattle.std.specs.Prelude.{◌≡◌, ℕ, ◌+◌, ◌*◌, ◌<◌, Bool, List, length, map}
 use Rattle.std.specs.List.{between, range_with_len}
 use Rattle.vob_block.specs.Packing.{need, unpacking, IsCanonical}
+use Rattle.vob_rows.specs.Rows.{Matrix}
 
 -- as many words as some rows of some columns need
 -- Example: 3 rows of 65 columns need 6
@@ -23,3 +24,7 @@ pub record AreCanonicalRows (rows columns : ℕ) (words : List ℕ) : Type 0 whe
 unfoldable pub rows_in : ℕ → ℕ → List ℕ → List (List Bool)
 rows_in rows columns words =
     map (λ i. unpacking columns (row_words columns words i) 64) (range_with_len 0 rows)
+
+-- the same with the number of columns
+abbrev pub matrix_in : ℕ → ℕ → List ℕ → Matrix
+matrix_in rows columns words = record { rows = rows_in rows columns words; columns = columns }

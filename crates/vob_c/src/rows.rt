@@ -1,6 +1,7 @@
-//! Rows of bits in one array of words: one row read, and one row added to another.
-ghost use Rattle.std.specs.Prelude.{◌≡◌, ◌≢◌, ◌↔◌, ◌+◌, ◌*◌, ◌≤◌, ◌||◌, length, map, IsTrue};
-ghost use Rattle.vob_rows.specs.Part.{IsRowCombined, blocks_of};
+//! Rows of bits in one array of words: one row read, one bit written, and one row added to another.
+ghost use Rattle.std.specs.Prelude.{◌≡◌, ◌≢◌, ◌↔◌, ◌+◌, ◌*◌, ◌<◌, ◌≤◌, ◌||◌, length, map, replicate, slice_set, IsTrue};
+ghost use Rattle.vob_block.specs.Packing.{unpacking};
+ghost use Rattle.vob_rows.specs.Part.{HasRow, IsRowCombined, IsRowPut, blocks_of};
 ghost use Rattle.vob_c.specs.Rows.{AreCanonicalRows, HasRowWords};
 ghost use Rattle.vob_c.specs.Status.{TellsWords};
 
@@ -8,6 +9,7 @@ use crate::status::{LENGTH, NOT_CANONICAL, OK};
 use vob_block::{Blocks, Kernel, Or};
 use vob_store::canonical::is_canonical;
 use vob_store::room::block_count;
+use vob_store::single::write_bit;
 
 /// Returns the words of row `i`, of `count` words a row.
 pub(crate) fn words_at(words: &[usize], count: usize, i: usize) -> &[usize]
@@ -18,11 +20,14 @@ pub(crate) fn words_at(words: &[usize], count: usize, i: usize) -> &[usize]
     &words[start..start + count]
 }
 
-/// Returns whether the words of each row are canonical.
+/// Returns whether the words of each row are canonical. Rows without words aren't counted through.
 pub(crate) fn are_canonical(words: &[usize], rows: usize, columns: usize) -> bool
     requires { HasRowWords rows columns words.now }
     ensures { IsTrue result ↔ AreCanonicalRows rows columns words.now }
 {
+    if words.len() == 0 {
+        return true;
+    }
     let count = block_count::<usize>(columns);
     for i in 0..rows {
         if !is_canonical(words_at(words, count, i), columns) {
@@ -55,6 +60,34 @@ pub(crate) fn status_of_rows(words: &[usize], rows: usize, columns: usize) -> u8
     } else {
         NOT_CANONICAL
     }
+}
+
+/// Makes each word 0.
+pub(crate) fn clear(words: &mut [usize])
+    ensures { words.new ≡ replicate (length words.old) 0 }
+{
+    for k in 0..words.len() {
+        words[k] = 0;
+    }
+}
+
+/// Writes bit `j` of row `i`, of `count` words a row.
+pub(crate) fn write_at(
+    words: &mut [usize],
+    count: usize,
+    columns: usize,
+    i: usize,
+    j: usize,
+    value: bool,
+)
+    requires row { HasRow (λ x. x) 64 columns count words.old i }
+    requires column { j < columns }
+    ensures { IsRowPut (λ x. x) 64 columns count i words.old
+        (slice_set (unpacking columns (map (λ x. x) (blocks_of count words.old i)) 64) j value)
+        words.new }
+{
+    let start = i * count;
+    write_bit(&mut words[start..start + count], columns, j, value);
 }
 
 /// Adds to row `i` the places of other words, and returns whether that changed a word.

@@ -1,5 +1,5 @@
 -- Row `through` is added where there is an edge, and a row gains nothing from itself.
-use Rattle.std.proofs.Common.{◌≡◌, ◌+◌, ◌∙◌, List, Bool, ap, subst, sym, arith, Some}
+use Rattle.std.proofs.Common.{◌≡◌, ◌+◌, ◌∙◌, subst, sym, arith}
 use Rattle.vob_matrix.specs.MatrixPaths.{IsLedThrough}
 use Rattle.vob_matrix.proofs.UnionLemmas.{IsLedThrough-more, IsLedThrough-skip}
 use Rattle.vob_c.specs.Rows.{rows_in}
