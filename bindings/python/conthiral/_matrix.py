@@ -44,6 +44,29 @@ def close(words: Any, size: Optional[int] = None) -> bool:
     return changed.value
 
 
+def transpose(words: Any, rows: int, columns: int) -> array[int]:
+    """Returns the words of a matrix with rows and columns exchanged.
+
+    >>> transpose(array("Q", [0b011, 0b100]), 2, 3)
+    array('Q', [1, 1, 2])
+    """
+    made = array("Q", bytes(columns * ((rows + 63) // 64) * 8))
+    _call("transpose", *_pointer(words), rows, columns, *_pointer(made))
+    return made
+
+
+def product(first: Any, rows: int, inner: int, second: Any, columns: int) -> array[int]:
+    """Returns the words of the Boolean product of two matrices, of ``rows`` and of ``inner`` rows: bit j of row i is
+    set if the first has bit k of row i and the second bit j of row k, for some k.
+
+    >>> product(array("Q", [0b011, 0b100]), 2, 3, array("Q", [1, 2, 3]), 2)
+    array('Q', [3, 3])
+    """
+    made = array("Q", bytes(rows * ((columns + 63) // 64) * 8))
+    _call("product", *_pointer(first), rows, inner, *_pointer(second), columns, *_pointer(made))
+    return made
+
+
 def closure(edges: Union[Mapping[Name, Iterable[Name]], Iterable[Tuple[Name, Name]]]) -> Dict[Name, List[Name]]:
     """Returns for each node those to which a path of one edge or more leads. Edges are a mapping from a node to the
     nodes after it, or pairs. Nodes come in the order in which they are first named.

@@ -8,7 +8,7 @@ import time
 import unittest
 from array import array
 
-from conthiral import LengthError, NotCanonicalError, _matrix, close, closure
+from conthiral import LengthError, NotCanonicalError, _matrix, close, closure, product, transpose
 
 try:
     import numpy
@@ -92,6 +92,21 @@ class Matrices(unittest.TestCase):
             if networkx:
                 graph = networkx.transitive_closure(networkx.DiGraph(edges))
                 self.assertEqual(wanted, {name: set(graph.successors(name)) for name in names})
+
+    def test_product_and_transpose(self):
+        for _ in range(ROUNDS):
+            rows, inner, columns = some_size(), some_size(), some_size()
+            own, other = some_rows(rows, inner), some_rows(inner, columns)
+            turned = [[row[j] for row in own] for j in range(inner)]
+            self.assertEqual(transpose(packed(own, inner), rows, inner), packed(turned, rows), f"CONTHIRAL_SEED={SEED}")
+            wanted = [[any(row[k] for row in map(other.__getitem__, named)) for k in range(columns)]
+                      for named in ([k for k in range(inner) if row[k]] for row in own)]
+            made = product(packed(own, inner), rows, inner, packed(other, columns), columns)
+            self.assertEqual(made, packed(wanted, columns), f"CONTHIRAL_SEED={SEED}")
+        with self.assertRaises(LengthError):
+            transpose(array("Q", [0]), 2, 3)
+        with self.assertRaises(NotCanonicalError):
+            product(array("Q", [8]), 1, 3, array("Q", [0, 0, 0]), 2)
 
     def test_faults(self):
         words = array("Q", [1, 2, 8])

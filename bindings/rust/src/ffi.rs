@@ -91,6 +91,13 @@ calls! {
     fn conthiral_to_bytes(
         words: *const u64, word_count: usize, bits: usize, bytes: *mut u8, byte_count: usize, most_first: bool,
     );
+    fn conthiral_transpose(
+        words: *const u64, word_count: usize, rows: usize, columns: usize, made: *mut u64, made_count: usize,
+    );
+    fn conthiral_product(
+        first: *const u64, first_count: usize, rows: usize, inner: usize,
+        second: *const u64, second_count: usize, columns: usize, made: *mut u64, made_count: usize,
+    );
     fn conthiral_close(words: *mut u64, word_count: usize, size: usize, changed: *mut bool);
 }
 

@@ -121,4 +121,37 @@ impl BitMatrix {
         ffi::done(unsafe { ffi::conthiral_close(self.words.as_mut_ptr(), self.words.len(), self.rows, &mut changed) });
         changed
     }
+
+    /// Returns the matrix with rows and columns exchanged.
+    pub fn transpose(&self) -> BitMatrix {
+        let mut made = BitMatrix::new(self.columns, self.rows);
+        let words = made.words.as_mut_ptr();
+        ffi::done(unsafe {
+            let (from, count) = (self.words.as_ptr(), self.words.len());
+            ffi::conthiral_transpose(from, count, self.rows, self.columns, words, made.words.len())
+        });
+        made
+    }
+
+    /// Returns the Boolean product: bit `j` of row `i` is set if bit `k` of row `i` is here and bit `j` of row `k`
+    /// in another, for some `k`. Panics unless the other has as many rows as there are columns here.
+    pub fn product(&self, other: &BitMatrix) -> BitMatrix {
+        assert_eq!(self.columns, other.rows, "the second matrix has as many rows as the first has columns");
+        let mut made = BitMatrix::new(self.rows, other.columns);
+        let words = made.words.as_mut_ptr();
+        ffi::done(unsafe {
+            ffi::conthiral_product(
+                self.words.as_ptr(),
+                self.words.len(),
+                self.rows,
+                self.columns,
+                other.words.as_ptr(),
+                other.words.len(),
+                other.columns,
+                words,
+                made.words.len(),
+            )
+        });
+        made
+    }
 }

@@ -63,6 +63,32 @@ fn closures() {
 }
 
 #[test]
+fn products_and_transposes() {
+    for _ in 0..ROUNDS {
+        let (rows, inner, columns) = (some_size(), some_size(), some_size());
+        let (own, other) = (list(rows, inner), list(inner, columns));
+        let call = matrix(&own, inner);
+        let turned: Vec<Vec<bool>> = (0..inner).map(|j| (0..rows).map(|i| own[i][j]).collect()).collect();
+        same(&call.transpose(), &turned, rows);
+        let mut wanted = vec![vec![false; columns]; rows];
+        for i in 0..rows {
+            for k in (0..inner).filter(|&k| own[i][k]) {
+                for j in 0..columns {
+                    wanted[i][j] |= other[k][j];
+                }
+            }
+        }
+        same(&call.product(&matrix(&other, columns)), &wanted, columns);
+    }
+}
+
+#[test]
+#[should_panic(expected = "as many rows as the first has columns")]
+fn products_must_fit() {
+    BitMatrix::new(3, 4).product(&BitMatrix::new(3, 4));
+}
+
+#[test]
 fn words_must_fit() {
     assert!(BitMatrix::from_words(vec![0, 0], 2, 3).is_ok());
     assert!(BitMatrix::from_words(vec![0, 8], 2, 3).is_err());
