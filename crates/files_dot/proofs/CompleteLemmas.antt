@@ -16,7 +16,8 @@ use Rattle.files_dot.specs.Reading.{End, Level, Next, State, after_arrow, after_
 use Rattle.files_dot.specs.Tokens.{Word, id, sign}
 use Rattle.files_dot.specs.declared.stage.Stage.TheVariants.{AfterDigraph, AfterEqual, AfterKey, AfterKeyEqual, AfterKeyword, AfterList, AfterName, AfterStrict, AfterValue, Begin, Done, Ended, InList, Statement}
 use Rattle.files_dot.specs.declared.token.Mark.TheVariants.{Arrow, CloseBrace, CloseBracket, Colon, Digraph, Equal, OpenBrace, OpenBracket, Semicolon}
-use Rattle.files_dot.proofs.SoundLemmas.{Edges, Names, closed, closing_same, run_is_graph, state}
+use Rattle.files_dot.proofs.RestLemmas.{Edges, Names, closed, closing_same, state}
+use Rattle.files_dot.proofs.SoundLemmas.{run_is_graph}
 
 abbrev ended : ℕ → End
 ended start = record { start = start; may_be_name = false; colons = 0 }

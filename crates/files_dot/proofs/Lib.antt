@@ -1,7 +1,13 @@
 pub mod CompleteLemmas
+pub mod FirstByteLemmas
 pub mod HeldLemmas
+pub mod OneGraphLemmas
+pub mod OnePieceLemmas
+pub mod OneTokenLemmas
+pub mod PairLemmas
 pub mod PieceLemmas
 pub mod ReadLemmas
+pub mod RestLemmas
 pub mod SoundLemmas
 pub mod StateLemmas
 pub mod TokenLemmas

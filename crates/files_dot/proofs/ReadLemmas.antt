@@ -13,7 +13,8 @@ use Rattle.files_dot.specs.declared.place.Place.{Place}
 use Rattle.files_dot.specs.declared.stage.Stage.TheVariants.{Done}
 use Rattle.files_dot.specs.declared.token.Token.{Token as HeldToken}
 use Rattle.files_dot.proofs.CompleteLemmas.{graph_is_run, no_graph_begins, run_append, run_can_begin}
-use Rattle.files_dot.proofs.SoundLemmas.{run_is_graph, state}
+use Rattle.files_dot.proofs.RestLemmas.{state}
+use Rattle.files_dot.proofs.SoundLemmas.{run_is_graph}
 
 done_is : (next : Next) → is_done next ≡ true → next ≡ at Done
 done_is (at Done) is = refl

@@ -1,308 +1,33 @@
 -- Words that a reader takes are a graph: what is left after each word goes on with a production.
 use Rattle.std.specs.Prelude.{drop, length, nat_lt, take, if◌then◌else◌}
 use Rattle.std.specs.Option.{option_and_then}
-use Rattle.std.proofs.Common.{◌≡◌, ◌<◌, ◌≤◌, ℕ, zero, suc, ◌-◌, Bool, true, false, Option, None, Some, List, [], ◌∷◌, ◌++◌, refl, sym, ap, ◌∙◌, arith, subst, ◌⊎◌, inl, inr, append-nil, append_assoc, length-append}
+use Rattle.std.proofs.Common.{◌≡◌, ◌≤◌, ℕ, zero, suc, ◌-◌, Bool, true, false, Option, None, Some, List, [], ◌∷◌, ◌++◌, refl, sym, ap, ◌∙◌, arith, subst, inl, inr, append-nil, append_assoc, length-append}
 use Rattle.std.proofs.lemmas.Grind.{common_steps}
 use Rattle.std.proofs.lemmas.Bool.{false≢true}
 use Rattle.std.proofs.lemmas.Option.{none-some, same_Some}
 use Rattle.std.proofs.Math.Seq.{drop-append_seam, take-append_seam}
 use Rattle.files_text.specs.Names.{names_in}
-use Rattle.files_dot.specs.Graphs.{AreAttributes, AreLists, Derives, IsGraph, IsGraphHead, IsPort, IsSubgraphHead, Part, an_end, between, both, ends_from, nodes_of, nothing, statement, statements}
-use Rattle.files_dot.specs.Graphs.AreAttributes.{attribute, attribute_comma, attribute_semicolon, no_attribute}
-use Rattle.files_dot.specs.Graphs.AreLists.{a_list, no_list}
-use Rattle.files_dot.specs.Graphs.Derives.{a_node, a_subgraph, assigns, connects, leads_to, no_end, no_statement, of_edges, of_graph, of_nodes, a_statement, a_statement_semicolon}
+use Rattle.files_dot.specs.Graphs.{Derives, IsGraph, IsGraphHead, Part, between, both, nodes_of, nothing, statements}
+use Rattle.files_dot.specs.Graphs.AreAttributes.{no_attribute}
+use Rattle.files_dot.specs.Graphs.Derives.{no_statement, of_edges, of_graph, of_nodes}
 use Rattle.files_dot.specs.Graphs.IsGraphHead.{digraph, digraph_name, strict_digraph, strict_digraph_name}
-use Rattle.files_dot.specs.Graphs.IsPort.{no_port, port, port_point}
-use Rattle.files_dot.specs.Graphs.IsSubgraphHead.{braces_alone, subgraph, subgraph_name}
-use Rattle.files_dot.specs.Reading.{End, Level, Next, State, after_arrow, after_colon, after_end, after_subgraph, at, closing, edges_to, run, start, starts}
+use Rattle.files_dot.specs.Graphs.IsSubgraphHead.{braces_alone}
+use Rattle.files_dot.specs.Reading.{End, Level, Next, State, after_arrow, after_colon, after_end, after_subgraph, at, edges_to, run, start, starts}
 use Rattle.files_dot.specs.Tokens.{Word, id, sign}
 use Rattle.files_dot.specs.declared.stage.Stage.{Stage}
 use Rattle.files_dot.specs.declared.stage.Stage.TheVariants.{AfterDigraph, AfterEqual, AfterKey, AfterKeyEqual, AfterKeyword, AfterList, AfterName, AfterStrict, AfterValue, Begin, Done, Ended, InList, Statement}
-use Rattle.files_dot.specs.declared.token.Mark.{Mark}
 use Rattle.files_dot.specs.declared.token.Mark.TheVariants.{Arrow, CloseBrace, CloseBracket, Colon, Comma, Digraph, Edge, Equal, Graph, Node, OpenBrace, OpenBracket, Semicolon, Strict, Subgraph}
-
-abbrev pub Names : Type 0
-Names = List (List ℕ)
-
-abbrev pub Edges : Type 0
-Edges = List (List ℕ × List ℕ)
-
-abbrev Language : Type 1
-Language = List Word → Part → Type 0
-
-abbrev pub state : Next → Names → Edges → List Level → State
-state next m e l = record { next = next; mentions = m; edges = e; levels = l }
-
-abbrev pub closed : Names → Edges → List Level → State
-closed m e l = closing (state (at Statement) m e l) l
-
--- ---- what is left of the innermost braces, from a place in a production on
-
-data Rest : List Word → Part → Type 0 where
-  goes_on : {us : List Word} {p : Part} → Derives statements us p → Rest us p
-  semicolon : {us : List Word} {p : Part} → Derives statements us p → Rest (sign Semicolon ∷ us) p
-
-data ListsRest : List Word → Part → Type 0 where
-  lists_rest : {ls us : List Word} {p : Part} → AreLists ls → Rest us p → ListsRest (ls ++ us) p
-
-data EndRest (tails : Names) : List Word → Part → Type 0 where
-  end_rest : {es us : List Word} {p q : Part} → Derives (ends_from tails) es p → ListsRest us q →
-      EndRest tails (es ++ us) (both p q)
-
-data InRest : List Word → Part → Type 0 where
-  in_rest : {attrs us : List Word} {p : Part} → AreAttributes attrs → ListsRest us p →
-      InRest (attrs ++ sign CloseBracket ∷ us) p
-
-data ValueRest : List Word → Part → Type 0 where
-  plain : {us : List Word} {p : Part} → InRest us p → ValueRest us p
-  parted : {us : List Word} {p : Part} → InRest us p → ValueRest (sign Semicolon ∷ us) p
-  parted_comma : {us : List Word} {p : Part} → InRest us p → ValueRest (sign Comma ∷ us) p
-
-data KeyEqualRest : List Word → Part → Type 0 where
-  a_value : {us : List Word} {p : Part} (value : List ℕ) → ValueRest us p → KeyEqualRest (id value ∷ us) p
-
-data KeyRest : List Word → Part → Type 0 where
-  an_equal : {us : List Word} {p : Part} → KeyEqualRest us p → KeyRest (sign Equal ∷ us) p
-
-data KeywordRest : List Word → Part → Type 0 where
-  a_bracket : {us : List Word} {p : Part} → InRest us p → KeywordRest (sign OpenBracket ∷ us) p
-
-data EqualRest : List Word → Part → Type 0 where
-  the_value : {us : List Word} {p : Part} (value : List ℕ) → Rest us p → EqualRest (id value ∷ us) p
-
-abbrev port_words : Names → List Word
-port_words [] = []
-port_words (name ∷ names) = sign Colon ∷ id name ∷ port_words names
-
-record NodeRest (n : ℕ) (tails : Names) (us : List Word) (p : Part) : Type 0 where
-  names : Names
-  others : List Word
-  few : length names ≤ n
-  us_is : us ≡ port_words names ++ others
-  rest : EndRest tails others p
-
-data ColonRest (n : ℕ) (tails : Names) : List Word → Part → Type 0 where
-  the_port : {us : List Word} {p : Part} (name : List ℕ) → NodeRest n tails us p → ColonRest n tails (id name ∷ us) p
-
-abbrev arrow_part : Edges → Part → Part → Part
-arrow_part more p q = record { mentions = p.mentions ++ q.mentions; edges = p.edges ++ (more ++ q.edges) }
-
-data ArrowRest (tails : Names) : List Word → Part → Type 0 where
-  arrow_rest : {ws us : List Word} {p q : Part} → Derives an_end ws p → EndRest (nodes_of p) us q →
-      ArrowRest tails (ws ++ us) (arrow_part (between tails (nodes_of p)) p q)
-
-data BraceRest (tails : Option Names) : List Word → Part → Type 0 where
-  brace_rest : {ws us : List Word} {p q : Part} → Derives statements ws p → EndRest (nodes_of p) us q →
-      BraceRest tails (ws ++ sign CloseBrace ∷ us) (arrow_part (edges_to tails (nodes_of p)) p q)
-
-data SubRest (tails : Option Names) : Bool → List Word → Part → Type 0 where
-  sub_rest : {us : List Word} {p : Part} (is_named : Bool) → BraceRest tails us p →
-      SubRest tails is_named (sign OpenBrace ∷ us) p
-  named_rest : {us : List Word} {p : Part} (name : List ℕ) → BraceRest tails us p →
-      SubRest tails false (id name ∷ sign OpenBrace ∷ us) p
-
-cast : (R : Language) {us vs : List Word} (p q : Part) → us ≡ vs → p.mentions ≡ q.mentions → p.edges ≡ q.edges →
-    R us p → R vs q
-cast R {us = us} p q words mentions edges r =
-    subst (λ w. R w q) words
-    (subst (λ e. R us (record { mentions = q.mentions; edges = e })) edges
-    (subst (λ m. R us (record { mentions = m; edges = p.edges })) mentions r))
-
--- ---- productions of what is left
-
-no_lists : {us : List Word} {p : Part} → Rest us p → ListsRest us p
-no_lists rest = lists_rest no_list rest
-
-no_ends : {tails : Names} {us : List Word} {p : Part} → ListsRest us p → EndRest tails us p
-no_ends rest = end_rest no_end rest
-
-no_ports : {n : ℕ} {tails : Names} {us : List Word} {p : Part} → EndRest tails us p → NodeRest n tails us p
-no_ports {us = us} rest = record { names = []; others = us; few = omega arith; us_is = refl; rest = rest }
-
-more_lists : {us : List Word} {p : Part} → InRest us p → ListsRest (sign OpenBracket ∷ us) p
-more_lists {p = p} (in_rest {attrs = attrs} attributes (lists_rest {ls = ls} {us = us} lists rest)) =
-    subst (λ w. ListsRest w p) (ap (λ w. sign OpenBracket ∷ w) (append_assoc attrs (sign CloseBracket ∷ ls) us))
-    (lists_rest (a_list attributes lists) rest)
-
-a_key : {us : List Word} {p : Part} (key : List ℕ) → KeyRest us p → InRest (id key ∷ us) p
-a_key key (an_equal (a_value value (plain (in_rest attributes rest)))) = in_rest (attribute key value attributes) rest
-a_key key (an_equal (a_value value (parted (in_rest attributes rest)))) =
-    in_rest (attribute_semicolon key value attributes) rest
-a_key key (an_equal (a_value value (parted_comma (in_rest attributes rest)))) =
-    in_rest (attribute_comma key value attributes) rest
-
-first_end : {ws us : List Word} {p q : Part} → Derives an_end ws p → EndRest (nodes_of p) us q →
-    Derives statements (ws ++ us) (both p q)
-first_end {ws = ws} {p = p} end (end_rest {es = es} {p = p1} {q = q} ends (lists_rest {ls = ls} {us = us} lists (goes_on others))) =
-    cast (Derives statements) (both (both p p1) q) (both p (both p1 q))
-    (append_assoc ws (es ++ ls) us ∙ ap (λ w. ws ++ w) (append_assoc es ls us))
-    (append_assoc p.mentions p1.mentions q.mentions) (append_assoc p.edges p1.edges q.edges)
-    (a_statement (connects end ends lists) others)
-first_end {ws = ws} {p = p} end (end_rest {es = es} {p = p1} {q = q} ends (lists_rest {ls = ls} lists (semicolon {us = us} others))) =
-    cast (Derives statements) (both (both p p1) q) (both p (both p1 q))
-    (append_assoc ws (es ++ ls) (sign Semicolon ∷ us) ∙ ap (λ w. ws ++ w) (append_assoc es ls (sign Semicolon ∷ us)))
-    (append_assoc p.mentions p1.mentions q.mentions) (append_assoc p.edges p1.edges q.edges)
-    (a_statement_semicolon (connects end ends lists) others)
-
-next_end : {tails : Names} {us : List Word} {p : Part} → ArrowRest tails us p → EndRest tails (sign Arrow ∷ us) p
-next_end {tails = tails} (arrow_rest {ws = ws} {p = p} end (end_rest {es = es} {us = us} {p = p1} {q = q} ends rest)) =
-    let more = between tails (nodes_of p) in
-    cast (EndRest tails) (both (arrow_part more p p1) q) (arrow_part more p (both p1 q))
-    (ap (λ w. sign Arrow ∷ w) (append_assoc ws es us))
-    (append_assoc p.mentions p1.mentions q.mentions)
-    (append_assoc p.edges (more ++ p1.edges) q.edges ∙ ap (λ w. p.edges ++ w) (append_assoc more p1.edges q.edges))
-    (end_rest (leads_to end ends) rest)
-
-of_keyword : (mark : Mark) → ((attrs ls : List Word) → AreAttributes attrs → AreLists ls →
-    Derives statement (sign mark ∷ sign OpenBracket ∷ (attrs ++ sign CloseBracket ∷ ls)) nothing) →
-    {us : List Word} {p : Part} → KeywordRest us p → Derives statements (sign mark ∷ us) p
-of_keyword mark make {p = p} (a_bracket (in_rest {attrs = attrs} attributes (lists_rest {ls = ls} {us = us} lists (goes_on others)))) =
-    subst (λ w. Derives statements (sign mark ∷ sign OpenBracket ∷ w) p) (append_assoc attrs (sign CloseBracket ∷ ls) us)
-    (a_statement (make attrs ls attributes lists) others)
-of_keyword mark make {p = p} (a_bracket (in_rest {attrs = attrs} attributes (lists_rest {ls = ls} lists (semicolon {us = us} others)))) =
-    subst (λ w. Derives statements (sign mark ∷ sign OpenBracket ∷ w) p)
-    (append_assoc attrs (sign CloseBracket ∷ ls) (sign Semicolon ∷ us))
-    (a_statement_semicolon (make attrs ls attributes lists) others)
-
-of_equal : {us : List Word} {p : Part} (key : List ℕ) → EqualRest us p → Derives statements (id key ∷ sign Equal ∷ us) p
-of_equal key (the_value value (goes_on others)) = a_statement (assigns key value) others
-of_equal key (the_value value (semicolon others)) = a_statement_semicolon (assigns key value) others
-
-is_port : (names : Names) → length names ≤ 2 → IsPort (port_words names)
-is_port [] few = no_port
-is_port (a ∷ []) few = port a
-is_port (a ∷ b ∷ []) few = port_point a b
-is_port (a ∷ b ∷ c ∷ names) few = absurd (omega (arith, few))
-
-abbrev node : List ℕ → Part
-node name = record { mentions = name ∷ []; edges = [] }
-
-first_node : {us : List Word} {q : Part} (name : List ℕ) → NodeRest 2 (name ∷ []) us q →
-    Derives statements (id name ∷ us) (both (node name) q)
-first_node {q = q} name left =
-    subst (λ w. Derives statements (id name ∷ w) (both (node name) q)) (sym left.us_is)
-    (first_end (a_node name (is_port left.names left.few)) left.rest)
-
-next_node : {tails : Names} {us : List Word} {q : Part} (name : List ℕ) → NodeRest 2 (name ∷ []) us q →
-    ArrowRest tails (id name ∷ us) (arrow_part (between tails (name ∷ [])) (node name) q)
-next_node {tails = tails} {q = q} name left =
-    subst (λ w. ArrowRest tails (id name ∷ w) (arrow_part (between tails (name ∷ [])) (node name) q)) (sym left.us_is)
-    (arrow_rest (a_node name (is_port left.names left.few)) left.rest)
-
-zero_ports : {tails : Names} {us : List Word} {q : Part} → NodeRest 0 tails us q → EndRest tails us q
-zero_ports {tails = tails} {us = us} {q = q} left = by left.names left.few left.us_is
-  where
-    by : (names : Names) → length names ≤ 0 → us ≡ port_words names ++ left.others → EndRest tails us q
-    by [] few is = subst (λ w. EndRest tails w q) (sym is) left.rest
-    by (a ∷ names) few is = absurd (omega (arith, few))
-
-more_ports : {n : ℕ} {tails : Names} {us : List Word} {q : Part} → 0 < n → ColonRest (n - 1) tails us q →
-    NodeRest n tails (sign Colon ∷ us) q
-more_ports some (the_port name left) = record {
-  names = name ∷ left.names;
-  others = left.others;
-  few = omega (arith, left.few, some);
-  us_is = ap (λ w. sign Colon ∷ id name ∷ w) left.us_is;
-  rest = left.rest;
-}
-
-brace_words : (ws us : List Word) → (ws ++ sign CloseBrace ∷ []) ++ us ≡ ws ++ sign CloseBrace ∷ us
-brace_words ws us = append_assoc ws (sign CloseBrace ∷ []) us
-
--- braces behind what may come before them
-module _ {head : List Word} (is : IsSubgraphHead head) where
-  first_braces : {us : List Word} {p : Part} → BraceRest None us p → Derives statements (head ++ sign OpenBrace ∷ us) p
-  first_braces (brace_rest {ws = ws} {us = us} {p = p} {q = q} inside rest) =
-      subst (λ w. Derives statements w (both p q)) (append_assoc head (sign OpenBrace ∷ (ws ++ sign CloseBrace ∷ [])) us
-      ∙ ap (λ w. head ++ sign OpenBrace ∷ w) (brace_words ws us)) (first_end (a_subgraph is inside) rest)
-
-  next_braces : {tails : Names} {us : List Word} {p : Part} → BraceRest (Some tails) us p →
-      ArrowRest tails (head ++ sign OpenBrace ∷ us) p
-  next_braces {tails = tails} (brace_rest {ws = ws} {us = us} {p = p} {q = q} inside rest) =
-      subst (λ w. ArrowRest tails w (arrow_part (between tails (nodes_of p)) p q))
-      (append_assoc head (sign OpenBrace ∷ (ws ++ sign CloseBrace ∷ [])) us
-      ∙ ap (λ w. head ++ sign OpenBrace ∷ w) (brace_words ws us)) (arrow_rest (a_subgraph is inside) rest)
-
-first_sub : {us : List Word} {p : Part} → SubRest None false us p → Derives statements (sign Subgraph ∷ us) p
-first_sub (sub_rest is_named rest) = first_braces subgraph rest
-first_sub (named_rest name rest) = first_braces (subgraph_name name) rest
-
-next_sub : {tails : Names} {us : List Word} {p : Part} → SubRest (Some tails) false us p →
-    ArrowRest tails (sign Subgraph ∷ us) p
-next_sub (sub_rest is_named rest) = next_braces subgraph rest
-next_sub (named_rest name rest) = next_braces (subgraph_name name) rest
-
-name_it : {tails : Option Names} {us : List Word} {p : Part} (name : List ℕ) → SubRest tails true us p →
-    SubRest tails false (id name ∷ us) p
-name_it name left = by true refl left
-  where
-    by : {tails : Option Names} {us : List Word} {p : Part} (b : Bool) → b ≡ true → SubRest tails b us p →
-        SubRest tails false (id name ∷ us) p
-    by b is (sub_rest is_named rest) = named_rest name rest
-    by b is (named_rest other rest) = absurd (false≢true is)
-
--- ---- what a state says of the words behind it
-
-record Sound (R : Language) (m : Names) (e : Edges) (l : List Level) (words : List Word) (final : State) : Type 0 where
-  us : List Word
-  vs : List Word
-  part : Part
-  cut : words ≡ us ++ sign CloseBrace ∷ vs
-  derived : R us part
-  closes : run (closed (m ++ part.mentions) (e ++ part.edges) l) vs ≡ Some final
-
-record Assigns (end : End) (m : Names) (e : Edges) (l : List Level) (words : List Word) (final : State) : Type 0 where
-  may_be : end.may_be_name ≡ true
-  rest : List Word
-  words_are : words ≡ sign Equal ∷ rest
-  sound : Sound EqualRest (take end.start m) e l rest final
-
-abbrev Claim : Next → Names → Edges → List Level → List Word → State → Type 0
-Claim (at Statement) m e l words final = Sound (Derives statements) m e l words final
-Claim (at Ended) m e l words final = Sound Rest m e l words final
-Claim (at AfterList) m e l words final = Sound ListsRest m e l words final
-Claim (at AfterEqual) m e l words final = Sound EqualRest m e l words final
-Claim (at AfterKeyword) m e l words final = Sound KeywordRest m e l words final
-Claim (at InList) m e l words final = Sound InRest m e l words final
-Claim (at AfterKey) m e l words final = Sound KeyRest m e l words final
-Claim (at AfterKeyEqual) m e l words final = Sound KeyEqualRest m e l words final
-Claim (at AfterValue) m e l words final = Sound ValueRest m e l words final
-Claim (at stage) m e l words final = Unit {0}
-Claim (after_end end) m e l words final =
-    Sound (NodeRest end.colons (names_in (drop end.start m))) m e l words final ⊎ Assigns end m e l words final
-Claim (after_colon end) m e l words final =
-    Sound (ColonRest end.colons (names_in (drop end.start m))) m e l words final
-Claim (after_arrow tails) m e l words final = Sound (ArrowRest tails) m e l words final
-Claim (after_subgraph tails is_named) m e l words final = Sound (SubRest tails is_named) m e l words final
-
-under : (R T : Language) (word : Word) → ((us : List Word) (p : Part) → R us p → T (word ∷ us) p) →
-    {m : Names} {e : Edges} {l : List Level} {words : List Word} {final : State} → Sound R m e l words final →
-    Sound T m e l (word ∷ words) final
-under R T word make left = record {
-  us = word ∷ left.us;
-  vs = left.vs;
-  part = left.part;
-  cut = ap (λ w. word ∷ w) left.cut;
-  derived = make left.us left.part left.derived;
-  closes = left.closes;
-}
-
-same_words : (R T : Language) → ((us : List Word) (p : Part) → R us p → T us p) →
-    {m : Names} {e : Edges} {l : List Level} {words : List Word} {final : State} → Sound R m e l words final →
-    Sound T m e l words final
-same_words R T make left = record {
-  us = left.us;
-  vs = left.vs;
-  part = left.part;
-  cut = left.cut;
-  derived = make left.us left.part left.derived;
-  closes = left.closes;
-}
-
-pub closing_same : (a b : Next) (m : Names) (e : Edges) (l k : List Level) →
-    closing (state a m e k) l ≡ closing (state b m e k) l
-closing_same a b m e [] k = refl
-closing_same a b m e (level ∷ outer) k = refl
+use Rattle.files_dot.proofs.RestLemmas.{ArrowRest, BraceRest, Claim, ColonRest, Edges, EndRest, EqualRest, InRest, KeyEqualRest, KeyRest, KeywordRest, ListsRest, Names, NodeRest, Rest, Sound, SubRest, ValueRest, a_key, arrow_part, closed, closing_same, first_braces, first_node, first_sub, more_lists, more_ports, name_it, next_braces, next_end, next_node, next_sub, no_ends, no_lists, no_ports, node, of_equal, of_keyword, same_words, state, under, zero_ports}
+use Rattle.files_dot.proofs.RestLemmas.Rest.{goes_on, semicolon}
+use Rattle.files_dot.proofs.RestLemmas.InRest.{in_rest}
+use Rattle.files_dot.proofs.RestLemmas.ValueRest.{plain, parted, parted_comma}
+use Rattle.files_dot.proofs.RestLemmas.KeyEqualRest.{a_value}
+use Rattle.files_dot.proofs.RestLemmas.KeyRest.{an_equal}
+use Rattle.files_dot.proofs.RestLemmas.KeywordRest.{a_bracket}
+use Rattle.files_dot.proofs.RestLemmas.EqualRest.{the_value}
+use Rattle.files_dot.proofs.RestLemmas.ColonRest.{the_port}
+use Rattle.files_dot.proofs.RestLemmas.BraceRest.{brace_rest}
+use Rattle.files_dot.proofs.RestLemmas.SubRest.{sub_rest}
 
 module _ (final : State) (n : ℕ) (later : (next : Next) (m : Names) (e : Edges) (l : List Level) (words : List Word) →
     length words ≤ n → run (state next m e l) words ≡ Some final → Claim next m e l words final) where

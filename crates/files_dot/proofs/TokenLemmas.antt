@@ -106,7 +106,7 @@ takes_word {p = p} {q = q} {text = text} {rest = rest} count word held is same s
   shorter = rw rest_is (omega (arith, length-drop count text));
 }
 
-keyword_some : (bare : List ℕ) (mark : Mark) → IsKeyword bare mark → 0 < length bare
+pub keyword_some : (bare : List ℕ) (mark : Mark) → IsKeyword bare mark → 0 < length bare
 keyword_some (x ∷ bare) mark is = omega arith
 keyword_some [] Strict is = absurd (cc)
 keyword_some [] Graph is = absurd (cc)

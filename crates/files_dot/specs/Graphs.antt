@@ -1,5 +1,5 @@
 -- Directed graphs in DOT, by the productions of the language.
-use Rattle.std.specs.Prelude.{◌≡◌, ◌⊎◌, ℕ, List, [], ◌∷◌, ◌++◌, Some, map, slice_get, ⊤}
+use Rattle.std.specs.Prelude.{◌≡◌, ◌⊎◌, ℕ, List, [], ◌∷◌, ◌++◌, Some, map, slice_get, Contains, ⊤}
 use Rattle.std.specs.List.{flat_map}
 use Rattle.files_text.specs.Faults.{IsLine}
 use Rattle.files_text.specs.Names.{names_in}
@@ -128,6 +128,11 @@ AreNumbers names [] [] = ⊤
 AreNumbers names (edge ∷ edges) (pair ∷ pairs) = (slice_get names pair.0 ≡ Some edge.0)
     × (slice_get names pair.1 ≡ Some edge.1) × AreNumbers names edges pairs
 AreNumbers names edges pairs = ⊥
+
+-- an edge from the name with one number to that with another
+abbrev pub JoinsNames : (names : List (List ℕ)) → List (List ℕ × List ℕ) → ℕ → ℕ → Type 0
+JoinsNames names edges n m = (from : List ℕ) × (to : List ℕ) × Contains edges (from, to)
+    × (slice_get names n ≡ Some from) × (slice_get names m ≡ Some to)
 
 -- the graph of tokens: the names of its nodes, in the order in which they are first mentioned, and
 -- its edges by their numbers

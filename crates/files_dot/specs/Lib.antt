@@ -1,9 +1,12 @@
+pub mod DotLaws
 pub mod Graphs
 pub mod Held
 pub mod Ids
+pub mod Notations
 pub mod Pieces
 pub mod Places
 pub mod Reading
 pub mod Scanning
 pub mod States
+pub mod Texts
 pub mod Tokens

@@ -3,7 +3,9 @@
 
 mod bare;
 mod graph;
+pub mod laws;
 mod nodes;
+mod notation;
 mod pieces;
 mod place;
 mod quoted;
@@ -14,6 +16,7 @@ mod token;
 mod tokens;
 
 pub use graph::{DotGraph, read_dot};
+pub use notation::{NOTATIONS, Notation, notation_of};
 pub use place::Place;
 pub use token::{Mark, Token, Word};
 pub use tokens::{DotTokens, dot_tokens};

@@ -70,7 +70,7 @@ impl<'a> Scanner<'a> {
     }
 
     /// Passes white space and comments.
-    fn pass_blanks(&mut self)
+    pub fn pass_blanks(&mut self)
         ensures blanks { AreBlanks self.old.place self.old.rest.now self.new.place self.new.rest.now }
         ensures none { NoBlank (self.new.place.column == 1) self.new.rest.now }
         ensures shorter { length self.new.rest.now ≤ length self.old.rest.now }

@@ -190,8 +190,8 @@ impl Stage {
     /// Returns what is expected next.
     pub fn expected(self) -> &'static str {
         match self {
-            Stage::Begin => "`digraph`",
-            Stage::AfterStrict => "`digraph`",
+            Stage::Begin => "`digraph`, as only directed graphs are read",
+            Stage::AfterStrict => "`digraph`, as only directed graphs are read",
             Stage::AfterDigraph => "the name of the graph or `{`",
             Stage::AfterName => "`{`",
             Stage::Statement => "a statement or `}`",
