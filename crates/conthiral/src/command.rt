@@ -4,6 +4,7 @@ use crate::fault::Fault;
 use clap::builder::ValueParser;
 use clap::{Arg, ArgAction, ArgMatches, Command};
 use files_code::{FORMS, Form};
+use files_dot::{NOTATIONS, Notation};
 use files_filter::{Format, Shows};
 use files_flow::{ANALYSES, Analysis, FLOW_FORMS};
 use files_graph::{GRAPH_FORMS, GraphForm, Part};
@@ -46,14 +47,13 @@ Example:
 
 /// What the help of `closure` says of its input, of --reduce and of the exit status.
 const CLOSURE_HELP: &str = "\
-A line `a b` is an edge from a to b. White space separates names, which have no
-comma. A word that begins with # begins a comment. An edge of the closure stands
-for a path of one edge or more.
+A line `a b` is an edge. Names have no comma; a word with # first begins a
+comment. A text that begins with digraph, strict or graph is DOT, and directed.
+An edge of the closure stands for a path of one edge or more.
 
 With --reduce a graph without cycles keeps the edges that no longer path stands
 for. Nodes that lead to one another are joined by one cycle, in the order in
-which the file first names them. Between such groups an edge joins the nodes
-that are named first.
+which they are first named; between such groups an edge joins the first named.
 
 Exit status: 0; 2 after a fault.
 Example: ./conthiral closure --from curl examples/files/edges.txt";
@@ -103,6 +103,7 @@ pub enum Task<'a> {
     /// A part of the closure of a graph.
     Closure {
         file: &'a str,
+        said: Option<Notation>,
         part: Part<'a>,
         form: Option<GraphForm>,
     },
@@ -185,6 +186,16 @@ fn parse_command<'a>(alloc: Global) -> Result<Command<'a>, AllocError> {
         .arg(file)
 }
 
+/// Returns the argument of the notation in which a graph stands.
+fn notation_argument<'a>(alloc: Global) -> Arg<'a> {
+    Arg::new(alloc, "input")
+        .long("input")
+        .value_name("FORM")
+        .value_parser(NOTATIONS.as_slice())
+        .hide_possible_values(true)
+        .help("Read dot or lines; else dot if digraph begins it")
+}
+
 /// Returns the words of `closure`.
 fn closure_command<'a>(alloc: Global) -> Result<Command<'a>, AllocError> {
     let file = file_argument(alloc, "Edges; - or none: standard input");
@@ -209,6 +220,7 @@ fn closure_command<'a>(alloc: Global) -> Result<Command<'a>, AllocError> {
         .after_help(CLOSURE_HELP)
         .arg(from)?
         .arg(reduce)?
+        .arg(notation_argument(alloc))?
         .arg(output)?
         .arg(file)
 }
@@ -313,6 +325,11 @@ fn tree_form_of(matches: &ArgMatches<'_>) -> Option<TreeForm> {
     TreeForm::of(matches.get_str("output")?)
 }
 
+/// Returns the notation in which a graph is said to stand, if any.
+fn notation_of(matches: &ArgMatches<'_>) -> Option<Notation> {
+    Notation::of(matches.get_str("input")?)
+}
+
 /// Returns the form in which a graph is to be printed, if one is asked for.
 fn graph_form_of(matches: &ArgMatches<'_>) -> Option<GraphForm> {
     GraphForm::of(matches.get_str("output")?)
@@ -404,6 +421,7 @@ pub fn task_of<'a>(matches: &'a ArgMatches<'a>) -> Option<Task<'a>> {
         }),
         "closure" => Some(Task::Closure {
             file,
+            said: notation_of(own),
             part: part_of(own),
             form: graph_form_of(own),
         }),

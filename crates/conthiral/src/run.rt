@@ -99,9 +99,12 @@ fn write_task<R: Files + Input + Eprint + AllocGlobal, W: Write>(
             let grammar = read_grammar(rt, &read, grammar)?;
             Ok(print_parse(alloc, &grammar, text, *form, output)?)
         }
-        Task::Closure { part, form, .. } => {
-            Ok(print_closure(alloc, text, *part, *form, output)?)
-        }
+        Task::Closure {
+            said,
+            part,
+            form,
+            ..
+        } => Ok(print_closure(alloc, text, *said, *part, *form, output)?),
         Task::Flow { analysis, json, .. } => {
             Ok(print_flow(alloc, text, *analysis, *json, output)?)
         }

@@ -1,153 +1,101 @@
 -- Edges by numbers are those by names.
-use Rattle.std.specs.Prelude.{slice_get, slice_index_or, Contains, ◌↔◌, Option}
-use Rattle.std.proofs.Common.{◌≡◌, ◌⊎◌, inl, inr, ℕ, zero, suc, ◌<◌, Some, List, [], ◌∷◌, ◌++◌, length, arith, refl, sym, ap, subst, ◌∙◌}
-use Rattle.std.specs.List.{fold}
-use Rattle.std.proofs.lemmas.Option.{same_Some, none-some}
-use Rattle.files_text.specs.Names.{names_in, with_name}
-use Rattle.files_text.proofs.ListLemmas.{nothing, first, first_or_later, later}
-use Rattle.files_text.proofs.NamesLemmas.{grown}
-use Rattle.files_graph.specs.Edges.{AreNumbers}
-use Rattle.files_graph.specs.Graphs.{IsGraphOf, JoinsNames}
-use Rattle.files_graph.specs.Closures.{FailsBy, FailsOn}
+use Rattle.std.specs.Prelude.{slice_index_or, Contains, ◌↔◌, Option, map}
+use Rattle.std.proofs.Common.{◌≡◌, inl, inr, ℕ, ◌<◌, List, [], length, arith, refl, subst}
+use Rattle.files_dot.specs.Graphs.{AreNumbers, IsDotGraph, JoinsNames, Part as DotPart}
+use Rattle.files_text.specs.Names.{names_in}
+use Rattle.files_text.proofs.ListLemmas.{nothing}
+use Rattle.files_dot.proofs.PairLemmas.{inside, pairs_inside, pairs_join}
+use Rattle.files_dot.specs.Tokens.{AreDotTokens, Token as DotToken}
+use Rattle.files_dot.specs.declared.place.Place.{Place}
+use Rattle.files_dot.specs.declared.notation.Notation.{Notation}
+use Rattle.files_dot.specs.declared.notation.Notation.TheVariants.{Dot, Lines}
+use Rattle.files_graph.specs.Edges.{HasEdges}
+use Rattle.files_graph.specs.Graphs.{HasPairs, IsGraphOf, IsUnread, Says}
+use Rattle.files_graph.specs.Closures.{FailsOf, FailsOn}
 use Rattle.files_graph.specs.declared.closure.Part.{Part}
 use Rattle.files_graph.specs.declared.fault.GraphFault.{GraphFault}
 use Rattle.files_graph.specs.declared.fault.GraphFault.TheVariants.{Text, Name}
+use Rattle.std.specs.Io.KnownBytes.{Keeps}
+use Rattle.files_text.specs.declared.fault.Fault.{Fault}
 use Rattle.files_text.specs.declared.fault.Fault.TheVariants.{Memory, Input, Output, Line}
 use Rattle.vob_flow.specs.Closure.{IsEdge}
 use Rattle.std.proofs.lemmas.Bool.{cases_lt}
 use Rattle.std.proofs.lemmas.List.{get_or_past}
 
--- each name stands at one place
-abbrev pub Distinct : List (List ℕ) → Type 0
-Distinct names = (i j : ℕ) (x : List ℕ) → slice_get names i ≡ Some x → slice_get names j ≡ Some x → i ≡ j
-
-inside : {X : Type 0} (xs : List X) (i : ℕ) (x : X) → slice_get xs i ≡ Some x → i < length xs
-inside [] i x there = absurd (none-some x there)
-inside (y ∷ xs) zero x there = omega arith
-inside (y ∷ xs) (suc i) x there = omega (arith, inside xs i x there)
-
-has : {X : Type 0} (xs : List X) (i : ℕ) (x : X) → slice_get xs i ≡ Some x → Contains xs x
-has [] i x there = absurd (none-some x there)
-has (y ∷ xs) zero x there = subst (Contains (y ∷ xs)) (same_Some y x there) (first y xs)
-has (y ∷ xs) (suc i) x there = later y xs x (has xs i x there)
-
-at_end : {X : Type 0} (xs : List X) (y : X) (i : ℕ) (x : X) → slice_get (xs ++ y ∷ []) i ≡ Some x →
-    (slice_get xs i ≡ Some x) ⊎ ((i ≡ length xs) × (y ≡ x))
-at_end [] y zero x there = inr (refl, same_Some y x there)
-at_end [] y (suc i) x there = absurd (none-some x there)
-at_end (z ∷ xs) y zero x there = inl there
-at_end (z ∷ xs) y (suc i) x there = elim (at_end xs y i x there) [
-  | inl old ↦ inl old
-  | inr last ↦ inr (ap suc last.0, last.1)
-]
-
-distinct_more : (names : List (List ℕ)) (name : List ℕ) → ¬ Contains names name → Distinct names →
-    Distinct (names ++ name ∷ [])
-distinct_more names name new distinct i j x at_i at_j =
-    elim (at_end names name i x at_i) [
-      | inl old ↦ elim (at_end names name j x at_j) [
-        | inl same ↦ distinct i j x old same
-        | inr last ↦ absurd (new (subst (Contains names) (sym last.1) (has names i x old)))
-      ]
-      | inr end ↦ elim (at_end names name j x at_j) [
-        | inl old ↦ absurd (new (subst (Contains names) (sym end.1) (has names j x old)))
-        | inr last ↦ end.0 ∙ sym last.0
-      ]
-    ]
-
-distinct_with : (names : List (List ℕ)) (name : List ℕ) → Distinct names → Distinct (with_name names name)
-distinct_with names name distinct = elim (grown names name) [
-  | inl same ↦ subst Distinct (sym same) distinct
-  | inr more ↦ subst Distinct (sym more.0) (distinct_more names name more.1 distinct)
-]
-
-distinct_fold : (words names : List (List ℕ)) → Distinct names → Distinct (fold with_name names words)
-distinct_fold [] names distinct = distinct
-distinct_fold (word ∷ words) names distinct = distinct_fold words (with_name names word) (distinct_with names word distinct)
-
-none_distinct : Distinct []
-none_distinct i j x at_i at_j = absurd (none-some x at_i)
-
-names_distinct : (words : List (List ℕ)) → Distinct (names_in words)
-names_distinct words = distinct_fold words [] none_distinct
-
-pub distinct_names : (words names : List (List ℕ)) → names ≡ names_in words → Distinct names
-distinct_names words names named = subst Distinct (sym named) (names_distinct words)
-
-module _ (names : List (List ℕ)) where
-  edge_of : (edges : List (List ℕ × List ℕ)) (pairs : List (ℕ × ℕ)) → AreNumbers names edges pairs → (n m : ℕ) →
-      Contains pairs (n, m) → JoinsNames names edges n m
-  edge_of [] [] are n m there = absurd (nothing (n, m) there)
-  edge_of [] (pair ∷ pairs) are n m there = absurd are
-  edge_of (edge ∷ edges) [] are n m there = absurd are
-  edge_of (edge ∷ edges) (pair ∷ pairs) are n m there = elim (first_or_later pair pairs (n, m) there) [
-    | inl same ↦ (
-      edge.0,
-      edge.1,
-      first edge edges,
-      subst (λ (p : ℕ × ℕ). slice_get names p.0 ≡ Some edge.0) same are.0,
-      subst (λ (p : ℕ × ℕ). slice_get names p.1 ≡ Some edge.1) same are.1,
-    )
-    | inr after ↦ let found = edge_of edges pairs are.2 n m after in
-        (found.0, found.1, later edge edges (found.0, found.1) found.2, found.3, found.4)
-  ]
-
-  pair_of : (edges : List (List ℕ × List ℕ)) (pairs : List (ℕ × ℕ)) → AreNumbers names edges pairs →
-      (edge : List ℕ × List ℕ) → Contains edges edge →
-      (pair : ℕ × ℕ) × Contains pairs pair × (slice_get names pair.0 ≡ Some edge.0) × (slice_get names pair.1 ≡ Some edge.1)
-  pair_of [] [] are edge there = absurd (nothing edge there)
-  pair_of [] (pair ∷ pairs) are edge there = absurd are
-  pair_of (e ∷ edges) [] are edge there = absurd are
-  pair_of (e ∷ edges) (pair ∷ pairs) are edge there = elim (first_or_later e edges edge there) [
-    | inl same ↦ (
-      pair,
-      first pair pairs,
-      are.0 ∙ ap (λ (x : List ℕ × List ℕ). Some x.0) same,
-      are.1 ∙ ap (λ (x : List ℕ × List ℕ). Some x.1) same,
-    )
-    | inr after ↦ let found = pair_of edges pairs are.2 edge after in
-        (found.0, later pair pairs found.0 found.1, found.2, found.3)
-  ]
-
 module _ (words names : List (List ℕ)) (edges : List (List ℕ × List ℕ)) (pairs : List (ℕ × ℕ))
     (named : names ≡ names_in words) (numbers : AreNumbers names edges pairs) where
-  pub pairs_inside : (n m : ℕ) → Contains pairs (n, m) → (n < length names) × (m < length names)
-  pairs_inside n m there =
-      let found = edge_of names edges pairs numbers n m there in
-      (inside names n found.0 found.3, inside names m found.1 found.4)
-
-  pub pairs_join : (n m : ℕ) → Contains pairs (n, m) ↔ JoinsNames names edges n m
-  pairs_join n m = (
-    edge_of names edges pairs numbers n m,
-    λ joins.
-        let found = pair_of names edges pairs numbers (joins.0, joins.1) joins.2 in
-        let from : found.0.0 ≡ n = distinct_names words names named found.0.0 n joins.0 found.2 joins.3 in
-        let to : found.0.1 ≡ m = distinct_names words names named found.0.1 m joins.1 found.3 joins.4 in
-        subst (λ k. Contains pairs (n, k)) to (subst (λ k. Contains pairs (k, found.0.1)) from found.1),
-  )
-
   pub graph_edges : (next : List (List ℕ)) → ((n m : ℕ) → n < length names →
       Contains (slice_index_or next n []) m ↔ Contains pairs (n, m)) → length next ≡ length names →
       (n m : ℕ) → IsEdge next n m ↔ JoinsNames names edges n m
   graph_edges next each nodes n m = (
     (λ edge. elim (cases_lt n (length names)) [
-      | inl less ↦ (pairs_join n m).0 ((each n m less).0 edge)
+      | inl less ↦ (pairs_join words names edges pairs named numbers n m).0 ((each n m less).0 edge)
       | inr past ↦ absurd (nothing m (subst (λ (xs : List ℕ). Contains xs m)
           (get_or_past next n [] (omega (arith, past, nodes))) edge))
     ]),
-    (λ joins. (each n m (inside names n joins.0 joins.3)).1 ((pairs_join n m).1 joins)),
+    (λ joins. (each n m (inside names n joins.0 joins.3)).1 ((pairs_join words names edges pairs named numbers n m).1 joins)),
   )
 
+-- lines have their edges in their notation, and a text in DOT those of its graph
+pub lines_pairs : {text : List ℕ} {names : List (List ℕ)} {pairs : List (ℕ × ℕ)} → HasEdges text names pairs →
+    HasPairs Lines text names pairs
+lines_pairs has = record {
+  part = record { mentions = map (λ word. word.text) has.words; edges = has.edges };
+  says = record { words = has.words; are_words = has.are_words; are_edges = has.are_edges; mentioned = refl };
+  named = has.named;
+  numbers = has.numbers;
+}
+
+pub dot_pairs : {text : List ℕ} {tokens : List DotToken} {end : Place} {names : List (List ℕ)} {pairs : List (ℕ × ℕ)} →
+    AreDotTokens text tokens end → IsDotGraph tokens names pairs → HasPairs Dot text names pairs
+dot_pairs {tokens = tokens} {end = end} are graph = record {
+  part = graph.part;
+  says = record { tokens = tokens; end = end; are_tokens = are; is_graph = graph.is_graph };
+  named = graph.named;
+  numbers = graph.numbers;
+}
+
+-- the nodes that pairs join
+module _ {notation : Notation} {text : List ℕ} {names : List (List ℕ)} {pairs : List (ℕ × ℕ)}
+    (has : HasPairs notation text names pairs) where
+  pub has_inside : (n m : ℕ) → Contains pairs (n, m) → (n < length names) × (m < length names)
+  has_inside = pairs_inside has.part.mentions names has.part.edges pairs has.named has.numbers
+
+  pub has_graph : (next : List (List ℕ)) → ((n m : ℕ) → n < length names →
+      Contains (slice_index_or next n []) m ↔ Contains pairs (n, m)) → length next ≡ length names →
+      IsGraphOf notation text names next
+  has_graph next each nodes = record {
+    part = has.part;
+    says = has.says;
+    named = has.named;
+    nodes = nodes;
+    each = graph_edges has.part.mentions names has.part.edges pairs has.named has.numbers next each nodes;
+  }
+
+-- a text that says something of a graph may still meet too little memory
+short_of_memory : (notation : Notation) (text : List ℕ) (part : DotPart) → Says notation text part →
+    IsUnread notation text Memory
+short_of_memory Lines text part says = (says.words, says.are_words, inl refl)
+short_of_memory Dot text part says = inl (inl refl)
+
+-- a text that wasn't read, so that nothing was written
+pub unread_fails : (notation : Notation) (text : List ℕ) (part : Part) (old new : Option (List ℕ)) (fault : Fault) →
+    IsUnread notation text fault → Keeps old new → FailsOf notation text part (Text fault) old new
+unread_fails notation text part old new Memory unread keeps = (unread, keeps)
+unread_fails notation text part old new (Output error) unread keeps = tt
+unread_fails notation text part old new (Input error) unread keeps = (unread, keeps)
+unread_fails notation text part old new (Line l c e) unread keeps = (unread, keeps)
+
 -- a fault of a graph that was read is one of its text
-pub fails_by : (text : List ℕ) (names next : List (List ℕ)) → IsGraphOf text names next → (part : Part)
-    (old new : Option (List ℕ)) (fault : GraphFault) → FailsOn names part fault old new →
-    FailsBy text part fault old new
-fails_by text names next graph part old new (Text Memory) fails =
-    ((graph.words, graph.are_words, inl refl), fails)
-fails_by text names next graph part old new (Text (Output error)) fails = tt
-fails_by text names next graph part old new (Text (Input error)) fails = absurd fails
-fails_by text names next graph part old new (Text (Line l c e)) fails = absurd fails
-fails_by text names next graph part old new (Name name) fails = (
+pub fails_of : (notation : Notation) (text : List ℕ) (names next : List (List ℕ)) → IsGraphOf notation text names next →
+    (part : Part) (old new : Option (List ℕ)) (fault : GraphFault) → FailsOn names part fault old new →
+    FailsOf notation text part fault old new
+fails_of notation text names next graph part old new (Text Memory) fails =
+    (short_of_memory notation text graph.part graph.says, fails)
+fails_of notation text names next graph part old new (Text (Output error)) fails = tt
+fails_of notation text names next graph part old new (Text (Input error)) fails = absurd fails
+fails_of notation text names next graph part old new (Text (Line l c e)) fails = absurd fails
+fails_of notation text names next graph part old new (Name name) fails = (
   record {
     names = names;
     next = next;

@@ -1,7 +1,11 @@
 -- A text has one graph, and one text for each part of its closure.
-use Rattle.std.proofs.Common.{◌≡◌, ◌↔◌, Option, inl, inr, ℕ, ◌<◌, List, [], ◌∷◌, ◌++◌, map, arith, refl, sym, ap, subst, ◌∙◌}
+use Rattle.std.proofs.Common.{◌≡◌, ◌↔◌, Option, Some, inl, inr, ℕ, ◌<◌, List, [], ◌∷◌, ◌++◌, map, arith, refl, sym, ap, subst, ◌∙◌}
 use Rattle.vob_flow.specs.Closure.{IsEdge, Leads}
-use Rattle.files_text.specs.Names.{names_in}
+use Rattle.files_dot.specs.Graphs.{JoinsNames, Part as DotPart, nodes_of}
+use Rattle.files_dot.specs.declared.notation.Notation.{Notation}
+use Rattle.files_dot.specs.declared.notation.Notation.TheVariants.{Dot, Lines}
+use Rattle.files_dot.proofs.OneGraphLemmas.{notations_one, texts_one}
+use Rattle.files_dot.proofs.PairLemmas.{Distinct, distinct_names}
 use Rattle.files_text.specs.Words.{Token}
 use Rattle.files_text.proofs.ListLemmas.{sorted_one}
 use Rattle.files_text.proofs.OneLemmas.{words_one}
@@ -10,10 +14,10 @@ use Rattle.files_graph.specs.ClosureText.{IsBefore, ListsEdges, ListsNodes, List
 use Rattle.files_graph.specs.GraphForms.{edges_text, nodes_text}
 use Rattle.files_graph.specs.declared.form.GraphForm.{GraphForm}
 use Rattle.files_graph.specs.Edges.{AreEdges}
-use Rattle.files_graph.specs.Graphs.{IsGraphOf, JoinsNames}
+use Rattle.files_graph.specs.Closures.{WritesPartOf}
+use Rattle.files_graph.specs.Graphs.{IsGraphOf, Says}
 use Rattle.files_graph.specs.declared.closure.Part.{Part}
 use Rattle.files_graph.specs.declared.closure.Part.TheVariants.{Edges, Fewest, From}
-use Rattle.files_graph.proofs.GraphLemmas.{Distinct, distinct_names}
 use Rattle.files_graph.proofs.SameGraphLemmas.{leads_same, reduced_same}
 
 -- ---- one graph
@@ -30,31 +34,37 @@ edges_one (from ∷ to ∷ words) (edge ∷ edges) [] are are' = absurd are'
 edges_one (from ∷ to ∷ words) (edge ∷ edges) (other ∷ others) are are' =
     ap (λ e. e ∷ edges) (are.4 ∙ sym are'.4) ∙ ap (λ l. other ∷ l) (edges_one words edges others are.5 are'.5)
 
-abbrev texts : List Token → List (List ℕ)
-texts words = map (λ word. word.text) words
+-- a text says one thing of a graph
+says_one : (notation : Notation) (text : List ℕ) (part other : DotPart) → Says notation text part →
+    Says notation text other → part ≡ other
+says_one Lines text part other a b =
+    let words = words_one a.are_words b.are_words in
+    let edges = edges_one b.words part.edges other.edges
+    (subst (λ list. AreEdges list part.edges) words a.are_edges) b.are_edges in
+    let mentions = a.mentioned ∙ ap (λ list. map (λ (word : Token). word.text) list) words ∙ sym b.mentioned in
+    ap (λ m. record { mentions = m; edges = part.edges }) mentions
+    ∙ ap (λ e. record { mentions = other.mentions; edges = e }) edges
+says_one Dot text part other a b = texts_one text part other a b
 
 -- a graph has no name twice
-names_apart : (text : List ℕ) (names next : List (List ℕ)) → IsGraphOf text names next → Distinct names
-names_apart text names next graph = distinct_names (texts graph.words) names graph.named
+names_apart : (notation : Notation) (text : List ℕ) (names next : List (List ℕ)) → IsGraphOf notation text names next →
+    Distinct names
+names_apart notation text names next graph = distinct_names graph.part.mentions names graph.named
 
-module _ {text : List ℕ} {names next others other : List (List ℕ)} (a : IsGraphOf text names next)
-    (b : IsGraphOf text others other) where
-  same_words : a.words ≡ b.words
-  same_words = words_one a.are_words b.are_words
-
-  same_edges : a.edges ≡ b.edges
-  same_edges = edges_one b.words a.edges b.edges (subst (λ words. AreEdges words a.edges) same_words a.are_edges)
-      b.are_edges
+module _ {notation : Notation} {text : List ℕ} {names next others other : List (List ℕ)}
+    (a : IsGraphOf notation text names next) (b : IsGraphOf notation text others other) where
+  same_part : a.part ≡ b.part
+  same_part = says_one notation text a.part b.part a.says b.says
 
   same_names : names ≡ others
-  same_names = a.named ∙ ap (λ words. names_in (texts words)) same_words ∙ sym b.named
+  same_names = a.named ∙ ap nodes_of same_part ∙ sym b.named
 
   edge_over : (n m : ℕ) → IsEdge next n m → IsEdge other n m
-  edge_over n m edge = (b.each n m).1 (subst (λ edges. JoinsNames others edges n m) same_edges
-      (subst (λ list. JoinsNames list a.edges n m) same_names ((a.each n m).0 edge)))
+  edge_over n m edge = (b.each n m).1 (subst (λ (part : DotPart). JoinsNames others part.edges n m) same_part
+      (subst (λ list. JoinsNames list a.part.edges n m) same_names ((a.each n m).0 edge)))
 
 pub graphs_one : GraphsAreOne
-graphs_one text names next others other a b = (same_names a b, λ n m. (edge_over a b n m, edge_over b a n m))
+graphs_one notation text names next others other a b = (same_names a b, λ n m. (edge_over a b n m, edge_over b a n m))
 
 -- ---- one text
 
@@ -93,10 +103,18 @@ module _ (form : Option GraphForm) (names : List (List ℕ)) where
       (subst (λ n. ListsNodes form names (Leads other n) text') node b.2)
   part_one next other same distinct Fewest text text' a b = edge_lines_one (reduced_same next other same) a b
 
-pub outputs_one : OutputsAreOne
-outputs_one text part form old new other a b =
-    let (names, edges) = graphs_one text a.names a.next b.names b.next a.graph b.graph in
-    let apart = names_apart text b.names b.next b.graph in
+part_text_one : (notation : Notation) (text : List ℕ) (part : Part) (form : Option GraphForm) (old new other : List ℕ) →
+    WritesPartOf notation text part form (Some old) (Some new) → WritesPartOf notation text part form (Some old) (Some other) →
+    new ≡ other
+part_text_one notation text part form old new other a b =
+    let (names, edges) = graphs_one notation text a.names a.next b.names b.next a.graph b.graph in
+    let apart = names_apart notation text b.names b.next b.graph in
     let same = part_one form b.names a.next b.next edges apart part a.written.0 b.written.0
     (subst (λ list. ListsPart form list a.next part a.written.0) names a.written.2) b.written.2 in
     a.written.1 ∙ ap (λ more. old ++ more) same ∙ sym b.written.1
+
+pub outputs_one : OutputsAreOne
+outputs_one said text part form old new other (notation, is, a) (notation', is', b) =
+    part_text_one notation text part form old new other a
+    (subst (λ n. WritesPartOf n text part form (Some old) (Some other))
+    (sym (notations_one said text notation notation' is is')) b)

@@ -7,6 +7,7 @@ use Rattle.std.proofs.lemmas.Grind.{common_steps}
 use Rattle.std.proofs.lemmas.Option.{none-some}
 use Rattle.std.proofs.lemmas.List.{append_assoc, append-nil, map-append}
 use Rattle.std.proofs.lemmas.List.Sums.{fold-append}
+use Rattle.files_dot.specs.Graphs.{AreNumbers}
 use Rattle.files_text.specs.Faults.{IsLine}
 use Rattle.files_text.specs.Names.{IsNumbered, names_in, with_name}
 use Rattle.files_text.specs.Words.{AreLeft, Rest, Token, token_of}
@@ -14,7 +15,7 @@ use Rattle.files_text.specs.declared.fault.Fault.{Fault}
 use Rattle.files_text.specs.declared.words.Word.{Word}
 use Rattle.files_text.proofs.NamesLemmas.{grown}
 use Rattle.files_text.proofs.WordsLemmas.{words_exist}
-use Rattle.files_graph.specs.Edges.{AreEdges, AreNumbers, AreWordsOf, IsFaulty, IsFaultOf, IsName, IsUnread, last_line}
+use Rattle.files_graph.specs.Edges.{AreEdges, AreWordsOf, IsFaulty, IsFaultOf, IsName, IsUnread, last_line}
 use Rattle.files_graph.specs.Reading.{HasRead, at_hand}
 use Rattle.files_graph.specs.declared.edges.Reader.{Reader}
 

@@ -1,6 +1,7 @@
 -- A text has one graph, and each part of its closure is written in one way.
 use Rattle.std.specs.Prelude.{◌≡◌, ◌↔◌, ℕ, List, Option, Some}
 use Rattle.vob_flow.specs.Closure.{IsEdge}
+use Rattle.files_dot.specs.declared.notation.Notation.{Notation}
 use Rattle.files_graph.specs.Closures.{WritesPart}
 use Rattle.files_graph.specs.Graphs.{IsGraphOf}
 use Rattle.files_graph.specs.declared.closure.Part.{Part}
@@ -12,13 +13,13 @@ HaveSameEdges next other = (n m : ℕ) → IsEdge next n m ↔ IsEdge other n m
 
 -- two graphs of one text have the same names and the same edges
 abbrev pub GraphsAreOne : Type 0
-GraphsAreOne = (text : List ℕ) (names next other_names other_next : List (List ℕ)) →
-    IsGraphOf text names next → IsGraphOf text other_names other_next →
+GraphsAreOne = (notation : Notation) (text : List ℕ) (names next other_names other_next : List (List ℕ)) →
+    IsGraphOf notation text names next → IsGraphOf notation text other_names other_next →
     (names ≡ other_names) × HaveSameEdges next other_next
 
 -- equal texts give equal bytes: two outputs are equal if both grew from the same bytes by the same
--- part of the closure of one text, in one form
+-- part of the closure of one text, in one form, whatever its notation
 abbrev pub OutputsAreOne : Type 0
-OutputsAreOne = (text : List ℕ) (part : Part) (form : Option GraphForm) (old new other : List ℕ) →
-    WritesPart text part form (Some old) (Some new) → WritesPart text part form (Some old) (Some other) →
-    new ≡ other
+OutputsAreOne = (said : Option Notation) (text : List ℕ) (part : Part) (form : Option GraphForm)
+    (old new other : List ℕ) → WritesPart said text part form (Some old) (Some new) →
+    WritesPart said text part form (Some old) (Some other) → new ≡ other

@@ -1,6 +1,7 @@
--- Which edges a text has, and where it is at fault.
-use Rattle.std.specs.Prelude.{◌≡◌, ◌≢◌, ◌⊎◌, ℕ, ◌+◌, List, [], ◌∷◌, ◌++◌, Option, None, Some, length, map, min, codes, slice_get, ⊤}
+-- Which edges the lines of a text are, and where it is at fault.
+use Rattle.std.specs.Prelude.{◌≡◌, ◌≢◌, ◌⊎◌, ℕ, ◌+◌, List, [], ◌∷◌, ◌++◌, Option, None, Some, length, map, min, codes, ⊤}
 use Rattle.std.below.core.specs.declared.int.usize.TheConstants.{MAX}
+use Rattle.files_dot.specs.Graphs.{AreNumbers}
 use Rattle.files_text.specs.Faults.{IsLine}
 use Rattle.files_text.specs.Names.{names_in}
 use Rattle.files_text.specs.Words.{Token, AreWords}
@@ -56,14 +57,7 @@ pub record IsFirstFault (words : List Token) (line column : ℕ) (expected : Lis
   pub are_edges : AreEdges before edges
   pub faulty : IsFaulty (last_line before) rest line column expected
 
--- the numbers of the names of edges
-abbrev pub AreNumbers : (names : List (List ℕ)) → List (List ℕ × List ℕ) → List (ℕ × ℕ) → Type 0
-AreNumbers names [] [] = ⊤
-AreNumbers names (edge ∷ edges) (pair ∷ pairs) = (slice_get names pair.0 ≡ Some edge.0)
-    × (slice_get names pair.1 ≡ Some edge.1) × AreNumbers names edges pairs
-AreNumbers names edges pairs = ⊥
-
--- the edges of a text: its names, in the order in which they first come, and for each edge their
+-- the edges of lines: their names, in the order in which they first come, and for each edge their
 -- numbers
 pub record HasEdges (text : List ℕ) (names : List (List ℕ)) (pairs : List (ℕ × ℕ)) : Type 0 where
   pub words : List Token

@@ -1,9 +1,10 @@
 -- Edges as they are read. No public clause cites this page.
 use Rattle.std.specs.Prelude.{◌≡◌, ◌≢◌, ℕ, List, [], ◌∷◌, ◌++◌, Option, None, Some, map, IfSome}
+use Rattle.files_dot.specs.Graphs.{AreNumbers}
 use Rattle.files_text.specs.Names.{names_in}
 use Rattle.files_text.specs.Words.{Token, token_of}
 use Rattle.files_text.specs.declared.words.Word.{Word}
-use Rattle.files_graph.specs.Edges.{AreEdges, AreNumbers, IsName, last_line}
+use Rattle.files_graph.specs.Edges.{AreEdges, IsName, last_line}
 use Rattle.files_graph.specs.declared.edges.Reader.{Reader}
 
 -- the word at hand, or none

@@ -5,9 +5,10 @@ ghost use Rattle.std.specs.List.{flat_map};
 ghost use Rattle.std.specs.Io.KnownBytes.{Appends};
 ghost use Rattle.vob_block.specs.Packing.{item};
 ghost use Rattle.vob_flow.specs.Closure.{Leads};
+ghost use Rattle.files_dot.specs.declared.notation.Notation.TheVariants.{Dot, Lines};
 ghost use Rattle.files_text.specs.Printed.{Writes, members};
 ghost use Rattle.files_text.specs.declared.fault.Fault.TheVariants.{Memory};
-ghost use Rattle.files_graph.specs.Closures.{FailsBy, FailsOn, IsNamed, WritesPart};
+ghost use Rattle.files_graph.specs.Closures.{FailsBy, FailsOf, FailsOn, IsNamed, WritesPart, WritesPartOf};
 ghost use Rattle.files_graph.specs.ClosureText.{ListsEdges, ListsNodes, ListsPart, edges_from, edges_of};
 ghost use Rattle.files_graph.specs.GraphForms.{edge_item, edges_text, node_item, nodes_text};
 ghost use Rattle.files_forms.specs.Forms.{first_of};
@@ -17,8 +18,9 @@ ghost use Rattle.files_graph.specs.Reduction.{IsReduced};
 
 use crate::fault::GraphFault;
 use crate::form::{FormNames, GraphForm};
-use crate::graph::{NamedGraph, read_graph};
+use crate::graph::{NamedGraph, read_lines, read_tokens};
 use crate::reduction::reduction;
+use files_dot::{Notation, dot_tokens, notation_of};
 use std::alloc::{AllocError, Global};
 use std::io;
 use std::io::Write;
@@ -261,25 +263,85 @@ fn print_part<W: Write>(
     }
 }
 
-/// Reads a graph, and writes a part of its closure, as lines or in a form. Returns the status, 0. Equal
-/// texts give equal bytes.
-///
-/// Fails at the first line that isn't an edge, if the graph has no node with the name, or if memory
-/// runs out. Nothing is written then. Fails too if the output can't be written.
-pub fn print_closure<W: Write>(
+/// Reads a graph in lines, and writes a part of its closure.
+fn print_lines<W: Write>(
     alloc: Global,
     text: &[u8],
     part: Part<'_>,
     form: Option<GraphForm>,
     output: &mut W,
-) -> Result<u8, GraphFault>
-    ensures status { IfOk result (λ status. status ≡ 0) }
-    ensures ok { OnOk result
-        (WritesPart text.now part.entry form (W.contents output.old) (W.contents output.new)) }
-    ensures err { IfErr result (λ fault. FailsBy text.now part.entry fault
+) -> Result<(), GraphFault>
+    ensures ok { OnOk result (WritesPartOf Lines text.now part.entry form (W.contents output.old)
+        (W.contents output.new)) }
+    ensures err { IfErr result (λ fault. FailsOf Lines text.now part.entry fault
         (W.contents output.old) (W.contents output.new)) }
 {
-    let graph = read_graph(alloc, text)?;
+    let graph = read_lines(alloc, text)?;
     print_part(alloc, &graph, part, form, output)?;
+    Ok(())
+}
+
+/// Reads a graph in DOT, and writes a part of its closure.
+fn print_dot<W: Write>(
+    alloc: Global,
+    text: &[u8],
+    part: Part<'_>,
+    form: Option<GraphForm>,
+    output: &mut W,
+) -> Result<(), GraphFault>
+    ensures ok { OnOk result (WritesPartOf Dot text.now part.entry form (W.contents output.old)
+        (W.contents output.new)) }
+    ensures err { IfErr result (λ fault. FailsOf Dot text.now part.entry fault
+        (W.contents output.old) (W.contents output.new)) }
+{
+    let tokens = dot_tokens(alloc, text)?;
+    let graph = read_tokens(alloc, &tokens)?;
+    print_part(alloc, &graph, part, form, output)?;
+    Ok(())
+}
+
+/// Reads a graph in a notation, and writes a part of its closure.
+fn print_in<W: Write>(
+    alloc: Global,
+    notation: Notation,
+    text: &[u8],
+    part: Part<'_>,
+    form: Option<GraphForm>,
+    output: &mut W,
+) -> Result<(), GraphFault>
+    ensures ok { OnOk result (WritesPartOf notation text.now part.entry form (W.contents output.old)
+        (W.contents output.new)) }
+    ensures err { IfErr result (λ fault. FailsOf notation text.now part.entry fault
+        (W.contents output.old) (W.contents output.new)) }
+{
+    match notation {
+        Notation::Lines => print_lines(alloc, text, part, form, output),
+        Notation::Dot => print_dot(alloc, text, part, form, output),
+    }
+}
+
+/// Reads a graph, and writes a part of its closure, as lines or in a form. The graph stands in the
+/// notation that is said, or else in DOT if the text begins as a graph in DOT does. Returns the status,
+/// 0. Equal texts give equal bytes.
+///
+/// Fails at the first line that isn't an edge, or at the first place where a text in DOT is no directed
+/// graph, if the graph has no node with the name, or if memory runs out. Nothing is written then. Fails
+/// too if the output can't be written.
+pub fn print_closure<W: Write>(
+    alloc: Global,
+    text: &[u8],
+    said: Option<Notation>,
+    part: Part<'_>,
+    form: Option<GraphForm>,
+    output: &mut W,
+) -> Result<u8, GraphFault>
+    ensures status { IfOk result (λ status. status ≡ 0) }
+    ensures ok { OnOk result (WritesPart said text.now part.entry form (W.contents output.old)
+        (W.contents output.new)) }
+    ensures err { IfErr result (λ fault. FailsBy said text.now part.entry fault
+        (W.contents output.old) (W.contents output.new)) }
+{
+    let notation = notation_of(said, text);
+    print_in(alloc, notation, text, part, form, output)?;
     Ok(0)
 }

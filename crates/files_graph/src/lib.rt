@@ -1,4 +1,4 @@
-//! Graphs whose edges stand in a text, and what is written of their closures.
+//! Graphs that stand in a text, and what is written of their closures.
 #![tactic(auto)]
 
 mod closure;

@@ -1,10 +1,5 @@
--- What fails on the graph that was read.
-use Rattle.std.proofs.lemmas.Result.{err_from_is_err_and}
-use Rattle.files_graph.proofs.GraphLemmas.{fails_by}
+-- The text is read in its notation.
 use Rattle.files_graph.proofs.closure.print_closure.Goals as goal
 
-pub returns-in_err-print_part-clause-err : goal.returns-in_err-print_part-clause-err
-returns-in_err-print_part-clause-err g c =
-    let refused = c.from_residual-in_err-print_part in
-    let p = err_from_is_err_and refused.result refused.ensures.1 in
-    rw (p.1, p.2) (fails_by c.args.text.now _ _ c.in_ok-graph.ensures.ok c.args.part _ _ _ c.in_err-print_part.ensures.err)
+pub returns-clause-ok : goal.returns-clause-ok
+returns-clause-ok g c = (c.notation_of-notation.result, c.notation_of-notation.ensures, c.in_ok-print_in.ensures.ok)

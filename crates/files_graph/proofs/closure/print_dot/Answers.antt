@@ -1,0 +1,23 @@
+-- What fails on the graph that was read, or leaves it unread.
+use Rattle.std.proofs.Common.{inr}
+use Rattle.std.proofs.lemmas.Result.{err_from_is_err_and}
+use Rattle.std.proofs.KnownBytes.{Keeps-refl}
+use Rattle.files_dot.specs.declared.notation.Notation.TheVariants.{Dot}
+use Rattle.files_graph.proofs.GraphLemmas.{fails_of, unread_fails}
+use Rattle.files_graph.proofs.closure.print_dot.Goals as goal
+
+pub returns-in_err-graph-clause-err : goal.returns-in_err-graph-clause-err
+returns-in_err-graph-clause-err g c =
+    let refused = c.from_residual-in_err-graph in
+    let p = err_from_is_err_and refused.result refused.ensures.1 in
+    rw (p.1, p.2)
+    (unread_fails Dot c.args.text.now c.args.part _ _ _ (inr (_, _, c.in_ok-tokens.ensures.ok, c.in_err-graph.ensures.err))
+    (Keeps-refl _))
+
+pub returns-in_err-print_part-clause-err : goal.returns-in_err-print_part-clause-err
+returns-in_err-print_part-clause-err g c =
+    let refused = c.from_residual-in_err-print_part in
+    let p = err_from_is_err_and refused.result refused.ensures.1 in
+    rw (p.1, p.2)
+    (fails_of Dot c.args.text.now _ _ (c.in_ok-graph.ensures.ok c.args.text.now c.in_ok-tokens.ensures.ok) c.args.part _ _ _
+    c.in_err-print_part.ensures.err)
