@@ -223,11 +223,18 @@ conthiral_status conthiral_to_bytes(const uint64_t *words, size_t word_count, si
    rows of `size` bits. Says whether a bit changed: if none did, the relation was transitive. */
 conthiral_status conthiral_close(uint64_t *words, size_t word_count, size_t size, bool *changed);
 
+/* The nodes of a graph to which paths lead from some of them. */
+
+/* Adds to the set `reached` each node to which a path of edges leads from a node of it, in a matrix of `size` rows of
+   `size` bits. `turned` has as many words as `reached`: room to work in, whatever it holds. */
+conthiral_status conthiral_reach(const uint64_t *words, size_t word_count, size_t size, uint64_t *reached,
+    size_t reached_count, uint64_t *turned, size_t turned_count);
+
 /* Products of matrices of bits: where an edge of the first leads, and then one of the second. */
 
-/* Writes into `made` the Boolean product of a matrix of `rows` rows and `inner` columns with one of `inner` rows and
-   `columns` columns: bit j of row i is true if `first` has bit k of row i and `second` has bit j of row k, for some
-   k. What stood in `made` isn't read. */
+/* Writes into `made` the Boolean product: bit j of row i is true if `first` has bit k of row i and `second` has bit j
+   of row k, for some k. `first` has `rows` rows of `inner` bits, and `second` has `inner` rows of `columns` bits.
+   What stood in `made` isn't read. */
 conthiral_status conthiral_product(const uint64_t *first, size_t first_count, size_t rows, size_t inner,
     const uint64_t *second, size_t second_count, size_t columns, uint64_t *made, size_t made_count);
 

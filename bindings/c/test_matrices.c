@@ -205,6 +205,49 @@ static void multiplies(size_t rows, size_t inner, size_t columns) {
     is(same_words(&made, &wanted), "product", "other words", &made);
 }
 
+// ---- the nodes that are reached
+
+static conthiral_status reach(struct matrix *own, struct matrix *reached, struct matrix *turned) {
+    return conthiral_reach(words(own), own->count, own->rows, words(reached), reached->count, words(turned), turned->count);
+}
+
+static void reaches(size_t size) {
+    // a set is a matrix of one row
+    static struct matrix own, reached, turned, wanted, closed, spoiled, kept, also;
+    draw(&own, size, size);
+    draw(&reached, 1, size);
+    draw(&turned, 1, size);
+    wanted = reached;
+    closed = own;
+    closed_lists(&closed);
+    for (size_t i = 0; i < size; i++) {
+        for (size_t j = 0; j < size; j++) {
+            wanted.entry[0][j] |= reached.entry[0][i] && closed.entry[i][j];
+        }
+    }
+    pack(&wanted);
+    for (size_t k = 0; k < turned.count; k++) {
+        turned.room[GUARD + k] = random_word();
+    }
+    for (int way = 0; way < 8; way++) {
+        struct matrix *each[] = {&own, &reached, &turned};
+        spoiled = *each[way / 3];
+        each[way / 3] = &spoiled;
+        conthiral_status status = spoil(&spoiled, way % 3);
+        kept = *each[1];
+        also = *each[2];
+        if (status != CONTHIRAL_OK) {
+            is(reach(each[0], each[1], each[2]) == status, "reach", "another status", &own);
+            is(same_words(each[1], &kept) && same_words(each[2], &also), "reach", "a refused call writes", &own);
+        }
+    }
+    kept = turned;
+    is(reach(&own, &reached, &turned) == CONTHIRAL_OK, "reach", "another status", &own);
+    is(same_words(&reached, &wanted), "reach", "other words", &own);
+    memcpy(turned.room + GUARD, kept.room + GUARD, turned.count * sizeof *turned.room);
+    is(same_words(&turned, &kept), "reach", "words that aren't its own are written", &own);
+}
+
 // A number of rows whose words can't be counted.
 static void too_many(void) {
     static const struct matrix none;
@@ -212,6 +255,7 @@ static void too_many(void) {
     bool changed = false;
     is(conthiral_close(&word, 1, (size_t)1 << 62, &changed) == CONTHIRAL_LENGTH, "close", "another status", &none);
     is(conthiral_close(NULL, 0, SIZE_MAX, &changed) == CONTHIRAL_LENGTH, "close", "another status", &none);
+    is(conthiral_reach(&word, 1, (size_t)1 << 62, NULL, 0, NULL, 0) == CONTHIRAL_LENGTH, "reach", "another status", &none);
     is(conthiral_transpose(NULL, 0, 0, SIZE_MAX, NULL, 0) == CONTHIRAL_OK, "transpose", "another status", &none);
     is(conthiral_product(NULL, 0, SIZE_MAX, 0, NULL, 0, 0, NULL, 0) == CONTHIRAL_OK, "product", "another status", &none);
     is(conthiral_product(NULL, 0, SIZE_MAX, 0, NULL, 0, SIZE_MAX, NULL, 0) == CONTHIRAL_LENGTH, "product",
@@ -231,6 +275,7 @@ int main(int count, char **arguments) {
     too_many();
     for (long round = 0; round < rounds; round++) {
         closes(some_size());
+        reaches(some_size());
         transposes(some_size(), some_size());
         multiplies(some_size(), some_size(), some_size());
     }

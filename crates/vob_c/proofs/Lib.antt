@@ -7,5 +7,6 @@ pub mod IndicesLemmas
 pub mod LinkingLemmas
 pub mod MovesLemmas
 pub mod RangeLemmas
+pub mod ReachedLemmas
 pub mod RowsLemmas
 pub mod StatusLemmas

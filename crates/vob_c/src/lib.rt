@@ -10,6 +10,7 @@ pub mod matrices;
 pub mod moves;
 pub mod products;
 pub mod ranges;
+pub mod reach;
 mod rows;
 pub mod search;
 pub mod sets;

@@ -84,9 +84,9 @@ fn multiply(made: &mut [usize], first: &[usize], second: &[usize], sizes: Sizes)
     }
 }
 
-/// Writes into `made` the Boolean product of a matrix of `rows` rows and `inner` columns with one of
-/// `inner` rows and `columns` columns: bit j of row i is true if `first` has bit k of row i and `second`
-/// has bit j of row k, for some k. What stood in `made` isn't read.
+/// Writes into `made` the Boolean product: bit j of row i is true if `first` has bit k of row i and
+/// `second` has bit j of row k, for some k. `first` has `rows` rows of `inner` bits, and `second` has
+/// `inner` rows of `columns` bits. What stood in `made` isn't read.
 #[unsafe(no_mangle)]
 pub extern "C" fn conthiral_product(
     first: &[usize],
