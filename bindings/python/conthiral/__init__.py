@@ -13,7 +13,7 @@
 """
 
 from ._bits import Bits, LengthError, NotCanonicalError
-from ._matrix import close, closure, product, transpose
+from ._matrix import close, closure, product, reach, transpose
 
-__all__ = ["Bits", "LengthError", "NotCanonicalError", "close", "closure", "product", "transpose"]
+__all__ = ["Bits", "LengthError", "NotCanonicalError", "close", "closure", "product", "reach", "transpose"]
 __version__ = "0.1.0"

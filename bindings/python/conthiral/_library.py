@@ -58,6 +58,7 @@ _CALLS = {
     "from_bytes": _OWN + _BYTES + [c_bool],
     "to_bytes": _OWN + _BYTES + [c_bool],
     "close": _OWN + _FLAG,
+    "reach": _OWN + _WORDS + _WORDS,
     "transpose": _OWN + [c_size_t] + _WORDS,
     "product": _OWN + [c_size_t] + _OWN + _WORDS,
 }

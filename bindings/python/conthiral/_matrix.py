@@ -6,7 +6,7 @@ from array import array
 from ctypes import c_bool, c_uint64
 from typing import Any, Dict, Hashable, Iterable, List, Mapping, Optional, Tuple, TypeVar, Union
 
-from ._bits import _call
+from ._bits import Bits, _call
 
 Name = TypeVar("Name", bound=Hashable)
 
@@ -42,6 +42,18 @@ def close(words: Any, size: Optional[int] = None) -> bool:
     changed = c_bool()
     _call("close", *_pointer(words), _rows(words, size), changed)
     return changed.value
+
+
+def reach(words: Any, size: int, starts: Iterable[int]) -> Bits:
+    """Returns the set of some nodes, and of all to which paths of edges lead from them.
+
+    >>> list(reach(array("Q", [0b010, 0b100, 0b000, 0b0001]), 4, [1]).indices())
+    [1, 2]
+    """
+    reached = Bits.of_indices(size, starts)
+    turned = array("Q", bytes(len(reached.words) * 8))
+    _call("reach", *_pointer(words), size, *_pointer(reached.words), *_pointer(turned))
+    return reached
 
 
 def transpose(words: Any, rows: int, columns: int) -> array[int]:

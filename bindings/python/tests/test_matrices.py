@@ -8,7 +8,7 @@ import time
 import unittest
 from array import array
 
-from conthiral import LengthError, NotCanonicalError, _matrix, close, closure, product, transpose
+from conthiral import LengthError, NotCanonicalError, _matrix, close, closure, product, reach, transpose
 
 try:
     import numpy
@@ -59,6 +59,9 @@ class Matrices(unittest.TestCase):
             rows = some_rows(size, size)
             words = packed(rows, size)
             wanted = closed(rows)
+            starts = [i for i in range(size) if random.random() < 0.1]
+            nodes = [j for j in range(size) if j in starts or any(wanted[i][j] for i in starts)]
+            self.assertEqual(list(reach(words, size, starts).indices()), nodes, f"CONTHIRAL_SEED={SEED}")
             self.assertEqual(close(words, size), wanted != rows, f"CONTHIRAL_SEED={SEED}")
             self.assertEqual(words, packed(wanted, size), f"CONTHIRAL_SEED={SEED}")
             self.assertFalse(close(words, size))

@@ -91,6 +91,10 @@ calls! {
     fn conthiral_to_bytes(
         words: *const u64, word_count: usize, bits: usize, bytes: *mut u8, byte_count: usize, most_first: bool,
     );
+    fn conthiral_reach(
+        words: *const u64, word_count: usize, size: usize,
+        reached: *mut u64, reached_count: usize, turned: *mut u64, turned_count: usize,
+    );
     fn conthiral_transpose(
         words: *const u64, word_count: usize, rows: usize, columns: usize, made: *mut u64, made_count: usize,
     );

@@ -122,6 +122,28 @@ impl BitMatrix {
         changed
     }
 
+    /// Returns the set of the nodes of a set, and of all to which paths of edges lead from them. Panics unless there
+    /// are as many rows as columns, and as many bits in the set.
+    pub fn reach(&self, from: &Bits) -> Bits {
+        assert_eq!(self.rows, self.columns, "paths lead through a matrix with as many rows as columns");
+        assert_eq!(self.rows, from.len(), "a set of nodes has as many bits as there are rows");
+        let mut reached = from.clone();
+        let mut turned = vec![0; reached.vec.len()];
+        let words = reached.vec.as_mut_ptr();
+        ffi::done(unsafe {
+            ffi::conthiral_reach(
+                self.words.as_ptr(),
+                self.words.len(),
+                self.rows,
+                words,
+                reached.vec.len(),
+                turned.as_mut_ptr(),
+                turned.len(),
+            )
+        });
+        reached
+    }
+
     /// Returns the matrix with rows and columns exchanged.
     pub fn transpose(&self) -> BitMatrix {
         let mut made = BitMatrix::new(self.columns, self.rows);

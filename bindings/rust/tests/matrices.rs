@@ -56,6 +56,10 @@ fn closures() {
                 }
             }
         }
+        let from = list(1, size);
+        let reached = call.reach(&from[0].iter().copied().collect());
+        let nodes = (0..size).map(|j| from[0][j] || (0..size).any(|i| from[0][i] && wanted[i][j]));
+        assert_eq!(reached.iter().collect::<Vec<_>>(), nodes.collect::<Vec<_>>());
         assert_eq!(call.close(), wanted != own);
         same(&call, &wanted, size);
         assert!(!call.close());
