@@ -1,9 +1,9 @@
 -- Bits of words as bits of bytes.
 use Rattle.std.specs.Int.{reverse_bits, reverse_bits_onto, w8}
-use Rattle.std.proofs.Common.{◌≡◌, ℕ, zero, suc, ◌+◌, ◌-◌, ◌*◌, ◌/◌, ◌%◌, ◌^◌, ◌<◌, Bool, true, false, if◌then◌else◌, List, [], ◌∷◌, length, set, get_or, eqb, min, sym, ap, ◌∙◌, arith, inl, inr, div-one, pow-suc, add-one, zero-add}
+use Rattle.std.proofs.Common.{◌≡◌, ℕ, zero, suc, ◌+◌, ◌-◌, ◌*◌, ◌/◌, ◌%◌, ◌^◌, ◌<◌, Bool, true, false, if◌then◌else◌, List, [], ◌∷◌, length, set, get_or, replicate, eqb, min, sym, ap, ◌∙◌, arith, inl, inr, div-one, pow-suc, add-one, zero-add}
 use native.Mathlib.Nat.{div-div-eq-div-mul}
-use Rattle.std.proofs.lemmas.Bool.{cases_lt}
-use Rattle.std.proofs.lemmas.List.{get_or_past, get_or-set_other, get_or-set_same}
+use Rattle.std.proofs.lemmas.Bool.{cases_eq, cases_lt}
+use Rattle.std.proofs.lemmas.List.{get_or_past, get_or-replicate, get_or-set_other, get_or-set_same, length-replicate}
 use Rattle.std.proofs.lemmas.List.FromFn.{length-map-range_with_len, get_or-map-range_with_len}
 use Rattle.vob_block.specs.Packing.{item, bit_at, need, unpacking, IsCanonical}
 use Rattle.vob_block.specs.Places.{place, HasPlaces}
@@ -119,6 +119,80 @@ bytes_inside n k words count less = omega (
   need_least 8 (omega arith) n (8 * length words)
       (omega (arith, count, need_enough 64 (omega arith) n)),
 )
+
+-- ---- eight bytes of a word
+
+pub eight_places : (most : Bool) (bytes eight : List ℕ) (at x : ℕ) → HasPlaces 64 x (bit_at eight 8)
+    → ((j : ℕ) → j < 8 → (p : ℕ) → p < 8 → place p (get_or eight j 0)
+    ≡ place (if most then 7 - p else p) (get_or bytes (at + j) 0))
+    → (i : ℕ) → i < 64 → place i x ≡ byte_bit most bytes (8 * at + i)
+eight_places most bytes eight at x places each i less =
+    let back : i / 8 * 8 + i % 8 ≡ i = omega arith in
+    let there : at + i / 8 ≡ (8 * at + i) / 8 = omega arith in
+    let unit : i % 8 ≡ (8 * at + i) % 8 = omega arith in
+    places.each i less ∙ ap (bit_at eight 8) (sym back)
+    ∙ bit_at-in_block eight 8 (i / 8) (i % 8) (omega arith)
+    ∙ each (i / 8) (omega (arith, less)) (i % 8) (omega arith)
+    ∙ ap (λ m. place (if most then 7 - m else m) (get_or bytes (at + i / 8) 0)) unit
+    ∙ ap (λ q. place (if most then 7 - (8 * at + i) % 8 else (8 * at + i) % 8) (get_or bytes q 0)) there
+
+-- bytes are below 256
+pub zeros_small : (k : ℕ) → get_or (replicate 8 0) k 0 < 256
+zeros_small k = elim (cases_lt k 8) [
+  | inl less ↦ omega (arith, get_or-replicate {A = ℕ} 8 k 0 0 less)
+  | inr past ↦ omega (
+    arith,
+    get_or_past {X = ℕ} (replicate 8 0) k 0 (omega (arith, past, length-replicate {A = ℕ} 8 0)),
+  )
+]
+
+pub small_set : (eight : List ℕ) (k x : ℕ) → k < length eight → x < 256
+    → ((j : ℕ) → get_or eight j 0 < 256) → (j : ℕ) → get_or (set eight k x) j 0 < 256
+small_set eight k x inside small each j = elim (cases_eq j k) [
+  | inl here ↦ omega (
+    arith,
+    small,
+    ap (λ q. get_or (set eight k x) q 0) here,
+    get_or-set_same eight k x 0 inside,
+  )
+  | inr other ↦ omega (arith, each j, get_or-set_other eight k j x 0 other)
+]
+
+pub eight_more : (most : Bool) (bytes eight : List ℕ) (at k turned : ℕ) → k < length eight
+    → ((p : ℕ) → p < 8 → place p turned ≡ place (if most then 7 - p else p) (get_or bytes (at + k) 0))
+    → ((j : ℕ) → j < k → (p : ℕ) → p < 8 → place p (get_or eight j 0)
+    ≡ place (if most then 7 - p else p) (get_or bytes (at + j) 0))
+    → (j : ℕ) → j < k + 1 → (p : ℕ) → p < 8 → place p (get_or (set eight k turned) j 0)
+    ≡ place (if most then 7 - p else p) (get_or bytes (at + j) 0)
+eight_more most bytes eight at k turned inside new each j less p few = elim (cases_eq j k) [
+  | inl here ↦
+      ap (place p) (ap (λ q. get_or (set eight k turned) q 0) here
+      ∙ get_or-set_same eight k turned 0 inside) ∙ new p few
+      ∙ ap (λ q. place (if most then 7 - p else p) (get_or bytes (at + q) 0)) (sym here)
+  | inr other ↦ ap (place p) (get_or-set_other eight k j turned 0 other)
+      ∙ each j (omega (arith, less, other)) p few
+]
+
+pub words_more : (most : Bool) (bytes words : List ℕ) (k x : ℕ) → k < length words
+    → ((i : ℕ) → i < 64 → place i x ≡ byte_bit most bytes (8 * (8 * k) + i))
+    → ((i : ℕ) → i < 64 * k → bit_at words 64 i ≡ byte_bit most bytes i)
+    → (i : ℕ) → i < 64 * (k + 1) → bit_at (set words k x) 64 i ≡ byte_bit most bytes i
+words_more most bytes words k x inside new each i less =
+    let back : i / 64 * 64 + i % 64 ≡ i = omega arith in
+    let after = bit_at-in_block (set words k x) 64 (i / 64) (i % 64) (omega arith) in
+    elim (cases_lt i (64 * k)) [
+      | inl before ↦ ap (bit_at (set words k x) 64) (sym back) ∙ after
+          ∙ ap (place (i % 64)) (get_or-set_other words k (i / 64) x 0 (omega (arith, before)))
+          ∙ sym (bit_at-in_block words 64 (i / 64) (i % 64) (omega arith))
+          ∙ ap (bit_at words 64) back ∙ each i before
+      | inr past ↦
+          let there : i / 64 ≡ k = omega (arith, past, less) in
+          let at : 8 * (8 * k) + i % 64 ≡ i = omega (arith, past, less) in
+          ap (bit_at (set words k x) 64) (sym back) ∙ after
+          ∙ ap (place (i % 64)) (ap (λ q. get_or (set words k x) q 0) there
+          ∙ get_or-set_same words k x 0 inside)
+          ∙ new (i % 64) (omega arith) ∙ ap (byte_bit most bytes) at
+    ]
 
 -- ---- the words so far
 

@@ -1,5 +1,5 @@
 //! Bits read from bytes and written into bytes, the least or the most significant bit of a byte first.
-ghost use Rattle.std.specs.Prelude.{◌≡◌, ◌≢◌, ◌↔◌, ℕ, ◌+◌, ◌-◌, ◌*◌, ◌<◌, if◌then◌else◌, length};
+ghost use Rattle.std.specs.Prelude.{◌≡◌, ◌≢◌, ◌↔◌, ℕ, ◌+◌, ◌-◌, ◌*◌, ◌<◌, ◌≤◌, if◌then◌else◌, length};
 ghost use Rattle.vob_block.specs.Packing.{item, need, bit_at, unpacking, IsCanonical, Stores};
 ghost use Rattle.vob_block.specs.Places.{place};
 ghost use Rattle.vob_c.specs.Bytes.{bits_of_bytes, byte_bit};
@@ -30,13 +30,42 @@ fn low_byte(words: &[usize], k: usize) -> u8
     words[k / 8].to_le_bytes()[k % 8]
 }
 
+/// Returns the word of eight bytes from byte `at` on, each turned around if its most significant bit comes
+/// first.
+fn word_at(bytes: &[u8], at: usize, most_first: bool) -> usize
+    requires { at + 8 ≤ length bytes.now }
+    ensures { (i : ℕ) → i < 64 → place i result ≡ byte_bit most_first bytes.now (8 * at + i) }
+{
+    let mut eight = [0; 8];
+    for j in 0..8 {
+        eight[j] = turned(bytes[at + j], most_first);
+    }
+    usize::from_le_bytes(eight)
+}
+
+/// Writes the bits of bytes into words as long as eight are left, and returns of how many.
+fn load_words(words: &mut [usize], bytes: &[u8], most_first: bool) -> usize
+    requires { length bytes.now ≤ 8 * length words.old }
+    ensures most { result ≤ length bytes.now }
+    ensures long { length words.new ≡ length words.old }
+    ensures each { (i : ℕ) → i < 8 * result
+        → bit_at words.new 64 i ≡ byte_bit most_first bytes.now i }
+{
+    let whole = bytes.len() / 8;
+    for k in 0..whole {
+        words[k] = word_at(bytes, 8 * k, most_first);
+    }
+    8 * whole
+}
+
 /// Writes the bits of bytes into words.
 fn load_bytes(words: &mut [usize], bits: usize, bytes: &[u8], most_first: bool)
     requires words { HasWords bits words.old }
     requires bytes { length bytes.now ≡ need bits 8 }
     ensures { Stores 64 bits words.new (bits_of_bytes most_first bits bytes.now) }
 {
-    for k in 0..bytes.len() {
+    let first = load_words(words, bytes, most_first);
+    for k in first..bytes.len() {
         let byte = turned(bytes[k], most_first);
         write_bits(words, 8 * k, usize::from(byte), (bits - 8 * k).min(8));
     }

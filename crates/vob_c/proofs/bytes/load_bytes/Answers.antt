@@ -1,10 +1,17 @@
 -- Each byte is written over its eight bits, or over those that are left.
-use Rattle.std.proofs.Common.{◌≡◌, ℕ, ◌*◌, ◌<◌, ◌≤◌, ◌∙◌, refl, arith}
+use Rattle.std.proofs.Common.{◌≡◌, ℕ, ◌*◌, ◌<◌, ◌≤◌, ◌∙◌, arith}
 use Rattle.std.proofs.lemmas.List.{map-id}
 use Rattle.vob_block.specs.Packing.{need}
-use Rattle.vob_block.proofs.NeedLemmas.{mul-lt_from_need, need_enough}
+use Rattle.vob_block.proofs.NeedLemmas.{mul-lt_from_need, need_enough, need_least}
 use Rattle.vob_c.proofs.BytesLemmas.{loaded_more, loaded_all}
 use Rattle.vob_c.proofs.bytes.load_bytes.Goals as goal
+
+room : (n size many : ℕ) → size ≡ need n 64 → many ≡ need n 8 → many ≤ 8 * size
+room n size many count bytes = omega (
+  arith,
+  bytes,
+  need_least 8 (omega arith) n (8 * size) (omega (arith, count, need_enough 64 (omega arith) n)),
+)
 
 below : (k n m : ℕ) → k < m → m ≡ need n 8 → 8 * k < n
 below k n m less count = omega (arith, mul-lt_from_need 8 (omega arith) n k (omega (arith, less, count)))
@@ -12,6 +19,10 @@ below k n m less count = omega (arith, mul-lt_from_need 8 (omega arith) n k (ome
 inside : (at n size given : ℕ) → size ≡ given → given ≡ need n 64 → at ≤ n → at ≤ size * 64
 inside at n size given long count fits =
     omega (arith, long, count, fits, need_enough 64 (omega arith) n)
+
+-- words enough for the bytes
+pub load_words-first-requires : goal.load_words-first-requires
+load_words-first-requires c = room _ _ _ c.requires.words c.requires.bytes
 
 pub overflow_mul-k : goal.overflow_mul-k
 overflow_mul-k c = omega (arith, below _ _ _ c.loop-k-test.true c.requires.bytes, c.ranges.bits.fits)
@@ -37,7 +48,10 @@ write_bits-requires-clause-fits c =
     omega (arith, less, c.min.ensures, c.ranges.bits.fits)
 
 pub loop-k-init : goal.loop-k-init
-loop-k-init c = record { long = refl; each = λ i less. absurd (omega (arith, less)) }
+loop-k-init c = record {
+  long = c.load_words-first.ensures.long;
+  each = λ i less inside. c.load_words-first.ensures.each i less;
+}
 
 pub loop-k-preserved : goal.loop-k-preserved
 loop-k-preserved c =
