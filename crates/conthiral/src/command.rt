@@ -3,12 +3,13 @@
 use crate::fault::Fault;
 use clap::builder::ValueParser;
 use clap::{Arg, ArgAction, ArgMatches, Command};
-use files_code::{FORMS, Form};
+use files_code::Form;
 use files_dot::{NOTATIONS, Notation};
 use files_filter::{Format, Shows};
 use files_flow::{ANALYSES, Analysis, FLOW_FORMS};
 use files_graph::{GRAPH_FORMS, GraphForm, Part};
 use files_parse::{TREE_FORMS, TreeForm};
+use files_report::ReportForm;
 use std::alloc::{AllocError, Global};
 
 /// The name that stands for standard input.
@@ -19,16 +20,18 @@ const VERSION: &str = "0.1.0";
 
 /// What the help of `grammar` says of its states and of the exit status.
 const GRAMMAR_HELP: &str = "\
-The states are those of the LALR(1) parser that bison makes by default. With
---output they are tables with a short parser, whose head says how it is used:
-  c      a file to include in C or C++
+The states are those of the LALR(1) parser that bison makes by default. The
+forms of --output are tables with a short parser, or reports:
+  c      a file to include in C or C++, whose head says how it is used
   rust   a module of Rust
+  xml    as `bison --xml` writes it
+  json   symbols, rules and states
+  dot    the states as a graph
 
 Exit status: 0; 1 if there are other conflicts than %expect and %expect-rr say,
 or any without them; 2 after a fault.
 
-Example:
-  ./conthiral grammar --states examples/files/grammars/sums.y";
+Example: ./conthiral grammar --states examples/files/grammars/sums.y";
 
 /// What the help of `parse` says of its input, of its output and of the exit status.
 const PARSE_HELP: &str = "\
@@ -85,6 +88,18 @@ An empty cell keeps no row by a comparison; ask for it: `NAME is [not] missing`.
 Exit status: 0; 1 if --quiet keeps no row; 2 at a fault: rows before it stand.
 Example: ./conthiral filter examples/files/cities.csv 'elevation>5 | city=Oslo'";
 
+/// The names of the forms of a grammar: those of parsers, and those of reports.
+static GRAMMAR_FORMS: [&str; 5] = ["c", "dot", "json", "rust", "xml"];
+
+/// A form of a grammar for other programs.
+#[derive(Clone, Copy)]
+pub enum GrammarForm {
+    /// A parser.
+    Parser(Form),
+    /// A report.
+    Report(ReportForm),
+}
+
 /// What the words ask for. Each task names the file that it reads.
 #[derive(Clone, Copy)]
 pub enum Task<'a> {
@@ -92,7 +107,7 @@ pub enum Task<'a> {
     Grammar {
         file: &'a str,
         states: bool,
-        form: Option<Form>,
+        form: Option<GrammarForm>,
     },
     /// The derivation of the tokens in a file by a grammar in another, as its rules or as a tree.
     Parse {
@@ -153,9 +168,9 @@ fn grammar_command<'a>(alloc: Global) -> Result<Command<'a>, AllocError> {
     let output = Arg::new(alloc, "output")
         .long("output")
         .value_name("FORM")
-        .value_parser(FORMS.as_slice())
+        .value_parser(GRAMMAR_FORMS.as_slice())
         .hide_possible_values(true)
-        .help("Print a parser, in one of the forms below")
+        .help("Print a parser or a report, in one of the forms below")
         .conflicts_with("states")?;
     Command::new(alloc, "grammar")
         .about("Print the sets of a grammar: nullable, FIRST and FOLLOW")
@@ -316,8 +331,12 @@ fn filter_command<'a>(alloc: Global) -> Result<Command<'a>, AllocError> {
 }
 
 /// Returns the form in which a grammar is to be printed, if one is asked for.
-fn form_of(matches: &ArgMatches<'_>) -> Option<Form> {
-    Form::of(matches.get_str("output")?)
+fn form_of(matches: &ArgMatches<'_>) -> Option<GrammarForm> {
+    let name = matches.get_str("output")?;
+    match Form::of(name) {
+        Some(form) => Some(GrammarForm::Parser(form)),
+        None => Some(GrammarForm::Report(ReportForm::of(name)?)),
+    }
 }
 
 /// Returns the form in which a tree is to be printed, if one is asked for.

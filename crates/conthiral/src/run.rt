@@ -1,14 +1,15 @@
 //! A run of the program: words, input, output and status.
 
-use crate::command::{STANDARD_INPUT, Task, command, shown_name, task_of};
+use crate::command::{GrammarForm, STANDARD_INPUT, Task, command, shown_name, task_of};
 use crate::fault::{Fault, Report};
 use crate::progress::Watched;
-use files_code::{Form, print_form};
+use files_code::print_form;
 use files_filter::{Format, Shows, print_filter};
 use files_flow::print_flow;
 use files_grammar::{GrammarFile, print_grammar};
 use files_graph::print_closure;
 use files_parse::print_parse;
+use files_report::{ReportForm, print_report};
 use std::fs::File;
 use std::io::{BufWriter, Read, Write};
 use std::process::ExitCode;
@@ -43,16 +44,35 @@ fn read_grammar<R: Eprint + AllocGlobal>(
     Ok(grammar)
 }
 
+/// Of how many states `dot` draws a graph in seconds.
+const DRAWN: usize = 500;
+
+/// Says on standard error if a graph is so large that `dot` takes long to draw it. It is written all the
+/// same, as a part of it may be drawn, and other programs draw or read it sooner.
+fn warn_if_large<R: Eprint>(rt: &R, file: &str, form: ReportForm, states: usize) {
+    if form == ReportForm::Dot && states > DRAWN {
+        let _ = eprintln!(rt; "conthiral: {file}: {states} states, which dot takes long to draw");
+    }
+}
+
 /// Writes a grammar in a form for other programs. Returns the status, and says on standard error why it
 /// isn't 0, as what is written is mostly read by a program alone.
 fn write_form<R: Eprint + AllocGlobal, W: Write>(
     rt: &R,
     grammar: &GrammarFile,
     file: &str,
-    form: Form,
+    form: GrammarForm,
     output: &mut W,
 ) -> Result<u8, Fault> {
-    let status = print_form(rt.alloc(), grammar, file, form, output)?;
+    let alloc = rt.alloc();
+    let status = match form {
+        GrammarForm::Parser(form) => print_form(alloc, grammar, file, form, output)?,
+        GrammarForm::Report(form) => {
+            let printed = print_report(alloc, grammar, file, form, output)?;
+            warn_if_large(rt, file, form, printed.states);
+            printed.status
+        }
+    };
     if status != 0 {
         let _ = eprintln!(rt;
             "conthiral: {file}: other conflicts than %expect says: run it without --output to see them"

@@ -10,7 +10,7 @@ ghost use Rattle.files_grammar.specs.Rules.{nonterminal_name, symbol_name, termi
 use crate::fault::GrammarFault;
 use std::alloc::{AllocError, Global};
 use vob_lr::{Grammar, Lookaheads, Precedence, Symbol, Table, cycle};
-use vob_yacc::{GrammarText, LeftNonterminal, LeftOut, LeftRule, Useless, grammar_of};
+use vob_yacc::{Details, GrammarText, LeftNonterminal, LeftOut, LeftRule, Useless, grammar_of};
 
 /// How the file calls the symbols.
 #[derive(Drop)]
@@ -29,7 +29,10 @@ pub struct GrammarFile {
     pub expected: (Option<usize>, Option<usize>),
     precedences: Vec<Option<Precedence>>,
     rule_precedences: Vec<Option<Precedence>>,
-    left_out: LeftOut,
+    /// What no derivation has.
+    pub left_out: LeftOut,
+    /// What the file says besides.
+    pub details: Details,
 }
 
 /// Returns the name with a number, or nothing if there is none.
@@ -123,6 +126,7 @@ impl GrammarFile {
             rule_precedences,
             expected,
             left_out,
+            details,
         } = grammar_of(alloc, text)?;
         Ok(GrammarFile {
             grammar,
@@ -135,6 +139,7 @@ impl GrammarFile {
             precedences,
             rule_precedences,
             left_out,
+            details,
         })
     }
 

@@ -3,6 +3,7 @@ mod actions;
 mod canonical;
 mod cells;
 mod declarations;
+mod details;
 mod faults;
 mod grammar;
 mod lookaheads;

@@ -29,7 +29,7 @@ fn digit(byte: u8) -> Option<usize> {
 }
 
 /// Returns a value with one more digit.
-fn with_digit(value: usize, base: usize, digit: usize) -> usize {
+pub(crate) fn with_digit(value: usize, base: usize, digit: usize) -> usize {
     value.saturating_mul(base).saturating_add(digit)
 }
 

@@ -9,7 +9,8 @@ use crate::text_error::{Stop, TextFault};
 use std::alloc::Global;
 use vob_lr::{Associativity, Precedence};
 
-/// The directive at hand: where it stands, how many words stand behind it, and what the last of them is.
+/// The directive at hand: where it stands, how many words stand behind it, what the last of them is, and the
+/// type that the last of them in `<>` says.
 #[derive(Clone, Copy)]
 pub(crate) struct Directive<'a> {
     pub declares: Declares,
@@ -17,6 +18,7 @@ pub(crate) struct Directive<'a> {
     words: usize,
     last: Option<Kind>,
     variable: &'a [u8],
+    tag: &'a [u8],
     symbol: (usize, usize),
 }
 
@@ -34,7 +36,7 @@ pub(crate) struct Reader<'a> {
     pub directive: Directive<'a>,
     pub sections: usize,
     pub left: Option<usize>,
-    pub alternative: Option<Alternative>,
+    pub alternative: Option<Alternative<'a>>,
     pub wants: Wants,
     level: usize,
 }
@@ -61,6 +63,7 @@ impl Directive<'_> {
             words: 0,
             last: None,
             variable: &[],
+            tag: &[],
             symbol: (0, 0),
         }
     }
@@ -97,7 +100,7 @@ impl<'a> Reader<'a> {
             return Err(refused(token, TextFault::BadCharacter));
         }
         if token.kind == Kind::Section {
-            self.end_part(token.start)
+            self.end_part(alloc, token.start)
         } else if self.sections > 0 {
             self.rule(alloc, name, token)
         } else {
@@ -106,21 +109,21 @@ impl<'a> Reader<'a> {
     }
 
     /// Ends the first part, or the rules.
-    fn end_part(&mut self, at: usize) -> Result<(), Stop> {
+    fn end_part(&mut self, alloc: Global, at: usize) -> Result<(), Stop> {
         if self.sections == 0 {
             self.end_directive(at)?;
         } else {
-            self.end_rules(at)?;
+            self.end_rules(alloc, at)?;
         }
         self.sections = self.sections.saturating_add(1);
         Ok(())
     }
 
     /// Ends a file of this length. Fails there if more must follow.
-    pub(crate) fn finish(&mut self, len: usize) -> Result<(), Stop> {
+    pub(crate) fn finish(&mut self, alloc: Global, len: usize) -> Result<(), Stop> {
         match self.sections {
             0 => self.end_directive(len),
-            1 => self.end_rules(len),
+            1 => self.end_rules(alloc, len),
             _ => Ok(()),
         }
     }
@@ -202,11 +205,12 @@ impl<'a> Reader<'a> {
             Declares::Operators(associativity) => {
                 self.declare_operator(alloc, name, token, associativity)?;
             }
-            Declares::Nonterminals if kind == Kind::Name => {
-                let symbol = self.symbols.nonterminal(alloc, name, token.start)?;
-                self.symbols.note_declaration(symbol, token.start, false);
+            Declares::Nonterminals | Declares::Types if kind == Kind::Tag => {
+                self.directive.tag = unquoted(name);
             }
-            Declares::Types | Declares::CodeFor if is_symbol(kind) => {
+            Declares::Nonterminals => self.declare_nonterminal(alloc, name, token)?,
+            Declares::Types => self.declare_type(alloc, name, token)?,
+            Declares::CodeFor if is_symbol(kind) => {
                 self.symbol(alloc, name, token)?;
             }
             Declares::Start => self.declare_start(alloc, name, token)?,
@@ -249,11 +253,38 @@ impl<'a> Reader<'a> {
         }
     }
 
+    /// Gives a symbol the type at hand, if there is one.
+    fn set_type(&mut self, alloc: Global, symbol: usize, token: &Token) -> Result<(), Stop> {
+        self.symbols
+            .set_type(alloc, symbol, self.directive.tag, token.start)
+    }
+
+    /// Takes a nonterminal behind `%nterm`.
+    fn declare_nonterminal(
+        &mut self,
+        alloc: Global,
+        name: &'a [u8],
+        token: &Token,
+    ) -> Result<(), Stop> {
+        let symbol = self.symbols.nonterminal(alloc, name, token.start)?;
+        self.symbols.note_declaration(symbol, token.start, false);
+        self.set_type(alloc, symbol, token)
+    }
+
+    /// Takes a symbol behind `%type`.
+    fn declare_type(&mut self, alloc: Global, name: &'a [u8], token: &Token) -> Result<(), Stop> {
+        let symbol = self.symbol(alloc, name, token)?;
+        self.set_type(alloc, symbol, token)
+    }
+
     /// Takes a word behind `%token`.
     fn declare_token(&mut self, alloc: Global, name: &'a [u8], token: &Token) -> Result<(), Stop> {
         let (symbol, at) = self.directive.symbol;
         match token.kind {
-            Kind::Tag => Ok(()),
+            Kind::Tag => {
+                self.directive.tag = unquoted(name);
+                Ok(())
+            }
             Kind::Number => {
                 let code = number_at(name, token)?;
                 self.symbols.set_code(symbol, code, at, token.start)
@@ -266,7 +297,7 @@ impl<'a> Reader<'a> {
                 let symbol = self.terminal(alloc, name, token)?;
                 self.symbols.note_declaration(symbol, token.start, false);
                 self.directive.symbol = (symbol, token.start);
-                Ok(())
+                self.set_type(alloc, symbol, token)
             }
         }
     }
@@ -284,6 +315,7 @@ impl<'a> Reader<'a> {
         }
         let symbol = self.terminal(alloc, name, token)?;
         self.directive.symbol = (symbol, token.start);
+        self.set_type(alloc, symbol, token)?;
         let level = self.level;
         let precedence = Precedence {
             level,

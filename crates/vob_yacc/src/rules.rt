@@ -1,9 +1,11 @@
 //! The reader of a grammar file, word by word: its rules.
 
 use crate::declare::{Declares, is_symbol};
+use crate::literal::unquoted;
 use crate::reader::{Reader, number_at, refused};
 use crate::scan::{Kind, Token};
 use crate::text_error::{Stop, TextFault};
+use crate::values::values_of;
 use std::alloc::Global;
 
 /// A rule: its symbols, that of `%prec`, and where its right side begins.
@@ -15,13 +17,25 @@ pub(crate) struct RuleText {
     pub at: usize,
 }
 
-/// The alternative at hand: its symbols, the place of an action that is the last of it so far, and what
-/// its directives say.
+/// An action: where it stands, its type, and whether its code names its own value.
+#[derive(Clone, Copy)]
+struct Action<'a> {
+    at: usize,
+    tag: &'a [u8],
+    has_value: bool,
+}
+
+/// The alternative at hand: its symbols, an action that is the last of it so far, the type behind which an
+/// action must follow, the places of the actions that are symbols, the numbers of the symbols whose values
+/// are named, and what its directives say.
 #[derive(Drop)]
-pub(crate) struct Alternative {
+pub(crate) struct Alternative<'a> {
     at: Option<usize>,
     right: Vec<usize>,
-    action: Option<usize>,
+    action: Option<Action<'a>>,
+    tag: &'a [u8],
+    actions: Vec<usize>,
+    named: Vec<usize>,
     empty: Option<usize>,
     precedence: Option<usize>,
     has_rank: bool,
@@ -47,13 +61,16 @@ pub(crate) enum Wants {
     Action,
 }
 
-impl Alternative {
+impl<'a> Alternative<'a> {
     /// An alternative without symbols.
-    fn new(alloc: Global) -> Alternative {
+    fn new(alloc: Global) -> Alternative<'a> {
         Alternative {
             at: None,
             right: Vec::new(alloc),
             action: None,
+            tag: &[],
+            actions: Vec::new(alloc),
+            named: Vec::new(alloc),
             empty: None,
             precedence: None,
             has_rank: false,
@@ -91,17 +108,14 @@ impl<'a> Reader<'a> {
         match token.kind {
             Kind::Left => self.begin_rule(alloc, name, token),
             Kind::Mark(b'|') if self.left.is_some() => {
-                self.end_alternative(token.start)?;
+                self.end_alternative(alloc, token.start)?;
                 self.alternative = Some(Alternative::new(alloc));
                 Ok(())
             }
-            Kind::Mark(b';') if self.left.is_some() => self.end_alternative(token.start),
-            Kind::Directive => self.direct(name, token),
-            Kind::Action => self.add_action(alloc, token),
-            Kind::Tag if self.alternative.is_some() => {
-                self.wants = Wants::Action;
-                Ok(())
-            }
+            Kind::Mark(b';') if self.left.is_some() => self.end_alternative(alloc, token.start),
+            Kind::Directive => self.direct(alloc, name, token),
+            Kind::Action => self.add_action(alloc, name, token),
+            Kind::Tag => self.add_tag(name, token),
             kind if is_symbol(kind) => self.add_symbol(alloc, name, token),
             _ => Err(refused(token, TextFault::Unexpected)),
         }
@@ -122,7 +136,7 @@ impl<'a> Reader<'a> {
 
     /// Takes the left side of rules.
     fn begin_rule(&mut self, alloc: Global, name: &'a [u8], token: &Token) -> Result<(), Stop> {
-        self.end_alternative(token.start)?;
+        self.end_alternative(alloc, token.start)?;
         let left = self.symbols.nonterminal(alloc, name, token.start)?;
         self.symbols.note_declaration(left, token.start, true);
         self.left = Some(left);
@@ -151,20 +165,20 @@ impl<'a> Reader<'a> {
                 Some(own) => note(&mut own.has_merger, token),
                 None => Ok(()),
             },
-            (Wants::Action, Kind::Action) => self.add_action(alloc, token),
+            (Wants::Action, Kind::Action) => self.add_action(alloc, name, token),
             _ => Err(refused(token, TextFault::Unexpected)),
         }
     }
 
     /// Takes a directive of a rule, or one that declares something among the rules.
-    fn direct(&mut self, name: &[u8], token: &Token) -> Result<(), Stop> {
+    fn direct(&mut self, alloc: Global, name: &[u8], token: &Token) -> Result<(), Stop> {
         let wants = match name {
             b"%prec" => Wants::Precedence,
             b"%dprec" => Wants::Rank,
             b"%merge" => Wants::Merger,
             b"%expect" | b"%expect-rr" | b"%expect_rr" => Wants::Number,
             b"%empty" => Wants::Nothing,
-            _ => return self.declare_among_rules(name, token),
+            _ => return self.declare_among_rules(alloc, name, token),
         };
         self.wants = wants;
         let Some(alternative) = &mut self.alternative else {
@@ -180,10 +194,15 @@ impl<'a> Reader<'a> {
     }
 
     /// Begins a directive among the rules.
-    fn declare_among_rules(&mut self, name: &[u8], token: &Token) -> Result<(), Stop> {
+    fn declare_among_rules(
+        &mut self,
+        alloc: Global,
+        name: &[u8],
+        token: &Token,
+    ) -> Result<(), Stop> {
         match Declares::of(name) {
             Some(declares) if declares.is_of_rules() => {
-                self.end_alternative(token.start)?;
+                self.end_alternative(alloc, token.start)?;
                 self.left = None;
                 self.begin_directive(declares, token.start);
                 Ok(())
@@ -209,11 +228,16 @@ impl<'a> Reader<'a> {
         let Some(own) = &mut self.alternative else {
             return Ok(());
         };
-        let Some(at) = own.action.take() else {
+        let Some(Action { at, tag, has_value }) = own.action.take() else {
             return Ok(());
         };
         let left = self.symbols.action(alloc, at)?;
         own.right.push(left)?;
+        own.actions.push(own.right.len())?;
+        self.symbols.set_type(alloc, left, tag, at)?;
+        if has_value {
+            self.symbols.note_value(alloc, left)?;
+        }
         self.rules.push(RuleText {
             left,
             right: Vec::new(alloc),
@@ -223,13 +247,29 @@ impl<'a> Reader<'a> {
         Ok(())
     }
 
+    /// Takes the type of an action, which must follow.
+    fn add_tag(&mut self, name: &'a [u8], token: &Token) -> Result<(), Stop> {
+        let Some(own) = &mut self.alternative else {
+            return Err(refused(token, TextFault::Unexpected));
+        };
+        own.tag = unquoted(name);
+        self.wants = Wants::Action;
+        Ok(())
+    }
+
     /// Takes an action.
-    fn add_action(&mut self, alloc: Global, token: &Token) -> Result<(), Stop> {
+    fn add_action(&mut self, alloc: Global, name: &'a [u8], token: &Token) -> Result<(), Stop> {
         self.keep_action(alloc)?;
-        match &mut self.alternative {
-            Some(own) => own.action = Some(token.start),
-            None => return Err(refused(token, TextFault::Unexpected)),
-        }
+        let Some(own) = &mut self.alternative else {
+            return Err(refused(token, TextFault::Unexpected));
+        };
+        let (has_value, named) = values_of(alloc, name)?;
+        own.named.extend_from_slice(&named)?;
+        own.action = Some(Action {
+            at: token.start,
+            tag: std::mem::replace(&mut own.tag, &[]),
+            has_value,
+        });
         Ok(())
     }
 
@@ -245,9 +285,19 @@ impl<'a> Reader<'a> {
         Ok(())
     }
 
+    /// Notes of which actions of an alternative that are symbols its code names the values.
+    fn note_values(&mut self, alloc: Global, own: &Alternative<'a>) -> Result<(), Stop> {
+        for place in own.actions.iter().filter(|place| own.named.contains(place)) {
+            if let Some(symbol) = own.right.get(place.saturating_sub(1)) {
+                self.symbols.note_value(alloc, *symbol)?;
+            }
+        }
+        Ok(())
+    }
+
     /// Ends the alternative at hand before the word at `at`, if there is one, and adds its rule. Fails at
     /// its `%empty` if it isn't empty.
-    fn end_alternative(&mut self, at: usize) -> Result<(), Stop> {
+    fn end_alternative(&mut self, alloc: Global, at: usize) -> Result<(), Stop> {
         let (Some(left), Some(own)) = (self.left, self.alternative.take()) else {
             return Ok(());
         };
@@ -257,6 +307,7 @@ impl<'a> Reader<'a> {
                 return Err(Stop { at, fault });
             }
         }
+        self.note_values(alloc, &own)?;
         self.rules.push(RuleText {
             left,
             right: own.right,
@@ -267,11 +318,11 @@ impl<'a> Reader<'a> {
     }
 
     /// Ends the rules before the word at `at`. Fails there if another word must follow.
-    pub(crate) fn end_rules(&mut self, at: usize) -> Result<(), Stop> {
+    pub(crate) fn end_rules(&mut self, alloc: Global, at: usize) -> Result<(), Stop> {
         if self.wants != Wants::Nothing || self.directive.declares != Declares::Nothing {
             let fault = TextFault::Unexpected;
             return Err(Stop { at, fault });
         }
-        self.end_alternative(at)
+        self.end_alternative(alloc, at)
     }
 }

@@ -6,6 +6,9 @@ use indexmap::IndexMap;
 use std::alloc::Global;
 use vob_lr::{Precedence, Symbol};
 
+/// The entry of `error`.
+const ERROR: usize = 1;
+
 /// How many entries each grammar has: the end, `error`, and the nonterminal above the start.
 const PREDEFINED: usize = 3;
 
@@ -18,12 +21,13 @@ enum Class {
 }
 
 /// A symbol: the name by which it is shown, and what the file says of it. `replaced` is the name that a text
-/// took the place of. `at` is where it is declared, or else named first. One with two names may have had two
+/// took the place of, `tag` its type. `at` is where it is declared, or else named first. One with two names may have had two
 /// entries: then `same` is the number of the one that counts.
 #[derive(Drop)]
 struct Entry {
     name: Vec<u8>,
     replaced: Option<Vec<u8>>,
+    tag: Option<Vec<u8>>,
     at: usize,
     class: Class,
     same: usize,
@@ -47,13 +51,17 @@ pub(crate) struct Symbols<'a> {
 }
 
 /// The symbols of a whole file: what each entry is, the names of terminals, those without texts in quotes,
-/// the names of nonterminals, where each is named first, and the precedences of terminals.
+/// their types, the numbers that the file gives them and their precedences, and the names of nonterminals,
+/// their types and where each is named first.
 #[derive(Drop)]
 pub(crate) struct Numbered {
     symbols: Vec<Option<Symbol>>,
     pub terminals: Vec<Vec<u8>>,
     pub identifiers: Vec<Vec<u8>>,
+    pub types: Vec<Vec<u8>>,
+    pub codes: Vec<Option<usize>>,
     pub nonterminals: Vec<Vec<u8>>,
+    pub nonterminal_types: Vec<Vec<u8>>,
     pub places: Vec<usize>,
     pub precedences: Vec<Option<Precedence>>,
 }
@@ -97,6 +105,7 @@ impl<'a> Symbols<'a> {
         self.entries.push(Entry {
             name,
             replaced: None,
+            tag: None,
             at,
             class: Class::Unknown,
             same: number,
@@ -204,6 +213,37 @@ impl<'a> Symbols<'a> {
         Ok(entry)
     }
 
+    /// Notes that the value of an action within a rule is named: bison calls it by `@` and its number then.
+    pub(crate) fn note_value(&mut self, alloc: Global, entry: usize) -> Result<(), Stop> {
+        if let Some(own) = self.entry(entry) {
+            if let [b'$', name @ ..] = own.name.as_slice() {
+                own.name = name.to_vec(alloc)?;
+            }
+        }
+        Ok(())
+    }
+
+    /// Gives a symbol a type, if there is one. Fails at `at` if it has one.
+    pub(crate) fn set_type(
+        &mut self,
+        alloc: Global,
+        entry: usize,
+        tag: &[u8],
+        at: usize,
+    ) -> Result<(), Stop> {
+        if tag.is_empty() {
+            return Ok(());
+        }
+        let Some(own) = self.entry(entry) else {
+            return Ok(());
+        };
+        if own.tag.is_some() {
+            return Err(refused(at, TextFault::Redeclared));
+        }
+        own.tag = Some(tag.to_vec(alloc)?);
+        Ok(())
+    }
+
     /// Notes that a rule has a symbol.
     pub(crate) fn note_use(&mut self, entry: usize) {
         if let Some(own) = self.entry(entry) {
@@ -269,9 +309,11 @@ impl<'a> Symbols<'a> {
             return Ok(());
         }
         let mut name = Vec::new(alloc);
+        let mut tag = None;
         let mut precedence = None;
         if let Some(other) = self.entries.get_mut(text) {
             name = std::mem::replace(&mut other.name, name);
+            tag = other.tag.take();
             precedence = other.precedence;
             other.same = entry;
         }
@@ -280,6 +322,9 @@ impl<'a> Symbols<'a> {
         };
         own.replaced = Some(std::mem::replace(&mut own.name, name));
         own.has_text = true;
+        if own.tag.is_none() {
+            own.tag = tag;
+        }
         own.precedence = match (own.precedence, precedence) {
             (Some((_, at)), Some((_, other_at))) => {
                 return Err(refused(at.max(other_at), TextFault::Redeclared));
@@ -330,7 +375,10 @@ impl<'a> Symbols<'a> {
             symbols: Vec::new(alloc),
             terminals: Vec::new(alloc),
             identifiers: Vec::new(alloc),
+            types: Vec::new(alloc),
+            codes: Vec::new(alloc),
             nonterminals: Vec::new(alloc),
+            nonterminal_types: Vec::new(alloc),
             places: Vec::new(alloc),
             precedences: Vec::new(alloc),
         };
@@ -349,6 +397,14 @@ impl<'a> Symbols<'a> {
 }
 
 impl Entry {
+    /// Returns the type, or nothing if there is none.
+    fn tag_bytes(&self) -> &[u8] {
+        match &self.tag {
+            Some(tag) => tag.as_slice(),
+            None => &[],
+        }
+    }
+
     /// Makes the symbol a nonterminal if it is nothing else. Fails if a rule has it.
     fn settle(&mut self) -> Result<(), Stop> {
         if self.class == Class::Unknown {
@@ -367,6 +423,14 @@ impl Numbered {
         self.symbols.get(entry).copied().flatten()
     }
 
+    /// Returns the terminal `error`.
+    pub(crate) fn error(&self) -> usize {
+        match self.symbol(ERROR) {
+            Some(Symbol::Terminal(error)) => error,
+            _ => ERROR,
+        }
+    }
+
     /// Numbers an entry, unless it has a number.
     fn add(&mut self, alloc: Global, number: usize, entries: &[Entry]) -> Result<(), Stop> {
         let Some(entry) = entries.get(number) else {
@@ -376,15 +440,19 @@ impl Numbered {
             return Ok(());
         }
         let name = entry.name.to_vec(alloc)?;
+        let tag = entry.tag_bytes().to_vec(alloc)?;
         let symbol = if entry.class == Class::Terminal {
             let precedence = entry.precedence.map(|(precedence, _)| precedence);
             let identifier = entry.replaced.as_ref().unwrap_or(&entry.name);
             self.precedences.push(precedence)?;
+            self.codes.push(entry.code)?;
+            self.types.push(tag)?;
             self.identifiers.push(identifier.to_vec(alloc)?)?;
             self.terminals.push(name)?;
             Symbol::Terminal(self.terminals.len().saturating_sub(1))
         } else {
             self.places.push(entry.at)?;
+            self.nonterminal_types.push(tag)?;
             self.nonterminals.push(name)?;
             Symbol::Nonterminal(self.nonterminals.len().saturating_sub(1))
         };

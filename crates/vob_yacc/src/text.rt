@@ -1,5 +1,6 @@
 //! Grammar files of yacc and bison.
 
+use crate::codes::codes_of;
 use crate::reader::Reader;
 use crate::rules::RuleText;
 use crate::scan::{Token, scan};
@@ -19,7 +20,8 @@ pub struct GrammarText {
     pub terminals: Vec<Vec<u8>>,
     /// The name of each terminal without its text: the one by which code calls it, if it has one.
     pub identifiers: Vec<Vec<u8>>,
-    /// The name of each nonterminal. That of an action within a rule is `$@` and a number.
+    /// The name of each nonterminal. That of an action within a rule is a number behind `$@`, or
+    /// behind `@` if code names its value.
     pub nonterminals: Vec<Vec<u8>>,
     /// The precedence of each terminal, if the file gives it one.
     pub precedences: Vec<Option<Precedence>>,
@@ -30,6 +32,26 @@ pub struct GrammarText {
     pub expected: (Option<usize>, Option<usize>),
     /// The nonterminals and rules that no derivation of a text from the start symbol has.
     pub left_out: LeftOut,
+    pub details: Details,
+}
+
+/// What a grammar file says that tables don't depend on.
+#[derive(Drop)]
+pub struct Details {
+    /// The terminal `error`.
+    pub error: usize,
+    /// The number by which a scanner calls each terminal: the one that the file gives it, or the code of its
+    /// character, or else 0 for the end, 256 for `error`, and numbers that are greater than all of these. The
+    /// first of them is that of tokens that no terminal is.
+    pub codes: Vec<usize>,
+    /// The type of each terminal, which is in `<>` in the file, or nothing.
+    pub terminal_types: Vec<Vec<u8>>,
+    /// The type of each nonterminal, or nothing.
+    pub nonterminal_types: Vec<Vec<u8>>,
+    /// The terminal that `%prec` names in each rule, if it does.
+    pub rule_terminals: Vec<Option<usize>>,
+    /// Whether the parser is to do all that conflicts leave, by `%glr-parser`.
+    pub is_ambiguous: bool,
 }
 
 /// Returns the bytes of a word.
@@ -57,6 +79,14 @@ fn precedence_of(
     }
 }
 
+/// Returns the terminal of `%prec` in a rule.
+fn terminal_of(numbered: &Numbered, own: &RuleText) -> Option<usize> {
+    match numbered.symbol(own.precedence?)? {
+        Symbol::Terminal(terminal) => Some(terminal),
+        Symbol::Nonterminal(_) => None,
+    }
+}
+
 /// Whether a symbol is a terminal.
 fn is_terminal(symbol: &Symbol) -> bool {
     matches!(symbol, Symbol::Terminal(_))
@@ -77,6 +107,7 @@ fn placed(
     };
     Ok(PlacedRule {
         precedence: precedence_of(numbered, own, &right, has_default),
+        terminal: terminal_of(numbered, own),
         rule: Rule { left, right },
         at: own.at,
     })
@@ -98,6 +129,7 @@ fn placed_rules(
             right: right.to_vec(alloc)?,
         },
         precedence: None,
+        terminal: None,
         at: 0,
     })?;
     for own in rules {
@@ -121,9 +153,12 @@ fn finish(alloc: Global, text: &[u8], reader: Reader<'_>) -> Result<GrammarText,
     };
     let has_default = reader.has_default_precedence;
     let rules = placed_rules(alloc, &numbered, &reader.rules, start, has_default)?;
+    let error = numbered.error();
+    let codes = codes_of(alloc, &numbered.codes, error)?;
     let whole = Whole {
         terminals: numbered.terminals,
         nonterminals: numbered.nonterminals,
+        types: numbered.nonterminal_types,
         places: numbered.places,
         rules,
     };
@@ -134,7 +169,9 @@ fn finish(alloc: Global, text: &[u8], reader: Reader<'_>) -> Result<GrammarText,
         grammar,
         terminals,
         nonterminals,
+        types,
         rule_precedences,
+        rule_terminals,
         left_out,
     } = reduced;
     Ok(GrammarText {
@@ -146,6 +183,14 @@ fn finish(alloc: Global, text: &[u8], reader: Reader<'_>) -> Result<GrammarText,
         rule_precedences,
         expected: (shift_reduce, reduce_reduce.filter(|_| reader.is_ambiguous)),
         left_out,
+        details: Details {
+            error,
+            codes,
+            terminal_types: numbered.types,
+            nonterminal_types: types,
+            rule_terminals,
+            is_ambiguous: reader.is_ambiguous,
+        },
     })
 }
 
@@ -164,7 +209,7 @@ fn read(alloc: Global, text: &[u8]) -> Result<GrammarText, Stop> {
     for token in tokens.iter() {
         reader.take(alloc, word(text, token), token)?;
     }
-    reader.finish(text.len())?;
+    reader.finish(alloc, text.len())?;
     finish(alloc, text, reader)
 }
 

@@ -23,7 +23,7 @@ pub enum TextFault {
     Undefined,
     /// A token with rules, a nonterminal that is used as a token, or a start symbol that is a token.
     NotANonterminal,
-    /// A second precedence or a second number for a token.
+    /// A second precedence or a second number for a token, or a second type for a symbol.
     Redeclared,
     /// A token whose number another has.
     CodeTaken,
@@ -119,7 +119,7 @@ impl fmt::Display for TextFault {
             TextFault::NoRules => "there are no rules",
             TextFault::Undefined => "neither a token nor a name with rules",
             TextFault::NotANonterminal => "a name can't be a token and have rules",
-            TextFault::Redeclared => "this token has another precedence or number already",
+            TextFault::Redeclared => "this has another precedence, number or type already",
             TextFault::CodeTaken => "another token has this one's number",
             TextFault::SecondStart => "there is a start symbol already",
             TextFault::NotEmpty => "%empty in a rule that isn't empty",

@@ -14,19 +14,25 @@ pub enum Useless {
     Unreachable,
 }
 
-/// A nonterminal that is left out: its name, where it is declared or has its first rule, and why.
+/// A nonterminal that is left out: its name, its type or nothing, where it is declared or has its first rule,
+/// and why.
 #[derive(Drop)]
 pub struct LeftNonterminal {
     pub name: Vec<u8>,
+    pub type_name: Vec<u8>,
     pub line: usize,
     pub column: usize,
     pub why: Useless,
 }
 
-/// A rule that is left out, as `sum: sum '+' NUMBER`, and where its right side begins.
+/// A rule that is left out, as `sum: sum '+' NUMBER`, the same by the numbers of its symbols, the terminal of
+/// its `%prec`, and where its right side begins. The nonterminals that are left out have the numbers after
+/// those of the others.
 #[derive(Drop)]
 pub struct LeftRule {
     pub text: Vec<u8>,
+    pub rule: Rule,
+    pub terminal: Option<usize>,
     pub line: usize,
     pub column: usize,
 }
@@ -38,10 +44,11 @@ pub struct LeftOut {
     pub rules: Vec<LeftRule>,
 }
 
-/// A rule with its precedence, and where its right side begins.
+/// A rule with its precedence, the terminal of its `%prec`, and where its right side begins.
 #[derive(Drop)]
 pub(crate) struct PlacedRule {
     pub rule: Rule,
+    pub terminal: Option<usize>,
     pub precedence: Option<Precedence>,
     pub at: usize,
 }
@@ -51,18 +58,21 @@ pub(crate) struct PlacedRule {
 pub(crate) struct Whole {
     pub terminals: Vec<Vec<u8>>,
     pub nonterminals: Vec<Vec<u8>>,
+    pub types: Vec<Vec<u8>>,
     pub places: Vec<usize>,
     pub rules: Vec<PlacedRule>,
 }
 
-/// A grammar without what is of no use, the names of its nonterminals, the precedences of its rules, and
-/// what was left out.
+/// A grammar without what is of no use, the names and the types of its nonterminals, the precedences of its
+/// rules and the terminals of their `%prec`, and what was left out.
 #[derive(Drop)]
 pub(crate) struct Reduced {
     pub grammar: Grammar,
     pub terminals: Vec<Vec<u8>>,
     pub nonterminals: Vec<Vec<u8>>,
+    pub types: Vec<Vec<u8>>,
     pub rule_precedences: Vec<Option<Precedence>>,
+    pub rule_terminals: Vec<Option<usize>>,
     pub left_out: LeftOut,
 }
 
@@ -182,25 +192,39 @@ fn rule_text(alloc: Global, whole: &Whole, rule: &Rule) -> Result<Vec<u8>, Stop>
     Ok(text)
 }
 
-/// Returns what is left out of a grammar: `file` is its text.
-fn left_out(alloc: Global, file: &[u8], whole: &Whole, useful: &Useful) -> Result<LeftOut, Stop> {
+/// Returns what is left out of a grammar, by the new numbers of its nonterminals: `file` is its text.
+fn left_out(
+    alloc: Global,
+    file: &[u8],
+    whole: &Whole,
+    useful: &Useful,
+    numbers: &[usize],
+) -> Result<LeftOut, Stop> {
     let mut left_out = LeftOut {
         nonterminals: Vec::new(alloc),
-        rules: Vec::new(alloc),
+        rules: left_rules(alloc, file, whole, useful, numbers)?,
     };
     for (number, (name, at)) in whole.nonterminals.iter().zip(&whole.places).enumerate() {
         if let Some(why) = useful.why(number) {
             let (line, column) = place_of(file, *at);
             left_out.nonterminals.push(LeftNonterminal {
                 name: name.to_vec(alloc)?,
+                type_name: type_of(whole, number).to_vec(alloc)?,
                 line,
                 column,
                 why,
             })?;
         }
     }
-    left_out.rules = left_rules(alloc, file, whole, useful)?;
     Ok(left_out)
+}
+
+/// Returns the type of a nonterminal, or nothing if it has none.
+fn type_of(whole: &Whole, nonterminal: usize) -> &[u8] {
+    match whole.types.get(nonterminal) {
+        Some(tag) => tag.as_slice(),
+        None => &[],
+    }
 }
 
 /// Returns the rules that are left out.
@@ -209,12 +233,20 @@ fn left_rules(
     file: &[u8],
     whole: &Whole,
     useful: &Useful,
+    numbers: &[usize],
 ) -> Result<Vec<LeftRule>, Stop> {
     let mut rules = Vec::new(alloc);
     for own in whole.rules.iter().filter(|own| !useful.has_rule(&own.rule)) {
         let (line, column) = place_of(file, own.at);
+        let mut rule = Rule {
+            left: own.rule.left,
+            right: own.rule.right.to_vec(alloc)?,
+        };
+        renumber(&mut rule, numbers);
         rules.push(LeftRule {
             text: rule_text(alloc, whole, &own.rule)?,
+            rule,
+            terminal: own.terminal,
             line,
             column,
         })?;
@@ -232,21 +264,34 @@ fn renumber(rule: &mut Rule, numbers: &[usize]) {
     }
 }
 
-/// Returns the names of the nonterminals that are of use, and the new number of each nonterminal.
-fn kept_names(
-    alloc: Global,
-    nonterminals: Vec<Vec<u8>>,
-    useful: &Useful,
-) -> Result<(Vec<Vec<u8>>, Vec<usize>), Stop> {
-    let mut names = Vec::new(alloc);
+/// Returns the new number of each nonterminal: those that are of use come first.
+fn new_numbers(alloc: Global, count: usize, useful: &Useful) -> Result<Vec<usize>, Stop> {
+    let kept = (0..count)
+        .filter(|number| useful.why(*number).is_none())
+        .count();
+    let mut next = (0usize, kept);
     let mut numbers = Vec::new(alloc);
-    for (number, name) in nonterminals.into_iter().enumerate() {
-        numbers.push(names.len())?;
+    for number in 0..count {
+        let own = if useful.why(number).is_none() {
+            &mut next.0
+        } else {
+            &mut next.1
+        };
+        numbers.push(*own)?;
+        *own = own.saturating_add(1);
+    }
+    Ok(numbers)
+}
+
+/// Returns what belongs to the nonterminals that are of use.
+fn kept(alloc: Global, all: Vec<Vec<u8>>, useful: &Useful) -> Result<Vec<Vec<u8>>, Stop> {
+    let mut kept = Vec::new(alloc);
+    for (number, own) in all.into_iter().enumerate() {
         if useful.why(number).is_none() {
-            names.push(name)?;
+            kept.push(own)?;
         }
     }
-    Ok((names, numbers))
+    Ok(kept)
 }
 
 /// Leaves out the nonterminals and rules that are of no use, and numbers the others anew, in their
@@ -256,16 +301,19 @@ pub(crate) fn reduce(alloc: Global, file: &[u8], whole: Whole) -> Result<Option<
     if useful.why(0).is_some() {
         return Ok(None);
     }
-    let left_out = left_out(alloc, file, &whole, &useful)?;
+    let numbers = new_numbers(alloc, whole.nonterminals.len(), &useful)?;
+    let left_out = left_out(alloc, file, &whole, &useful, &numbers)?;
     let mut rules = Vec::new(alloc);
     let mut rule_precedences = Vec::new(alloc);
-    let (nonterminals, numbers) = kept_names(alloc, whole.nonterminals, &useful)?;
+    let mut rule_terminals = Vec::new(alloc);
+    let nonterminals = kept(alloc, whole.nonterminals, &useful)?;
     for own in whole.rules {
         if useful.has_rule(&own.rule) {
             let mut rule = own.rule;
             renumber(&mut rule, &numbers);
             rules.push(rule)?;
             rule_precedences.push(own.precedence)?;
+            rule_terminals.push(own.terminal)?;
         }
     }
     Ok(Some(Reduced {
@@ -276,7 +324,9 @@ pub(crate) fn reduce(alloc: Global, file: &[u8], whole: Whole) -> Result<Option<
         },
         terminals: whole.terminals,
         nonterminals,
+        types: kept(alloc, whole.types, &useful)?,
         rule_precedences,
+        rule_terminals,
         left_out,
     }))
 }

@@ -82,7 +82,9 @@ const DECLARATIONS: [Row; 26] = [
 
 /// Tokens that are declared otherwise already.
 #[rattlefmt::skip]
-const TOKENS: [Row; 12] = [
+const TOKENS: [Row; 14] = [
+    ("%token <a> A\n%type <a> A\n%%\ns: A", 2, 11, TextFault::Redeclared),
+    ("%type <a> s\n%nterm <b> s\n%%\ns: 'a'", 2, 12, TextFault::Redeclared),
     ("%token A A B\n%left A\n%right B\n%nonassoc A\n%%\ns: A", 4, 1, TextFault::Redeclared),
     ("%left A\n%left A A\n%%\ns: A", 2, 1, TextFault::Redeclared),
     ("%left A B A\n%%\ns: A", 1, 1, TextFault::Redeclared),

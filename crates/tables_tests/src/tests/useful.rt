@@ -27,16 +27,17 @@ const LEFT: [(&str, usize, usize, Useless); 5] = [
     ("x", 10, 1, Useless::DerivesNothing),
 ];
 
-/// The rules that are left out of it: the line and the column of the right side, and the rule.
-const LEFT_RULES: [(usize, usize, &str); 8] = [
-    (4, 12, "s: B t"),
-    (5, 4, "t: t A"),
-    (6, 7, "$@2:"),
-    (6, 5, "t: B $@2 t"),
-    (9, 4, "$@4:"),
-    (9, 4, "w: $@4 v"),
-    (9, 14, "w: w D"),
-    (10, 4, "x: t"),
+/// The rules that are left out of it: the line and the column of the right side, the rule, and its left side,
+/// the nonterminals that stay being counted first.
+const LEFT_RULES: [(usize, usize, &str, usize); 8] = [
+    (4, 12, "s: B t", 1),
+    (5, 4, "t: t A", 6),
+    (6, 7, "$@2:", 7),
+    (6, 5, "t: B $@2 t", 6),
+    (9, 4, "$@4:", 9),
+    (9, 4, "w: $@4 v", 8),
+    (9, 14, "w: w D", 8),
+    (10, 4, "x: t", 10),
 ];
 
 /// Compares the nonterminals that are left out.
@@ -58,8 +59,9 @@ fn check_nonterminals(rt: &impl Abort, left_out: &LeftOut) {
 /// Compares the rules that are left out.
 fn check_rules(rt: &impl Abort, left_out: &LeftOut) {
     same(rt, "the rules", 0, left_out.rules.len(), LEFT_RULES.len());
-    for (own, (line, column, text)) in left_out.rules.iter().zip(&LEFT_RULES) {
+    for (own, (line, column, text, left)) in left_out.rules.iter().zip(&LEFT_RULES) {
         same(rt, "a rule", *line, own.text.as_slice(), text.as_bytes());
+        same(rt, "its left side", *line, own.rule.left, *left);
         same(
             rt,
             "its place",
