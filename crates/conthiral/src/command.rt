@@ -6,7 +6,7 @@ use clap::{Arg, ArgAction, ArgMatches, Command};
 use files_code::Form;
 use files_dot::{NOTATIONS, Notation};
 use files_filter::{Format, Shows};
-use files_flow::{ANALYSES, Analysis, FLOW_FORMS};
+use files_flow::{ANALYSES, Analysis, FLOW_FORMS, FlowForm};
 use files_graph::{GRAPH_FORMS, GraphForm, Part};
 use files_parse::{TREE_FORMS, TreeForm};
 use files_report::ReportForm;
@@ -63,15 +63,14 @@ Example: ./conthiral closure --from curl examples/files/edges.txt";
 
 /// What the help of `flow` says of its input, of its output and of the exit status.
 const FLOW_HELP: &str = "\
-A line is a node, the first the entry. Names have no comma; # begins a comment.
-  loop: reads i n; writes t; next body done
+A line `loop: reads i n; writes t; next body done` is a node; the first, entry.
+Names have no comma; # begins a comment. The last two read DOT too (--input).
   live         variables that may be read before they are written
   reaching     definitions that may still hold: x@n is what node n writes to x
-  available    expressions computed on all paths to here, and not changed since
+  available    expressions, as (i n), computed on all paths to here, not changed
   busy         expressions computed on all paths from here, before they change
-  dominators   nodes that all paths from the entry pass
+  dominators   nodes that all paths from the entry pass; all, if no path leads
   immediate    the nearest of these, but the node itself
-An expression is what a node reads: (i n) above. Where no path leads, all hold.
 
 Exit status: 0; 2 after a fault.
 Example: ./conthiral flow examples/files/flow.txt --analysis live";
@@ -125,8 +124,9 @@ pub enum Task<'a> {
     /// An analysis of a flow graph.
     Flow {
         file: &'a str,
+        said: Option<Notation>,
         analysis: Analysis,
-        json: bool,
+        form: Option<FlowForm>,
     },
     /// The rows of a table of which a condition is true.
     Filter {
@@ -255,11 +255,12 @@ fn flow_command<'a>(alloc: Global) -> Result<Command<'a>, AllocError> {
         .value_name("FORM")
         .value_parser(FLOW_FORMS.as_slice())
         .hide_possible_values(true)
-        .help("Print it in a form: json");
+        .help("Print it in a form: json; or of immediate a tree: dot");
     Command::new(alloc, "flow")
         .about("Print what holds before and after each node of a flow graph")
         .after_help(FLOW_HELP)
         .arg(analysis)?
+        .arg(notation_argument(alloc))?
         .arg(output)?
         .arg(file)
 }
@@ -354,6 +355,11 @@ fn graph_form_of(matches: &ArgMatches<'_>) -> Option<GraphForm> {
     GraphForm::of(matches.get_str("output")?)
 }
 
+/// Returns the form in which an analysis is to be printed, if one is asked for.
+fn flow_form_of(matches: &ArgMatches<'_>) -> Option<FlowForm> {
+    FlowForm::of(matches.get_str("output")?)
+}
+
 /// Returns what of a closure is to be printed.
 fn part_of<'a>(matches: &ArgMatches<'a>) -> Part<'a> {
     if matches.get_flag("reduce") {
@@ -446,8 +452,9 @@ pub fn task_of<'a>(matches: &'a ArgMatches<'a>) -> Option<Task<'a>> {
         }),
         "flow" => Some(Task::Flow {
             file,
+            said: notation_of(own),
             analysis: Analysis::of(own.get_str("analysis")?)?,
-            json: own.get_str("output").is_some(),
+            form: flow_form_of(own),
         }),
         "filter" => Some(Task::Filter {
             file,

@@ -125,9 +125,12 @@ fn write_task<R: Files + Input + Eprint + AllocGlobal, W: Write>(
             form,
             ..
         } => Ok(print_closure(alloc, text, *said, *part, *form, output)?),
-        Task::Flow { analysis, json, .. } => {
-            Ok(print_flow(alloc, text, *analysis, *json, output)?)
-        }
+        Task::Flow {
+            said,
+            analysis,
+            form,
+            ..
+        } => Ok(print_flow(alloc, text, *said, *analysis, *form, output)?),
         Task::Filter {
             file,
             format,

@@ -2,6 +2,7 @@ pub mod DefinitionLemmas
 mod ExpressionLemmas
 mod FaultLemmas
 mod FittingLemmas
+mod FromLemmas
 pub mod LiveLemmas
 mod NodeLemmas
 mod NumberLemmas

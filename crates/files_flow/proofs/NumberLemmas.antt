@@ -25,7 +25,7 @@ use Rattle.files_flow.specs.FlowFaults.{IsFound}
 use Rattle.std.specs.Prelude.{Result, Ok, Err, IfErr, IfOk}
 use Rattle.files_text.specs.declared.fault.Fault.TheVariants.{Line, Memory, Input, Output}
 use Rattle.files_flow.specs.declared.fault.FlowFault.{FlowFault}
-use Rattle.files_flow.specs.declared.fault.FlowFault.TheVariants.{NoNode, Text, Twice}
+use Rattle.files_flow.specs.declared.fault.FlowFault.TheVariants.{NoNode, NoTree, NoVariables, Text, Twice}
 use Rattle.files_flow.specs.declared.flow.FlowGraph.{FlowGraph}
 use Rattle.files_flow.specs.Flows.{IsFlowOf}
 use Rattle.files_flow.specs.Nodes.{HasNodes}
@@ -330,6 +330,8 @@ module _ (text : List ℕ) (names : List (List ℕ)) (mentions : List Mention) (
   absent early mention late cut found (Text (Output error)) is = absurd is
   absent early mention late cut found (Text (Line line column expected)) is = absurd is
   absent early mention late cut found (Twice line column name) is = absurd is
+  absent early mention late cut found NoVariables is = absurd is
+  absent early mention late cut found NoTree is = absurd is
 
   pub flow_unread : (result : Result FlowGraph FlowFault) → IfErr result (AreUnnumbered names mentions) →
       IfErr result (IsUnread text)

@@ -39,6 +39,7 @@ abbrev pub IsFaultOf : List Token → FlowFault → Type 0
 IsFaultOf words (Text fault) = IsTextFault words fault
 IsFaultOf words (Twice line column name) = IsSecond words line column (string_bytes name)
 IsFaultOf words (NoNode line column name) = IsAbsent words line column (string_bytes name)
+IsFaultOf words fault = ⊥
 
 abbrev pub IsUnread : List ℕ → FlowFault → Type 0
 IsUnread text fault = (words : List Token) × AreWordsOf text words × IsFaultOf words fault

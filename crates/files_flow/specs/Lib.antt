@@ -1,6 +1,7 @@
 pub mod Analyses
 pub mod Available
 pub mod Definitions
+pub mod DotFlows
 pub mod Expressions
 pub mod FlowFaults
 pub mod FlowForms
@@ -12,3 +13,4 @@ pub mod Nodes
 pub mod Numbering
 pub mod Problems
 pub mod Reading
+pub mod Trees

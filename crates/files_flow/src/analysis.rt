@@ -1,8 +1,9 @@
 //! What holds before and after each node of a flow graph.
-ghost use Rattle.std.specs.Prelude.{◌≡◌, [], slice_index_or, IfErr, IfOk, OnOk};
+ghost use Rattle.std.specs.Prelude.{◌≡◌, true, [], slice_index_or, IfErr, IfOk, OnOk};
 ghost use Rattle.std.specs.Io.KnownBytes.{Appends};
+ghost use Rattle.files_dot.specs.declared.notation.Notation.TheVariants.{Lines};
 ghost use Rattle.files_text.specs.Printed.{Writes};
-ghost use Rattle.files_flow.specs.Analyses.{FailsBy, IsOutputFault, ListsAnalysis, WritesAnalysis};
+ghost use Rattle.files_flow.specs.Analyses.{FailsBy, FailsOf, IsOutputFault, ListsAnalysis, ListsIn, WritesAnalysis, WritesLines, WritesOf, can_read, can_write};
 ghost use Rattle.files_flow.specs.Flows.{IsInRange};
 ghost use Rattle.files_flow.specs.Problems.{IsSolved, IsSound, lists_of};
 ghost use Rattle.files_flow.specs.FlowForms.{IsFramed, labels_text};
@@ -11,11 +12,14 @@ ghost use Rattle.files_flow.specs.Available.{ListsAvailable, ListsBusy};
 
 use crate::definitions::reaching_problem;
 use crate::dominance::{print_dominators, print_immediate};
+use crate::dot::print_dot;
 use crate::expressions::{available_problem, busy_problem};
 use crate::fault::FlowFault;
 use crate::flow::{FlowGraph, read_flow};
-use crate::form::{put_either, put_label, put_node_head};
+use crate::form::{FlowForm, put_either, put_label, put_node_head};
 use crate::problem::{Problem, graph_of, live_problem};
+use crate::tree::print_tree;
+use files_dot::{Notation, notation_of};
 use files_forms::{first_of, is_first};
 use files_text::{Fault, Names};
 use std::alloc::{AllocError, Global};
@@ -308,26 +312,121 @@ fn print_framed<W: Write>(
     Ok(())
 }
 
-/// Reads a flow graph, and writes what an analysis finds at each node, as lines or, if `json`, as
-/// JSON. Returns the status, 0. Equal texts give equal bytes.
-///
-/// Fails at the first word of the text that can't stand where it does, or else at the first name to
-/// which a node leads that no node has. Nothing is written then. Fails too if memory runs out, or if
-/// the output can't be written.
-pub fn print_flow<W: Write>(
+/// Writes what an analysis finds, in a form: in DOT the tree of dominators.
+fn print_listed<W: Write>(
+    alloc: Global,
+    graph: &FlowGraph<'_>,
+    analysis: Analysis,
+    form: Option<FlowForm>,
+    output: &mut W,
+) -> Result<(), Fault>
+    requires { IsInRange graph.now }
+    ensures ok { OnOk result (Writes (W.contents output.old) (W.contents output.new)
+        (ListsIn analysis form graph.now)) }
+    ensures err { IfErr result IsOutputFault }
+{
+    match form {
+        None => print_framed(alloc, graph, analysis, false, output),
+        Some(FlowForm::Json) => print_framed(alloc, graph, analysis, true, output),
+        Some(FlowForm::Dot) => print_tree(alloc, graph, output),
+    }
+}
+
+/// Reads a flow graph in lines, and writes what an analysis finds.
+fn print_lines<W: Write>(
     alloc: Global,
     text: &[u8],
     analysis: Analysis,
-    json: bool,
+    form: Option<FlowForm>,
     output: &mut W,
-) -> Result<u8, FlowFault>
-    ensures status { IfOk result (λ status. status ≡ 0) }
+) -> Result<(), FlowFault>
     ensures ok { OnOk result
-        (WritesAnalysis text.now analysis json (W.contents output.old) (W.contents output.new)) }
-    ensures err { IfErr result (λ fault. FailsBy text.now fault
+        (WritesLines text.now analysis form (W.contents output.old) (W.contents output.new)) }
+    ensures err { IfErr result (λ fault. FailsOf Lines text.now analysis form fault
         (W.contents output.old) (W.contents output.new)) }
 {
     let graph = read_flow(alloc, text)?;
-    print_framed(alloc, &graph, analysis, json, output)?;
+    print_listed(alloc, &graph, analysis, form, output)?;
+    Ok(())
+}
+
+/// Returns whether a text in a notation can be analysed.
+fn can_read(notation: Notation, analysis: Analysis) -> bool
+    ensures { result ≡ can_read notation analysis }
+{
+    match notation {
+        Notation::Lines => true,
+        Notation::Dot => match analysis {
+            Analysis::Dominators | Analysis::Immediate => true,
+            _ => false,
+        },
+    }
+}
+
+/// Returns whether an analysis can be written in a form.
+fn can_write(analysis: Analysis, form: Option<FlowForm>) -> bool
+    ensures { result ≡ can_write analysis form }
+{
+    match form {
+        Some(FlowForm::Dot) => match analysis {
+            Analysis::Immediate => true,
+            _ => false,
+        },
+        _ => true,
+    }
+}
+
+/// Reads a flow graph in a notation, and writes what an analysis finds, in a form.
+fn print_in<W: Write>(
+    alloc: Global,
+    notation: Notation,
+    text: &[u8],
+    analysis: Analysis,
+    form: Option<FlowForm>,
+    output: &mut W,
+) -> Result<(), FlowFault>
+    requires { can_read notation analysis ≡ true }
+    ensures ok { OnOk result (WritesOf notation text.now analysis form (W.contents output.old)
+        (W.contents output.new)) }
+    ensures err { IfErr result (λ fault. FailsOf notation text.now analysis form fault
+        (W.contents output.old) (W.contents output.new)) }
+{
+    match notation {
+        Notation::Lines => print_lines(alloc, text, analysis, form, output),
+        Notation::Dot => print_dot(alloc, text, analysis, form, output),
+    }
+}
+
+/// Reads a flow graph, and writes what an analysis finds at each node, as lines or in a form: in DOT
+/// the tree of immediate dominators. The flow graph stands in the notation that is said, or else in DOT
+/// if the text begins as a graph in DOT does. Returns the status, 0. Equal texts give equal bytes.
+///
+/// Fails if a graph in DOT is to be analysed for its variables, or if another analysis than immediate
+/// dominators is to be written in DOT. Fails at the first word of lines that can't stand where it does,
+/// or else at the first name to which a node leads that no node has; or at the first place where a text
+/// in DOT is no directed graph. Nothing is written then. Fails too if memory runs out, or if the output
+/// can't be written.
+pub fn print_flow<W: Write>(
+    alloc: Global,
+    text: &[u8],
+    said: Option<Notation>,
+    analysis: Analysis,
+    form: Option<FlowForm>,
+    output: &mut W,
+) -> Result<u8, FlowFault>
+    ensures status { IfOk result (λ status. status ≡ 0) }
+    ensures ok { OnOk result (WritesAnalysis said text.now analysis form (W.contents output.old)
+        (W.contents output.new)) }
+    ensures err { IfErr result (λ fault. FailsBy said text.now analysis form fault
+        (W.contents output.old) (W.contents output.new)) }
+{
+    let notation = notation_of(said, text);
+    if !can_read(notation, analysis) {
+        return Err(FlowFault::NoVariables);
+    }
+    if !can_write(analysis, form) {
+        return Err(FlowFault::NoTree);
+    }
+    print_in(alloc, notation, text, analysis, form, output)?;
     Ok(0)
 }

@@ -21,6 +21,10 @@ pub enum FlowFault {
         column: usize,
         name: String,
     },
+    /// A graph in DOT has no variables, so that dominators alone can be found in it.
+    NoVariables,
+    /// Immediate dominators alone are a tree, which can be written in DOT.
+    NoTree,
 }
 
 impl FlowFault {
@@ -33,6 +37,13 @@ impl FlowFault {
             }
             FlowFault::Twice { line, column, name } => {
                 write!(f, "{file}:{line}:{column}: a second node is called {name}")
+            }
+            FlowFault::NoVariables => write!(
+                f,
+                "{file}: a graph in DOT has no variables: dominators and immediate alone read it"
+            ),
+            FlowFault::NoTree => {
+                f.write_str("--output dot prints the tree of --analysis immediate alone")
             }
         }
     }

@@ -11,8 +11,28 @@ use std::alloc::Global;
 use std::io;
 use std::io::Write;
 
-/// The names of the forms other than lines.
-pub static FLOW_FORMS: [&str; 1] = ["json"];
+/// A form in which an analysis is written, other than lines.
+#[derive(Clone, Copy, PartialEq, Eq)]
+pub enum FlowForm {
+    /// The tree of immediate dominators, a graph in DOT.
+    Dot,
+    /// JSON.
+    Json,
+}
+
+/// The names of the forms.
+pub static FLOW_FORMS: [&str; 2] = ["dot", "json"];
+
+impl FlowForm {
+    /// Returns the form with a name, one of `FLOW_FORMS`, or `None` if there is none.
+    pub fn of(name: &str) -> Option<FlowForm> {
+        match name {
+            "dot" => Some(FlowForm::Dot),
+            "json" => Some(FlowForm::Json),
+            _ => None,
+        }
+    }
+}
 
 /// Writes a text of JSON, or else of lines.
 pub(crate) fn put_either<W: Write>(

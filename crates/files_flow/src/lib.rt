@@ -4,6 +4,7 @@
 mod analysis;
 mod definitions;
 mod dominance;
+mod dot;
 mod expressions;
 mod fault;
 mod flow;
@@ -11,7 +12,8 @@ mod form;
 pub mod laws;
 mod nodes;
 mod problem;
+mod tree;
 
 pub use analysis::{ANALYSES, Analysis, print_flow};
 pub use fault::FlowFault;
-pub use form::FLOW_FORMS;
+pub use form::{FLOW_FORMS, FlowForm};

@@ -1,27 +1,19 @@
--- The numbers of a graph that was read are in range.
-use Rattle.std.proofs.KnownBytes.{Keeps-refl}
-use Rattle.std.proofs.lemmas.Result.{err_from_is_err_and}
-use Rattle.files_flow.proofs.FaultLemmas.{output_fails, unread_fails}
-use Rattle.files_flow.proofs.FittingLemmas.{in_range}
+-- The text is read in its notation, if it can be.
+use Rattle.std.proofs.Common.{◌≡◌, true, arith}
+use Rattle.std.proofs.lemmas.Grind.{common_steps}
+use Rattle.files_flow.specs.Analyses.{can_read, can_write}
 use Rattle.files_flow.proofs.analysis.print_flow.Goals as goal
 
-pub print_framed-requires : goal.print_framed-requires
-print_framed-requires g c = in_range c.args.text.now c.in_ok-graph.graph c.in_ok-graph.ensures.ok
-
-pub returns-in_err-graph-clause-err : goal.returns-in_err-graph-clause-err
-returns-in_err-graph-clause-err g c =
-    let p = err_from_is_err_and c.from_residual.result c.from_residual.ensures.1 in
-    rw (p.1, p.2) (unread_fails c.args.text.now _ _ (Keeps-refl _) c.in_err-graph.field-0.0 c.in_err-graph.ensures.err)
-
-pub returns-in_err-print_framed-clause-err : goal.returns-in_err-print_framed-clause-err
-returns-in_err-print_framed-clause-err g c =
-    let p = err_from_is_err_and c.from_residual-in_err-print_framed.result
-    c.from_residual-in_err-print_framed.ensures.1 in
-    rw (p.1, p.2) (output_fails c.args.text.now _ _ c.in_err-print_framed.field-0.0 c.in_err-print_framed.ensures.err)
-
 pub returns-clause-ok : goal.returns-clause-ok
-returns-clause-ok g c = record {
-  graph = c.in_ok-graph.graph;
-  graph_is = c.in_ok-graph.ensures.ok;
-  written = c.in_ok-print_framed.ensures.ok;
-}
+returns-clause-ok g c =
+    let reads : can_read c.notation_of-notation.result c.args.analysis ≡ true =
+    grind (arith, common_steps, c.can_read.ensures, c.if-not-can_read.false) in
+    let forms : can_write c.args.analysis c.args.form ≡ true =
+    grind (arith, common_steps, c.can_write.ensures, c.if-not-can_write.false) in
+    record {
+      notation = c.notation_of-notation.result;
+      is_in = c.notation_of-notation.ensures;
+      reads = reads;
+      forms = forms;
+      writes = c.in_ok-print_in.ensures.ok;
+    }
