@@ -72,13 +72,44 @@ fn load_bytes(words: &mut [usize], bits: usize, bytes: &[u8], most_first: bool)
     mask_last(words, bits);
 }
 
+/// Writes the eight bytes of word `at`, each turned around if its most significant bit comes first.
+fn store_word(words: &[usize], at: usize, bytes: &mut [u8], most_first: bool)
+    requires word { at < length words.now }
+    requires bytes { 8 * at + 8 ≤ length bytes.old }
+    ensures long { length bytes.new ≡ length bytes.old }
+    ensures each { ((i : ℕ) → i < 8 * (8 * at)
+        → byte_bit most_first bytes.old i ≡ bit_at words.now 64 i)
+        → (i : ℕ) → i < 8 * (8 * at + 8) → byte_bit most_first bytes.new i ≡ bit_at words.now 64 i }
+{
+    let eight = words[at].to_le_bytes();
+    for j in 0..8 {
+        bytes[8 * at + j] = turned(eight[j], most_first);
+    }
+}
+
+/// Writes the bits of words into bytes as long as there is room for eight, and returns of how many.
+fn store_words(words: &[usize], bytes: &mut [u8], most_first: bool) -> usize
+    requires { length bytes.old ≤ 8 * length words.now }
+    ensures most { result ≤ length bytes.old }
+    ensures long { length bytes.new ≡ length bytes.old }
+    ensures each { (i : ℕ) → i < 8 * result
+        → byte_bit most_first bytes.new i ≡ bit_at words.now 64 i }
+{
+    let whole = bytes.len() / 8;
+    for k in 0..whole {
+        store_word(words, k, bytes, most_first);
+    }
+    8 * whole
+}
+
 /// Writes the bits of words into bytes.
 fn store_bytes(words: &[usize], bits: usize, bytes: &mut [u8], most_first: bool)
     requires canonical { IsCanonical bits words.now 64 }
     requires bytes { length bytes.old ≡ need bits 8 }
     ensures { (i : ℕ) → byte_bit most_first bytes.new i ≡ item (unpacking bits words.now 64) i }
 {
-    for k in 0..bytes.len() {
+    let first = store_words(words, bytes, most_first);
+    for k in first..bytes.len() {
         bytes[k] = turned(low_byte(words, k), most_first);
     }
 }
