@@ -5,7 +5,7 @@ use clap::builder::ValueParser;
 use clap::{Arg, ArgAction, ArgMatches, Command};
 use files_code::Form;
 use files_dot::{NOTATIONS, Notation};
-use files_filter::{Format, Shows};
+use files_filter::Shows;
 use files_flow::{ANALYSES, Analysis, FLOW_FORMS, FlowForm};
 use files_graph::{GRAPH_FORMS, GraphForm, Part};
 use files_parse::{TREE_FORMS, TreeForm};
@@ -99,6 +99,15 @@ pub enum GrammarForm {
     Report(ReportForm),
 }
 
+/// How a table is read and written: what stands between cells, the names of the columns that are
+/// written, with commas between, if not all are, and whether rows are objects of JSON.
+#[derive(Clone, Copy)]
+pub struct RowLayout<'a> {
+    pub delimiter: u8,
+    pub columns: Option<&'a str>,
+    pub is_json: bool,
+}
+
 /// What the words ask for. Each task names the file that it reads.
 #[derive(Clone, Copy)]
 pub enum Task<'a> {
@@ -131,7 +140,7 @@ pub enum Task<'a> {
     /// The rows of a table of which a condition is true.
     Filter {
         file: &'a str,
-        format: Format<'a>,
+        layout: RowLayout<'a>,
         condition: &'a str,
         shows: Shows,
     },
@@ -265,6 +274,60 @@ fn flow_command<'a>(alloc: Global) -> Result<Command<'a>, AllocError> {
         .arg(file)
 }
 
+/// Returns the argument of a page's number.
+fn page_argument<'a>(alloc: Global) -> Result<Arg<'a>, AllocError> {
+    Arg::new(alloc, "page")
+        .long("page")
+        .value_name("K")
+        .value_parser(ValueParser::unsigned(1, u64::MAX))
+        .help("Print the K-th page of the rows that are kept")
+        .conflicts_with("count")?
+        .conflicts_with("quiet")
+}
+
+/// Returns the argument of how many rows a page has.
+fn page_size_argument<'a>(alloc: Global) -> Result<Arg<'a>, AllocError> {
+    Arg::new(alloc, "page-size")
+        .long("page-size")
+        .value_name("N")
+        .value_parser(ValueParser::unsigned(1, u64::MAX))
+        .help("A page has N rows, and else 20; alone, the first page")
+        .conflicts_with("count")?
+        .conflicts_with("quiet")
+}
+
+/// Returns the argument of the columns that are written.
+fn select_argument<'a>(alloc: Global) -> Result<Arg<'a>, AllocError> {
+    Arg::new(alloc, "select")
+        .long("select")
+        .value_name("A,B")
+        .help("Print these columns, in this order")
+        .conflicts_with("count")?
+        .conflicts_with("quiet")
+}
+
+/// Returns the argument of what stands between cells.
+fn delimiter_argument<'a>(alloc: Global) -> Arg<'a> {
+    Arg::new(alloc, "delimiter")
+        .long("delimiter")
+        .value_name("C")
+        .value_parser(DELIMITERS.as_slice())
+        .hide_possible_values(true)
+        .help("What stands between cells: a comma, or one of ; : | tab")
+}
+
+/// Returns the argument of the form of rows.
+fn rows_argument<'a>(alloc: Global) -> Result<Arg<'a>, AllocError> {
+    Arg::new(alloc, "output")
+        .long("output")
+        .value_name("json")
+        .value_parser(["json"].as_slice())
+        .hide_possible_values(true)
+        .help("Print each row as an object of JSON, a line each")
+        .conflicts_with("count")?
+        .conflicts_with("quiet")
+}
+
 /// Returns the words of `filter`.
 fn filter_command<'a>(alloc: Global) -> Result<Command<'a>, AllocError> {
     let file = Arg::new(alloc, "file")
@@ -282,51 +345,16 @@ fn filter_command<'a>(alloc: Global) -> Result<Command<'a>, AllocError> {
         "Print nothing; the status is 1 if no row is kept",
     )
     .conflicts_with("count")?;
-    let page = Arg::new(alloc, "page")
-        .long("page")
-        .value_name("K")
-        .value_parser(ValueParser::unsigned(1, u64::MAX))
-        .help("Print the K-th page of the rows that are kept")
-        .conflicts_with("count")?
-        .conflicts_with("quiet")?;
-    let page_rows = Arg::new(alloc, "page-size")
-        .long("page-size")
-        .value_name("N")
-        .value_parser(ValueParser::unsigned(1, u64::MAX))
-        .help("A page has N rows, and else 20; alone, the first page")
-        .conflicts_with("count")?
-        .conflicts_with("quiet")?;
-    let select = Arg::new(alloc, "select")
-        .long("select")
-        .value_name("A,B")
-        .value_delimiter(',')
-        .help("Print these columns, in this order")
-        .conflicts_with("count")?
-        .conflicts_with("quiet")?;
-    let delimiter = Arg::new(alloc, "delimiter")
-        .long("delimiter")
-        .value_name("C")
-        .value_parser(DELIMITERS.as_slice())
-        .hide_possible_values(true)
-        .help("What stands between cells: a comma, or one of ; : | tab");
-    let output = Arg::new(alloc, "output")
-        .long("output")
-        .value_name("json")
-        .value_parser(["json"].as_slice())
-        .hide_possible_values(true)
-        .help("Print each row as an object of JSON, a line each")
-        .conflicts_with("count")?
-        .conflicts_with("quiet")?;
     Command::new(alloc, "filter")
         .about("Print the rows of a table of which a condition is true")
         .after_help(FILTER_HELP)
         .arg(count)?
         .arg(quiet)?
-        .arg(page)?
-        .arg(page_rows)?
-        .arg(select)?
-        .arg(delimiter)?
-        .arg(output)?
+        .arg(page_argument(alloc)?)?
+        .arg(page_size_argument(alloc)?)?
+        .arg(select_argument(alloc)?)?
+        .arg(delimiter_argument(alloc))?
+        .arg(rows_argument(alloc)?)?
         .arg(file)?
         .arg(condition)
 }
@@ -372,7 +400,7 @@ fn part_of<'a>(matches: &ArgMatches<'a>) -> Part<'a> {
 }
 
 /// Returns how a table is read and written.
-fn format_of<'a>(matches: &'a ArgMatches<'a>) -> Format<'a> {
+fn layout_of<'a>(matches: &ArgMatches<'a>) -> RowLayout<'a> {
     let delimiter = match matches.get_str("delimiter") {
         Some("tab") => b'\t',
         Some(";") => b';',
@@ -380,9 +408,9 @@ fn format_of<'a>(matches: &'a ArgMatches<'a>) -> Format<'a> {
         Some("|") => b'|',
         _ => b',',
     };
-    Format {
+    RowLayout {
         delimiter,
-        columns: matches.get_strs("select"),
+        columns: matches.get_str("select"),
         is_json: matches.get_str("output").is_some(),
     }
 }
@@ -430,7 +458,7 @@ pub fn command<'a>(alloc: Global) -> Result<Command<'a>, AllocError> {
 }
 
 /// Returns what the words ask for, or `None` if they name no task.
-pub fn task_of<'a>(matches: &'a ArgMatches<'a>) -> Option<Task<'a>> {
+pub fn task_of<'a>(matches: &ArgMatches<'a>) -> Option<Task<'a>> {
     let (name, own) = matches.subcommand()?;
     let file = own.get_str("file").unwrap_or(STANDARD_INPUT);
     match name {
@@ -458,7 +486,7 @@ pub fn task_of<'a>(matches: &'a ArgMatches<'a>) -> Option<Task<'a>> {
         }),
         "filter" => Some(Task::Filter {
             file,
-            format: format_of(own),
+            layout: layout_of(own),
             condition: own.get_str("condition")?,
             shows: shows_of(own),
         }),

@@ -1,15 +1,16 @@
 //! A run of the program: words, input, output and status.
 
-use crate::command::{GrammarForm, STANDARD_INPUT, Task, command, shown_name, task_of};
+use crate::command::{GrammarForm, RowLayout, STANDARD_INPUT, Task, command, shown_name, task_of};
 use crate::fault::{Fault, Report};
 use crate::progress::Watched;
 use files_code::print_form;
-use files_filter::{Format, Shows, print_filter};
+use files_filter::{FilterFault, Format, Shows, print_filter};
 use files_flow::print_flow;
 use files_grammar::{GrammarFile, print_grammar};
 use files_graph::print_closure;
 use files_parse::print_parse;
 use files_report::{ReportForm, print_report};
+use std::alloc::Global;
 use std::fs::File;
 use std::io::{BufWriter, Read, Write};
 use std::process::ExitCode;
@@ -81,21 +82,42 @@ fn write_form<R: Eprint + AllocGlobal, W: Write>(
     Ok(status)
 }
 
+/// Returns the names of columns in a text, with commas between, if there is one.
+fn columns_of<'a>(
+    alloc: Global,
+    names: Option<&'a str>,
+) -> Result<Option<Vec<&'a str>>, FilterFault> {
+    let Some(names) = names else {
+        return Ok(None);
+    };
+    let mut columns = Vec::new(alloc);
+    for name in names.split(',') {
+        columns.push(name)?;
+    }
+    Ok(Some(columns))
+}
+
 /// Writes the rows of a table of which a condition is true, as they are read. Returns the status.
 fn filter<R: Files + Input + AllocGlobal, W: Write>(
     rt: &R,
     file: &str,
-    format: &Format<'_>,
+    layout: RowLayout<'_>,
     condition: &str,
     shows: Shows,
     output: &mut W,
 ) -> Result<u8, Fault> {
     let alloc = rt.alloc();
+    let columns = columns_of(alloc, layout.columns)?;
+    let format = Format {
+        delimiter: layout.delimiter,
+        columns: columns.as_ref().map(|columns| columns.as_slice()),
+        is_json: layout.is_json,
+    };
     if file == STANDARD_INPUT {
-        return Ok(print_filter(alloc, rt.reader(), format, condition, shows, output)?);
+        return Ok(print_filter(alloc, rt.reader(), &format, condition, shows, output)?);
     }
     let input = File::open(rt, file).map_err(files_text::Fault::Input)?;
-    Ok(print_filter(alloc, input, format, condition, shows, output)?)
+    Ok(print_filter(alloc, input, &format, condition, shows, output)?)
 }
 
 /// Reads the input of a task, and writes what it asks for. Returns the status.
@@ -133,10 +155,10 @@ fn write_task<R: Files + Input + Eprint + AllocGlobal, W: Write>(
         } => Ok(print_flow(alloc, text, *said, *analysis, *form, output)?),
         Task::Filter {
             file,
-            format,
+            layout,
             condition,
             shows,
-        } => filter(rt, file, format, condition, *shows, output),
+        } => filter(rt, file, *layout, condition, *shows, output),
     }
 }
 
