@@ -23,6 +23,14 @@ pub enum Fault {
     Filter(FilterFault),
 }
 
+/// Returns the line and the column of a fault of a text, if it has a place.
+fn place_of(fault: &files_text::Fault) -> Option<(usize, usize)> {
+    match fault {
+        files_text::Fault::Line { line, column, .. } => Some((*line, *column)),
+        _ => None,
+    }
+}
+
 impl Fault {
     /// Returns whether the fault is in a grammar file.
     pub fn is_of_grammar(&self) -> bool {
@@ -30,6 +38,34 @@ impl Fault {
             Fault::GrammarInput(_) => true,
             Fault::Grammar(fault) => fault.is_of_grammar(),
             _ => false,
+        }
+    }
+
+    /// Returns the line and the column of the fault in the file that was read, if it has a place there.
+    pub fn place(&self) -> Option<(usize, usize)> {
+        match self {
+            Fault::Text(fault)
+            | Fault::Grammar(GrammarFault::Text(fault))
+            | Fault::Graph(GraphFault::Text(fault))
+            | Fault::Flow(FlowFault::Text(fault))
+            | Fault::Filter(FilterFault::Text(fault)) => place_of(fault),
+            Fault::Grammar(GrammarFault::Grammar(error)) => Some((error.line, error.column)),
+            Fault::Filter(FilterFault::Cell(wrong)) => Some((wrong.line, wrong.column)),
+            Fault::Grammar(GrammarFault::Token { line, column, .. })
+            | Fault::Grammar(GrammarFault::Endless { line, column })
+            | Fault::Flow(FlowFault::NoNode { line, column, .. })
+            | Fault::Flow(FlowFault::Twice { line, column, .. })
+            | Fault::Filter(FilterFault::Twice { line, column, .. }) => Some((*line, *column)),
+            _ => None,
+        }
+    }
+
+    /// Returns the column of the fault in the condition of `filter`, if it has a place there.
+    pub fn column_of_condition(&self) -> Option<usize> {
+        match self {
+            Fault::Filter(FilterFault::Condition { column, .. })
+            | Fault::Filter(FilterFault::Column { column, .. }) => Some(*column),
+            _ => None,
         }
     }
 

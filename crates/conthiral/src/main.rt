@@ -3,13 +3,17 @@
 
 mod command;
 mod fault;
+mod mark;
 mod progress;
 mod run;
+mod task;
 
+use run::Extras;
 use std::io::IsTerminal;
 use std::process::ExitCode;
 
 fn main(rt: HostRuntime) -> ExitCode {
-    let says = rt.stderr().is_terminal() && !rt.stdout().is_terminal();
-    run::run(&rt, says)
+    let marks = rt.stderr().is_terminal();
+    let progress = marks && !rt.stdout().is_terminal();
+    run::run(&rt, Extras { marks, progress })
 }

@@ -1,8 +1,10 @@
 //! A run of the program: words, input, output and status.
 
-use crate::command::{GrammarForm, RowLayout, STANDARD_INPUT, Task, command, shown_name, task_of};
+use crate::command::{STANDARD_INPUT, command};
 use crate::fault::{Fault, Report};
+use crate::mark::{marked, read_line};
 use crate::progress::Watched;
+use crate::task::{GrammarForm, RowLayout, Task, shown_name, task_of};
 use files_code::print_form;
 use files_filter::{FilterFault, Format, Shows, print_filter};
 use files_flow::print_flow;
@@ -20,6 +22,15 @@ use std::{env, fs, io};
 
 /// The status of a run that failed.
 const FAILED: u8 = 2;
+
+/// What a terminal gets on standard error, besides messages.
+#[derive(Clone, Copy)]
+pub struct Extras {
+    /// The line that a fault is in, with a mark below the place.
+    pub marks: bool,
+    /// How far long work is.
+    pub progress: bool,
+}
 
 /// Reads the whole input.
 fn read_input<R: Files + Input + AllocGlobal>(rt: &R, file: &str) -> io::Result<Vec<u8>> {
@@ -180,13 +191,46 @@ fn perform<R: Files + Input + Print + Eprint + Clock + AllocGlobal>(
     status
 }
 
+/// The mark with which a text in UTF-8 may begin.
+const UTF8_MARK: &[u8] = &[0xef, 0xbb, 0xbf];
+
+/// Returns the line that a fault is in, with a mark below the place. There is none if the fault has no
+/// place, or is at the end of a file, or in standard input, which can't be read again.
+fn marked_line<R: Files + AllocGlobal>(
+    rt: &R,
+    task: &Task<'_>,
+    fault: &Fault,
+) -> io::Result<Option<String>> {
+    let alloc = rt.alloc();
+    if let (Some(condition), Some(column)) = (task.condition(), fault.column_of_condition()) {
+        return Ok(Some(marked(alloc, condition.as_bytes(), column)?));
+    }
+    let file = task.file_with(fault);
+    let Some((line, column)) = fault.place() else {
+        return Ok(None);
+    };
+    if file == STANDARD_INPUT {
+        return Ok(None);
+    }
+    let text = read_line(rt, file, line)?;
+    if text.is_empty() {
+        return Ok(None);
+    }
+    // the columns of a table are counted from behind its mark
+    let own = match task {
+        Task::Filter { .. } if line == 1 => text.strip_prefix(UTF8_MARK).unwrap_or(&text),
+        _ => &text,
+    };
+    Ok(Some(marked(alloc, own, column)?))
+}
+
 /// Performs a task, and says on standard error why it failed.
 fn perform_or_report<R: Files + Input + Print + Eprint + Clock + AllocGlobal>(
     rt: &R,
     task: &Task<'_>,
-    says: bool,
+    extras: Extras,
 ) -> u8 {
-    match perform(rt, task, says) {
+    match perform(rt, task, extras.progress) {
         Ok(status) => status,
         Err(fault) if fault.is_closed_pipe() => 0,
         Err(fault) => {
@@ -195,19 +239,23 @@ fn perform_or_report<R: Files + Input + Print + Eprint + Clock + AllocGlobal>(
                 fault: &fault,
             };
             let _ = eprintln!(rt; "conthiral: {report}");
+            if extras.marks
+                && let Ok(Some(line)) = marked_line(rt, task, &fault)
+            {
+                let _ = eprintln!(rt; "{line}");
+            }
             FAILED
         }
     }
 }
 
 /// Does what the words of the command line ask for. Returns the status: 0, or 1 if a quiet filter
-/// keeps no row, or 2 after a fault. A reader of the output that goes away is no fault. If `says`,
-/// long work says on standard error how far it is.
+/// keeps no row, or 2 after a fault. A reader of the output that goes away is no fault.
 pub fn run<R: Env + Files + Input + Print + Eprint + Clock + AllocGlobal>(
     rt: &R,
-    says: bool,
+    extras: Extras,
 ) -> ExitCode {
-    let status = match run_words(rt, says) {
+    let status = match run_words(rt, extras) {
         Ok(status) => status,
         Err(error) if error.kind() == io::ErrorKind::BrokenPipe => 0,
         Err(error) => {
@@ -221,7 +269,7 @@ pub fn run<R: Env + Files + Input + Print + Eprint + Clock + AllocGlobal>(
 /// Does the same, and fails if the words can't be read or their help can't be written.
 fn run_words<R: Env + Files + Input + Print + Eprint + Clock + AllocGlobal>(
     rt: &R,
-    says: bool,
+    extras: Extras,
 ) -> io::Result<u8> {
     let alloc = rt.alloc();
     let words: Vec<String> = env::args(rt)?.collect(alloc)?;
@@ -233,7 +281,7 @@ fn run_words<R: Env + Files + Input + Print + Eprint + Clock + AllocGlobal>(
         }
     };
     match task_of(&matches) {
-        Some(task) => Ok(perform_or_report(rt, &task, says)),
+        Some(task) => Ok(perform_or_report(rt, &task, extras)),
         None => Ok(FAILED),
     }
 }
