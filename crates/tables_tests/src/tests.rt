@@ -1,6 +1,5 @@
 //! Grammars worked by hand, and files of grammars; refusals apart.
 mod actions;
-mod canonical;
 mod cells;
 mod declarations;
 mod details;

@@ -5,7 +5,6 @@ mod copies;
 mod draining;
 mod growing;
 mod hints;
-mod lanes;
 mod low_bytes;
 mod moves;
 mod order;

@@ -1,6 +1,7 @@
-//! Lookaheads of grammars worked by hand.
+//! Lookaheads of grammars worked by hand, and handles by them.
 use super::grammar::grammar_of;
 use super::support::same;
+use crate::handles::has_handle;
 use std::process::Abort;
 use vob_lr::Lookaheads;
 
@@ -78,4 +79,21 @@ fn an_item_that_a_state_does_not_have_has_no_lookaheads(rt: HostRuntime) {
     ] {
         same(&rt, "an item", item, found.of(state, item).is_some(), false);
     }
+}
+
+#[test]
+fn handles_end_where_their_rules_are_reduced_by(rt: HostRuntime) {
+    let row = &GRAMMARS[0];
+    let grammar = grammar_of(&rt, row.names, row.rules);
+    let found = Lookaheads::new(rt.alloc(), &grammar).expect(&rt, "lookaheads");
+    // By rule 5 R becomes L. After L the end is next, and after * L also =.
+    for (state, terminal, wanted) in [(4, 0, true), (4, 1, false), (6, 1, true), (6, 2, false)] {
+        let ends = has_handle(rt.alloc(), &found, state, terminal, 5).expect(&rt, "an answer");
+        same(&rt, "a handle", state, ends, Some(wanted));
+    }
+    // B never ends.
+    let grammar = grammar_of(&rt, ("ZAB", "$a"), &["Z=A$", "A=a", "A=B", "B=aB"]);
+    let found = Lookaheads::new(rt.alloc(), &grammar).expect(&rt, "lookaheads");
+    let ends = has_handle(rt.alloc(), &found, 0, 0, 1).expect(&rt, "an answer");
+    same(&rt, "a handle", 0, ends, None);
 }

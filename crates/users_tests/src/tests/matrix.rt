@@ -1,5 +1,4 @@
-//! Bit matrices: closures worked by hand, chains, rings, and every graph of three nodes;
-//! transposes; entries and rows.
+//! Bit matrices: closures worked by hand, chains and rings; products, transposes; entries and rows.
 use super::support::{check_bits, push, same, vob_of};
 use std::process::Abort;
 use vob::Vob;
@@ -189,18 +188,6 @@ fn chains_with_fewer_columns_than_rows_are_closed(rt: HostRuntime) {
     }
 }
 
-/// Compares two matrices, row by row.
-fn check_same(rt: &impl Abort, found: &BitMatrix, wanted: &BitMatrix) {
-    same(rt, "rows", 0, found.rows(), wanted.rows());
-    same(rt, "columns", 0, found.columns(), wanted.columns());
-    for row in 0..found.rows() {
-        if row < wanted.rows() {
-            let (left, right) = (found.row(row), wanted.row(row));
-            same(rt, "row", row, left.get_storage(), right.get_storage());
-        }
-    }
-}
-
 /// The product, with the ends tested first.
 pub fn times(rt: &(impl Abort + AllocGlobal), first: &BitMatrix, second: &BitMatrix) -> BitMatrix {
     assert_eq!(rt; first.columns(), second.rows());
@@ -239,87 +226,9 @@ fn products_have_an_entry_for_two_edges(rt: HostRuntime) {
     }
 }
 
-#[test]
-fn powers_are_products_of_equals(rt: HostRuntime) {
-    for nodes in [0, 1, 3, 9] {
-        let matrix = random(&rt, nodes, nodes, nodes + nodes / 2);
-        let mut wanted = BitMatrix::identity(rt.alloc(), nodes).expect(&rt, "memory");
-        for n in 0..8 {
-            check_same(&rt, &power(&rt, &matrix, n), &wanted);
-            wanted = times(&rt, &wanted, &matrix);
-        }
-        check_same(&rt, &matrix.clone().expect(&rt, "memory"), &matrix);
-    }
-}
-
-/// How many nodes the graphs have of which each is tried.
-const NODES: usize = 3;
-
-/// Whether a graph has a step from one node to another: digit `3 * from + to` in base two.
-fn has_step(graph: u32, from: usize, to: usize) -> bool {
-    from < NODES && to < NODES && graph >> (NODES * from + to) & 1 == 1
-}
-
-/// Whether a path of one to three steps leads from one node to another: no shortest one has more.
-fn has_path(graph: u32, from: usize, to: usize) -> bool {
-    let mut found = has_step(graph, from, to);
-    for first in 0..NODES {
-        let on = has_step(graph, from, first);
-        found = found || on && has_step(graph, first, to);
-        for second in 0..NODES {
-            found = found || on && has_step(graph, first, second) && has_step(graph, second, to);
-        }
-    }
-    found
-}
-
-#[test]
-fn every_graph_of_three_nodes_is_closed(rt: HostRuntime) {
-    for graph in 0..512 {
-        let mut matrix = none(&rt, NODES, NODES);
-        for from in 0..NODES {
-            for to in 0..NODES {
-                if has_step(graph, from, to) {
-                    mark(&mut matrix, from, to);
-                }
-            }
-        }
-        matrix.close(rt.alloc());
-        for from in 0..NODES {
-            for to in 0..NODES {
-                check_entry(&rt, &matrix, from, to, has_path(graph, from, to));
-            }
-        }
-    }
-}
-
 /// The matrix with rows and columns exchanged.
 pub fn turned(rt: &(impl Abort + AllocGlobal), matrix: &BitMatrix) -> BitMatrix {
     matrix.transpose(rt.alloc()).expect(rt, "memory")
-}
-
-#[test]
-fn rows_and_columns_are_exchanged(rt: HostRuntime) {
-    let once = turned(&rt, &matrix_of(&rt, 4, &["1010", "0111"]));
-    check_rows(&rt, &once, 2, &["10", "01", "11", "01"]);
-    check_rows(&rt, &turned(&rt, &once), 4, &["1010", "0111"]);
-
-    // Without rows there are columns, and the other way round.
-    let wide = turned(&rt, &none(&rt, 0, 2));
-    check_rows(&rt, &wide, 0, &["", ""]);
-    check_rows(&rt, &turned(&rt, &wide), 2, &[]);
-
-    // A matrix wider than a block.
-    let mut matrix = none(&rt, 3, 130);
-    for column in 0..130 {
-        mark(&mut matrix, column % 3, column);
-    }
-    let once = turned(&rt, &matrix);
-    for column in 0..130 {
-        for row in 0..3 {
-            check_entry(&rt, &once, column, row, column % 3 == row);
-        }
-    }
 }
 
 // Of half-full ones each tile of 64 by 64 is transposed at once; the others have few set bits.

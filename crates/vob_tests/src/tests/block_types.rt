@@ -1,10 +1,6 @@
 //! Calls at each block type: rows worked out by hand, and calls that leave the same bits at each. Other
 //! tests are at one type, since a contract says the same of each.
-use super::pointwise::{CALLS, combine};
-use super::support::{
-    check_bits, copy_of, filled, join, listed, pattern, push, resize, same, same_list, vob_of,
-    write,
-};
+use super::support::{check_bits, listed, pattern, push, resize, same, same_list, vob_of, write};
 use std::process::Abort;
 use vob::Vob;
 use vob_block::Block;
@@ -19,36 +15,43 @@ fn check_row<T: Block>(rt: &(impl Abort + AllocGlobal), digits: &str, blocks: &s
     same(rt, digits, 0, text.as_str(), blocks);
 }
 
+/// Compares the blocks of some digits, as they print, at each type from `u8` to `u128`, and at `usize`.
+fn check_each(rt: &(impl Abort + AllocGlobal), digits: &str, blocks: [&str; 6]) {
+    let [bytes, halves, quarters, words, double, native] = blocks;
+    check_row::<u8>(rt, digits, bytes);
+    check_row::<u16>(rt, digits, halves);
+    check_row::<u32>(rt, digits, quarters);
+    check_row::<u64>(rt, digits, words);
+    check_row::<u128>(rt, digits, double);
+    check_row::<usize>(rt, digits, native);
+}
+
 #[test]
 fn each_block_type_takes_as_many_blocks_as_its_width_needs(rt: HostRuntime) {
-    check_row::<u8>(&rt, "101", "[5]");
-    check_row::<u16>(&rt, "101", "[5]");
-    check_row::<u32>(&rt, "101", "[5]");
-    check_row::<u64>(&rt, "101", "[5]");
-    check_row::<u128>(&rt, "101", "[5]");
-    check_row::<usize>(&rt, "101", "[5]");
-    // Ten bits take one block or two bytes.
-    check_row::<u8>(&rt, "1011011101", "[237, 2]");
-    check_row::<u16>(&rt, "1011011101", "[749]");
-    check_row::<u32>(&rt, "1011011101", "[749]");
-    check_row::<u64>(&rt, "1011011101", "[749]");
-    check_row::<u128>(&rt, "1011011101", "[749]");
-    check_row::<usize>(&rt, "1011011101", "[749]");
-    check_row::<u8>(&rt, "111111111", "[255, 1]");
     // One bit more than two words takes one more block.
     let ones = "111111111111111111111111111111111111111111111111111111111111111111111111111111\
         111111111111111111111111111111111111111111111111111";
     let bytes =
         "[255, 255, 255, 255, 255, 255, 255, 255, 255, 255, 255, 255, 255, 255, 255, 255, 1]";
-    check_row::<u8>(&rt, ones, bytes);
     let halves = "[65535, 65535, 65535, 65535, 65535, 65535, 65535, 65535, 1]";
-    check_row::<u16>(&rt, ones, halves);
     let quarters = "[4294967295, 4294967295, 4294967295, 4294967295, 1]";
-    check_row::<u32>(&rt, ones, quarters);
     let words = "[18446744073709551615, 18446744073709551615, 1]";
-    check_row::<u64>(&rt, ones, words);
-    check_row::<u128>(&rt, ones, "[340282366920938463463374607431768211455, 1]");
-    check_row::<usize>(&rt, ones, words);
+    let double = "[340282366920938463463374607431768211455, 1]";
+    for (digits, blocks) in [
+        ("101", ["[5]"; 6]),
+        // Ten bits take one block or two bytes.
+        (
+            "1011011101",
+            ["[237, 2]", "[749]", "[749]", "[749]", "[749]", "[749]"],
+        ),
+        (
+            "111111111",
+            ["[255, 1]", "[511]", "[511]", "[511]", "[511]", "[511]"],
+        ),
+        (ones, [bytes, halves, quarters, words, double, words]),
+    ] {
+        check_each(&rt, digits, blocks);
+    }
 }
 
 /// `set_unchecked`, with the length tested first.
@@ -120,37 +123,12 @@ fn turn<T: Block>(vob: &mut Vob<T>) {
     vob.negate();
 }
 
-/// Takes bits out of a Vob, and puts these and others behind the rest.
-fn move_bits<T: Block>(rt: &(impl Abort + AllocGlobal), vob: &mut Vob<T>) {
-    let drained = vob.drain(3..150).expect(rt, "memory");
-    let rest = vob.split_off(vob.len() / 3).expect(rt, "memory");
-    join(rt, vob, &drained);
-    push(rt, vob, true);
-    join(rt, vob, &rest);
-    vob.grow_and_set(400).expect(rt, "memory");
-    resize(rt, vob, 500, true);
-    vob.truncate(450);
-}
-
 /// The bits that these calls leave of a pattern.
 fn changed_bits<T: Block>(rt: &(impl Abort + AllocGlobal), len: usize) -> Vec<bool> {
     let mut vob = pattern::<T>(rt, 1, len);
     turn(&mut vob);
-    move_bits(rt, &mut vob);
+    resize(rt, &mut vob, 450, true);
     listed(rt, vob.iter())
-}
-
-/// The bits that each call on a pattern and another leaves.
-fn combined_bits<T: Block>(rt: &(impl Abort + AllocGlobal), len: usize) -> Vec<bool> {
-    let other = pattern::<T>(rt, 1, len);
-    let own = pattern::<T>(rt, 2, len);
-    let mut all = vob_of::<T>(rt, "");
-    for call in CALLS {
-        let mut vob = copy_of(rt, &own);
-        combine(rt, call, &mut vob, &other);
-        join(rt, &mut all, &vob);
-    }
-    listed(rt, all.iter())
 }
 
 #[test]
@@ -162,11 +140,5 @@ fn calls_leave_the_same_bits_at_each_block_type(rt: HostRuntime) {
         same_list(&rt, "u64", &changed_bits::<u64>(&rt, len), &wanted);
         same_list(&rt, "u128", &changed_bits::<u128>(&rt, len), &wanted);
         same_list(&rt, "usize", &changed_bits::<usize>(&rt, len), &wanted);
-        let wanted = combined_bits::<u8>(&rt, len);
-        same_list(&rt, "u16", &combined_bits::<u16>(&rt, len), &wanted);
-        same_list(&rt, "u32", &combined_bits::<u32>(&rt, len), &wanted);
-        same_list(&rt, "u64", &combined_bits::<u64>(&rt, len), &wanted);
-        same_list(&rt, "u128", &combined_bits::<u128>(&rt, len), &wanted);
-        same_list(&rt, "usize", &combined_bits::<usize>(&rt, len), &wanted);
     }
 }

@@ -76,7 +76,7 @@ pub fn vob_of<T: Kernel>(rt: &(impl Abort + AllocGlobal), digits: &str) -> Vob<T
 /// Bit `index` of the pattern with this seed. With seed 3 no bit is true.
 pub fn pattern_bit(seed: usize, index: usize) -> bool {
     let place = index % 5;
-    (place * place + seed % 5) % 5 < 2
+    place.wrapping_mul(place).wrapping_add(seed % 5) % 5 < 2
 }
 
 /// The first `len` bits of the pattern with this seed.
