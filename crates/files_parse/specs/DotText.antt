@@ -1,21 +1,14 @@
 -- The tree of a parse as a graph in DOT.
-use Rattle.std.specs.Prelude.{◌≡◌, ◌==◌, ◌||◌, ℕ, List, [], ◌∷◌, ◌++◌, Option, None, Some, codes, cond, length, slice_get}
+use Rattle.std.specs.Prelude.{◌≡◌, ℕ, List, [], ◌++◌, Option, None, Some, codes, length, slice_get}
 use Rattle.std.specs.Fmt.{decimal}
 use Rattle.std.specs.List.{flat_map, range_with_len}
 use Rattle.vob_lr.specs.TreeNodes.{nodes_at, nodes_of}
 use Rattle.vob_lr.specs.Trees.{AreTreesOf, Trees}
 use Rattle.vob_lr.specs.declared.tree.Node.{Node}
+use Rattle.files_forms.specs.Forms.{label}
 use Rattle.files_grammar.specs.declared.file.GrammarFile.{GrammarFile}
 use Rattle.files_text.specs.Printed.{line_end}
 use Rattle.files_parse.specs.NodeNames.{node_name}
-
--- a byte of a label: a backslash stands before a double quote and a backslash
-abbrev pub escaped : ℕ → List ℕ
-escaped byte = cond ((byte == 34) || (byte == 92)) (92 ∷ byte ∷ []) (byte ∷ [])
-
--- a name between double quotes
-abbrev pub label : List ℕ → List ℕ
-label name = codes "\"" ++ flat_map escaped name ++ codes "\""
 
 -- the line of an edge
 abbrev pub dot_edge : (from to : ℕ) → List ℕ

@@ -3,8 +3,8 @@ use Rattle.std.specs.Prelude.{◌≡◌, ℕ, List, String, map}
 use Rattle.std.specs.String.{string_bytes}
 use Rattle.std.specs.declared.alloc.Global.{Global}
 use Rattle.vob_lr.specs.declared.tree.Node.{Node}
+use Rattle.files_forms.specs.Forms.{json_name}
 use Rattle.files_grammar.specs.declared.file.GrammarFile.{GrammarFile}
-use Rattle.files_parse.specs.JsonText.{json_name}
 use Rattle.files_parse.specs.NodeNames.{node_name}
 
 -- the name of a node in JSON

@@ -2,12 +2,10 @@
 use Rattle.std.specs.Prelude.{◌≡◌, ℕ, List, [], ◌++◌, Option, None, Some, codes, cond, drop, length, nat_lt, slice_get}
 use Rattle.std.specs.Fmt.{decimal}
 use Rattle.std.specs.List.{flat_map, range_with_len}
-use Rattle.std.specs.Str.Lossy.{utf8_lossy}
-use Rattle.serde_json.specs.Data.{string}
-use Rattle.serde_json.specs.Written.{compact_text}
 use Rattle.vob_lr.specs.TreeNodes.{inner, nodes_at, nodes_of}
 use Rattle.vob_lr.specs.Trees.{AreTreesOf, Trees}
 use Rattle.vob_lr.specs.declared.tree.Node.{Node}
+use Rattle.files_forms.specs.Forms.{json_name}
 use Rattle.files_grammar.specs.declared.file.GrammarFile.{GrammarFile}
 use Rattle.files_text.specs.Printed.{line_end}
 use Rattle.files_text.specs.Words.{Token}
@@ -22,10 +20,6 @@ between text first number = cond (nat_lt first number) text []
 abbrev pub listed : (text : List ℕ) → (first count : ℕ) → List ℕ
 listed text first count =
     flat_map (λ number. between text first number ++ decimal number) (range_with_len first count)
-
--- a name in JSON, as serde_json writes it
-abbrev pub json_name : List ℕ → List ℕ
-json_name name = compact_text (string (utf8_lossy name))
 
 -- the number of a rule and those of its node's children
 abbrev pub rule_fields : List Node → Node → (r : ℕ) → List ℕ

@@ -2,43 +2,13 @@
 ghost use Rattle.std.specs.Prelude.{◌+◌, ◌≤◌, length, OnOk};
 ghost use Rattle.std.specs.List.{flat_map, range_with_len};
 ghost use Rattle.std.specs.Io.KnownBytes.{Appends};
-ghost use Rattle.files_parse.specs.DotText.{dot_at, dot_edge, dot_node, dot_text, escaped, label};
+ghost use Rattle.files_parse.specs.DotText.{dot_at, dot_edge, dot_node, dot_text};
 
 use crate::tree::WordTree;
+use files_forms::put_label;
 use std::io;
 use std::io::Write;
 use vob_lr::Node;
-
-/// Writes a byte of a name between quotes, as DOT has it.
-fn put_escaped<W: Write>(output: &mut W, byte: u8) -> io::Result<()>
-    ensures { OnOk result (Appends (W.contents output.old) (W.contents output.new) (escaped byte)) }
-{
-    if byte == b'"' || byte == b'\\' {
-        return output.write_all(&[b'\\', byte]);
-    }
-    output.write_all(&[byte])
-}
-
-/// Writes the bytes of a name between quotes.
-fn put_all_escaped<W: Write>(output: &mut W, name: &[u8]) -> io::Result<()>
-    ensures { OnOk result (Appends (W.contents output.old) (W.contents output.new)
-        (flat_map escaped name.now)) }
-{
-    for byte in name {
-        put_escaped(output, *byte)?;
-    }
-    Ok(())
-}
-
-/// Writes a name between quotes.
-fn put_label<W: Write>(output: &mut W, name: &[u8]) -> io::Result<()>
-    ensures { OnOk result (Appends (W.contents output.old) (W.contents output.new)
-        (label name.now)) }
-{
-    output.write_all(b"\"")?;
-    put_all_escaped(output, name)?;
-    output.write_all(b"\"")
-}
 
 /// Writes the line of an edge.
 fn put_edge<W: Write>(output: &mut W, from: usize, to: usize) -> io::Result<()>

@@ -3,16 +3,16 @@ ghost use Rattle.std.specs.Prelude.{◌≡◌, ◌+◌, ◌≤◌, ◌++◌, cod
 ghost use Rattle.std.specs.Fmt.{decimal};
 ghost use Rattle.std.specs.List.{flat_map, range_with_len};
 ghost use Rattle.std.specs.Io.KnownBytes.{Appends};
-ghost use Rattle.std.specs.String.{string_bytes};
+ghost use Rattle.files_forms.specs.Forms.{json_name};
 ghost use Rattle.files_text.specs.Words.{token_of as word_token};
-ghost use Rattle.files_parse.specs.JsonText.{between, fields_by, json_at, json_by, json_name, json_text, listed, place_fields, rule_fields, span_fields};
+ghost use Rattle.files_parse.specs.JsonText.{between, fields_by, json_at, json_by, json_text, listed, place_fields, rule_fields, span_fields};
 ghost use Rattle.files_parse.specs.JsonNames.{HasNames};
 ghost use Rattle.files_parse.specs.NodeNames.{node_name};
 ghost use Rattle.files_parse.specs.Writing.{IsUnwritten};
 
 use crate::tree::WordTree;
+use files_forms::name_json;
 use files_grammar::GrammarFault;
-use serde_json::Value;
 use std::alloc::{AllocError, Global};
 use std::io;
 use std::io::Write;
@@ -53,15 +53,6 @@ fn put_numbers<W: Write>(output: &mut W, text: &[u8], first: usize, count: usize
         put_next_number(output, text, first, number)?;
     }
     Ok(())
-}
-
-/// Returns a name in JSON. Fails if memory runs out.
-fn name_json(alloc: Global, name: &[u8]) -> Result<String, AllocError>
-    ensures { IfOk result (λ text. string_bytes text ≡ json_name name.now) }
-{
-    let text = String::from_utf8_lossy(alloc, name)?;
-    let value = Value::String(text);
-    value.to_string(alloc)
 }
 
 /// Writes the place of a token.

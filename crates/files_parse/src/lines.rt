@@ -68,12 +68,16 @@ fn put_rule_number<W: Write>(output: &mut W, rule: usize) -> io::Result<()>
 }
 
 /// Puts nodes on top of others, the first on top.
-fn put_on_top(open: &mut Vec<(Node, usize)>, nodes: &[Node], level: usize) -> Result<(), AllocError>
+fn put_on_top(
+    stack: &mut Vec<(Node, usize)>,
+    nodes: &[Node],
+    level: usize,
+) -> Result<(), AllocError>
     ensures { OnOk result
-        (reverse open.new.items ≡ on_level level nodes.now ++ reverse open.old.items) }
+        (reverse stack.new.items ≡ on_level level nodes.now ++ reverse stack.old.items) }
 {
     for place in (0..nodes.len()).rev() {
-        open.push((nodes[place], level))?;
+        stack.push((nodes[place], level))?;
     }
     Ok(())
 }
@@ -84,14 +88,14 @@ fn lines_of(alloc: Global, tree: &Tree) -> Result<Vec<(Node, usize)>, AllocError
     requires { HasLines tree.now }
     ensures { IfOk result (λ lines. AreLines tree.now lines.items) }
 {
-    let mut open = Vec::new(alloc);
-    put_on_top(&mut open, tree.roots(), 0)?;
+    let mut stack = Vec::new(alloc);
+    put_on_top(&mut stack, tree.roots(), 0)?;
     let mut lines = Vec::with_capacity(alloc, tree.nodes.len())?;
     for _ in 0..tree.nodes.len() {
-        let Some((node, level)) = open.pop() else {
+        let Some((node, level)) = stack.pop() else {
             return Ok(lines);
         };
-        put_on_top(&mut open, tree.children(node), level + 1)?;
+        put_on_top(&mut stack, tree.children(node), level + 1)?;
         lines.push((node, level))?;
     }
     Ok(lines)

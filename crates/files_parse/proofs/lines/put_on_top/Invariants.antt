@@ -5,4 +5,4 @@ use Rattle.files_parse.proofs.lines.put_on_top.Given as goal
 
 abbrev pub invariant-loop-place : goal.invariant-loop-place
 invariant-loop-place l =
-    reverse l.open.items ≡ on_level l.level (drop l.place l.nodes) ++ reverse l.fn.open.items
+    reverse l.stack.items ≡ on_level l.level (drop l.place l.nodes) ++ reverse l.fn.stack.items

@@ -1,6 +1,6 @@
 -- The name of the next node is the last.
 use Rattle.std.proofs.Common.{◌<◌, ap, arith, length, ◌∙◌}
-use Rattle.files_parse.specs.JsonText.{json_name}
+use Rattle.files_forms.specs.Forms.{json_name}
 use Rattle.files_parse.proofs.JsonLemmas.{names_all, names_more}
 use Rattle.files_parse.proofs.tree.WordTree.names_json.Goals as goal
 
