@@ -13,6 +13,9 @@ pub trait Block: Copy + sealed::Sealed {
 
     /// Returns the block at a place of words.
     fn at(words: &[u64], place: usize) -> Self;
+
+    /// Writes the block at a place of words that are 0 there. Returns whether all its set bits are in a word.
+    fn put(self, words: &mut [u64], place: usize) -> bool;
 }
 
 mod sealed {
@@ -20,7 +23,7 @@ mod sealed {
 }
 
 macro_rules! small_blocks {
-    ($($type:ty),*) => {
+    ($($type:ty as $unsigned:ty),*) => {
         $(
             impl sealed::Sealed for $type {}
 
@@ -32,31 +35,65 @@ macro_rules! small_blocks {
                     let bit = place * Self::WIDTH;
                     (words[bit / WORD] >> (bit % WORD)) as $type
                 }
+
+                fn put(self, words: &mut [u64], place: usize) -> bool {
+                    let bit = place * Self::WIDTH;
+                    words[bit / WORD] |= u64::from(self as $unsigned) << (bit % WORD);
+                    true
+                }
             }
         )*
     };
 }
 
-small_blocks!(u8, u16, u32, u64, usize);
+small_blocks!(u8 as u8, u16 as u16, u32 as u32, u64 as u64, usize as u64);
+small_blocks!(i8 as u8, i16 as u16, i32 as u32, i64 as u64, isize as u64);
 
-impl sealed::Sealed for u128 {}
+macro_rules! large_blocks {
+    ($($type:ty),*) => {
+        $(
+            impl sealed::Sealed for $type {}
 
-impl Block for u128 {
-    const WIDTH: usize = u128::BITS as usize;
+            impl Block for $type {
+                const WIDTH: usize = <$type>::BITS as usize;
 
-    fn at(words: &[u64], place: usize) -> u128 {
-        let high = words.get(2 * place + 1).copied().unwrap_or(0);
-        u128::from(words[2 * place]) | u128::from(high) << WORD
-    }
+                fn at(words: &[u64], place: usize) -> $type {
+                    let high = words.get(2 * place + 1).copied().unwrap_or(0);
+                    (u128::from(words[2 * place]) | u128::from(high) << WORD) as $type
+                }
+
+                fn put(self, words: &mut [u64], place: usize) -> bool {
+                    let high = (self as u128 >> WORD) as u64;
+                    words[2 * place] = self as u64;
+                    words.get_mut(2 * place + 1).map(|word| *word = high).is_some() || high == 0
+                }
+            }
+        )*
+    };
 }
 
-/// A bit vector. Bit `i` stands in word `i / 64`, at the place of weight 2 ^ (`i` % 64).
-#[derive(Clone)]
-pub struct Bits<T = usize> {
+large_blocks!(u128, i128);
+
+/// Bits in words. Bit `i` stands in word `i / 64`, at the place of weight 2 ^ (`i` % 64).
+///
+/// The words are a `Vec<u64>`, which grows, or others that a caller has, as a `&[u64]` or a `&mut [u64]`. What
+/// is written goes into them:
+///
+/// ```
+/// use conthiral::Bits;
+///
+/// let mut words = [0b1001, 0];
+/// let mut slots = Bits::from_words(&mut words[..], 100).unwrap();
+/// slots.set_range(64..66, true);
+/// assert_eq!(slots.iter_set_bits(..).collect::<Vec<_>>(), [0, 3, 64, 65]);
+/// assert_eq!(words, [0b1001, 0b11]);
+/// ```
+#[derive(Clone, Copy)]
+pub struct Bits<T = usize, W = Vec<u64>> {
     // as many words as the bits need; the places past the last bit are 0
-    pub(crate) vec: Vec<u64>,
+    pub(crate) vec: W,
     pub(crate) len: usize,
-    blocks: PhantomData<T>,
+    pub(crate) blocks: PhantomData<T>,
 }
 
 impl Bits<usize> {
@@ -83,16 +120,96 @@ impl Bits<usize> {
         ffi::done(unsafe { ffi::conthiral_from_bytes(words, bits.vec.len(), len, slice.as_ptr(), slice.len(), true) });
         bits
     }
+}
 
+impl<W: AsRef<[u64]>> Bits<usize, W> {
     /// Returns the bits in words, or the words if their number isn't what `len` bits need, or if a bit past the
     /// last one is set.
-    pub fn from_words(words: Vec<u64>, len: usize) -> Result<Bits<usize>, Vec<u64>> {
-        let past = len % WORD;
-        let is_canonical = past == 0 || words.last().is_some_and(|last| last >> past == 0);
-        if words.len() != len.div_ceil(WORD) || !is_canonical {
+    ///
+    /// ```
+    /// use conthiral::Bits;
+    ///
+    /// let words = [0b101];
+    /// assert_eq!(Bits::from_words(&words[..], 3).unwrap().count_ones(), 2);
+    /// assert!(Bits::from_words(&words[..], 2).is_err());
+    /// ```
+    pub fn from_words(words: W, len: usize) -> Result<Bits<usize, W>, W> {
+        let (last, past) = (words.as_ref().last(), len % WORD);
+        let is_canonical = past == 0 || last.is_some_and(|last| last >> past == 0);
+        if words.as_ref().len() != len.div_ceil(WORD) || !is_canonical {
             return Err(words);
         }
         Ok(Bits { vec: words, len, blocks: PhantomData })
+    }
+}
+
+impl<T, W> Bits<T, W> {
+    /// Returns the number of bits.
+    #[inline]
+    pub fn len(&self) -> usize {
+        self.len
+    }
+
+    /// Returns whether there is no bit.
+    #[inline]
+    pub fn is_empty(&self) -> bool {
+        self.len == 0
+    }
+
+    /// Returns the words and the number of bits.
+    pub fn into_words(self) -> (W, usize) {
+        (self.vec, self.len)
+    }
+}
+
+impl<T, W: AsRef<[u64]>> Bits<T, W> {
+    /// Returns the words.
+    #[inline]
+    pub fn words(&self) -> &[u64] {
+        self.vec.as_ref()
+    }
+
+    /// Returns the same bits in words of their own.
+    pub fn to_vob(&self) -> Bits<T> {
+        Bits { vec: self.words().to_vec(), len: self.len, blocks: PhantomData }
+    }
+
+    /// Returns the bit at an index, or `None` if it is past the last one.
+    #[inline]
+    pub fn get(&self, index: usize) -> Option<bool> {
+        if index >= self.len {
+            return None;
+        }
+        Some(self.words()[index / WORD] >> (index % WORD) & 1 == 1)
+    }
+
+    /// Returns the bit at an index.
+    ///
+    /// # Safety
+    /// The index is below the length.
+    #[inline]
+    pub unsafe fn get_unchecked(&self, index: usize) -> bool {
+        *self.words().get_unchecked(index / WORD) >> (index % WORD) & 1 == 1
+    }
+}
+
+impl<T, W: AsMut<[u64]>> Bits<T, W> {
+    /// Writes the bit at an index, and returns whether it changed. Panics if the index is past the last one.
+    #[inline]
+    pub fn set(&mut self, index: usize, value: bool) -> bool {
+        if index >= self.len {
+            past(self.len, index);
+        }
+        write(&mut self.vec.as_mut()[index / WORD], index, value)
+    }
+
+    /// Writes the bit at an index, and returns whether it changed.
+    ///
+    /// # Safety
+    /// The index is below the length.
+    #[inline]
+    pub unsafe fn set_unchecked(&mut self, index: usize, value: bool) -> bool {
+        write(self.vec.as_mut().get_unchecked_mut(index / WORD), index, value)
     }
 }
 
@@ -126,65 +243,6 @@ impl<T> Bits<T> {
     /// Gives back the room that no bit needs.
     pub fn shrink_to_fit(&mut self) {
         self.vec.shrink_to_fit();
-    }
-
-    /// Returns the number of bits.
-    #[inline]
-    pub fn len(&self) -> usize {
-        self.len
-    }
-
-    /// Returns whether there is no bit.
-    #[inline]
-    pub fn is_empty(&self) -> bool {
-        self.len == 0
-    }
-
-    /// Returns the words.
-    #[inline]
-    pub fn words(&self) -> &[u64] {
-        &self.vec
-    }
-
-    /// Returns the words and the number of bits.
-    pub fn into_words(self) -> (Vec<u64>, usize) {
-        (self.vec, self.len)
-    }
-
-    /// Returns the bit at an index, or `None` if it is past the last one.
-    #[inline]
-    pub fn get(&self, index: usize) -> Option<bool> {
-        if index >= self.len {
-            return None;
-        }
-        Some(self.vec[index / WORD] >> (index % WORD) & 1 == 1)
-    }
-
-    /// Returns the bit at an index.
-    ///
-    /// # Safety
-    /// The index is below the length.
-    #[inline]
-    pub unsafe fn get_unchecked(&self, index: usize) -> bool {
-        *self.vec.get_unchecked(index / WORD) >> (index % WORD) & 1 == 1
-    }
-
-    /// Writes the bit at an index, and returns whether it changed. Panics if the index is past the last one.
-    #[inline]
-    pub fn set(&mut self, index: usize, value: bool) -> bool {
-        if index >= self.len {
-            past(self.len, index);
-        }
-        write(&mut self.vec[index / WORD], index, value)
-    }
-
-    /// Writes the bit at an index, and returns whether it changed.
-    ///
-    /// # Safety
-    /// The index is below the length.
-    #[inline]
-    pub unsafe fn set_unchecked(&mut self, index: usize, value: bool) -> bool {
-        write(self.vec.get_unchecked_mut(index / WORD), index, value)
     }
 
     /// Adds a bit at the end.
@@ -277,11 +335,9 @@ impl<T> Bits<T> {
         }
     }
 
-    /// Removes the bits from index `at` on, and returns them. Panics if `at` is past the length.
+    /// Removes the bits from index `at` on, and returns them: none if `at` is past the last one.
     pub fn split_off(&mut self, at: usize) -> Bits<T> {
-        if at > self.len {
-            past(self.len, at);
-        }
+        let at = at.min(self.len);
         let mut end = Bits::from_elem_with_storage_type(false, self.len - at);
         end.copy_range(0, self, at..);
         self.truncate(at);
@@ -294,7 +350,7 @@ impl<T> Bits<T> {
     }
 
     /// Adds the bits of another at the end. Panics if the length overflows.
-    pub fn extend_from_vob(&mut self, other: &Bits<T>) {
+    pub fn extend_from_vob<O: AsRef<[u64]>>(&mut self, other: &Bits<T, O>) {
         let old = self.len;
         self.resize(old.checked_add(other.len).expect("Overflow detected"), false);
         self.copy_range(old, other, ..);

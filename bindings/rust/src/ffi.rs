@@ -81,10 +81,6 @@ calls! {
     fn conthiral_first_unset_run(
         words: *const u64, word_count: usize, bits: usize, count: usize, index: *mut usize,
     );
-    fn conthiral_indices(
-        words: *const u64, word_count: usize, bits: usize, value: bool, from: usize,
-        indices: *mut usize, room: usize, count: *mut usize,
-    );
     fn conthiral_from_bytes(
         words: *mut u64, word_count: usize, bits: usize, bytes: *const u8, byte_count: usize, most_first: bool,
     );

@@ -1,20 +1,26 @@
 //! Walks over bits, over the indices of set or unset bits, and over blocks.
 
-use crate::bits::{blocks_required, Bits, Block};
+use crate::bits::{blocks_required, Bits, Block, WORD};
 use crate::ffi;
 use crate::words::cut;
 use std::iter::FusedIterator;
 use std::marker::PhantomData;
 use std::ops::{Range, RangeBounds};
-
-/// How many indices a call of the library writes at most.
-const ROOM: usize = 64;
+use std::slice;
 
 /// The bits, from either end.
 #[derive(Clone)]
 pub struct Iter<'a, T = usize> {
-    bits: &'a Bits<T>,
+    words: &'a [u64],
     left: Range<usize>,
+    blocks: PhantomData<T>,
+}
+
+impl<T> Iter<'_, T> {
+    #[inline]
+    fn bit(&self, index: usize) -> bool {
+        self.words[index / WORD] >> (index % WORD) & 1 == 1
+    }
 }
 
 impl<T> Iterator for Iter<'_, T> {
@@ -22,7 +28,8 @@ impl<T> Iterator for Iter<'_, T> {
 
     #[inline]
     fn next(&mut self) -> Option<bool> {
-        self.bits.get(self.left.next()?)
+        let index = self.left.next()?;
+        Some(self.bit(index))
     }
 
     fn size_hint(&self) -> (usize, Option<usize>) {
@@ -34,21 +41,23 @@ impl<T> Iterator for Iter<'_, T> {
     }
 
     fn nth(&mut self, n: usize) -> Option<bool> {
-        self.bits.get(self.left.nth(n)?)
+        let index = self.left.nth(n)?;
+        Some(self.bit(index))
     }
 }
 
 impl<T> DoubleEndedIterator for Iter<'_, T> {
     #[inline]
     fn next_back(&mut self) -> Option<bool> {
-        self.bits.get(self.left.next_back()?)
+        let index = self.left.next_back()?;
+        Some(self.bit(index))
     }
 }
 
 impl<T> ExactSizeIterator for Iter<'_, T> {}
 impl<T> FusedIterator for Iter<'_, T> {}
 
-impl<'a, T> IntoIterator for &'a Bits<T> {
+impl<'a, T, W: AsRef<[u64]>> IntoIterator for &'a Bits<T, W> {
     type Item = bool;
     type IntoIter = Iter<'a, T>;
 
@@ -57,112 +66,110 @@ impl<'a, T> IntoIterator for &'a Bits<T> {
     }
 }
 
+/// What is left of a word: its bits in question are set, and bit 0 has an index.
+#[derive(Clone, Copy)]
+struct Part {
+    bits: u64,
+    index: usize,
+}
+
+impl Part {
+    /// Takes the first index, if there is one.
+    #[inline]
+    fn first(&mut self) -> Option<usize> {
+        if self.bits == 0 {
+            return None;
+        }
+        let place = self.bits.trailing_zeros() as usize;
+        self.bits &= self.bits - 1;
+        Some(self.index + place)
+    }
+
+    /// Takes the last index, if there is one.
+    #[inline]
+    fn last(&mut self) -> Option<usize> {
+        let place = self.bits.checked_ilog2()?;
+        self.bits ^= 1 << place;
+        Some(self.index + place as usize)
+    }
+}
+
 /// A walk over the indices of bits of one value.
 #[derive(Clone)]
 struct Walk<'a> {
-    words: &'a [u64],
-    len: usize,
-    value: bool,
-    // the indices that were found and not given; those after them are in `rest`
-    found: [usize; ROOM],
-    given: usize,
-    count: usize,
-    rest: Range<usize>,
+    // the words between the two parts, and what makes the bits in question set
+    words: slice::Iter<'a, u64>,
+    flips: u64,
+    front: Part,
+    back: Part,
 }
 
 impl<'a> Walk<'a> {
-    fn new<T, R: RangeBounds<usize>>(bits: &'a Bits<T>, range: R, value: bool) -> Walk<'a> {
+    fn new<T, W: AsRef<[u64]>, R: RangeBounds<usize>>(bits: &'a Bits<T, W>, range: R, value: bool) -> Walk<'a> {
         let (start, stop) = cut(range, bits.len);
-        Walk { words: &bits.vec, len: bits.len, value, found: [0; ROOM], given: 0, count: 0, rest: start..stop }
-    }
-
-    /// Returns the first index that may be left.
-    fn first(&self) -> usize {
-        if self.given < self.count {
-            self.found[self.given]
-        } else {
-            self.rest.start
+        let flips = if value { 0 } else { u64::MAX };
+        let none = Part { bits: 0, index: 0 };
+        if start == stop {
+            return Walk { words: [].iter(), flips, front: none, back: none };
         }
+        let (first, last) = (start / WORD, (stop - 1) / WORD);
+        let part = |word: usize| Part { bits: bits.words()[word] ^ flips, index: word * WORD };
+        let (mut front, mut back) = (part(first), part(last));
+        let past = u64::MAX >> ((WORD - stop % WORD) % WORD);
+        front.bits &= u64::MAX << (start % WORD);
+        if first == last {
+            front.bits &= past;
+            return Walk { words: [].iter(), flips, front, back: none };
+        }
+        back.bits &= past;
+        Walk { words: bits.words()[first + 1..last].iter(), flips, front, back }
     }
 
     #[inline]
     fn next(&mut self) -> Option<usize> {
-        if self.given == self.count && !self.find() {
-            return None;
+        loop {
+            if let Some(index) = self.front.first() {
+                return Some(index);
+            }
+            let Some(word) = self.words.next() else {
+                self.front = self.back;
+                self.back.bits = 0;
+                return self.front.first();
+            };
+            self.front = Part { bits: word ^ self.flips, index: self.front.index + WORD };
         }
-        let index = self.found[self.given];
-        if index >= self.rest.end {
-            return None;
-        }
-        self.given += 1;
-        Some(index)
     }
 
-    /// Finds the next indices, and returns whether there are any.
-    #[cold]
-    #[inline(never)]
-    fn find(&mut self) -> bool {
-        if self.rest.start >= self.rest.end {
-            return false;
-        }
-        let mut count = 0;
-        ffi::done(unsafe {
-            ffi::conthiral_indices(
-                self.words.as_ptr(),
-                self.words.len(),
-                self.len,
-                self.value,
-                self.rest.start,
-                self.found.as_mut_ptr(),
-                ROOM,
-                &mut count,
-            )
-        });
-        self.given = 0;
-        self.count = count;
-        self.rest.start = if count == ROOM { self.found[ROOM - 1] + 1 } else { self.rest.end };
-        count > 0
-    }
-
+    #[inline]
     fn next_back(&mut self) -> Option<usize> {
-        let first = self.first();
-        if first >= self.rest.end {
-            return None;
+        loop {
+            if let Some(index) = self.back.last() {
+                return Some(index);
+            }
+            let Some(word) = self.words.next_back() else {
+                self.back = self.front;
+                self.front.bits = 0;
+                return self.back.last();
+            };
+            self.back = Part { bits: word ^ self.flips, index: self.back.index - WORD };
         }
-        let mut index = 0;
-        ffi::done(unsafe {
-            ffi::conthiral_previous(
-                self.words.as_ptr(),
-                self.words.len(),
-                self.len,
-                self.value,
-                self.rest.end - 1,
-                &mut index,
-            )
-        });
-        let is_left = index < self.len && index >= first;
-        self.rest.end = if is_left { index } else { first };
-        is_left.then_some(index)
     }
 
-    /// Returns how many bits below an index have the value.
-    fn rank(&self, index: usize) -> usize {
-        let mut count = 0;
-        ffi::done(unsafe { ffi::conthiral_rank(self.words.as_ptr(), self.words.len(), self.len, index, &mut count) });
-        if self.value {
-            count
-        } else {
-            index - count
-        }
+    /// Returns how many indices the two parts have, and how many bits the words between them.
+    fn sizes(&self) -> (usize, usize) {
+        ((self.front.bits.count_ones() + self.back.bits.count_ones()) as usize, self.words.len() * WORD)
     }
 
     fn count(self) -> usize {
-        let first = self.first().min(self.rest.end);
-        self.rank(self.rest.end) - self.rank(first)
+        let (ends, bits) = self.sizes();
+        let (words, mut ones) = (self.words.as_slice(), 0);
+        ffi::done(unsafe { ffi::conthiral_count_ones(words.as_ptr(), words.len(), bits, &mut ones) });
+        ends + if self.flips == 0 { ones } else { bits - ones }
     }
 
     fn size_hint(&self) -> (usize, Option<usize>) {
-        (0, Some(self.rest.end.saturating_sub(self.first())))
+        let (ends, bits) = self.sizes();
+        (ends, Some(ends + bits))
     }
 }
 
@@ -195,6 +202,7 @@ macro_rules! walks {
             }
 
             impl<T> DoubleEndedIterator for $name<'_, T> {
+                #[inline]
                 fn next_back(&mut self) -> Option<usize> {
                     self.walk.next_back()
                 }
@@ -236,11 +244,11 @@ impl<T: Block> Iterator for StorageIter<'_, T> {
 impl<T: Block> ExactSizeIterator for StorageIter<'_, T> {}
 impl<T: Block> FusedIterator for StorageIter<'_, T> {}
 
-impl<T> Bits<T> {
+impl<T, W: AsRef<[u64]>> Bits<T, W> {
     /// Returns a walk over the bits.
     #[inline]
     pub fn iter(&self) -> Iter<'_, T> {
-        Iter { bits: self, left: 0..self.len }
+        Iter { words: self.words(), left: 0..self.len, blocks: PhantomData }
     }
 
     /// Returns a walk over the indices of the set bits of a range, which is cut to the bits.
@@ -258,6 +266,6 @@ impl<T> Bits<T> {
     where
         T: Block,
     {
-        StorageIter { words: &self.vec, left: 0..blocks_required::<T>(self.len), blocks: PhantomData }
+        StorageIter { words: self.words(), left: 0..blocks_required::<T>(self.len), blocks: PhantomData }
     }
 }

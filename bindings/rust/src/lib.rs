@@ -1,8 +1,8 @@
 //! Bit vectors under the names of the crate `vob`, whose calls on words are proved.
 //!
 //! A program that uses `vob::Vob` takes `conthiral::Vob` instead. The calls on more than one bit go to
-//! `libconthiral`, whose contracts are proved: `conthiral.h` says what each does. Single bits are read and
-//! written here, by plain Rust: `get`, `set`, `push`, `pop`, `iter` and what stands on these. So are lengths
+//! `libconthiral`, whose contracts are proved: `conthiral.h` says what each does. What reads or writes single
+//! bits is plain Rust, here: `get`, `set`, `push`, `pop`, the walks, and what stands on these. So are lengths
 //! and storage.
 //!
 //! ```
@@ -14,9 +14,6 @@
 //! assert_eq!(seen.count_ones(), 100);
 //! assert_eq!(vob![true, false, true].iter_set_bits(..).collect::<Vec<_>>(), [0, 2]);
 //! ```
-//!
-//! What differs from `vob` 4.0.1: blocks are 64-bit words for every storage type, so that `capacity` is a
-//! multiple of 64. The storage type `T` is the type of the blocks that `iter_storage` returns.
 
 mod bits;
 mod ffi;
@@ -25,11 +22,14 @@ mod matrix;
 mod ops;
 mod words;
 
+#[cfg(not(target_pointer_width = "64"))]
+compile_error!("libconthiral is for processors of 64 bits");
+
 pub use bits::{Bits, Block};
 pub use iter::{Iter, IterSetBits, IterUnsetBits, StorageIter};
 pub use matrix::BitMatrix;
 
-/// A bit vector, by the name that it has in the crate `vob`.
+/// A bit vector in words of its own, by the name that it has in the crate `vob`.
 pub type Vob<T = usize> = Bits<T>;
 
 /// Makes a bit vector of the values of its bits, or of one value and a length.

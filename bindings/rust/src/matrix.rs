@@ -79,9 +79,24 @@ impl BitMatrix {
         &self.words[row * width..(row + 1) * width]
     }
 
-    /// Returns the bits of a row. Panics if it is past the last one.
-    pub fn row(&self, row: usize) -> Bits {
-        Bits::from_words(self.row_words(row).to_vec(), self.columns).expect("a row is canonical")
+    /// Returns the bits of a row, in the words of the matrix. Panics if it is past the last one.
+    pub fn row(&self, row: usize) -> Bits<usize, &[u64]> {
+        Bits::from_words(self.row_words(row), self.columns).expect("a row is canonical")
+    }
+
+    /// Returns the bits of a row, to be written. Panics if it is past the last one.
+    ///
+    /// ```
+    /// let mut matrix = conthiral::BitMatrix::new(2, 100);
+    /// matrix.row_mut(1).set_range(..70, true);
+    /// assert_eq!(matrix.row(1).count_ones(), 70);
+    /// ```
+    pub fn row_mut(&mut self, row: usize) -> Bits<usize, &mut [u64]> {
+        let width = self.columns.div_ceil(WORD);
+        if row >= self.rows {
+            past(self.rows, row);
+        }
+        Bits::from_words(&mut self.words[row * width..(row + 1) * width], self.columns).expect("a row is canonical")
     }
 
     /// Returns the bit of a row and a column, or `None` if one of them is past the last one.
@@ -124,10 +139,10 @@ impl BitMatrix {
 
     /// Returns the set of the nodes of a set, and of all to which paths of edges lead from them. Panics unless there
     /// are as many rows as columns, and as many bits in the set.
-    pub fn reach(&self, from: &Bits) -> Bits {
+    pub fn reach<W: AsRef<[u64]>>(&self, from: &Bits<usize, W>) -> Bits {
         assert_eq!(self.rows, self.columns, "paths lead through a matrix with as many rows as columns");
         assert_eq!(self.rows, from.len(), "a set of nodes has as many bits as there are rows");
-        let mut reached = from.clone();
+        let mut reached = from.to_vob();
         let mut turned = vec![0; reached.vec.len()];
         let words = reached.vec.as_mut_ptr();
         ffi::done(unsafe {

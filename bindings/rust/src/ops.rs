@@ -4,7 +4,7 @@ use crate::bits::Bits;
 use std::cmp::Ordering;
 use std::fmt;
 use std::hash::{Hash, Hasher};
-use std::ops::{BitAnd, BitAndAssign, BitOr, BitOrAssign, BitXor, BitXorAssign, Index, Not};
+use std::ops::{BitAnd, BitAndAssign, BitOr, BitOrAssign, BitXor, BitXorAssign, Index, Not, Sub, SubAssign};
 
 impl<T> Default for Bits<T> {
     fn default() -> Bits<T> {
@@ -12,7 +12,7 @@ impl<T> Default for Bits<T> {
     }
 }
 
-impl<T> fmt::Debug for Bits<T> {
+impl<T, W: AsRef<[u64]>> fmt::Debug for Bits<T, W> {
     fn fmt(&self, f: &mut fmt::Formatter<'_>) -> fmt::Result {
         f.write_str("Vob[")?;
         for bit in self {
@@ -22,17 +22,17 @@ impl<T> fmt::Debug for Bits<T> {
     }
 }
 
-impl<T> PartialEq for Bits<T> {
-    fn eq(&self, other: &Bits<T>) -> bool {
-        self.len == other.len && self.vec == other.vec
+impl<T, W: AsRef<[u64]>, O: AsRef<[u64]>> PartialEq<Bits<T, O>> for Bits<T, W> {
+    fn eq(&self, other: &Bits<T, O>) -> bool {
+        self.len == other.len && self.words() == other.words()
     }
 }
 
-impl<T> Eq for Bits<T> {}
+impl<T, W: AsRef<[u64]>> Eq for Bits<T, W> {}
 
 /// As lists of bits: the first bit that differs decides, and else the length.
-impl<T> Ord for Bits<T> {
-    fn cmp(&self, other: &Bits<T>) -> Ordering {
+impl<T, W: AsRef<[u64]>> Ord for Bits<T, W> {
+    fn cmp(&self, other: &Bits<T, W>) -> Ordering {
         match self.first_difference(other) {
             Some(index) => self.get(index).cmp(&other.get(index)),
             None => self.len.cmp(&other.len),
@@ -40,20 +40,20 @@ impl<T> Ord for Bits<T> {
     }
 }
 
-impl<T> PartialOrd for Bits<T> {
-    fn partial_cmp(&self, other: &Bits<T>) -> Option<Ordering> {
+impl<T, W: AsRef<[u64]>> PartialOrd for Bits<T, W> {
+    fn partial_cmp(&self, other: &Bits<T, W>) -> Option<Ordering> {
         Some(self.cmp(other))
     }
 }
 
-impl<T> Hash for Bits<T> {
+impl<T, W: AsRef<[u64]>> Hash for Bits<T, W> {
     fn hash<H: Hasher>(&self, state: &mut H) {
         self.len.hash(state);
-        self.vec.hash(state);
+        self.words().hash(state);
     }
 }
 
-impl<T> Index<usize> for Bits<T> {
+impl<T, W: AsRef<[u64]>> Index<usize> for Bits<T, W> {
     type Output = bool;
 
     #[inline]
@@ -61,7 +61,7 @@ impl<T> Index<usize> for Bits<T> {
         match self.get(index) {
             Some(true) => &true,
             Some(false) => &false,
-            None => crate::bits::past(self.len, index),
+            None => panic!("index out of bounds: the len is {} but the index is {index}", self.len),
         }
     }
 }
@@ -84,40 +84,40 @@ impl FromIterator<bool> for Bits<usize> {
     }
 }
 
-impl<T: Clone> Not for &Bits<T> {
+impl<T, W: AsRef<[u64]>> Not for &Bits<T, W> {
     type Output = Bits<T>;
 
     fn not(self) -> Bits<T> {
-        let mut bits = self.clone();
+        let mut bits = self.to_vob();
         bits.negate();
         bits
     }
 }
 
-/// Writes the operators `&`, `|` and `^`. They panic if the lengths differ.
+/// Writes the operators `&`, `|`, `^` and `-`. They panic if the lengths differ.
 macro_rules! operators {
     ($($trait:ident $name:ident $assign_trait:ident $assign:ident by $call:ident;)*) => {
         $(
-            impl<T> $assign_trait<&Bits<T>> for Bits<T> {
-                fn $assign(&mut self, other: &Bits<T>) {
+            impl<T, W: AsMut<[u64]>, O: AsRef<[u64]>> $assign_trait<&Bits<T, O>> for Bits<T, W> {
+                fn $assign(&mut self, other: &Bits<T, O>) {
                     self.$call(other);
                 }
             }
 
-            impl<T> $trait<&Bits<T>> for Bits<T> {
-                type Output = Bits<T>;
+            impl<T, W: AsMut<[u64]>, O: AsRef<[u64]>> $trait<&Bits<T, O>> for Bits<T, W> {
+                type Output = Bits<T, W>;
 
-                fn $name(mut self, other: &Bits<T>) -> Bits<T> {
+                fn $name(mut self, other: &Bits<T, O>) -> Bits<T, W> {
                     self.$call(other);
                     self
                 }
             }
 
-            impl<T: Clone> $trait<&Bits<T>> for &Bits<T> {
+            impl<T, W: AsRef<[u64]>, O: AsRef<[u64]>> $trait<&Bits<T, O>> for &Bits<T, W> {
                 type Output = Bits<T>;
 
-                fn $name(self, other: &Bits<T>) -> Bits<T> {
-                    self.clone().$name(other)
+                fn $name(self, other: &Bits<T, O>) -> Bits<T> {
+                    self.to_vob().$name(other)
                 }
             }
         )*
@@ -128,4 +128,5 @@ operators! {
     BitAnd bitand BitAndAssign bitand_assign by and;
     BitOr bitor BitOrAssign bitor_assign by or;
     BitXor bitxor BitXorAssign bitxor_assign by xor;
+    Sub sub SubAssign sub_assign by and_not;
 }

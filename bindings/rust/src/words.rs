@@ -27,28 +27,29 @@ fn index_below(index: usize, len: usize) -> Option<usize> {
 
 /// Writes a call on the words of one bit vector.
 macro_rules! on_words {
-    ($self:ident, $call:ident $(, $argument:expr)*) => {
-        ffi::done(unsafe { ffi::$call($self.vec.as_mut_ptr(), $self.vec.len(), $self.len $(, $argument)*) })
-    };
+    ($self:ident, $call:ident $(, $argument:expr)*) => {{
+        let words = $self.vec.as_mut();
+        ffi::done(unsafe { ffi::$call(words.as_mut_ptr(), words.len(), $self.len $(, $argument)*) })
+    }};
 }
 
 /// Writes a call on the words of one bit vector that returns a value.
 macro_rules! of_words {
     ($self:ident, $call:ident, $start:expr $(, $argument:expr)*) => {{
-        let mut result = $start;
-        ffi::done(unsafe {
-            ffi::$call($self.vec.as_ptr(), $self.vec.len(), $self.len $(, $argument)*, &mut result)
-        });
+        let (words, mut result) = ($self.words(), $start);
+        ffi::done(unsafe { ffi::$call(words.as_ptr(), words.len(), $self.len $(, $argument)*, &mut result) });
         result
     }};
 }
 
-impl<T> Bits<T> {
+impl<T, W> Bits<T, W> {
     /// Panics unless another has as many bits.
-    fn match_len(&self, other: &Bits<T>) {
+    fn match_len<O>(&self, other: &Bits<T, O>) {
         assert_eq!(self.len, other.len, "the lengths differ");
     }
+}
 
+impl<T, W: AsMut<[u64]>> Bits<T, W> {
     /// Makes every bit one value.
     pub fn set_all(&mut self, value: bool) {
         on_words!(self, conthiral_fill, value);
@@ -75,12 +76,13 @@ impl<T> Bits<T> {
 
     /// Writes a range of another's bits, cut to these, over those from index `at` on. Panics if they pass the
     /// last one.
-    pub fn copy_range<R: RangeBounds<usize>>(&mut self, at: usize, other: &Bits<T>, range: R) {
+    pub fn copy_range<O: AsRef<[u64]>, R: RangeBounds<usize>>(&mut self, at: usize, other: &Bits<T, O>, range: R) {
         let (start, stop) = cut(range, other.len);
         if self.len < at || self.len - at < stop - start {
             past(self.len, at);
         }
-        on_words!(self, conthiral_copy, at, other.vec.as_ptr(), other.vec.len(), other.len, start, stop - start);
+        let from = other.words();
+        on_words!(self, conthiral_copy, at, from.as_ptr(), from.len(), other.len, start, stop - start);
     }
 
     /// Writes a range of the bits, cut to these, over those from index `at` on, as if all were read first.
@@ -91,14 +93,6 @@ impl<T> Bits<T> {
             past(self.len, at);
         }
         on_words!(self, conthiral_move, at, start, stop - start);
-    }
-
-    /// Returns the bits of a range, which is cut to the bits.
-    pub fn slice<R: RangeBounds<usize>>(&self, range: R) -> Bits<T> {
-        let (start, stop) = cut(range, self.len);
-        let mut bits = Bits::from_elem_with_storage_type(false, stop - start);
-        bits.copy_range(0, self, start..stop);
-        bits
     }
 
     /// Moves every bit up by `n` indices; the lowest become false.
@@ -124,6 +118,16 @@ impl<T> Bits<T> {
     /// Puts the last `n` bits before the others, as a slice's call does. `n` is taken modulo the length.
     pub fn rotate_right(&mut self, n: usize) {
         on_words!(self, conthiral_rotate_up, n);
+    }
+}
+
+impl<T, W: AsRef<[u64]>> Bits<T, W> {
+    /// Returns the bits of a range, which is cut to the bits.
+    pub fn slice<R: RangeBounds<usize>>(&self, range: R) -> Bits<T> {
+        let (start, stop) = cut(range, self.len);
+        let mut bits = Bits::from_elem_with_storage_type(false, stop - start);
+        bits.copy_range(0, self, start..stop);
+        bits
     }
 
     /// Returns how many bits are set.
@@ -174,10 +178,9 @@ impl<T> Bits<T> {
 
     /// Returns the bytes of the bits, the most significant bit of each first. The last one is filled with 0.
     pub fn to_bytes(&self) -> Vec<u8> {
-        let mut bytes = vec![0; self.len.div_ceil(8)];
-        ffi::done(unsafe {
-            ffi::conthiral_to_bytes(self.vec.as_ptr(), self.vec.len(), self.len, bytes.as_mut_ptr(), bytes.len(), true)
-        });
+        let (words, mut bytes) = (self.words(), vec![0; self.len.div_ceil(8)]);
+        let (to, count) = (bytes.as_mut_ptr(), bytes.len());
+        ffi::done(unsafe { ffi::conthiral_to_bytes(words.as_ptr(), words.len(), self.len, to, count, true) });
         bytes
     }
 }
@@ -185,17 +188,16 @@ impl<T> Bits<T> {
 /// Writes the calls that combine two bit vectors of one length.
 macro_rules! combine {
     ($($(#[$doc:meta])* fn $name:ident by $call:ident;)*) => {
-        impl<T> Bits<T> {
+        impl<T, W: AsMut<[u64]>> Bits<T, W> {
             $(
                 $(#[$doc])*
                 /// Returns whether a bit changed. Panics if the lengths differ.
-                pub fn $name(&mut self, other: &Bits<T>) -> bool {
+                pub fn $name<O: AsRef<[u64]>>(&mut self, other: &Bits<T, O>) -> bool {
                     self.match_len(other);
-                    let mut changed = false;
-                    let own = self.vec.as_mut_ptr();
+                    let (own, other, mut changed) = (self.vec.as_mut(), other.words(), false);
                     ffi::done(unsafe {
                         ffi::$call(
-                            own, self.vec.len(), other.vec.as_ptr(), other.vec.len(), self.len, &mut changed,
+                            own.as_mut_ptr(), own.len(), other.as_ptr(), other.len(), self.len, &mut changed,
                         )
                     });
                     changed
@@ -219,19 +221,23 @@ combine! {
 /// Writes the calls that combine three bit vectors of one length.
 macro_rules! combine_two {
     ($($(#[$doc:meta])* fn $name:ident by $call:ident;)*) => {
-        impl<T> Bits<T> {
+        impl<T, W: AsMut<[u64]>> Bits<T, W> {
             $(
                 $(#[$doc])*
                 /// Returns whether a bit changed. Panics if the lengths differ.
-                pub fn $name(&mut self, first: &Bits<T>, second: &Bits<T>) -> bool {
+                pub fn $name<F, S>(&mut self, first: &Bits<T, F>, second: &Bits<T, S>) -> bool
+                where
+                    F: AsRef<[u64]>,
+                    S: AsRef<[u64]>,
+                {
                     self.match_len(first);
                     self.match_len(second);
-                    let mut changed = false;
-                    let own = self.vec.as_mut_ptr();
+                    let (own, mut changed) = (self.vec.as_mut(), false);
+                    let (first, second) = (first.words(), second.words());
                     ffi::done(unsafe {
                         ffi::$call(
-                            own, self.vec.len(), first.vec.as_ptr(), first.vec.len(),
-                            second.vec.as_ptr(), second.vec.len(), self.len, &mut changed,
+                            own.as_mut_ptr(), own.len(), first.as_ptr(), first.len(),
+                            second.as_ptr(), second.len(), self.len, &mut changed,
                         )
                     });
                     changed
@@ -248,64 +254,51 @@ combine_two! {
     fn or_and_not by conthiral_or_and_not;
 }
 
-/// Writes a call that compares the words of two bit vectors.
-macro_rules! of_both {
-    ($self:ident, $other:ident, $call:ident, $start:expr) => {{
-        $self.match_len($other);
-        let mut result = $start;
-        ffi::done(unsafe {
-            ffi::$call(
-                $self.vec.as_ptr(),
-                $self.vec.len(),
-                $other.vec.as_ptr(),
-                $other.vec.len(),
-                $self.len,
-                &mut result,
-            )
-        });
-        result
-    }};
+/// Writes the calls that compare two bit vectors of one length.
+macro_rules! compare {
+    ($($(#[$doc:meta])* fn $name:ident by $call:ident -> $type:ty;)*) => {
+        impl<T, W: AsRef<[u64]>> Bits<T, W> {
+            $(
+                $(#[$doc])*
+                /// Panics if the lengths differ.
+                pub fn $name<O: AsRef<[u64]>>(&self, other: &Bits<T, O>) -> $type {
+                    self.match_len(other);
+                    let (own, other, mut result) = (self.words(), other.words(), <$type>::default());
+                    ffi::done(unsafe {
+                        ffi::$call(own.as_ptr(), own.len(), other.as_ptr(), other.len(), self.len, &mut result)
+                    });
+                    result
+                }
+            )*
+        }
+    };
 }
 
-impl<T> Bits<T> {
-    /// Returns whether another has every bit that is set. Panics if the lengths differ.
-    pub fn is_subset(&self, other: &Bits<T>) -> bool {
-        of_both!(self, other, conthiral_is_subset, false)
-    }
+compare! {
+    /// Returns whether another has every bit that is set.
+    fn is_subset by conthiral_is_subset -> bool;
+    /// Returns whether no bit is set in both.
+    fn is_disjoint by conthiral_is_disjoint -> bool;
+    /// Returns how many bits are set in both.
+    fn count_and by conthiral_count_and -> usize;
+    /// Returns how many bits are set in either.
+    fn count_or by conthiral_count_or -> usize;
+    /// Returns how many bits are set in exactly one.
+    fn count_xor by conthiral_count_xor -> usize;
+    /// Returns how many bits are set here and not in another.
+    fn count_and_not by conthiral_count_and_not -> usize;
+}
 
+impl<T, W: AsRef<[u64]>> Bits<T, W> {
     /// Returns whether every bit that another has is set. Panics if the lengths differ.
-    pub fn is_superset(&self, other: &Bits<T>) -> bool {
+    pub fn is_superset<O: AsRef<[u64]>>(&self, other: &Bits<T, O>) -> bool {
         other.is_subset(self)
     }
 
-    /// Returns whether no bit is set in both. Panics if the lengths differ.
-    pub fn is_disjoint(&self, other: &Bits<T>) -> bool {
-        of_both!(self, other, conthiral_is_disjoint, false)
-    }
-
-    /// Returns how many bits are set in both. Panics if the lengths differ.
-    pub fn count_and(&self, other: &Bits<T>) -> usize {
-        of_both!(self, other, conthiral_count_and, 0)
-    }
-
-    /// Returns how many bits are set in either. Panics if the lengths differ.
-    pub fn count_or(&self, other: &Bits<T>) -> usize {
-        of_both!(self, other, conthiral_count_or, 0)
-    }
-
-    /// Returns how many bits are set in exactly one. Panics if the lengths differ.
-    pub fn count_xor(&self, other: &Bits<T>) -> usize {
-        of_both!(self, other, conthiral_count_xor, 0)
-    }
-
-    /// Returns how many bits are set here and not in another. Panics if the lengths differ.
-    pub fn count_and_not(&self, other: &Bits<T>) -> usize {
-        of_both!(self, other, conthiral_count_and_not, 0)
-    }
-
     /// Returns the first index that both have at which they differ.
-    pub fn first_difference(&self, other: &Bits<T>) -> Option<usize> {
-        let index = of_words!(self, conthiral_first_difference, 0, other.vec.as_ptr(), other.vec.len(), other.len);
+    pub fn first_difference<O: AsRef<[u64]>>(&self, other: &Bits<T, O>) -> Option<usize> {
+        let with = other.words();
+        let index = of_words!(self, conthiral_first_difference, 0, with.as_ptr(), with.len(), other.len);
         index_below(index, self.len.min(other.len))
     }
 }

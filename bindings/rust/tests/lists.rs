@@ -187,11 +187,86 @@ fn bytes_and_blocks() {
         let blocks: Vec<u8> =
             own.chunks(8).map(|eight| eight.iter().enumerate().map(|(i, &bit)| u8::from(bit) << i).sum()).collect();
         assert_eq!(small.iter_storage().collect::<Vec<_>>(), blocks);
+        let mut signed = Vob::<i8>::new_with_storage_type(0);
+        signed.extend(own.iter().copied());
+        assert_eq!(signed.iter_storage().map(|block| block as u8).collect::<Vec<_>>(), blocks);
         let (words, len) = call.clone().into_words();
         assert_eq!(Vob::from_words(words, len), Ok(call));
     }
     assert!(Vob::from_words(vec![2], 1).is_err());
     assert!(Vob::from_words(vec![], 1).is_err());
+}
+
+/// What a program may do with words that it owns: they hold a list, and then another.
+#[test]
+fn views() {
+    let mut rng = rand::rng();
+    for _ in 0..ROUNDS {
+        let (mut own, other) = (list(some_len()), list(some_len()));
+        let len = own.len();
+        let mut words = bits(&own).into_words().0;
+        let from = bits(&other).into_words().0;
+        let read = Bits::from_words(&from[..], other.len()).unwrap();
+        let mut view = Bits::from_words(&mut words[..], len).unwrap();
+        let (start, stop) = (rng.random_range(0..len + 1), rng.random_range(0..len + 1));
+        let stop = start.max(stop);
+        let value = rng.random();
+        view.set_range(start..stop, value);
+        own[start..stop].fill(value);
+        if len > 0 {
+            let index = rng.random_range(0..len);
+            assert_eq!(view.set(index, !value), own[index] == value);
+            own[index] = !value;
+            assert_eq!((view.get(index), view[index]), (Some(!value), !value));
+        }
+        let at = rng.random_range(0..len + 1);
+        let count = other.len().min(len - at);
+        view.copy_range(at, &read, ..count);
+        own[at..at + count].copy_from_slice(&other[..count]);
+        assert_eq!(view.iter().collect::<Vec<_>>(), own);
+        assert_eq!(view.iter_set_bits(start..).collect::<Vec<_>>(), after(start, indices(&own, true)));
+        assert_eq!(view.next_unset(start), after(start, indices(&own, false)).first().copied());
+        assert_eq!(view.count_ones(), indices(&own, true).len());
+        assert_eq!(view, bits(&own));
+        assert_eq!(view.to_vob(), view);
+        assert_eq!(view.first_difference(&read), (0..len.min(other.len())).find(|&i| own[i] != other[i]));
+        let third = list(len);
+        view.or(&bits(&third));
+        view ^= &Bits::from_words(&bits(&own).words()[..], len).unwrap();
+        let wanted: Vec<bool> = own.iter().zip(&third).map(|(&a, &b)| (a || b) != a).collect();
+        same(&(&view & &view), &wanted);
+        same(&bits_of_words(&words, len), &wanted);
+    }
+    let mut words = [0, 8];
+    assert!(Bits::from_words(&words[..], 67).is_err());
+    assert!(Bits::from_words(&words[..], 129).is_err());
+    assert!(Bits::from_words(&words[..], 64).is_err());
+    assert_eq!(Bits::from_words(&mut words[..], 67), Err(&mut [0, 8][..]));
+    assert!(Bits::from_words(words, 68).unwrap()[67]);
+}
+
+fn after(start: usize, indices: Vec<usize>) -> Vec<usize> {
+    indices.into_iter().filter(|&index| index >= start).collect()
+}
+
+fn bits_of_words(words: &[u64], len: usize) -> Vob {
+    Vob::from_words(words.to_vec(), len).unwrap()
+}
+
+/// A program that is written for vob 4.0.1 leaves types to be inferred.
+#[test]
+fn types_are_inferred() {
+    let list = [true, false, true];
+    let own = bits(&list);
+    let mut call = own.clone();
+    assert_eq!(own, list.into_iter().collect());
+    assert!(!call.or(&list.into_iter().collect()));
+    call |= &list.into_iter().collect();
+    call.extend_from_vob(&Default::default());
+    assert!(call == own && call != Default::default());
+    assert_eq!(&call & &list.into_iter().collect(), own);
+    let split = call.split_off(7);
+    assert_eq!((split, call.len()), (Default::default(), 3));
 }
 
 #[test]

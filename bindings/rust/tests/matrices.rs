@@ -33,6 +33,7 @@ fn same(matrix: &BitMatrix, list: &[Vec<bool>], columns: usize) {
     assert_eq!((matrix.rows(), matrix.columns()), (list.len(), columns));
     for (i, row) in list.iter().enumerate() {
         assert_eq!(matrix.row(i).iter().collect::<Vec<_>>(), *row);
+        assert_eq!(matrix.clone().row_mut(i), matrix.row(i));
         assert_eq!((0..columns).map(|j| matrix.get(i, j).unwrap()).collect::<Vec<_>>(), *row);
         assert_eq!(matrix.get(i, columns), None);
     }
