@@ -18,12 +18,14 @@ fn library_folder() -> String {
 
 fn main() {
     println!("cargo:rerun-if-env-changed=CONTHIRAL_LIB_DIR");
-    println!("cargo:rerun-if-env-changed=CONTHIRAL_VOB_TESTS");
     println!("cargo:rustc-link-search=native={}", library_folder());
     println!("cargo:rustc-link-lib=static=conthiral");
-    // The unit tests of vob 4.0.1, where a file has them.
-    if let Ok(file) = env::var("CONTHIRAL_VOB_TESTS") {
-        println!("cargo:rustc-cfg=vob_tests");
-        println!("cargo:rustc-env=CONTHIRAL_VOB_TESTS={file}");
+    // The unit tests and the examples of vob 4.0.1, where files have them.
+    for (variable, condition) in [("CONTHIRAL_VOB_TESTS", "vob_tests"), ("CONTHIRAL_VOB_EXAMPLES", "vob_examples")] {
+        println!("cargo:rerun-if-env-changed={variable}");
+        if let Ok(file) = env::var(variable) {
+            println!("cargo:rustc-cfg={condition}");
+            println!("cargo:rustc-env={variable}={file}");
+        }
     }
 }

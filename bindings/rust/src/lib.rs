@@ -20,6 +20,8 @@ mod ffi;
 mod iter;
 mod matrix;
 mod ops;
+#[cfg(feature = "serde")]
+mod record;
 mod words;
 
 #[cfg(not(target_pointer_width = "64"))]
@@ -57,6 +59,11 @@ macro_rules! vob {
 #[cfg(doctest)]
 #[doc = include_str!("../README.md")]
 struct Readme;
+
+/// The examples of vob 4.0.1.
+#[cfg(all(doctest, vob_examples))]
+#[doc = include_str!(env!("CONTHIRAL_VOB_EXAMPLES"))]
+struct Examples;
 
 #[cfg(all(test, vob_tests))]
 use bits::{block_offset, blocks_required};
