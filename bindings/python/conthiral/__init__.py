@@ -12,7 +12,8 @@
 {'a': ['b', 'c'], 'b': ['c'], 'c': []}
 """
 
-from ._bits import Bits, LengthError, NotCanonicalError
+from ._bits import Bits
+from ._faults import LengthError, NotCanonicalError
 from ._matrix import close, closure, product, reach, transpose
 
 __all__ = ["Bits", "LengthError", "NotCanonicalError", "close", "closure", "product", "reach", "transpose"]

@@ -2,60 +2,47 @@
 
 from __future__ import annotations
 
-import ctypes
 from array import array
 from ctypes import c_bool, c_size_t, c_uint8, c_uint64
-from typing import Any, Iterable, Iterator, Optional, Tuple, Union, overload
+from operator import index as whole
+from typing import Any, Callable, Iterable, Iterator, Optional, Tuple, Union, overload
 
-from ._library import LENGTH, LIBRARY, NOT_CANONICAL, RANGE
+from ._faults import call as _call, fault
+from ._library import LENGTH, RANGE
+from ._pack import packed_values, unpacked, unpacked_array
 
 # how many indices a call of the library writes at most
 _ROOM = 512
-
-
-class LengthError(ValueError):
-    """Two lengths that must be the same differ, or words are more or fewer than the bits need."""
-
-
-class NotCanonicalError(ValueError):
-    """A bit past the last one is set in the words."""
-
-
-_FAULTS = {
-    LENGTH: LengthError("the lengths differ"),
-    RANGE: IndexError("an index is past the bits"),
-    NOT_CANONICAL: NotCanonicalError("a bit past the last one is set"),
-}
-
-
-def _call(name: str, *arguments: Any) -> None:
-    """Makes a call of the library, and raises what its status says."""
-    status = getattr(LIBRARY, "conthiral_" + name)(*arguments)
-    if status:
-        raise _FAULTS[status]
+# how many bits a walk over them takes at once
+_STEP = 4096
 
 
 class Bits:
     """A fixed number of bits. Bit i stands in word i // 64, at the place of weight 2 ** (i % 64).
 
-    ``Bits(n)`` has n bits that are unset. ``Bits.over`` takes words that are there, as a NumPy array of
-    ``uint64``, and doesn't copy them.
+    ``Bits(n)`` has n bits that are unset, and ``Bits("011")`` those of a text. ``Bits.over`` takes words that are
+    there, as a NumPy array of ``uint64``, and doesn't copy them.
     """
 
     __slots__ = ("words", "_bits", "_pointer")
 
     words: Any
 
-    def __init__(self, bits: int = 0, value: bool = False) -> None:
-        """Makes bits of one value.
+    def __init__(self, bits: Union[int, str] = 0, value: bool = False) -> None:
+        """Makes bits of one value, or those of a text.
 
         >>> Bits(3, True)
         Bits('111')
+        >>> Bits("01") | Bits("10")
+        Bits('11')
         """
-        if bits < 0:
-            raise ValueError("a number of bits isn't negative")
-        self._take(array("Q", bytes((bits + 63) // 64 * 8)), bits)
-        if value:
+        count = len(bits) if isinstance(bits, str) else whole(bits)
+        if count < 0 or isinstance(bits, str) and bits.strip("01"):
+            raise ValueError("bits are a number that isn't negative, or a text of 0 and 1")
+        self._take(array("Q", bytes((count + 63) // 64 * 8)), count)
+        if isinstance(bits, str):
+            self[:] = map(int, bits)
+        elif value:
             self.fill(True)
 
     def _take(self, words: Any, bits: int) -> None:
@@ -85,18 +72,13 @@ class Bits:
         return new
 
     @classmethod
-    def of(cls, values: Iterable[bool]) -> Bits:
-        """Returns the bits of a list.
+    def of(cls, values: Iterable[Any]) -> Bits:
+        """Returns the bits of a list, or of an array of NumPy: those of values that are true are set.
 
         >>> Bits.of([True, False, True])
         Bits('101')
         """
-        items = list(values)
-        new = cls(len(items))
-        for index, value in enumerate(items):
-            if value:
-                new[index] = True
-        return new
+        return cls.of_bytes(*packed_values(values))
 
     @classmethod
     def of_indices(cls, bits: int, indices: Iterable[int]) -> Bits:
@@ -133,30 +115,40 @@ class Bits:
         _call("to_bytes", *self._own(), buffer, count, most_first)
         return bytes(buffer)
 
+    __bytes__ = to_bytes
+
+    def __array__(self, dtype: Any = None, copy: Optional[bool] = None) -> Any:
+        """Returns an array of NumPy with a ``bool`` for each bit."""
+        if copy is False:
+            raise ValueError("an array of an item for each bit is a copy")
+        return unpacked_array(self.to_bytes(), self._bits, dtype)
+
     def copy(self) -> Bits:
         """Returns the same bits in words of their own."""
         return self[:]
 
     __copy__ = copy
 
+    def __reduce__(self) -> Tuple[Callable[..., Bits], Tuple[bytes, int]]:
+        return Bits.of_bytes, (self.to_bytes(), self._bits)
+
     def _own(self) -> Tuple[Any, int, int]:
         return self._pointer, len(self.words), self._bits
 
     def _both(self, other: Bits) -> Tuple[Any, int, Any, int, int]:
         if self._bits != other._bits:
-            raise _FAULTS[LENGTH]
+            raise fault(LENGTH)
         return self._pointer, len(self.words), other._pointer, len(other.words), self._bits
 
     def _index(self, index: int) -> int:
-        at = index + self._bits if index < 0 else index
+        at = whole(index)
+        at += self._bits if at < 0 else 0
         if not 0 <= at < self._bits:
-            raise IndexError("an index is past the bits")
+            raise fault(RANGE)
         return at
 
     def _range(self, part: slice) -> Tuple[int, int]:
-        start, stop, step = part.indices(self._bits)
-        if step != 1:
-            raise ValueError("a range of bits has the step 1")
+        start, stop, _ = part.indices(self._bits)
         return start, max(start, stop)
 
     def __len__(self) -> int:
@@ -168,36 +160,91 @@ class Bits:
     def __getitem__(self, index: slice) -> Bits: ...
 
     def __getitem__(self, index: Union[int, slice]) -> Union[bool, Bits]:
-        """Returns a bit, or the bits of a range in words of their own."""
-        if isinstance(index, slice):
-            start, stop = self._range(index)
-            new = Bits(stop - start)
-            _call("copy", *new._own(), 0, *self._own(), start, stop - start)
-            return new
-        value = c_bool()
-        _call("get", *self._own(), self._index(index), value)
-        return value.value
+        """Returns a bit, or the bits of a range in words of their own.
 
-    def __setitem__(self, index: Union[int, slice], value: Union[bool, Bits]) -> None:
-        """Writes a bit, one value to the bits of a range, or as many bits over them."""
+        >>> Bits("0111")[1:], Bits("0111")[::-2]
+        (Bits('111'), Bits('11'))
+        """
+        if not isinstance(index, slice):
+            value = c_bool()
+            _call("get", *self._own(), self._index(index), value)
+            return value.value
+        if index.step not in (None, 1):
+            return Bits.of(self._each()[index])
+        start, stop = self._range(index)
+        new = Bits(stop - start)
+        _call("copy", *new._own(), 0, *self._own(), start, stop - start)
+        return new
+
+    def __setitem__(self, index: Union[int, slice], value: Union[bool, Bits, Iterable[Any]]) -> None:
+        """Writes a bit, one value to the bits of a range, or as many bits over them.
+
+        >>> bits = Bits(5)
+        >>> bits[1:3] = True
+        >>> bits[::2] = [1, 0, 1]
+        >>> bits
+        Bits('11001')
+        """
         if not isinstance(index, slice):
             _call("set", *self._own(), self._index(index), bool(value), c_bool())
+            return
+        if not isinstance(value, Bits) and hasattr(value, "__iter__"):
+            value = Bits.of(value)
+        if index.step not in (None, 1):
+            self._set_steps(index, value)
             return
         start, stop = self._range(index)
         if not isinstance(value, Bits):
             _call("set_range", *self._own(), start, stop, bool(value), c_bool())
             return
         if len(value) != stop - start:
-            raise _FAULTS[LENGTH]
+            raise fault(LENGTH)
         if value.words is self.words:
             value = value.copy()
         _call("copy", *self._own(), start, *value._own(), 0, stop - start)
 
+    def _set_steps(self, steps: slice, value: Any) -> None:
+        """Writes the bits at some indices that are a step apart."""
+        count = len(range(*steps.indices(self._bits)))
+        values = value._each() if isinstance(value, Bits) else bytes([bool(value)]) * count
+        if len(values) != count:
+            raise fault(LENGTH)
+        each = bytearray(self._each())
+        each[steps] = values
+        self[:] = Bits.of(each)
+
+    def _each(self) -> bytes:
+        return unpacked(self.to_bytes(), self._bits)
+
     def __iter__(self) -> Iterator[bool]:
-        for word in range(0, self._bits, 64):
-            value = int(self.words[word // 64])
-            for place in range(min(64, self._bits - word)):
-                yield bool(value >> place & 1)
+        for start in range(0, self._bits, _STEP):
+            yield from map(bool, self[start : start + _STEP]._each())
+
+    def __contains__(self, value: object) -> bool:
+        return value in (False, True) and self.next(0, bool(value)) is not None
+
+    def any(self) -> bool:
+        """Returns whether a bit is set."""
+        return True in self
+
+    def all(self) -> bool:
+        """Returns whether every bit is set.
+
+        >>> Bits("11").all(), Bits("10").all(), Bits("10").any()
+        (True, False, True)
+        """
+        return False not in self
+
+    def __add__(self, other: Bits) -> Bits:
+        """Returns these bits, and then another's.
+
+        >>> Bits("01") + Bits("1")
+        Bits('011')
+        """
+        new = Bits(self._bits + other._bits)
+        new[: self._bits] = self
+        new[self._bits :] = other
+        return new
 
     def __eq__(self, other: object) -> bool:
         if not isinstance(other, Bits):
@@ -211,7 +258,7 @@ class Bits:
     __hash__ = None  # type: ignore[assignment]
 
     def __repr__(self) -> str:
-        text = "".join("1" if bit else "0" for bit in self[: 64])
+        text = "".join("1" if bit else "0" for bit in self[:64])
         return f"Bits('{text}')" if self._bits <= 64 else f"<Bits of {self._bits}: {text}..>"
 
     def fill(self, value: bool) -> None:

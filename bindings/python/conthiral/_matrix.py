@@ -6,7 +6,8 @@ from array import array
 from ctypes import c_bool, c_uint64
 from typing import Any, Dict, Hashable, Iterable, List, Mapping, Optional, Tuple, TypeVar, Union
 
-from ._bits import Bits, _call
+from ._bits import Bits
+from ._faults import call as _call
 
 Name = TypeVar("Name", bound=Hashable)
 
@@ -22,7 +23,7 @@ def _pointer(words: Any) -> Tuple[Any, int]:
 
 def _rows(words: Any, size: Optional[int]) -> int:
     """Returns the number of rows of a matrix: the length of an array of arrays, if no number is given."""
-    shape = memoryview(words).shape
+    shape = memoryview(words).shape or ()
     if size is None and len(shape) != 2:
         raise TypeError("words that aren't an array of rows need a size")
     return shape[0] if size is None else size

@@ -1,15 +1,17 @@
 """Each call beside what plain lists of bits give. CONTHIRAL_SEED repeats a run."""
 
+import copy
 import doctest
 import os
 import pathlib
+import pickle
 import random
 import time
 import unittest
 from array import array
 
 import conthiral
-from conthiral import Bits, LengthError, NotCanonicalError, _bits
+from conthiral import Bits, LengthError, NotCanonicalError, _bits, _pack
 
 try:
     import numpy
@@ -60,6 +62,40 @@ class Lists(unittest.TestCase):
             self.same(bits, own)
             for index in range(-len(own), len(own), 7):
                 self.assertEqual(bits[index], own[index])
+
+    def test_steps(self):
+        for _ in range(ROUNDS):
+            own = some_list(some_length())
+            bits = Bits.of(own)
+            ends = [random.choice([None, random.randrange(-len(own) - 3, len(own) + 4)]) for _ in range(2)]
+            steps = slice(*ends, random.choice([-3, -2, -1, 2, 3, 70]))
+            self.same(bits[steps], own[steps])
+            values = some_list(len(own[steps]))
+            own[steps] = values
+            bits[steps] = random.choice([values, Bits.of(values), iter(values)])
+            self.same(bits, own)
+            bits[steps] = True
+            own[steps] = [True] * len(values)
+            self.same(bits, own)
+
+    def test_as_python_has_it(self):
+        for _ in range(ROUNDS):
+            own, other = some_list(some_length()), some_list(some_length())
+            bits = Bits.of(own)
+            text = "".join("01"[bit] for bit in own)
+            self.same(Bits(text), own)
+            self.same(bits + Bits.of(other), own + other)
+            self.assertEqual((True in bits, False in bits), (True in own, False in own))
+            self.assertEqual((bits.any(), bits.all()), (any(own), all(own)))
+            self.assertEqual(list(reversed(bits)), own[::-1])
+            self.assertEqual(bytes(bits), bits.to_bytes())
+            for made in (bits.copy(), copy.copy(bits), copy.deepcopy(bits), pickle.loads(pickle.dumps(bits))):
+                self.same(made, own)
+                made.negate()
+            self.same(bits, own)
+            if len(own) <= 64:
+                self.assertEqual(eval(repr(bits)), bits)
+        self.assertNotIn(2, Bits(3))
 
     def test_all_bits(self):
         for _ in range(ROUNDS):
@@ -151,8 +187,15 @@ class Lists(unittest.TestCase):
             Bits.over(array("Q", [0, 0]), 64)
         with self.assertRaises(TypeError):
             Bits.over(array("L" if array("L").itemsize != 8 else "I", [0]), 3)
-        with self.assertRaises(ValueError):
-            bits[0:10:2]
+        with self.assertRaises(LengthError):
+            bits[0:10:2] = [True] * 4
+        for wrong in (-1, "012", "1 "):
+            with self.assertRaises(ValueError):
+                Bits(wrong)
+        with self.assertRaises(TypeError):
+            Bits(1.5)
+        with self.assertRaises(TypeError):
+            hash(bits)
         self.same(bits, [False] * 70)
 
     @unittest.skipUnless(numpy, "numpy isn't installed")
@@ -165,10 +208,17 @@ class Lists(unittest.TestCase):
         self.assertEqual(list(bits.indices()), [1, 2, 128])
         with self.assertRaises(TypeError):
             Bits.over(numpy.zeros((2, 2), dtype=numpy.uint64))
+        for _ in range(ROUNDS):
+            own = some_list(some_length())
+            each = numpy.array(own, dtype=random.choice([bool, int, float]))
+            self.same(Bits.of(each), own)
+            self.assertEqual(numpy.asarray(Bits.of(own)).tolist(), own)
+            self.assertEqual(numpy.asarray(Bits.of(own), dtype=int).tolist(), [int(bit) for bit in own])
+        self.assertEqual(bits[numpy.int64(1)], True)
 
 
 def load_tests(loader, tests, pattern):
-    for module in (conthiral, _bits):
+    for module in (conthiral, _bits, _pack):
         tests.addTests(doctest.DocTestSuite(module))
     page = pathlib.Path(__file__).parents[1] / "README.md"
     # what ends a block of text isn't printed
