@@ -3,6 +3,7 @@
 from __future__ import annotations
 
 from array import array
+from bisect import bisect_left
 from ctypes import c_bool, c_size_t, c_uint8, c_uint64
 from operator import index as whole
 from typing import Any, Callable, Iterable, Iterator, Optional, Tuple, Union, overload
@@ -480,8 +481,6 @@ class Bits:
         count = c_size_t()
         while first < last:
             _call("indices", *self._own(), value, first, found, _ROOM, count)
-            for index in found[: count.value]:
-                if index >= last:
-                    return
-                yield index
+            block = found[: count.value]
+            yield from block[: bisect_left(block, last)]
             first = found[_ROOM - 1] + 1 if count.value == _ROOM else last
