@@ -74,6 +74,18 @@ macro_rules! large_blocks {
 
 large_blocks!(u128, i128);
 
+/// Words that bits stand in.
+///
+/// # Safety
+/// `as_ref` and `as_mut` give the same words, as long as the value isn't written.
+pub unsafe trait Words: AsRef<[u64]> {}
+
+unsafe impl Words for Vec<u64> {}
+unsafe impl Words for Box<[u64]> {}
+unsafe impl Words for &[u64] {}
+unsafe impl Words for &mut [u64] {}
+unsafe impl<const N: usize> Words for [u64; N] {}
+
 /// Bits in words. Bit `i` stands in word `i / 64`, at the place of weight 2 ^ (`i` % 64).
 ///
 /// The words are a `Vec<u64>`, which grows, or others that a caller has, as a `&[u64]` or a `&mut [u64]`. What
@@ -122,7 +134,7 @@ impl Bits<usize> {
     }
 }
 
-impl<W: AsRef<[u64]>> Bits<usize, W> {
+impl<W: Words> Bits<usize, W> {
     /// Returns the bits in words, or the words if their number isn't what `len` bits need, or if a bit past the
     /// last one is set.
     ///
@@ -162,7 +174,7 @@ impl<T, W> Bits<T, W> {
     }
 }
 
-impl<T, W: AsRef<[u64]>> Bits<T, W> {
+impl<T, W: Words> Bits<T, W> {
     /// Returns the words.
     #[inline]
     pub fn words(&self) -> &[u64] {
@@ -177,10 +189,8 @@ impl<T, W: AsRef<[u64]>> Bits<T, W> {
     /// Returns the bit at an index, or `None` if it is past the last one.
     #[inline]
     pub fn get(&self, index: usize) -> Option<bool> {
-        if index >= self.len {
-            return None;
-        }
-        Some(self.words()[index / WORD] >> (index % WORD) & 1 == 1)
+        // there are as many words as the bits need
+        (index < self.len).then(|| unsafe { self.get_unchecked(index) })
     }
 
     /// Returns the bit at an index.
@@ -193,14 +203,15 @@ impl<T, W: AsRef<[u64]>> Bits<T, W> {
     }
 }
 
-impl<T, W: AsMut<[u64]>> Bits<T, W> {
+impl<T, W: Words + AsMut<[u64]>> Bits<T, W> {
     /// Writes the bit at an index, and returns whether it changed. Panics if the index is past the last one.
     #[inline]
     pub fn set(&mut self, index: usize, value: bool) -> bool {
         if index >= self.len {
             past(self.len, index);
         }
-        write(&mut self.vec.as_mut()[index / WORD], index, value)
+        // there are as many words as the bits need
+        unsafe { self.set_unchecked(index, value) }
     }
 
     /// Writes the bit at an index, and returns whether it changed.
@@ -350,7 +361,7 @@ impl<T> Bits<T> {
     }
 
     /// Adds the bits of another at the end. Panics if the length overflows.
-    pub fn extend_from_vob<O: AsRef<[u64]>>(&mut self, other: &Bits<T, O>) {
+    pub fn extend_from_vob<O: Words>(&mut self, other: &Bits<T, O>) {
         let old = self.len;
         self.resize(old.checked_add(other.len).expect("Overflow detected"), false);
         self.copy_range(old, other, ..);

@@ -1,6 +1,6 @@
 //! Walks over bits, over the indices of set or unset bits, and over blocks.
 
-use crate::bits::{blocks_required, Bits, Block, WORD};
+use crate::bits::{blocks_required, Bits, Block, Words, WORD};
 use crate::ffi;
 use crate::words::cut;
 use std::iter::FusedIterator;
@@ -57,7 +57,7 @@ impl<T> DoubleEndedIterator for Iter<'_, T> {
 impl<T> ExactSizeIterator for Iter<'_, T> {}
 impl<T> FusedIterator for Iter<'_, T> {}
 
-impl<'a, T, W: AsRef<[u64]>> IntoIterator for &'a Bits<T, W> {
+impl<'a, T, W: Words> IntoIterator for &'a Bits<T, W> {
     type Item = bool;
     type IntoIter = Iter<'a, T>;
 
@@ -105,7 +105,7 @@ struct Walk<'a> {
 }
 
 impl<'a> Walk<'a> {
-    fn new<T, W: AsRef<[u64]>, R: RangeBounds<usize>>(bits: &'a Bits<T, W>, range: R, value: bool) -> Walk<'a> {
+    fn new<T, W: Words, R: RangeBounds<usize>>(bits: &'a Bits<T, W>, range: R, value: bool) -> Walk<'a> {
         let (start, stop) = cut(range, bits.len);
         let flips = if value { 0 } else { u64::MAX };
         let none = Part { bits: 0, index: 0 };
@@ -244,7 +244,7 @@ impl<T: Block> Iterator for StorageIter<'_, T> {
 impl<T: Block> ExactSizeIterator for StorageIter<'_, T> {}
 impl<T: Block> FusedIterator for StorageIter<'_, T> {}
 
-impl<T, W: AsRef<[u64]>> Bits<T, W> {
+impl<T, W: Words> Bits<T, W> {
     /// Returns a walk over the bits.
     #[inline]
     pub fn iter(&self) -> Iter<'_, T> {

@@ -27,7 +27,7 @@ mod words;
 #[cfg(not(target_pointer_width = "64"))]
 compile_error!("libconthiral is for processors of 64 bits");
 
-pub use bits::{Bits, Block};
+pub use bits::{Bits, Block, Words};
 pub use iter::{Iter, IterSetBits, IterUnsetBits, StorageIter};
 pub use matrix::BitMatrix;
 

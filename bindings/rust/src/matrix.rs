@@ -1,6 +1,6 @@
 //! Matrices of bits, as the edges of a graph.
 
-use crate::bits::{past, Bits, WORD};
+use crate::bits::{past, Bits, Words, WORD};
 use crate::ffi;
 
 /// A matrix of bits in words, one row after another. Each row begins with a word of its own. Bit `j` of row `i`
@@ -139,7 +139,7 @@ impl BitMatrix {
 
     /// Returns the set of the nodes of a set, and of all to which paths of edges lead from them. Panics unless there
     /// are as many rows as columns, and as many bits in the set.
-    pub fn reach<W: AsRef<[u64]>>(&self, from: &Bits<usize, W>) -> Bits {
+    pub fn reach<W: Words>(&self, from: &Bits<usize, W>) -> Bits {
         assert_eq!(self.rows, self.columns, "paths lead through a matrix with as many rows as columns");
         assert_eq!(self.rows, from.len(), "a set of nodes has as many bits as there are rows");
         let mut reached = from.to_vob();

@@ -1,6 +1,6 @@
 //! Traits of the standard library.
 
-use crate::bits::Bits;
+use crate::bits::{Bits, Words};
 use std::cmp::Ordering;
 use std::fmt;
 use std::hash::{Hash, Hasher};
@@ -12,7 +12,7 @@ impl<T> Default for Bits<T> {
     }
 }
 
-impl<T, W: AsRef<[u64]>> fmt::Debug for Bits<T, W> {
+impl<T, W: Words> fmt::Debug for Bits<T, W> {
     fn fmt(&self, f: &mut fmt::Formatter<'_>) -> fmt::Result {
         f.write_str("Vob[")?;
         for bit in self {
@@ -22,16 +22,16 @@ impl<T, W: AsRef<[u64]>> fmt::Debug for Bits<T, W> {
     }
 }
 
-impl<T, W: AsRef<[u64]>, O: AsRef<[u64]>> PartialEq<Bits<T, O>> for Bits<T, W> {
+impl<T, W: Words, O: Words> PartialEq<Bits<T, O>> for Bits<T, W> {
     fn eq(&self, other: &Bits<T, O>) -> bool {
         self.len == other.len && self.words() == other.words()
     }
 }
 
-impl<T, W: AsRef<[u64]>> Eq for Bits<T, W> {}
+impl<T, W: Words> Eq for Bits<T, W> {}
 
 /// As lists of bits: the first bit that differs decides, and else the length.
-impl<T, W: AsRef<[u64]>> Ord for Bits<T, W> {
+impl<T, W: Words> Ord for Bits<T, W> {
     fn cmp(&self, other: &Bits<T, W>) -> Ordering {
         match self.first_difference(other) {
             Some(index) => self.get(index).cmp(&other.get(index)),
@@ -40,20 +40,20 @@ impl<T, W: AsRef<[u64]>> Ord for Bits<T, W> {
     }
 }
 
-impl<T, W: AsRef<[u64]>> PartialOrd for Bits<T, W> {
+impl<T, W: Words> PartialOrd for Bits<T, W> {
     fn partial_cmp(&self, other: &Bits<T, W>) -> Option<Ordering> {
         Some(self.cmp(other))
     }
 }
 
-impl<T, W: AsRef<[u64]>> Hash for Bits<T, W> {
+impl<T, W: Words> Hash for Bits<T, W> {
     fn hash<H: Hasher>(&self, state: &mut H) {
         self.len.hash(state);
         self.words().hash(state);
     }
 }
 
-impl<T, W: AsRef<[u64]>> Index<usize> for Bits<T, W> {
+impl<T, W: Words> Index<usize> for Bits<T, W> {
     type Output = bool;
 
     #[inline]
@@ -84,7 +84,7 @@ impl FromIterator<bool> for Bits<usize> {
     }
 }
 
-impl<T, W: AsRef<[u64]>> Not for &Bits<T, W> {
+impl<T, W: Words> Not for &Bits<T, W> {
     type Output = Bits<T>;
 
     fn not(self) -> Bits<T> {
@@ -98,13 +98,13 @@ impl<T, W: AsRef<[u64]>> Not for &Bits<T, W> {
 macro_rules! operators {
     ($($trait:ident $name:ident $assign_trait:ident $assign:ident by $call:ident;)*) => {
         $(
-            impl<T, W: AsMut<[u64]>, O: AsRef<[u64]>> $assign_trait<&Bits<T, O>> for Bits<T, W> {
+            impl<T, W: Words + AsMut<[u64]>, O: Words> $assign_trait<&Bits<T, O>> for Bits<T, W> {
                 fn $assign(&mut self, other: &Bits<T, O>) {
                     self.$call(other);
                 }
             }
 
-            impl<T, W: AsMut<[u64]>, O: AsRef<[u64]>> $trait<&Bits<T, O>> for Bits<T, W> {
+            impl<T, W: Words + AsMut<[u64]>, O: Words> $trait<&Bits<T, O>> for Bits<T, W> {
                 type Output = Bits<T, W>;
 
                 fn $name(mut self, other: &Bits<T, O>) -> Bits<T, W> {
@@ -113,7 +113,7 @@ macro_rules! operators {
                 }
             }
 
-            impl<T, W: AsRef<[u64]>, O: AsRef<[u64]>> $trait<&Bits<T, O>> for &Bits<T, W> {
+            impl<T, W: Words, O: Words> $trait<&Bits<T, O>> for &Bits<T, W> {
                 type Output = Bits<T>;
 
                 fn $name(self, other: &Bits<T, O>) -> Bits<T> {

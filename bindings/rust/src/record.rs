@@ -1,7 +1,7 @@
 //! Bit vectors written and read by `serde`, in the form that they have in vob 4.0.1: a struct `Vob` of the number of
 //! bits, `len`, and the blocks, `vec`.
 
-use crate::bits::{blocks_required, Bits, Block, WORD};
+use crate::bits::{blocks_required, Bits, Block, Words, WORD};
 use serde::de::{Deserialize, Deserializer, Error};
 use serde::ser::{Serialize, SerializeStruct, Serializer};
 use std::marker::PhantomData;
@@ -9,13 +9,13 @@ use std::marker::PhantomData;
 /// The blocks of a bit vector.
 struct Blocks<'a, T, W>(&'a Bits<T, W>);
 
-impl<T: Block + Serialize, W: AsRef<[u64]>> Serialize for Blocks<'_, T, W> {
+impl<T: Block + Serialize, W: Words> Serialize for Blocks<'_, T, W> {
     fn serialize<S: Serializer>(&self, serializer: S) -> Result<S::Ok, S::Error> {
         serializer.collect_seq(self.0.iter_storage())
     }
 }
 
-impl<T: Block + Serialize, W: AsRef<[u64]>> Serialize for Bits<T, W> {
+impl<T: Block + Serialize, W: Words> Serialize for Bits<T, W> {
     fn serialize<S: Serializer>(&self, serializer: S) -> Result<S::Ok, S::Error> {
         let mut record = serializer.serialize_struct("Vob", 2)?;
         record.serialize_field("len", &self.len)?;

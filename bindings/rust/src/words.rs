@@ -1,6 +1,6 @@
 //! The calls of the library: on ranges, on all bits, and on two bit vectors.
 
-use crate::bits::{past, Bits};
+use crate::bits::{past, Bits, Words};
 use crate::ffi;
 use std::ops::{Bound, RangeBounds};
 
@@ -49,7 +49,7 @@ impl<T, W> Bits<T, W> {
     }
 }
 
-impl<T, W: AsMut<[u64]>> Bits<T, W> {
+impl<T, W: Words + AsMut<[u64]>> Bits<T, W> {
     /// Makes every bit one value.
     pub fn set_all(&mut self, value: bool) {
         on_words!(self, conthiral_fill, value);
@@ -76,7 +76,7 @@ impl<T, W: AsMut<[u64]>> Bits<T, W> {
 
     /// Writes a range of another's bits, cut to these, over those from index `at` on. Panics if they pass the
     /// last one.
-    pub fn copy_range<O: AsRef<[u64]>, R: RangeBounds<usize>>(&mut self, at: usize, other: &Bits<T, O>, range: R) {
+    pub fn copy_range<O: Words, R: RangeBounds<usize>>(&mut self, at: usize, other: &Bits<T, O>, range: R) {
         let (start, stop) = cut(range, other.len);
         if self.len < at || self.len - at < stop - start {
             past(self.len, at);
@@ -121,7 +121,7 @@ impl<T, W: AsMut<[u64]>> Bits<T, W> {
     }
 }
 
-impl<T, W: AsRef<[u64]>> Bits<T, W> {
+impl<T, W: Words> Bits<T, W> {
     /// Returns the bits of a range, which is cut to the bits.
     pub fn slice<R: RangeBounds<usize>>(&self, range: R) -> Bits<T> {
         let (start, stop) = cut(range, self.len);
@@ -188,11 +188,11 @@ impl<T, W: AsRef<[u64]>> Bits<T, W> {
 /// Writes the calls that combine two bit vectors of one length.
 macro_rules! combine {
     ($($(#[$doc:meta])* fn $name:ident by $call:ident;)*) => {
-        impl<T, W: AsMut<[u64]>> Bits<T, W> {
+        impl<T, W: Words + AsMut<[u64]>> Bits<T, W> {
             $(
                 $(#[$doc])*
                 /// Returns whether a bit changed. Panics if the lengths differ.
-                pub fn $name<O: AsRef<[u64]>>(&mut self, other: &Bits<T, O>) -> bool {
+                pub fn $name<O: Words>(&mut self, other: &Bits<T, O>) -> bool {
                     self.match_len(other);
                     let (own, other, mut changed) = (self.vec.as_mut(), other.words(), false);
                     ffi::done(unsafe {
@@ -221,14 +221,14 @@ combine! {
 /// Writes the calls that combine three bit vectors of one length.
 macro_rules! combine_two {
     ($($(#[$doc:meta])* fn $name:ident by $call:ident;)*) => {
-        impl<T, W: AsMut<[u64]>> Bits<T, W> {
+        impl<T, W: Words + AsMut<[u64]>> Bits<T, W> {
             $(
                 $(#[$doc])*
                 /// Returns whether a bit changed. Panics if the lengths differ.
                 pub fn $name<F, S>(&mut self, first: &Bits<T, F>, second: &Bits<T, S>) -> bool
                 where
-                    F: AsRef<[u64]>,
-                    S: AsRef<[u64]>,
+                    F: Words,
+                    S: Words,
                 {
                     self.match_len(first);
                     self.match_len(second);
@@ -257,11 +257,11 @@ combine_two! {
 /// Writes the calls that compare two bit vectors of one length.
 macro_rules! compare {
     ($($(#[$doc:meta])* fn $name:ident by $call:ident -> $type:ty;)*) => {
-        impl<T, W: AsRef<[u64]>> Bits<T, W> {
+        impl<T, W: Words> Bits<T, W> {
             $(
                 $(#[$doc])*
                 /// Panics if the lengths differ.
-                pub fn $name<O: AsRef<[u64]>>(&self, other: &Bits<T, O>) -> $type {
+                pub fn $name<O: Words>(&self, other: &Bits<T, O>) -> $type {
                     self.match_len(other);
                     let (own, other, mut result) = (self.words(), other.words(), <$type>::default());
                     ffi::done(unsafe {
@@ -289,14 +289,14 @@ compare! {
     fn count_and_not by conthiral_count_and_not -> usize;
 }
 
-impl<T, W: AsRef<[u64]>> Bits<T, W> {
+impl<T, W: Words> Bits<T, W> {
     /// Returns whether every bit that another has is set. Panics if the lengths differ.
-    pub fn is_superset<O: AsRef<[u64]>>(&self, other: &Bits<T, O>) -> bool {
+    pub fn is_superset<O: Words>(&self, other: &Bits<T, O>) -> bool {
         other.is_subset(self)
     }
 
     /// Returns the first index that both have at which they differ.
-    pub fn first_difference<O: AsRef<[u64]>>(&self, other: &Bits<T, O>) -> Option<usize> {
+    pub fn first_difference<O: Words>(&self, other: &Bits<T, O>) -> Option<usize> {
         let with = other.words();
         let index = of_words!(self, conthiral_first_difference, 0, with.as_ptr(), with.len(), other.len);
         index_below(index, self.len.min(other.len))
