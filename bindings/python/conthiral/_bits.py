@@ -4,16 +4,17 @@ from __future__ import annotations
 
 from array import array
 from bisect import bisect_left
-from ctypes import c_bool, c_size_t, c_uint8, c_uint64
+from ctypes import POINTER, c_bool, c_char_p, c_size_t, c_uint8, c_uint64, cast
+from itertools import chain
 from operator import index as whole
-from typing import Any, Callable, Iterable, Iterator, Optional, Tuple, Union, overload
+from typing import Any, Callable, Iterable, Iterator, List, Optional, Tuple, Union, overload
 
 from ._faults import call as _call, fault
 from ._library import LENGTH, RANGE
 from ._pack import packed_values, unpacked, unpacked_array
 
 # how many indices a call of the library writes at most
-_ROOM = 512
+_ROOM = 4096
 # how many bits a walk over them takes at once
 _STEP = 4096
 
@@ -101,8 +102,8 @@ class Bits:
         Bits('101')
         """
         new = cls(len(data) * 8 if bits is None else bits)
-        buffer = (c_uint8 * len(data)).from_buffer_copy(data) if data else None
-        _call("from_bytes", *new._own(), buffer, len(data), most_first)
+        data = bytes(data)
+        _call("from_bytes", *new._own(), cast(c_char_p(data), POINTER(c_uint8)), len(data), most_first)
         return new
 
     def to_bytes(self, most_first: bool = False) -> bytes:
@@ -471,16 +472,19 @@ class Bits:
         return self._found("first_unset_run", *self._own(), count)
 
     def indices(self, start: int = 0, stop: Optional[int] = None, value: bool = True) -> Iterator[int]:
-        """Yields the indices of bits of a value, the lowest first, of a range if one is given.
+        """Returns the indices of bits of a value, the lowest first, of a range if one is given.
 
         >>> list(Bits.of([True, False, True]).indices())
         [0, 2]
         """
+        return chain.from_iterable(self._blocks_of_indices(start, stop, value))
+
+    def _blocks_of_indices(self, start: int, stop: Optional[int], value: bool) -> Iterator[List[int]]:
         first, last = self._range(slice(start, stop))
         found = (c_size_t * _ROOM)()
         count = c_size_t()
         while first < last:
             _call("indices", *self._own(), value, first, found, _ROOM, count)
             block = found[: count.value]
-            yield from block[: bisect_left(block, last)]
+            yield block[: bisect_left(block, last)]
             first = found[_ROOM - 1] + 1 if count.value == _ROOM else last

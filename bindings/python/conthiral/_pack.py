@@ -43,4 +43,4 @@ def unpacked_array(data: bytes, bits: int, dtype: Any) -> Any:
     import numpy
 
     each = numpy.unpackbits(numpy.frombuffer(data, dtype=numpy.uint8), count=bits, bitorder="little")
-    return each.astype(bool if dtype is None else dtype)
+    return each.view(bool) if dtype is None else each.astype(dtype, copy=False)
