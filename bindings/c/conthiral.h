@@ -1,15 +1,18 @@
-/* Proved calls on bits in words that the caller owns. tools/make/header writes this file from crates/vob_c.
+/* Proved calls on bits in words that the caller owns, and on graphs. tools/make/header writes this file from
+   crates/vob_c.
 
    Bit i stands in word i / 64, at the place of weight 2 ^ (i % 64). `bits` bits need (bits + 63) / 64 words, and the
    places of the last word past the last bit are 0: such words are canonical. conthiral_mask makes words canonical.
 
    Each call tests this and its own conditions first, and returns a status. If that isn't CONTHIRAL_OK, nothing is
-   written. No call asks for memory, keeps a pointer, or has a state: calls on different arrays may run at once.
+   written. No call keeps a pointer or has a state: calls on different arrays may run at once. The calls on a graph of
+   offsets and ends ask malloc for memory, and free it before they return. No other call asks for any.
 
    What a caller must see to, for no call can test it:
    - a pointer and the count after it are one array, which stays while the call runs; it may be null if the count is 0;
    - a pointer to one result (as `changed`) isn't null; what stood there isn't read;
-   - the arrays and results of a call don't overlap, unless both arrays are const. */
+   - the arrays and results of a call don't overlap, unless both arrays are const;
+   - malloc, realloc and free are those of one allocator, and no signal handler calls what asks for memory. */
 #ifndef CONTHIRAL_H
 #define CONTHIRAL_H
 
@@ -28,9 +31,9 @@ typedef uint8_t conthiral_status;
 enum {
     /* Every condition of the call is met. */
     CONTHIRAL_OK = 0,
-    /* The words are more or fewer than the bits need. */
+    /* The words are more or fewer than the bits need, or the offsets of a graph don't fit its ends. */
     CONTHIRAL_LENGTH = 1,
-    /* An index or a range is past the bits. */
+    /* An index or a range is past the bits, or what should be a node of a graph is none. */
     CONTHIRAL_RANGE = 2,
     /* Memory ran out. No call on bits asks for any. */
     CONTHIRAL_MEMORY = 3,
@@ -244,6 +247,14 @@ conthiral_status conthiral_product(const uint64_t *first, size_t first_count, si
    isn't read. */
 conthiral_status conthiral_transpose(const uint64_t *words, size_t word_count, size_t rows, size_t columns,
     uint64_t *made, size_t made_count);
+
+/* The nodes that every path from the entry of a flow graph to a node passes. A graph is two arrays: the edges of node
+   i lead to the nodes `ends[offsets[i]]` to `ends[offsets[i + 1] - 1]`. */
+
+/* Writes into `immediate` the immediate dominator of each node: the nearest of the nodes, but itself, that every path
+   from the entry to it passes. Writes the number of nodes for the entry, and for a node to which no path leads. */
+conthiral_status conthiral_dominators(const size_t *offsets, size_t offset_count, const size_t *ends,
+    size_t end_count, size_t entry, size_t *immediate, size_t immediate_count);
 
 #ifdef __cplusplus
 }

@@ -1,8 +1,10 @@
 pub mod BytesLemmas
 pub mod ClosingLemmas
 pub mod CombineLemmas
+pub mod DominatorLemmas
 pub mod FoundLemmas
 pub mod GainLemmas
+pub mod GraphLemmas
 pub mod IndicesLemmas
 pub mod LinkingLemmas
 pub mod MovesLemmas

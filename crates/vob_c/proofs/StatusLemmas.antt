@@ -1,5 +1,5 @@
 -- Which status says what.
-use Rattle.std.proofs.Common.{◌≡◌, ◌↔◌, ℕ, ◌<◌, IsTrue, ltb, arith, ltb-true, lt-ltb, inl, inr, refl}
+use Rattle.std.proofs.Common.{◌≡◌, ◌≢◌, ◌↔◌, ℕ, ◌<◌, IsTrue, ltb, arith, ltb-true, lt-ltb, inl, inr, refl}
 use Rattle.vob_c.specs.Status.{Tells, TellsWords}
 
 module _ {words canonical : Type 0} where
@@ -85,3 +85,32 @@ module _ {words canonical : Type 0} where
   pub tells_less : {i n status : ℕ} → Tells status words canonical (IsTrue (ltb i n))
       → Tells status words canonical (i < n)
   tells_less {i} {n} told = tells_by (ltb-true i n, lt-ltb i n) told
+
+  pub tells_all : {range : Type 0} → words → canonical → range → Tells 0 words canonical range
+  tells_all many also inside = tells_inside (tells_ok many also) (λ _. inside)
+
+  -- one more test after those that failed
+  pub tells_narrow : {range more : Type 0} {status : ℕ} → Tells status words canonical range
+      → status ≢ 0 → (more → range) → Tells status words canonical more
+  tells_narrow {range} {more} {status} told failed wider = record {
+    ok = (
+      (λ e. absurd (failed e)),
+      (λ all. absurd (failed (told.ok.1 (all.0, all.1, wider all.2)))),
+    );
+    length = told.length;
+    not_canonical = told.not_canonical;
+    out_of_range = (
+      (λ e. let all = told.out_of_range.0 e in (all.0, all.1, (λ held. all.2 (wider held)))),
+      (λ all. elim told.known [
+        | inl zero_is ↦ absurd (failed zero_is)
+        | inr more ↦ elim more [
+          | inl one_is ↦ absurd (told.length.0 one_is all.0)
+          | inr rest ↦ elim rest [
+            | inl two_is ↦ two_is
+            | inr four_is ↦ absurd ((told.not_canonical.0 four_is).1 all.1)
+          ]
+        ]
+      ]),
+    );
+    known = told.known;
+  }

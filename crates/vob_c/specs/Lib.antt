@@ -1,6 +1,7 @@
 pub mod Bytes
 pub mod Found
 pub mod Gains
+pub mod Graphs
 pub mod Indices
 pub mod Linking
 pub mod Reached

@@ -22,3 +22,11 @@ pub record TellsWords (status : ℕ) (words canonical : Type 0) : Type 0 where
   pub length : (status ≡ 1) ↔ (¬ words)
   pub not_canonical : (status ≡ 4) ↔ (words × ¬ canonical)
   pub known : (status ≡ 0) ⊎ ((status ≡ 1) ⊎ (status ≡ 4))
+
+-- the same, of a call on arrays of numbers, of which none has a bit past the last one
+abbrev pub TellsRange : ℕ → Type 0 → Type 0 → Type 0
+TellsRange status words range = Tells status words (Unit {0}) range
+
+-- a call that asks for memory once its tests gave 0: the status that they tell, or 3 if memory ran out
+abbrev pub TellsOrMemory : (ℕ → Type 0) → ℕ → Type 0
+TellsOrMemory Told status = Told status ⊎ ((status ≡ 3) × Told 0)

@@ -5,6 +5,8 @@ pub mod bits;
 pub mod bytes;
 pub mod compare;
 pub mod counts;
+pub mod dominators;
+mod graphs;
 pub mod indices;
 pub mod matrices;
 pub mod moves;

@@ -9,10 +9,10 @@ use vob_store::room::block_count;
 /// Every condition of the call is met.
 pub const OK: u8 = 0;
 
-/// The words are more or fewer than the bits need.
+/// The words are more or fewer than the bits need, or the offsets of a graph don't fit its ends.
 pub const LENGTH: u8 = 1;
 
-/// An index or a range is past the bits.
+/// An index or a range is past the bits, or what should be a node of a graph is none.
 pub const RANGE: u8 = 2;
 
 /// Memory ran out. No call on bits asks for any.
