@@ -256,6 +256,13 @@ conthiral_status conthiral_transpose(const uint64_t *words, size_t word_count, s
 conthiral_status conthiral_dominators(const size_t *offsets, size_t offset_count, const size_t *ends,
     size_t end_count, size_t entry, size_t *immediate, size_t immediate_count);
 
+/* The strong components of a graph: two nodes are in one exactly if paths lead from each to the other. */
+
+/* Writes into `component` the number of each node's component, and into `count` how many there are. They are numbered
+   from 0 on, so that an edge from one component to another leads to a lower number. */
+conthiral_status conthiral_components(const size_t *offsets, size_t offset_count, const size_t *ends,
+    size_t end_count, size_t *component, size_t component_count, size_t *count);
+
 #ifdef __cplusplus
 }
 #endif

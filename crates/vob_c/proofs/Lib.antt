@@ -1,6 +1,8 @@
 pub mod BytesLemmas
 pub mod ClosingLemmas
 pub mod CombineLemmas
+pub mod ComponentLemmas
+pub mod CoverLemmas
 pub mod DominatorLemmas
 pub mod FoundLemmas
 pub mod GainLemmas

@@ -1,4 +1,5 @@
 pub mod Bytes
+pub mod Components
 pub mod Found
 pub mod Gains
 pub mod Graphs

@@ -4,6 +4,7 @@
 pub mod bits;
 pub mod bytes;
 pub mod compare;
+pub mod components;
 pub mod counts;
 pub mod dominators;
 mod graphs;
