@@ -263,6 +263,17 @@ conthiral_status conthiral_dominators(const size_t *offsets, size_t offset_count
 conthiral_status conthiral_components(const size_t *offsets, size_t offset_count, const size_t *ends,
     size_t end_count, size_t *component, size_t component_count, size_t *count);
 
+/* The variables that a program still needs at each node of its flow graph. Row n of bits is of node n, and has a bit
+   for each variable. */
+
+/* Writes into `before` and `after` the variables that are live before each node and after it. After a node is live
+   what is live before a node that comes next. Before it is live what it reads, and what is live after it and not
+   written there. Each of the four arrays has a row of `variables` bits for each node. What stood in `before` and
+   `after` isn't read. */
+conthiral_status conthiral_liveness(const size_t *offsets, size_t offset_count, const size_t *ends, size_t end_count,
+    size_t variables, const uint64_t *reads, size_t reads_count, const uint64_t *writes, size_t writes_count,
+    uint64_t *before, size_t before_count, uint64_t *after, size_t after_count);
+
 #ifdef __cplusplus
 }
 #endif

@@ -9,6 +9,7 @@ pub mod GainLemmas
 pub mod GraphLemmas
 pub mod IndicesLemmas
 pub mod LinkingLemmas
+pub mod LiveLemmas
 pub mod MovesLemmas
 pub mod RangeLemmas
 pub mod ReachedLemmas

@@ -5,6 +5,7 @@ pub mod Gains
 pub mod Graphs
 pub mod Indices
 pub mod Linking
+pub mod Live
 pub mod Reached
 pub mod Rows
 pub mod Status

@@ -9,6 +9,7 @@ pub mod counts;
 pub mod dominators;
 mod graphs;
 pub mod indices;
+pub mod live;
 pub mod matrices;
 pub mod moves;
 pub mod products;
