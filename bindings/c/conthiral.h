@@ -274,6 +274,22 @@ conthiral_status conthiral_liveness(const size_t *offsets, size_t offset_count, 
     size_t variables, const uint64_t *reads, size_t reads_count, const uint64_t *writes, size_t writes_count,
     uint64_t *before, size_t before_count, uint64_t *after, size_t after_count);
 
+/* Sets that draw from one another along the edges of a graph: row n of bits is the set of node n, and draws from
+   those of the nodes to which its edges lead. */
+
+/* Adds to each set what its mask lets through of the sets that it draws from, until none grows. Row n of `masks` is
+   the mask of set n: it lets through the places that it has with `keep`, and else those that it hasn't. `masks` and
+   `sets` have a row of `columns` bits for each node. */
+conthiral_status conthiral_least(const size_t *offsets, size_t offset_count, const size_t *ends, size_t end_count,
+    size_t columns, const uint64_t *masks, size_t masks_count, bool keep, uint64_t *sets, size_t sets_count);
+
+/* Makes each set the greatest that has what it starts with, and of its mask the places that all sets have that it
+   draws from. A set that draws from none has all of its mask, but nothing is let through to `entry`, if that is a
+   node. `masks`, `keep` and `sets` are as for `conthiral_least`. */
+conthiral_status conthiral_greatest(const size_t *offsets, size_t offset_count, const size_t *ends, size_t end_count,
+    size_t entry, size_t columns, const uint64_t *masks, size_t masks_count, bool keep, uint64_t *sets,
+    size_t sets_count);
+
 #ifdef __cplusplus
 }
 #endif

@@ -2,6 +2,7 @@ pub mod BytesLemmas
 pub mod ClosingLemmas
 pub mod CombineLemmas
 pub mod ComponentLemmas
+pub mod CopiesLemmas
 pub mod CoverLemmas
 pub mod DominatorLemmas
 pub mod FoundLemmas
@@ -9,7 +10,6 @@ pub mod GainLemmas
 pub mod GraphLemmas
 pub mod IndicesLemmas
 pub mod LinkingLemmas
-pub mod LiveLemmas
 pub mod MovesLemmas
 pub mod RangeLemmas
 pub mod ReachedLemmas

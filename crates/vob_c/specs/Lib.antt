@@ -1,5 +1,7 @@
 pub mod Bytes
 pub mod Components
+pub mod Copies
+pub mod Draws
 pub mod Found
 pub mod Gains
 pub mod Graphs

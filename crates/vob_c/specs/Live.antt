@@ -1,5 +1,5 @@
 -- Live variables of a flow graph, as rows of bits: one row a node, one bit a variable.
-use Rattle.std.specs.Prelude.{◌≡◌, ℕ, ◌+◌, ◌<◌, ◌≤◌, Bool, false, not, List, length, replicate}
+use Rattle.std.specs.Prelude.{ℕ, Bool, not, List}
 use Rattle.vob_block.specs.Packing.{item}
 use Rattle.vob_flow.specs.Reaching.{AreReaching}
 use Rattle.vob_rows.specs.Rows.{row_of}
@@ -14,16 +14,3 @@ stays_live writes n v = not (item (row_of writes n) v)
 abbrev pub AreLiveRows : List (List ℕ) → List (List Bool) → List (List Bool) → List (List Bool) → List (List Bool)
     → Type 0
 AreLiveRows next reads writes before after = AreReaching next (stays_live writes) reads after before
-
--- ---- how words become rows: no public clause cites what follows
-
--- the first k rows are those of a table, and the others blank
-pub record AreTaken (table : List (List Bool)) (columns : ℕ) (rows : List (List Bool)) (k : ℕ) : Type 0 where
-  pub count : length rows ≡ length table
-  pub low : (n : ℕ) → n < k → n < length table → row_of rows n ≡ row_of table n
-  pub high : (n : ℕ) → k ≤ n → n < length table → row_of rows n ≡ replicate columns false
-
--- the first k rows are those of a table, and as many as it has
-pub record AreWritten (table rows : List (List Bool)) (k : ℕ) : Type 0 where
-  pub count : length rows ≡ length table
-  pub low : (n : ℕ) → n < k → n < length table → row_of rows n ≡ row_of table n

@@ -1,110 +1,43 @@
 //! The variables that a program still needs at each node of its flow graph. Row n of bits is of node n, and
 //! has a bit for each variable.
-ghost use Rattle.std.specs.Prelude.{◌≡◌, ◌≢◌, ◌||◌, ◌+◌, ◌-◌, ◌*◌, ◌<◌, ◌≤◌, length, slice_set, IfOk};
-ghost use Rattle.vob_block.specs.Packing.{unpacking, IsCanonical};
-ghost use Rattle.vob_block.specs.Pointwise.{pointwise};
+ghost use Rattle.std.specs.Prelude.{◌≡◌, ◌≢◌, ◌-◌, length, IfOk};
 ghost use Rattle.vob_rows.specs.Ends.{lists_of};
-ghost use Rattle.vob_rows.specs.Part.{with_row};
-ghost use Rattle.vob_rows.specs.Rows.{row_of};
 ghost use Rattle.vob_c.specs.Graphs.{AreNodes, AreOffsets};
 ghost use Rattle.vob_c.specs.Live.{AreLiveRows};
 ghost use Rattle.vob_c.specs.Rows.{AreCanonicalRows, HasRowWords, rows_in};
 ghost use Rattle.vob_c.specs.Status.{Tells, TellsOrMemory};
 
+use crate::copies::{Shape, rows_of, write_rows};
 use crate::graphs::{are_offsets, graph_of};
-use crate::rows::{are_canonical, clear, has_row_words, words_at};
+use crate::rows::{are_canonical, has_row_words};
 use crate::status::{LENGTH, MEMORY, NOT_CANONICAL, OK, RANGE};
-use std::alloc::{AllocError, Global};
-use vob::Vob;
-use vob_block::Blocks;
+use std::alloc::Global;
 use vob_flow::{Masks, SolveError, reaching_definitions};
-use vob_rows::{BitRows, Row, all_below};
-use vob_store::room::block_count;
-
-/// How many nodes a flow graph has, and how many variables its program.
-#[derive(Clone, Copy)]
-struct Sizes {
-    nodes: usize,
-    variables: usize,
-}
-
-/// Adds to row `i` the bits that words hold. `room` is a Vob to work in.
-fn take_row(made: &mut BitRows, i: usize, words: &[usize], room: &mut Vob)
-    requires row { i < length made.old.rows }
-    requires words { IsCanonical made.old.columns words.now 64 }
-    requires room { made.old.columns ≤ room.old.capacity }
-    ensures rows { made.new.rows ≡ slice_set made.old.rows i (pointwise ◌||◌
-        (row_of made.old.rows i) (unpacking made.old.columns words.now 64)) }
-    ensures columns { made.new.columns ≡ made.old.columns }
-    ensures room { room.old.capacity ≤ room.new.capacity }
-{
-    room.clear();
-    room.append_blocks(&mut Blocks::new(words), made.columns());
-    made.or_with(i, &Row::of(room));
-}
-
-/// Returns the rows that words hold. Fails if memory runs out.
-fn rows_of(alloc: Global, words: &[usize], sizes: Sizes) -> Result<BitRows, AllocError>
-    requires { AreCanonicalRows sizes.nodes sizes.variables words.now }
-    ensures rows { IfOk result
-        (λ made. made.rows ≡ rows_in sizes.nodes sizes.variables words.now) }
-    ensures columns { IfOk result (λ made. made.columns ≡ sizes.variables) }
-{
-    let count = block_count::<usize>(sizes.variables);
-    let mut made = BitRows::new(alloc, sizes.nodes, sizes.variables)?;
-    let mut room = Vob::new_with_storage_type(alloc, sizes.variables)?;
-    for i in 0..sizes.nodes {
-        take_row(&mut made, i, words_at(words, count, i), &mut room);
-    }
-    Ok(made)
-}
-
-/// Writes words over those of row `i`, of `count` words a row.
-fn put_words(words: &mut [usize], count: usize, i: usize, row: &[usize])
-    requires inside { i * count + count ≤ length words.old }
-    requires long { length row.now ≡ count }
-    ensures { words.new ≡ with_row count words.old i row.now }
-{
-    let start = i * count;
-    words[start..start + count].copy_from_slice(row);
-}
-
-/// Writes rows into words, whatever these hold.
-fn write_rows(rows: &BitRows, words: &mut [usize])
-    requires { HasRowWords (length rows.now.rows) rows.now.columns words.old }
-    ensures canonical { AreCanonicalRows (length rows.now.rows) rows.now.columns words.new }
-    ensures rows { rows_in (length rows.now.rows) rows.now.columns words.new ≡ rows.now.rows }
-{
-    let count = block_count::<usize>(rows.columns());
-    clear(words);
-    for i in 0..rows.rows() {
-        put_words(words, count, i, rows.row(i).get_storage());
-    }
-}
+use vob_rows::{BitRows, all_below};
 
 /// Returns the rows of what is live before each node, and of what is live after it. Fails if memory runs out.
 fn solve_live(
     alloc: Global,
     offsets: &[usize],
     ends: &[usize],
-    sizes: Sizes,
+    shape: Shape,
     reads: &[usize],
     writes: &[usize],
 ) -> Result<(BitRows, BitRows), SolveError>
-    requires offsets { AreOffsets sizes.nodes offsets.now ends.now }
-    requires reads { AreCanonicalRows sizes.nodes sizes.variables reads.now }
-    requires writes { AreCanonicalRows sizes.nodes sizes.variables writes.now }
+    requires offsets { AreOffsets shape.rows offsets.now ends.now }
+    requires reads { AreCanonicalRows shape.rows shape.columns reads.now }
+    requires writes { AreCanonicalRows shape.rows shape.columns writes.now }
     ensures live { IfOk result (λ live. AreLiveRows (lists_of offsets.now ends.now)
-        (rows_in sizes.nodes sizes.variables reads.now)
-        (rows_in sizes.nodes sizes.variables writes.now) live.0.rows live.1.rows) }
+        (rows_in shape.rows shape.columns reads.now)
+        (rows_in shape.rows shape.columns writes.now) live.0.rows live.1.rows) }
     ensures before { IfOk result
-        (λ live. (length live.0.rows ≡ sizes.nodes) × (live.0.columns ≡ sizes.variables)) }
+        (λ live. (length live.0.rows ≡ shape.rows) × (live.0.columns ≡ shape.columns)) }
     ensures after { IfOk result
-        (λ live. (length live.1.rows ≡ sizes.nodes) × (live.1.columns ≡ sizes.variables)) }
+        (λ live. (length live.1.rows ≡ shape.rows) × (live.1.columns ≡ shape.columns)) }
 {
-    let next = graph_of(alloc, offsets, ends, sizes.nodes)?;
-    let written = rows_of(alloc, writes, sizes)?;
-    let mut before = rows_of(alloc, reads, sizes)?;
+    let next = graph_of(alloc, offsets, ends, shape.rows)?;
+    let written = rows_of(alloc, writes, shape)?;
+    let mut before = rows_of(alloc, reads, shape)?;
     // What reaches a node along the edges turned around is what is live there.
     let after = reaching_definitions(alloc, &mut before, &next, Masks::Without(&written))?;
     Ok((before, after))
@@ -159,8 +92,11 @@ pub extern "C" fn conthiral_liveness(
     if !all_below(ends, nodes) {
         return RANGE;
     }
-    let sizes = Sizes { nodes, variables };
-    let Ok(live) = solve_live(alloc, offsets, ends, sizes, reads, writes) else {
+    let shape = Shape {
+        rows: nodes,
+        columns: variables,
+    };
+    let Ok(live) = solve_live(alloc, offsets, ends, shape, reads, writes) else {
         return MEMORY;
     };
     write_rows(&live.0, before);

@@ -14,7 +14,7 @@ reaching_definitions-requires c =
 pub returns-clause-live : goal.returns-clause-live
 returns-clause-live c =
     let lists = lists_of c.args.offsets.now c.args.ends.now in
-    let writes = rows_in c.args.sizes.nodes c.args.sizes.variables c.args.writes.now in
+    let writes = rows_in c.args.shape.rows c.args.shape.columns c.args.writes.now in
     let before = c.in_ok-before.before.rows in
     let written = c.in_ok-written.written.rows in
     let after = c.in_ok-after.after.rows in

@@ -4,10 +4,10 @@ use Rattle.std.proofs.lemmas.List.{map-id}
 use Rattle.vob_block.specs.Packing.{need}
 use Rattle.vob_block.proofs.PackingLemmas.{packing_is}
 use Rattle.vob_c.proofs.LinkingLemmas.{blank_words}
-use Rattle.vob_c.proofs.LiveLemmas.{all_written, row_canonical, row_written}
+use Rattle.vob_c.proofs.CopiesLemmas.{all_written, row_canonical, row_written}
 use Rattle.vob_c.proofs.RowsLemmas.{length-rows_in}
-use Rattle.vob_c.proofs.live.write_rows.Goals as goal
-use Rattle.vob_c.proofs.live.write_rows.Goals.{After-block_count-count}
+use Rattle.vob_c.proofs.copies.write_rows.Goals as goal
+use Rattle.vob_c.proofs.copies.write_rows.Goals.{After-block_count-count}
 
 counted : (c : After-block_count-count) → c.block_count-count.result ≡ need c.args.rows.now.columns 64
 counted c = c.block_count-count.ensures ∙ ap (λ n. need n 64) c.columns.ensures.columns

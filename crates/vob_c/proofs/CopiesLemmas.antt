@@ -10,7 +10,7 @@ use Rattle.vob_block.proofs.PointwiseLemmas.{length-pointwise}
 use Rattle.vob.proofs.BitsLemmas.{AreCombined-pointwise, item_false}
 use Rattle.vob_rows.specs.Part.{with_row, IsRowPut}
 use Rattle.vob_rows.proofs.PartLemmas.{HoldRows}
-use Rattle.vob_c.specs.Live.{AreTaken, AreWritten}
+use Rattle.vob_c.specs.Copies.{AreTaken, AreWritten}
 use Rattle.vob_c.specs.Rows.{AreCanonicalRows, rows_in}
 use Rattle.vob_c.proofs.RowsLemmas.{length-rows_in, row_here, rows_are, rows_back}
 
