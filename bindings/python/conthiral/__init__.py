@@ -14,7 +14,21 @@
 
 from ._bits import Bits
 from ._faults import LengthError, NotCanonicalError
+from ._graphs import components, dominators, liveness
 from ._matrix import close, closure, product, reach, transpose
 
-__all__ = ["Bits", "LengthError", "NotCanonicalError", "close", "closure", "product", "reach", "transpose"]
+__all__ = [
+    "Bits",
+    "LengthError",
+    "NotCanonicalError",
+    "close",
+    "closure",
+    "components",
+    "dominators",
+    "liveness",
+    "product",
+    "reach",
+    "transpose",
+]
+__all__ += ["components", "dominators", "liveness"]
 __version__ = "0.1.0"
