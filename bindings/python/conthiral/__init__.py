@@ -30,5 +30,4 @@ __all__ = [
     "reach",
     "transpose",
 ]
-__all__ += ["components", "dominators", "liveness"]
 __version__ = "0.1.0"
