@@ -11,7 +11,7 @@ from typing import Any, Callable, Iterable, Iterator, List, Optional, Tuple, Uni
 
 from ._faults import call as _call, fault
 from ._library import LENGTH, RANGE
-from ._pack import packed_values, unpacked, unpacked_array
+from ._pack import packed, packed_array, unpacked, unpacked_array
 
 # how many indices a call of the library writes at most
 _ROOM = 4096
@@ -41,7 +41,7 @@ class Bits:
         count = len(bits) if isinstance(bits, str) else whole(bits)
         if count < 0 or isinstance(bits, str) and bits.strip("01"):
             raise ValueError("bits are a number that isn't negative, or a text of 0 and 1")
-        self._take(array("Q", bytes((count + 63) // 64 * 8)), count)
+        self._take(array("Q", [0]) * ((count + 63) // 64), count)
         if isinstance(bits, str):
             self[:] = map(int, bits)
         elif value:
@@ -80,7 +80,11 @@ class Bits:
         >>> Bits.of([True, False, True])
         Bits('101')
         """
-        return cls.of_bytes(*packed_values(values))
+        words = packed_array(values)
+        if words is not None:
+            return cls.over(words, len(values))  # type: ignore[arg-type]
+        each = values if isinstance(values, (bytes, bytearray)) else bytes(map(bool, values))
+        return cls.of_bytes(packed(each), len(each))
 
     @classmethod
     def of_indices(cls, bits: int, indices: Iterable[int]) -> Bits:
@@ -123,7 +127,7 @@ class Bits:
         """Returns an array of NumPy with a ``bool`` for each bit."""
         if copy is False:
             raise ValueError("an array of an item for each bit is a copy")
-        return unpacked_array(self.to_bytes(), self._bits, dtype)
+        return unpacked_array(self.words, self._bits, dtype)
 
     def copy(self) -> Bits:
         """Returns the same bits in words of their own."""

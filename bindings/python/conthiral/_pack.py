@@ -3,7 +3,7 @@
 from __future__ import annotations
 
 import sys
-from typing import Any, Iterable, Tuple
+from typing import Any
 
 _TO_DIGITS = b"0" + b"1" * 255
 _FROM_DIGITS = bytes.maketrans(b"01", b"\x00\x01")
@@ -29,18 +29,21 @@ def unpacked(data: bytes, bits: int) -> bytes:
     return digits[::-1].encode().translate(_FROM_DIGITS)
 
 
-def packed_values(values: Iterable[Any]) -> Tuple[bytes, int]:
-    """Returns bytes of eight bits, and how many bits there are: those of values that are true are set."""
+def packed_array(values: Any) -> Any:
+    """Returns the words of an array of NumPy, of which each item is a bit, as such an array; None of anything else."""
     numpy = sys.modules.get("numpy")
-    if numpy is not None and isinstance(values, numpy.ndarray) and values.ndim == 1:
-        return numpy.packbits(values.astype(bool, copy=False), bitorder="little").tobytes(), values.size
-    each = values if isinstance(values, (bytes, bytearray)) else bytes(map(bool, values))
-    return packed(each), len(each)
+    if numpy is None or not isinstance(values, numpy.ndarray) or values.ndim != 1:
+        return None
+    data = numpy.packbits(values.astype(bool, copy=False), bitorder="little")
+    words = numpy.zeros((values.size + 63) // 64, dtype="<u8")
+    words.view(numpy.uint8)[: data.size] = data
+    return words.astype(numpy.uint64, copy=False)
 
 
-def unpacked_array(data: bytes, bits: int, dtype: Any) -> Any:
-    """Returns an array of NumPy with an item for each of as many bits."""
+def unpacked_array(words: Any, bits: int, dtype: Any) -> Any:
+    """Returns an array of NumPy with an item for each of the first bits of words."""
     import numpy
 
-    each = numpy.unpackbits(numpy.frombuffer(data, dtype=numpy.uint8), count=bits, bitorder="little")
+    data = numpy.frombuffer(words, dtype=numpy.uint64).astype("<u8", copy=False).view(numpy.uint8)
+    each = numpy.unpackbits(data, count=bits, bitorder="little")
     return each.view(bool) if dtype is None else each.astype(dtype, copy=False)
