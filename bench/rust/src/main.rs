@@ -1,6 +1,6 @@
-//! The package of bindings/rust beside fixedbitset and bit-vec. Without words it prints each row, its goal and our time over
-//! that of the best peer, by three readings. `--names` prints rows and libraries; `--alone ROW LIBRARY TIMES` does
-//! one work so many times.
+//! The package of bindings/rust beside fixedbitset and bit-vec. Without words it prints each row, its goal and our
+//! time over that of the best peer, by three readings. `--names` prints rows and libraries; `--alone ROW LIBRARY
+//! TIMES` does one work so many times.
 
 mod rows;
 
