@@ -10,7 +10,7 @@ from operator import index as whole
 from typing import Any, Callable, Iterable, Iterator, List, Optional, Tuple, Union, overload
 
 from ._faults import call as _call, fault
-from ._library import LENGTH, RANGE
+from ._library import LENGTH, RANGE, overlap
 from ._pack import packed, packed_array, unpacked, unpacked_array
 
 # how many indices a call of the library writes at most
@@ -205,7 +205,7 @@ class Bits:
             return
         if len(value) != stop - start:
             raise fault(LENGTH)
-        if value.words is self.words:
+        if overlap(value._pointer, self._pointer):
             value = value.copy()
         _call("copy", *self._own(), start, *value._own(), 0, stop - start)
 
@@ -312,7 +312,9 @@ class Bits:
 
     def _combine(self, name: str, other: Bits) -> bool:
         changed = c_bool()
-        if self.words is other.words:
+        if not isinstance(other, Bits):
+            raise TypeError(f"Bits are combined with Bits, not with {type(other).__name__}")
+        if overlap(self._pointer, other._pointer):
             other = other.copy()
         _call(name, *self._both(other), changed)
         return changed.value
@@ -342,7 +344,7 @@ class Bits:
         """Adds the bits that two others both have. Returns whether one changed."""
         self._both(second)
         changed = c_bool()
-        others = [bits.copy() if bits.words is self.words else bits for bits in (first, second)]
+        others = [bits.copy() if overlap(bits._pointer, self._pointer) else bits for bits in (first, second)]
         _call("or_and", *self._both(others[0])[:4], others[1]._pointer, len(others[1].words), self._bits, changed)
         return changed.value
 

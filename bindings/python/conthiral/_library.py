@@ -6,6 +6,7 @@ import ctypes
 import ctypes.util
 import os
 from ctypes import POINTER, c_bool, c_size_t, c_uint8, c_uint64
+from typing import Any
 
 OK, LENGTH, RANGE, MEMORY, NOT_CANONICAL = range(5)
 
@@ -80,3 +81,11 @@ for _name, _types in _CALLS.items():
     _call = getattr(LIBRARY, "conthiral_" + _name)
     _call.argtypes = _types
     _call.restype = c_uint8
+
+
+def overlap(one: Any, other: Any) -> bool:
+    """Returns whether two arrays of ctypes, or None for an empty one, have a byte in common."""
+    if one is None or other is None:
+        return False
+    first, second = ctypes.addressof(one), ctypes.addressof(other)
+    return first < second + ctypes.sizeof(other) and second < first + ctypes.sizeof(one)

@@ -142,6 +142,17 @@ class Lists(unittest.TestCase):
             self.assertEqual(first.unite_both(second, Bits.of(third)), wanted != own)
             self.same(first, wanted)
 
+    def test_words_in_common(self):
+        for _ in range(ROUNDS):
+            own = some_list(192)
+            words = array("Q", Bits.of(own).words)
+            first, second = Bits.over(memoryview(words)[:2]), Bits.over(memoryview(words)[1:])
+            wanted = [a != b for a, b in zip(own[:128], own[64:])]
+            first ^= second
+            self.same(first, wanted)
+            first[:] = second
+            self.same(first, wanted[64:] + own[128:])
+
     def test_counts(self):
         for _ in range(ROUNDS):
             own = some_list(some_length())
@@ -196,6 +207,8 @@ class Lists(unittest.TestCase):
             Bits(1.5)
         with self.assertRaises(TypeError):
             hash(bits)
+        with self.assertRaises(TypeError):
+            bits & 3
         self.same(bits, [False] * 70)
 
     @unittest.skipUnless(numpy, "numpy isn't installed")

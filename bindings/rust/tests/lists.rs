@@ -232,7 +232,7 @@ fn views() {
         assert_eq!(view.first_difference(&read), (0..len.min(other.len())).find(|&i| own[i] != other[i]));
         let third = list(len);
         view.or(&bits(&third));
-        view ^= &Bits::from_words(&bits(&own).words()[..], len).unwrap();
+        view ^= &Bits::from_words(bits(&own).words(), len).unwrap();
         let wanted: Vec<bool> = own.iter().zip(&third).map(|(&a, &b)| (a || b) != a).collect();
         same(&(&view & &view), &wanted);
         same(&bits_of_words(&words, len), &wanted);
