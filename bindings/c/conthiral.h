@@ -249,7 +249,8 @@ conthiral_status conthiral_transpose(const uint64_t *words, size_t word_count, s
     uint64_t *made, size_t made_count);
 
 /* The nodes that every path from the entry of a flow graph to a node passes. A graph is two arrays: the edges of node
-   i lead to the nodes `ends[offsets[i]]` to `ends[offsets[i + 1] - 1]`. */
+   i lead to the nodes from `ends[offsets[i]]` to below `ends[offsets[i + 1]]`. So there is one offset more than
+   nodes; the first is 0, they rise, and the last is the number of ends. */
 
 /* Writes into `immediate` the immediate dominator of each node: the nearest of the nodes, but itself, that every path
    from the entry to it passes. Writes the number of nodes for the entry, and for a node to which no path leads. */

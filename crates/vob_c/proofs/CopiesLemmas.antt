@@ -1,14 +1,14 @@
 -- Rows that come from words, and go into words, one after another.
 use Rattle.std.proofs.Common.{◌≡◌, ◌||◌, ℕ, ◌+◌, ◌<◌, ◌≤◌, Bool, false, List, [], length, map, get_or, set, replicate}
-use Rattle.std.proofs.Common.{refl, sym, ap, ◌∙◌, subst, arith, inl, inr}
+use Rattle.std.proofs.Common.{refl, sym, ap, ◌∙◌, arith, inl, inr}
 use Rattle.std.proofs.lemmas.Bool.{cases_eq}
-use Rattle.std.proofs.lemmas.List.{ext_get_or, get_or-replicate, get_or-set_other, get_or-set_same, length-replicate, length-set, map-id}
-use Rattle.vob_block.specs.Packing.{item, need, packing, unpacking, Stores}
+use Rattle.std.proofs.lemmas.List.{ext_get_or, get_or-replicate, get_or-set_other, get_or-set_same, length-replicate, length-set}
+use Rattle.vob_block.specs.Packing.{item, need, packing}
 use Rattle.vob_block.specs.Pointwise.{pointwise}
 use Rattle.vob_block.proofs.PackingLemmas.{packing_is}
 use Rattle.vob_block.proofs.PointwiseLemmas.{length-pointwise}
 use Rattle.vob.proofs.BitsLemmas.{AreCombined-pointwise, item_false}
-use Rattle.vob_rows.specs.Part.{with_row, IsRowPut}
+use Rattle.vob_rows.specs.Part.{with_row}
 use Rattle.vob_rows.proofs.PartLemmas.{HoldRows}
 use Rattle.vob_c.specs.Copies.{AreTaken, AreWritten}
 use Rattle.vob_c.specs.Rows.{AreCanonicalRows, rows_in}

@@ -1,8 +1,7 @@
 -- Immediate dominators as numbers, one of which stands for none.
 use Rattle.std.specs.Prelude.{Option, Some, None, IfSome, unwrap_or}
-use Rattle.std.proofs.Common.{◌≡◌, ℕ, ◌<◌, ◌≤◌, List, [], ◌∷◌, length, get_or, Contains, refl, sym, ap, ◌∙◌, subst, arith, inl, inr}
+use Rattle.std.proofs.Common.{◌≡◌, ℕ, ◌<◌, ◌≤◌, List, [], ◌∷◌, length, get_or, Contains, sym, ap, ◌∙◌, subst, arith, inl, inr}
 use Rattle.std.proofs.lemmas.List.Elements.{Contains-append_cases}
-use Rattle.vob_block.specs.Packing.{item}
 use Rattle.vob_block.proofs.PackingLemmas.{true_inside}
 use Rattle.vob_flow.specs.Dominators.{HasPath, IsDominatorTree, IsImmediate, IsPath, Tree}
 use Rattle.vob_flow.specs.Dominators.IsPath.{start, step}

@@ -1,5 +1,6 @@
 //! The nodes that every path from the entry of a flow graph to a node passes. A graph is two arrays: the
-//! edges of node i lead to the nodes `ends[offsets[i]]` to `ends[offsets[i + 1] - 1]`.
+//! edges of node i lead to the nodes from `ends[offsets[i]]` to below `ends[offsets[i + 1]]`. So there is one
+//! offset more than nodes; the first is 0, they rise, and the last is the number of ends.
 ghost use Rattle.std.specs.Prelude.{◌≡◌, ◌≢◌, ◌<◌, ◌≤◌, ℕ, List, length, slice_index_or, IfOk};
 ghost use Rattle.vob_flow.specs.Dominators.{IsDominatorTree, IsImmediate};
 ghost use Rattle.vob_rows.specs.Ends.{lists_of};

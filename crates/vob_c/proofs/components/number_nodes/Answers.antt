@@ -1,5 +1,5 @@
 -- The graph is that of the arrays, and all of its nodes have numbers.
-use Rattle.std.proofs.Common.{◌≡◌, ◌<◌, ◌∙◌, ℕ, List, ap, length, subst, sym, arith}
+use Rattle.std.proofs.Common.{◌<◌, ◌∙◌, ℕ, List, ap, length, subst, sym, arith}
 use Rattle.vob_flow.specs.Components.{component_of}
 use Rattle.vob_c.specs.Components.{AreNumbered, AreTurned, number_of}
 use Rattle.vob_c.proofs.ComponentLemmas.{number_below, numbered}

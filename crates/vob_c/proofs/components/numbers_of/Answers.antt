@@ -1,5 +1,5 @@
 -- One root more has a number.
-use Rattle.std.proofs.Common.{◌≡◌, ℕ, ◌-◌, ◌+◌, ◌<◌, ◌∙◌, length, get_or, ap, subst, arith}
+use Rattle.std.proofs.Common.{◌≡◌, ◌-◌, ◌+◌, ◌<◌, ◌∙◌, length, get_or, ap, subst, arith}
 use Rattle.std.proofs.lemmas.List.{get_or_default}
 use Rattle.vob_c.specs.Components.{HaveNumbers, IsGiven, root_at}
 use Rattle.vob_c.proofs.ComponentLemmas.{one_more}

@@ -1,5 +1,5 @@
 -- The rows are blank at first, and each gets the bits of its words.
-use Rattle.std.proofs.Common.{◌≡◌, ◌<◌, ◌||◌, ◌∙◌, ℕ, List, Bool, [], false, length, get_or, set, replicate, ap, subst, sym, refl, arith}
+use Rattle.std.proofs.Common.{◌||◌, ◌∙◌, ℕ, List, [], false, get_or, set, replicate, ap, subst, sym, arith}
 use Rattle.std.proofs.lemmas.List.{map-id}
 use Rattle.vob_block.specs.Packing.{unpacking, IsCanonical}
 use Rattle.vob_block.specs.Pointwise.{pointwise}
