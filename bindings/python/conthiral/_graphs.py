@@ -4,6 +4,7 @@ from __future__ import annotations
 
 from array import array
 from ctypes import POINTER, c_size_t, c_uint8, c_uint64
+from itertools import accumulate, chain
 from typing import Any, Dict, Hashable, Iterable, List, Mapping, Optional, Tuple, TypeVar, Union
 
 from ._library import LIBRARY, MEMORY, OK
@@ -49,19 +50,16 @@ class _Graph:
     """The arrays of a graph, and its nodes in the order in which they are first named."""
 
     def __init__(self, edges: Edges[Name], first: Iterable[Name] = (), last: Iterable[Name] = ()) -> None:
-        lists = list(edges.items()) if isinstance(edges, Mapping) else [(name, [other]) for name, other in edges]
-        lists = [(name, []) for name in first] + [(name, list(after)) for name, after in lists]
-        numbers: Dict[Name, int] = {}
-        after: Dict[int, List[int]] = {}
-        for name, others in lists + [(name, []) for name in last]:
-            number, *ends = [numbers.setdefault(each, len(numbers)) for each in (name, *others)]
-            after.setdefault(number, []).extend(ends)
+        given = edges.items() if isinstance(edges, Mapping) else ((name, (other,)) for name, other in edges)
+        lists = [(name, tuple(others)) for name, others in given]
+        named = chain(first, chain.from_iterable((name, *others) for name, others in lists), last)
+        numbers = {name: at for at, name in enumerate(dict.fromkeys(named))}
+        after: List[List[int]] = [[] for _ in numbers]
+        for name, others in lists:
+            after[numbers[name]] += map(numbers.__getitem__, others)
         self.names = list(numbers)
-        self.offsets = array("Q", [0])
-        self.ends = array("Q")
-        for number in range(len(numbers)):
-            self.ends.extend(after.get(number, ()))
-            self.offsets.append(len(self.ends))
+        self.offsets = array("Q", accumulate(map(len, after), initial=0))
+        self.ends = array("Q", chain.from_iterable(after))
 
     def arrays(self) -> Tuple[Any, ...]:
         return (*_numbers(self.offsets), *_numbers(self.ends))
