@@ -15,7 +15,7 @@ out=$PWD/bench/out/bindings
 mkdir -p "$out"
 
 printf '[source.crates-io]\nreplace-with = "debian"\n[source.debian]\ndirectory = "%s"\n' "$registry" >"$out/config.toml"
-cp -- "$library" "$out/libconthiral.a"
+tools/make/static "$library" "$out/libconthiral.a"
 # the processor for which the library is built
 export RUSTFLAGS='-C target-cpu=x86-64-v2' CONTHIRAL_LIB_DIR=$out
 (cd bench/rust && cargo build --quiet --release --offline --config "$out/config.toml" --target-dir "$out/rust" && rm Cargo.lock)
@@ -40,5 +40,5 @@ echo '|---|---|---|---|---|'
          END { printf "| %s | %s | %s %s | %.2f | %s |\n", row, goal, time, peer, mine / least, beside }'
 done
 
-tools/make/shared "$library" "$out/libconthiral.so"
+tools/make/shared "$out/libconthiral.a" "$out/libconthiral.so"
 CONTHIRAL_LIBRARY=$out/libconthiral.so PYTHONPATH=bindings/python PYTHONDONTWRITEBYTECODE=1 "${PYTHON:-python3}" bench/bindings.py
