@@ -4,7 +4,7 @@ from __future__ import annotations
 
 from typing import Any
 
-from ._library import LENGTH, LIBRARY, NOT_CANONICAL, RANGE
+from ._library import LENGTH, LIBRARY, MEMORY, NOT_CANONICAL, RANGE
 
 
 class LengthError(ValueError):
@@ -18,6 +18,7 @@ class NotCanonicalError(ValueError):
 _FAULTS = {
     LENGTH: (LengthError, "the lengths differ"),
     RANGE: (IndexError, "an index is past the bits"),
+    MEMORY: (MemoryError, "there is no memory for the graph"),
     NOT_CANONICAL: (NotCanonicalError, "a bit past the last one is set"),
 }
 

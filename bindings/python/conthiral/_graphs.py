@@ -7,7 +7,8 @@ from ctypes import POINTER, c_size_t, c_uint8, c_uint64
 from itertools import accumulate, chain
 from typing import Any, Dict, Hashable, Iterable, List, Mapping, Optional, Tuple, TypeVar, Union
 
-from ._library import LIBRARY, MEMORY, OK
+from ._faults import call
+from ._library import LIBRARY
 
 Name = TypeVar("Name", bound=Hashable)
 Variable = TypeVar("Variable", bound=Hashable)
@@ -25,15 +26,6 @@ for _name, _types in _CALLS.items():
     _function = getattr(LIBRARY, "conthiral_" + _name)
     _function.argtypes = _types
     _function.restype = c_uint8
-
-
-def _call(name: str, *arguments: Any) -> None:
-    """Makes a call on arrays that fit one another, so that it can lack memory alone."""
-    status = getattr(LIBRARY, "conthiral_" + name)(*arguments)
-    if status == MEMORY:
-        raise MemoryError("there is no memory for the graph")
-    if status != OK:
-        raise ValueError(f"the arrays of the graph don't fit one another: status {status}")
 
 
 def _numbers(items: array[int]) -> Tuple[Any, int]:
@@ -75,7 +67,7 @@ def dominators(edges: Edges[Name], entry: Name) -> Dict[Name, Optional[Name]]:
     """
     graph = _Graph(edges, [entry])
     immediate = array("Q", bytes(len(graph.names) * 8))
-    _call("dominators", *graph.arrays(), 0, *_numbers(immediate))
+    call("dominators", *graph.arrays(), 0, *_numbers(immediate))
     found: Dict[Name, Optional[Name]] = {entry: None}
     for name, at in zip(graph.names, immediate):
         if at < len(graph.names):
@@ -93,7 +85,7 @@ def components(edges: Edges[Name]) -> List[List[Name]]:
     graph = _Graph(edges)
     component = array("Q", bytes(len(graph.names) * 8))
     count = c_size_t()
-    _call("components", *graph.arrays(), *_numbers(component), count)
+    call("components", *graph.arrays(), *_numbers(component), count)
     found: List[List[Name]] = [[] for _ in range(count.value)]
     for name, at in zip(graph.names, component):
         found[at].append(name)
@@ -126,7 +118,7 @@ def liveness(
             for variable in side[name]:
                 at = variables[variable]
                 words[number * width + at // 64] |= 1 << at % 64
-    _call("liveness", *graph.arrays(), len(variables), *(part for words in rows for part in _words(words)))
+    call("liveness", *graph.arrays(), len(variables), *(part for words in rows for part in _words(words)))
     each = list(variables)
     return (
         {name: _set_in(rows[2], at * width, each) for at, name in enumerate(graph.names)},

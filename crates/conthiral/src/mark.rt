@@ -24,13 +24,16 @@ pub fn read_line<R: Files + AllocGlobal>(rt: &R, file: &str, line: usize) -> io:
     Ok(text)
 }
 
-/// Returns where the character begins that the byte at a place is of.
+/// Returns where the character begins that the byte at a place is of. It has four bytes at most.
 fn character_start(text: &[u8], place: usize) -> usize {
-    let mut start = place;
-    while start > 0 && start < text.len() && text[start] & 0xc0 == 0x80 {
-        start -= 1;
+    for back in 0..4 {
+        let start = place.saturating_sub(back);
+        match text.get(start) {
+            Some(byte) if *byte & 0xc0 == 0x80 => {}
+            _ => return start,
+        }
     }
-    start
+    place
 }
 
 /// Returns a text as a terminal shows it on one line: a control character is a space.
