@@ -99,7 +99,31 @@ calls! {
         second: *const u64, second_count: usize, columns: usize, made: *mut u64, made_count: usize,
     );
     fn conthiral_close(words: *mut u64, word_count: usize, size: usize, changed: *mut bool);
+    fn conthiral_dominators(
+        offsets: *const usize, offset_count: usize, ends: *const usize, end_count: usize,
+        entry: usize, immediate: *mut usize, immediate_count: usize,
+    );
+    fn conthiral_components(
+        offsets: *const usize, offset_count: usize, ends: *const usize, end_count: usize,
+        component: *mut usize, component_count: usize, count: *mut usize,
+    );
+    fn conthiral_liveness(
+        offsets: *const usize, offset_count: usize, ends: *const usize, end_count: usize, variables: usize,
+        reads: *const u64, reads_count: usize, writes: *const u64, writes_count: usize,
+        before: *mut u64, before_count: usize, after: *mut u64, after_count: usize,
+    );
+    fn conthiral_least(
+        offsets: *const usize, offset_count: usize, ends: *const usize, end_count: usize, columns: usize,
+        masks: *const u64, masks_count: usize, keep: bool, sets: *mut u64, sets_count: usize,
+    );
+    fn conthiral_greatest(
+        offsets: *const usize, offset_count: usize, ends: *const usize, end_count: usize, entry: usize,
+        columns: usize, masks: *const u64, masks_count: usize, keep: bool, sets: *mut u64, sets_count: usize,
+    );
 }
+
+/// The status of a call that found no memory.
+pub const MEMORY: u8 = 3;
 
 /// Panics unless a call met its conditions. The callers here meet them all.
 #[inline]

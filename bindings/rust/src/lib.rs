@@ -17,6 +17,7 @@
 
 mod bits;
 mod ffi;
+mod graph;
 mod iter;
 mod matrix;
 mod ops;
@@ -28,6 +29,7 @@ mod words;
 compile_error!("libconthiral is for processors of 64 bits");
 
 pub use bits::{Bits, Block, Words};
+pub use graph::{Graph, GraphError, Masks};
 pub use iter::{Iter, IterSetBits, IterUnsetBits, StorageIter};
 pub use matrix::BitMatrix;
 

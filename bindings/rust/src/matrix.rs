@@ -17,7 +17,7 @@ use crate::ffi;
 #[derive(Clone, Debug, PartialEq, Eq, Hash)]
 pub struct BitMatrix {
     // as many words as the rows need; the places past the last column are 0
-    words: Vec<u64>,
+    pub(crate) words: Vec<u64>,
     rows: usize,
     columns: usize,
 }

@@ -21,7 +21,7 @@ pub(crate) fn cut<R: RangeBounds<usize>>(range: R, len: usize) -> (usize, usize)
 }
 
 /// Returns an index, or `None` if it is the length.
-fn index_below(index: usize, len: usize) -> Option<usize> {
+pub(crate) fn index_below(index: usize, len: usize) -> Option<usize> {
     (index < len).then_some(index)
 }
 
