@@ -14,7 +14,7 @@
 
 from ._bits import Bits
 from ._faults import LengthError, NotCanonicalError
-from ._graphs import components, dominators, liveness
+from ._graphs import components, dominators, greatest, least, liveness
 from ._matrix import close, closure, product, reach, transpose
 
 __all__ = [
@@ -25,6 +25,8 @@ __all__ = [
     "closure",
     "components",
     "dominators",
+    "greatest",
+    "least",
     "liveness",
     "product",
     "reach",

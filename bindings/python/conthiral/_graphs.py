@@ -1,18 +1,20 @@
-"""Graphs: dominators, strong components and live variables."""
+"""Graphs: dominators, strong components, live variables, and sets that draw from one another."""
 
 from __future__ import annotations
 
 from array import array
-from ctypes import POINTER, c_size_t, c_uint8, c_uint64
+from ctypes import POINTER, c_bool, c_size_t, c_uint8, c_uint64
 from itertools import accumulate, chain
-from typing import Any, Dict, Hashable, Iterable, List, Mapping, Optional, Tuple, TypeVar, Union
+from typing import Any, Dict, Generic, Hashable, Iterable, List, Mapping, Optional, Tuple, TypeVar, Union
 
 from ._faults import call
 from ._library import LIBRARY
+from ._matrix import _named as named
 
 Name = TypeVar("Name", bound=Hashable)
-Variable = TypeVar("Variable", bound=Hashable)
+Item = TypeVar("Item", bound=Hashable)
 Edges = Union[Mapping[Name, Iterable[Name]], Iterable[Tuple[Name, Name]]]
+Sets = Mapping[Name, Iterable[Item]]
 
 _NUMBERS = [POINTER(c_size_t), c_size_t]
 _GRAPH = _NUMBERS + _NUMBERS
@@ -21,6 +23,8 @@ _CALLS = {
     "dominators": _GRAPH + [c_size_t] + _NUMBERS,
     "components": _GRAPH + _NUMBERS + [POINTER(c_size_t)],
     "liveness": _GRAPH + [c_size_t] + _ROWS * 4,
+    "least": _GRAPH + [c_size_t] + _ROWS + [c_bool] + _ROWS,
+    "greatest": _GRAPH + [c_size_t, c_size_t] + _ROWS + [c_bool] + _ROWS,
 }
 for _name, _types in _CALLS.items():
     _function = getattr(LIBRARY, "conthiral_" + _name)
@@ -38,18 +42,18 @@ def _words(items: array[int]) -> Tuple[Any, int]:
     return (c_uint64 * len(items)).from_buffer(items) if items else None, len(items)
 
 
-class _Graph:
+class _Graph(Generic[Name]):
     """The arrays of a graph, and its nodes in the order in which they are first named."""
 
     def __init__(self, edges: Edges[Name], first: Iterable[Name] = (), last: Iterable[Name] = ()) -> None:
         given = edges.items() if isinstance(edges, Mapping) else ((name, (other,)) for name, other in edges)
         lists = [(name, tuple(others)) for name, others in given]
         named = chain(first, chain.from_iterable((name, *others) for name, others in lists), last)
-        numbers = {name: at for at, name in enumerate(dict.fromkeys(named))}
-        after: List[List[int]] = [[] for _ in numbers]
+        self.numbers = {name: at for at, name in enumerate(dict.fromkeys(named))}
+        after: List[List[int]] = [[] for _ in self.numbers]
         for name, others in lists:
-            after[numbers[name]] += map(numbers.__getitem__, others)
-        self.names = list(numbers)
+            after[self.numbers[name]] += map(self.numbers.__getitem__, others)
+        self.names = list(self.numbers)
         self.offsets = array("Q", accumulate(map(len, after), initial=0))
         self.ends = array("Q", chain.from_iterable(after))
 
@@ -92,11 +96,33 @@ def components(edges: Edges[Name]) -> List[List[Name]]:
     return found
 
 
+class _Rows(Generic[Name, Item]):
+    """Rows of bits for the nodes of a graph, and what they have in all, in the order in which it is first named."""
+
+    def __init__(self, graph: _Graph[Name], *sides: Sets[Name, Item]) -> None:
+        lists = [[list(side.get(name, ())) for name in graph.names] for side in sides]
+        numbers = {item: at for at, item in enumerate(dict.fromkeys(chain.from_iterable(chain(*lists))))}
+        self.names = graph.names
+        self.items = list(numbers)
+        self.width = (len(numbers) + 63) // 64
+        self.sides = [self.empty() for _ in sides]
+        for words, side in zip(self.sides, lists):
+            for row, items in enumerate(side):
+                for at in map(numbers.__getitem__, items):
+                    words[row * self.width + at // 64] |= 1 << at % 64
+
+    def empty(self) -> array[int]:
+        return array("Q", bytes(len(self.names) * self.width * 8))
+
+    def named(self, words: array[int]) -> Dict[Name, List[Item]]:
+        """Returns what each row has, by the name of its node."""
+        width = self.width
+        return {name: named(self.items, words[at * width : (at + 1) * width]) for at, name in enumerate(self.names)}
+
+
 def liveness(
-    edges: Edges[Name],
-    reads: Mapping[Name, Iterable[Variable]],
-    writes: Mapping[Name, Iterable[Variable]],
-) -> Tuple[Dict[Name, List[Variable]], Dict[Name, List[Variable]]]:
+    edges: Edges[Name], reads: Sets[Name, Item], writes: Sets[Name, Item]
+) -> Tuple[Dict[Name, List[Item]], Dict[Name, List[Item]]]:
     """Returns the variables that are live before each node, and those that are live after it. One is live before a
     node that reads it, or that doesn't write it while it is live after the node; it is live after a node if it is live
     before one to which an edge leads.
@@ -108,24 +134,53 @@ def liveness(
     {1: ['i'], 2: ['i', 'sum'], 3: []}
     """
     graph = _Graph(edges, last=[*reads, *writes])
-    sides = [{name: list(side.get(name, ())) for name in graph.names} for side in (reads, writes)]
-    named = dict.fromkeys(variable for side in sides for each in side.values() for variable in each)
-    variables = {variable: at for at, variable in enumerate(named)}
-    width = (len(variables) + 63) // 64
-    rows = [array("Q", bytes(len(graph.names) * width * 8)) for _ in range(4)]
-    for side, words in zip(sides, rows):
-        for number, name in enumerate(graph.names):
-            for variable in side[name]:
-                at = variables[variable]
-                words[number * width + at // 64] |= 1 << at % 64
-    call("liveness", *graph.arrays(), len(variables), *(part for words in rows for part in _words(words)))
-    each = list(variables)
-    return (
-        {name: _set_in(rows[2], at * width, each) for at, name in enumerate(graph.names)},
-        {name: _set_in(rows[3], at * width, each) for at, name in enumerate(graph.names)},
-    )
+    rows = _Rows(graph, reads, writes)
+    before, after = rows.empty(), rows.empty()
+    words = [part for side in (*rows.sides, before, after) for part in _words(side)]
+    call("liveness", *graph.arrays(), len(rows.items), *words)
+    return rows.named(before), rows.named(after)
 
 
-def _set_in(words: array[int], first: int, each: List[Variable]) -> List[Variable]:
-    """Returns the variables whose bits are set from a word on."""
-    return [variable for at, variable in enumerate(each) if words[first + at // 64] >> at % 64 & 1]
+def least(
+    edges: Edges[Name],
+    sets: Sets[Name, Item],
+    masks: Optional[Sets[Name, Item]] = None,
+    keep: bool = False,
+) -> Dict[Name, List[Item]]:
+    """Returns the least sets that have what they start with, and what they draw. The set of a node draws from those of
+    the nodes to which its edges lead. It draws what its mask doesn't have, or with ``keep`` what it has.
+
+    Definitions reach the end of a node that makes them, or that draws them from a node before it and keeps them:
+
+    >>> before = {"loop": ["start", "loop"], "end": ["loop"]}
+    >>> least(before, {"start": ["i = 0"], "loop": ["i += 1"]}, {"loop": ["i = 0"]})
+    {'loop': ['i += 1'], 'start': ['i = 0'], 'end': ['i += 1']}
+    """
+    graph = _Graph(edges, last=[*sets, *(masks or ())])
+    rows = _Rows(graph, sets, masks or {})
+    call("least", *graph.arrays(), len(rows.items), *_words(rows.sides[1]), keep, *_words(rows.sides[0]))
+    return rows.named(rows.sides[0])
+
+
+def greatest(
+    edges: Edges[Name],
+    sets: Sets[Name, Item],
+    masks: Optional[Sets[Name, Item]] = None,
+    keep: bool = False,
+    entry: Optional[Name] = None,
+) -> Dict[Name, List[Item]]:
+    """Returns the greatest sets that have what they start with, and what they draw: what all sets have from which the
+    set of a node draws, as for :func:`least`. One that draws from none draws all that is named in sets and masks. The
+    set of the entry draws nothing.
+
+    Expressions are available after a node that finds them, or if they are so after all nodes before it:
+
+    >>> before = {"left": ["start"], "right": ["start"], "end": ["left", "right"]}
+    >>> greatest(before, {"start": ["a + b"], "right": ["a * b"]}, entry="start")
+    {'left': ['a + b'], 'start': ['a + b'], 'right': ['a + b', 'a * b'], 'end': ['a + b']}
+    """
+    graph = _Graph(edges, last=[*sets, *(masks or ())])
+    rows = _Rows(graph, sets, masks or {})
+    at = len(graph.names) if entry is None else graph.numbers.get(entry, len(graph.names))
+    call("greatest", *graph.arrays(), at, len(rows.items), *_words(rows.sides[1]), keep, *_words(rows.sides[0]))
+    return rows.named(rows.sides[0])
