@@ -3,7 +3,7 @@
 //! A program that uses `vob::Vob` takes `conthiral::Vob` instead. The calls on more than one bit go to
 //! `libconthiral`, whose contracts are proved: `conthiral.h` says what each does. What reads or writes single
 //! bits is plain Rust, here: `get`, `set`, `push`, `pop`, the walks, and what stands on these. So are lengths
-//! and storage.
+//! and storage, and what puts the edges of a graph into arrays.
 //!
 //! ```
 //! use conthiral::{vob, Vob};
