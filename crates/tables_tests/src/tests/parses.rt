@@ -3,6 +3,7 @@ use super::cells::table_of;
 use super::grammar::grammar_of;
 use super::support::{check_error, same};
 use std::process::Abort;
+use vob_arrays::{ArraysError, arrays_of};
 use vob_lr::{Lookaheads, ParseError, Table};
 
 /// The names of nonterminals and of terminals, rules, and texts of terminals, each with the rules
@@ -64,7 +65,24 @@ fn parse(
     text: &str,
     steps: usize,
 ) -> Result<Vec<usize>, ParseError> {
-    table.parse_within(rt.alloc(), &tokens_of(rt, terminals, text), steps)
+    let tokens = tokens_of(rt, terminals, text);
+    let parsed = table.parse_within(rt.alloc(), &tokens, steps);
+    let arrays = arrays_of(rt.alloc(), table).expect(rt, "memory");
+    let by_arrays = arrays.arrays().parse(rt.alloc(), &tokens, steps);
+    same(rt, "by arrays", steps, is_same(&parsed, &by_arrays), true);
+    parsed
+}
+
+/// Returns whether a parser by arrays gave what the one by their table did.
+fn is_same(
+    parsed: &Result<Vec<usize>, ParseError>,
+    by_arrays: &Result<Vec<usize>, ArraysError>,
+) -> bool {
+    match (parsed, by_arrays) {
+        (Ok(rules), Ok(others)) => rules.as_slice() == others.as_slice(),
+        (Err(error), Err(ArraysError::Parse(other))) => error == other,
+        _ => false,
+    }
 }
 
 /// Compares the rules of a text with these.

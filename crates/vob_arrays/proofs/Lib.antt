@@ -1,0 +1,6 @@
+pub mod AppendLemmas
+pub mod BuiltLemmas
+pub mod EntryLemmas
+pub mod MoveLemmas
+pub mod RunLemmas
+pub mod StepLemmas

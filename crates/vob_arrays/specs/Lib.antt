@@ -1,0 +1,4 @@
+pub mod Arrays
+pub mod Building
+pub mod Drives
+pub mod Views
