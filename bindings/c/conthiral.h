@@ -1,12 +1,13 @@
-/* Proved calls on bits in words that the caller owns, and on graphs. tools/make/header writes this file from
-   crates/vob_c.
+/* Proved calls on bits in words that the caller owns, on graphs and on tables of parsers. tools/make/header writes
+   this file from crates/vob_c.
 
    Bit i stands in word i / 64, at the place of weight 2 ^ (i % 64). `bits` bits need (bits + 63) / 64 words, and the
    places of the last word past the last bit are 0: such words are canonical. conthiral_mask makes words canonical.
 
    Each call tests this and its own conditions first, and returns a status. If that isn't CONTHIRAL_OK, nothing is
-   written. No call keeps a pointer or has a state: calls on different arrays may run at once. The calls on a graph of
-   offsets and ends ask malloc for memory, and free it before they return. No other call asks for any.
+   written but what the call says of that status. No call keeps a pointer or has a state: calls on different arrays
+   may run at once. The calls on a graph of offsets and ends, on texts and on tables ask malloc for memory, and free
+   it before they return. No other call asks for any.
 
    What a caller must see to, for no call can test it:
    - a pointer and the count after it are one array, which stays while the call runs; it may be null if the count is 0;
@@ -31,14 +32,20 @@ typedef uint8_t conthiral_status;
 enum {
     /* Every condition of the call is met. */
     CONTHIRAL_OK = 0,
-    /* The words are more or fewer than the bits need, or the offsets of a graph don't fit its ends. */
+    /* The words are more or fewer than the bits need, or the offsets of a graph don't fit its ends. An array is longer or
+       shorter than a table needs, or there is room for fewer reductions than a parser makes. */
     CONTHIRAL_LENGTH = 1,
-    /* An index or a range is past the bits, or what should be a node of a graph is none. */
+    /* An index or a range is past the bits, or what should be a node of a graph is none. A parser by the arrays of a
+       table would reduce by a rule that isn't there. */
     CONTHIRAL_RANGE = 2,
     /* Memory ran out. No call on bits asks for any. */
     CONTHIRAL_MEMORY = 3,
     /* A bit past the last one is set. */
     CONTHIRAL_NOT_CANONICAL = 4,
+    /* The text of a grammar is faulty. */
+    CONTHIRAL_TEXT = 5,
+    /* No action of a parser takes a token, or the end. */
+    CONTHIRAL_TOKEN = 6,
 };
 
 /* All bits: made one value, negated; tested, and made canonical. */
@@ -290,6 +297,46 @@ conthiral_status conthiral_least(const size_t *offsets, size_t offset_count, con
 conthiral_status conthiral_greatest(const size_t *offsets, size_t offset_count, const size_t *ends, size_t end_count,
     size_t entry, size_t columns, const uint64_t *masks, size_t masks_count, bool keep, uint64_t *sets,
     size_t sets_count);
+
+/* The table of a parser, from the text of a grammar as yacc and bison read it. The table is five arrays of numbers.
+   Terminals have the numbers from 0 on as symbols: 0 is the end, and the others follow in the order of their
+   declarations, `error` first. Nonterminals come after them. The entries of state i stand from `offsets[i]` to below
+   `offsets[i + 1]`: at symbol `symbols[k]` a parser does `actions[k]`. That is 4 times a number, and 0, 1 or 2. By 0
+   it enters the state with the number. By 1 it reduces by the rule with the number. By 2 it enters the state as by 0,
+   unless all tokens are read: then it accepts. Rule i has `left[i]` on its left side, and `lengths[i]` symbols on its
+   right side. */
+
+/* Reads the text of a grammar, and writes six sizes of its table: how many terminals, nonterminals, states, entries
+   and rules there are, and how many bytes the names of its symbols have. If the status is `CONTHIRAL_TEXT`, writes
+   where the text is faulty, counted from 1: the line, and the byte within it. */
+conthiral_status conthiral_table_sizes(const char *text, size_t text_count, size_t *sizes, size_t size_count,
+    size_t *line, size_t *column);
+
+/* Writes the arrays of a table from the text of its grammar, and into `terminals` how many terminals it has. Each
+   array must be as long as `conthiral_table_sizes` says: `offsets` has one number more than there are states. Where a
+   table leaves a choice, a parser shifts, or else reduces by the lowest rule, as that of yacc does. */
+conthiral_status conthiral_table(const char *text, size_t text_count, size_t *offsets, size_t offset_count,
+    size_t *symbols, size_t symbol_count, size_t *actions, size_t action_count, size_t *left, size_t left_count,
+    size_t *lengths, size_t length_count, size_t *terminals);
+
+/* Writes the names of all symbols of a table into `names`, and where they begin into `offsets`: the name of symbol i
+   stands from `offsets[i]` to below `offsets[i + 1]`. That of a terminal is its text in quotes if it has one. `names`
+   is as long as `conthiral_table_sizes` says, and `offsets` has one number more than there are symbols. */
+conthiral_status conthiral_table_names(const char *text, size_t text_count, size_t *offsets, size_t offset_count,
+    char *names, size_t name_count);
+
+/* A parser by the arrays of a table. */
+
+/* Parses tokens by the arrays of a table of so many terminals. A token is the number of a terminal; the end isn't
+   among them. Writes into `reductions` the rules by which the parser reduces, in their order, and into `count` how
+   many they are: read backwards, they are a rightmost derivation of the tokens. If the status is `CONTHIRAL_TOKEN`,
+   writes into `at` the index of the first token that no action takes, or how many tokens there are if that is the
+   end. The status is `CONTHIRAL_LENGTH` if there are more reductions than there is room for. Each array is tested as
+   it is read: of arrays that are no table nothing is said, but that the call returns. */
+conthiral_status conthiral_parse(size_t terminals, const size_t *offsets, size_t offset_count, const size_t *symbols,
+    size_t symbol_count, const size_t *actions, size_t action_count, const size_t *left, size_t left_count,
+    const size_t *lengths, size_t length_count, const size_t *tokens, size_t token_count, size_t *reductions,
+    size_t reduction_count, size_t *count, size_t *at);
 
 #ifdef __cplusplus
 }

@@ -11,6 +11,7 @@ pub mod GraphLemmas
 pub mod IndicesLemmas
 pub mod LinkingLemmas
 pub mod MovesLemmas
+pub mod NameLemmas
 pub mod RangeLemmas
 pub mod ReachedLemmas
 pub mod RowsLemmas

@@ -11,3 +11,4 @@ pub mod Live
 pub mod Reached
 pub mod Rows
 pub mod Status
+pub mod Tables

@@ -1,4 +1,4 @@
-//! Calls on bits in words that the caller owns, for C and for each language that calls C.
+//! Calls on bits in words that the caller owns, on graphs and on tables of parsers, for C and for each language that calls C.
 #![tactic(auto)]
 
 pub mod bits;
@@ -14,6 +14,7 @@ pub mod indices;
 pub mod live;
 pub mod matrices;
 pub mod moves;
+pub mod parses;
 pub mod products;
 pub mod ranges;
 pub mod reach;
@@ -21,5 +22,6 @@ mod rows;
 pub mod search;
 pub mod sets;
 pub mod status;
+pub mod tables;
 pub mod transposes;
 pub mod whole;

@@ -9,10 +9,12 @@ use vob_store::room::block_count;
 /// Every condition of the call is met.
 pub const OK: u8 = 0;
 
-/// The words are more or fewer than the bits need, or the offsets of a graph don't fit its ends.
+/// The words are more or fewer than the bits need, or the offsets of a graph don't fit its ends. An array is
+/// longer or shorter than a table needs, or there is room for fewer reductions than a parser makes.
 pub const LENGTH: u8 = 1;
 
-/// An index or a range is past the bits, or what should be a node of a graph is none.
+/// An index or a range is past the bits, or what should be a node of a graph is none. A parser by the
+/// arrays of a table would reduce by a rule that isn't there.
 pub const RANGE: u8 = 2;
 
 /// Memory ran out. No call on bits asks for any.
@@ -20,6 +22,12 @@ pub const MEMORY: u8 = 3;
 
 /// A bit past the last one is set.
 pub const NOT_CANONICAL: u8 = 4;
+
+/// The text of a grammar is faulty.
+pub const TEXT: u8 = 5;
+
+/// No action of a parser takes a token, or the end.
+pub const TOKEN: u8 = 6;
 
 /// Returns the status of words that are to hold `bits` bits.
 pub(crate) fn status_of(words: &[usize], bits: usize) -> u8
