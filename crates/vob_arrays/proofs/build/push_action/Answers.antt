@@ -1,6 +1,6 @@
 -- One entry is appended, or none.
-use Rattle.std.proofs.Common.{◌≡◌, ◌∙◌, subst, sym, ℕ}
-use Rattle.std.proofs.lemmas.Option.{none-some, same_Some}
+use Rattle.std.proofs.Common.{◌∙◌, subst, sym}
+use Rattle.std.proofs.lemmas.Option.{same_Some}
 use Rattle.vob_arrays.specs.Arrays.{IsActionAt}
 use Rattle.vob_arrays.proofs.AppendLemmas.{appends_none, appends_one}
 use Rattle.vob_arrays.proofs.build.push_action.Goals as goal

@@ -1,5 +1,5 @@
 -- The entries at terminals, and then those at nonterminals.
-use Rattle.std.proofs.Common.{◌≡◌, ◌∙◌, ℕ, Global, List, [], Vec, ap, arith, get_or, inl, inr, length, subst, sym}
+use Rattle.std.proofs.Common.{◌∙◌, ℕ, Global, List, [], Vec, ap, arith, get_or, inl, inr, length, subst, sym}
 use Rattle.std.proofs.lemmas.Bool.{ltb-false}
 use Rattle.std.proofs.lemmas.List.{get_or-map, get_or_past, length-map}
 use Rattle.std.proofs.lemmas.Result.{on_ok_weaker}

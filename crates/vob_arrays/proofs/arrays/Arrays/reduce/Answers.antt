@@ -1,7 +1,7 @@
 -- States are left, and the one is entered that follows, if there is one.
 use Rattle.std.proofs.Common.{ap, arith, subst, sym}
 use Rattle.vob_lr.specs.Parses.{Config, IsReplaced, replaced}
-use Rattle.vob_arrays.proofs.StepLemmas.{replaced_is, replaced_none, rule_of, rule_there}
+use Rattle.vob_arrays.proofs.StepLemmas.{replaced_is, replaced_none, rule_of}
 use Rattle.vob_arrays.proofs.arrays.Arrays.reduce.Goals as goal
 
 pub returns-in_default-next-clause-err : goal.returns-in_default-next-clause-err

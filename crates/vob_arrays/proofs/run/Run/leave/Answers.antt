@@ -1,5 +1,5 @@
 -- The states that are left are the oldest.
-use Rattle.std.proofs.Common.{◌≡◌, ◌-◌, ◌∙◌, ap, arith, length, sym}
+use Rattle.std.proofs.Common.{◌≡◌, ◌-◌, arith, length}
 use Rattle.vob_arrays.proofs.RunLemmas.{left_states}
 use Rattle.vob_arrays.proofs.run.Run.leave.Goals as goal
 
