@@ -33,8 +33,8 @@ appends_none xs none = record {
   each = λ x a. ((λ (k, less, _). absurd (omega (arith, less))), (λ is. absurd (none x a is)));
 }
 
--- the one of a list
-one_of : (e d : Entry) → Contains (e ∷ []) d ↔ (d ≡ e)
+-- a list of one thing has that
+pub one_of : {X : Type 0} (e d : X) → Contains (e ∷ []) d ↔ (d ≡ e)
 one_of e d = (
   (λ (k, less, is). let zero : k ≡ 0 = omega (arith, less) in
       sym is ∙ ap (λ (n : ℕ). get_or (e ∷ []) n d) zero),

@@ -84,7 +84,7 @@ none_of table q t None is none = refl
 none_of table q t (Some (Shift p)) is none =
     let off : ¬ Accepts table q t =
     λ on. none (4 * p + 2) (record { action = Shift p; is = is; code = inl (on, refl) }) in
-    absurd (none (4 * p + 0) (record { action = Shift p; is = is; code = inr (off, refl) }))
+    absurd (none (4 * p) (record { action = Shift p; is = is; code = inr (off, refl) }))
 none_of table q t (Some (Reduce r)) is none =
     absurd (none (4 * r + 1) (record { action = Reduce r; is = is; code = refl }))
 none_of table q t (Some Accept) is none =
@@ -157,7 +157,7 @@ module _ (table : TableView) (arrays : TableArrays) (of : IsTableOf table arrays
   pub no_move : (q n x : ℕ) → x ≡ arrays.terminals + n → ((a : ℕ) → ¬ HasEntry arrays q x a) →
       (p : ℕ) → ¬ HasMove table.machine.moves q (Nonterminal n) p
   no_move q n x symbol none p = λ move.
-      none (4 * p + 0) ((of.entries q x (4 * p + 0)).1 (inr (record {
+      none (4 * p) ((of.entries q x (4 * p)).1 (inr (record {
         nonterminal = n;
         state = p;
         symbol = omega (arith, symbol, of.terminals);

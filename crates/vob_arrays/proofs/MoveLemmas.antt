@@ -1,13 +1,14 @@
 -- The entries of moves.
-use Rattle.std.proofs.Common.{◌↔◌, ◌⊎◌, ℕ, ◌+◌, ◌<◌, List, [], ◌∷◌, ◌++◌, length, take, get_or, sym, subst, inl, inr}
+use Rattle.std.proofs.Common.{◌≡◌, ◌↔◌, ◌⊎◌, ℕ, ◌+◌, ◌*◌, ◌<◌, List, [], ◌∷◌, ◌++◌, length, take, get_or, sym, ap, ◌∙◌, subst, inl, inr, arith}
 use Rattle.std.proofs.lemmas.List.{take_more}
 use Rattle.std.proofs.lemmas.List.Elements.{Contains-append_left, Contains-append_right, Contains-append_cases}
 use Rattle.vob_arrays.specs.Arrays.{IsMoveEntry}
 use Rattle.vob_arrays.specs.Building.{Appends}
 use Rattle.vob_arrays.specs.declared.build.Entry.{Entry}
 use Rattle.vob_lr.specs.declared.state.Move.{Move}
+use Rattle.vob_lr.specs.declared.grammar.Symbol.{Symbol}
 use Rattle.vob_lr.specs.declared.grammar.Symbol.TheVariants.{Nonterminal}
-use Rattle.vob_arrays.proofs.AppendLemmas.{appends_both}
+use Rattle.vob_arrays.proofs.AppendLemmas.{appends_both, one_of}
 
 -- a move of some and of others is one of all
 moves_split : (terminals : ℕ) (ms ns : List Move) (x a : ℕ) →
@@ -59,3 +60,23 @@ moves_more terminals moves i d low one other =
     appends_both one other (subst (λ (ms : List Move). (x a : ℕ) → IsMoveEntry terminals ms x a
     ↔ (IsMoveEntry terminals (take i moves) x a ⊎ IsMoveEntry terminals (own ∷ []) x a))
     (sym (take_more moves i d low)) (moves_split terminals (take i moves) (own ∷ [])))
+
+-- the entry of one move by a nonterminal
+pub one_move : (terminals n : ℕ) (own : Move) (s b : ℕ) → own.symbol ≡ Nonterminal n → s ≡ terminals + n →
+    b ≡ 4 * own.state → (x a : ℕ) → IsMoveEntry terminals (own ∷ []) x a ↔ ((x ≡ s) × (a ≡ b))
+one_move terminals n own s b by symbol action x a = (
+  (λ e.
+      let there : Move = record { symbol = Nonterminal e.nonterminal; state = e.state } in
+      let same = (one_of own there).0 e.move in
+      let number : e.nonterminal ≡ n = cc (ap (λ (m : Move). m.symbol) same ∙ by) in
+      let to = ap (λ (m : Move). m.state) same in
+      (omega (arith, e.symbol, number, symbol), omega (arith, e.action, to, action))),
+  (λ (is, also). record {
+    nonterminal = n;
+    state = own.state;
+    symbol = is ∙ symbol;
+    move = (one_of own (record { symbol = Nonterminal n; state = own.state })).1
+        (ap (λ (y : Symbol). record { symbol = y; state = own.state }) (sym by));
+    action = also ∙ action;
+  }),
+)

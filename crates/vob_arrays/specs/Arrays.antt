@@ -32,7 +32,7 @@ pub record HasEntry (arrays : TableArrays) (q x a : ℕ) : Type 0 where
 -- the number of what a parser does in state q with terminal t ahead
 abbrev pub IsCode : TableView → ℕ → ℕ → Action → ℕ → Type 0
 IsCode table q t (Shift p) a =
-    (Accepts table q t × (a ≡ 4 * p + 2)) ⊎ ((¬ Accepts table q t) × (a ≡ 4 * p + 0))
+    (Accepts table q t × (a ≡ 4 * p + 2)) ⊎ ((¬ Accepts table q t) × (a ≡ 4 * p))
 IsCode table q t (Reduce r) a = a ≡ 4 * r + 1
 IsCode table q t Accept a = ⊥
 
@@ -52,7 +52,7 @@ pub record IsMoveEntry (terminals : ℕ) (moves : List Move) (x a : ℕ) : Type 
   pub state : ℕ
   pub symbol : x ≡ terminals + nonterminal
   pub move : Contains moves (record { symbol = Nonterminal nonterminal; state = state })
-  pub action : a ≡ 4 * state + 0
+  pub action : a ≡ 4 * state
 
 -- what a table says of state q at symbol x: terminals have their numbers, and nonterminals come after them
 abbrev pub IsEntry : TableView → ℕ → ℕ → ℕ → Type 0

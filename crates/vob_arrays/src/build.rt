@@ -141,7 +141,7 @@ fn symbols_of(alloc: Global, entries: &[Entry]) -> Result<Vec<usize>, AllocError
     entries.iter().map(|entry| entry.symbol).collect(alloc)
 }
 
-/// Returns what is done at them.
+/// Returns the actions of some entries.
 fn actions_of(alloc: Global, entries: &[Entry]) -> Result<Vec<usize>, AllocError>
     ensures { IfOk result (λ actions. actions.items ≡ map (λ entry. entry.action) entries.now) }
 {
