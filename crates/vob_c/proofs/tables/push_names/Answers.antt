@@ -1,5 +1,5 @@
 -- One name more.
-use Rattle.std.proofs.Common.{◌≡◌, ◌++◌, ◌∙◌, ap, length, List, ℕ, arith}
+use Rattle.std.proofs.Common.{◌≡◌, ◌∙◌, ap, length, List, ℕ, arith}
 use Rattle.vob_c.proofs.NameLemmas.{named_more}
 use Rattle.vob_c.proofs.tables.push_names.Goals as goal
 
