@@ -48,9 +48,13 @@ static void is(bool right, const char *call, const char *what) {
     }
 }
 
-// Each request for memory is refused in turn: REFUSE_EACH makes a call again and again, until it asks for no more.
+static bool same(const void *one, const void *other, size_t bytes) { return !memcmp(one, other, bytes); }
+
+// Each request for memory is refused in turn: REFUSE_EACH makes a call again and again, until it asks for no more. A call
+// either tells that and writes nothing, or it asks for less and writes what it should.
 #ifdef REFUSES
 static long left_over = -1;
+static conthiral_status told;
 
 void *__real_malloc(size_t size);
 void *__real_realloc(void *old, size_t size);
@@ -61,20 +65,22 @@ void *__wrap_malloc(size_t size) { return refuses() ? NULL : __real_malloc(size)
 
 void *__wrap_realloc(void *old, size_t size) { return refuses() ? NULL : __real_realloc(old, size); }
 
-// Whether a request of a call was refused, which it must tell.
+// Whether a request of a call was refused.
 static bool was_refused(conthiral_status status, const char *call) {
     bool refused = left_over < 0;
     left_over = -1;
-    is(!refused || status == CONTHIRAL_MEMORY, call, "a refused request isn't told");
+    told = status;
+    is(status == CONTHIRAL_OK || (refused && status == CONTHIRAL_MEMORY), call, "another status for memory");
     return refused;
 }
 
-#define REFUSE_EACH(made, leaves, call)                                                                                \
-    for (long n = 0; left_over = n, was_refused(made, call); n++) {                                                    \
-        is(leaves, call, "a refused call writes");                                                                     \
-    }
+#define REFUSE_EACH(made, now, was, wanted, call)                                                                      \
+    for (long n = 0; (now) = (was), left_over = n, was_refused(made, call); n++) {                                     \
+        is(same(&(now), told == CONTHIRAL_OK ? &(wanted) : &(was), sizeof(now)), call, "a refused call writes");       \
+    }                                                                                                                  \
+    (now) = (wanted);
 #else
-#define REFUSE_EACH(made, leaves, call)
+#define REFUSE_EACH(made, now, was, wanted, call) (void)(wanted);
 #endif
 
 // ---- calls
@@ -106,16 +112,15 @@ static void mark(void *place, size_t bytes) {
     }
 }
 
-static bool same(const void *one, const void *other, size_t bytes) { return !memcmp(one, other, bytes); }
-
 // Makes a table from a text that is right.
 static void make(const char *text, struct table *t) {
-    static struct table was;
+    static struct table was, wanted;
     size_t line = MARK, column = MARK;
     mark(t, sizeof *t);
     was = *t;
-    REFUSE_EACH(sizes_of(text, t, &line, &column), same(t, &was, sizeof was), "table_sizes")
     is(sizes_of(text, t, &line, &column) == CONTHIRAL_OK, "table_sizes", "another status");
+    wanted = *t;
+    REFUSE_EACH(sizes_of(text, t, &line, &column), *t, was, wanted, "table_sizes")
     is(line == MARK && column == MARK, "table_sizes", "a place is written");
     was = *t;
     for (int array = STATE_COUNT; array < BYTE_COUNT; array++) {
@@ -127,12 +132,14 @@ static void make(const char *text, struct table *t) {
         }
     }
     is(same(t, &was, sizeof was), "table", "a refused call writes");
-    REFUSE_EACH(table_of(text, t, t->sizes), same(t, &was, sizeof was), "table")
     is(table_of(text, t, t->sizes) == CONTHIRAL_OK, "table", "another status");
     is(t->terminals == t->sizes[TERMINALS], "table", "other terminals");
+    wanted = *t;
+    REFUSE_EACH(table_of(text, t, t->sizes), *t, was, wanted, "table")
     was = *t;
-    REFUSE_EACH(names_of(text, t, t->sizes), same(t, &was, sizeof was), "table_names")
     is(names_of(text, t, t->sizes) == CONTHIRAL_OK, "table_names", "another status");
+    wanted = *t;
+    REFUSE_EACH(names_of(text, t, t->sizes), *t, was, wanted, "table_names")
 }
 
 // The symbol with a name.
@@ -229,19 +236,19 @@ static size_t tokens_of(const struct table *t, const char *text, size_t *tokens)
 }
 
 static void accepts(const struct table *t, const char *text, const char *rules) {
-    static struct parsed made, was;
-    size_t tokens[ROOM], count = tokens_of(t, text, tokens), wanted = strlen(rules);
+    static struct parsed made, was, wanted;
+    size_t tokens[ROOM], count = tokens_of(t, text, tokens), most = strlen(rules);
     mark(&made, sizeof made);
     was = made;
-    REFUSE_EACH(parse(t, tokens, count, ROOM, &made), same(&made, &was, sizeof was), "parse")
-    made = was;
-    is(parse(t, tokens, count, wanted - 1, &made) == CONTHIRAL_LENGTH, "parse", "there is room for too many");
+    is(parse(t, tokens, count, most - 1, &made) == CONTHIRAL_LENGTH, "parse", "there is room for too many");
     is(same(&made, &was, sizeof was), "parse", "a refused call writes");
-    is(parse(t, tokens, count, wanted, &made) == CONTHIRAL_OK, "parse", text);
-    is(made.count == wanted && made.at == MARK, "parse", "another count");
+    is(parse(t, tokens, count, most, &made) == CONTHIRAL_OK, "parse", text);
+    is(made.count == most && made.at == MARK, "parse", "another count");
     for (size_t k = 0; k < ROOM; k++) {
-        is(made.reductions[k] == (k < wanted ? (size_t)(rules[k] - '0') : was.reductions[k]), "parse", "another rule");
+        is(made.reductions[k] == (k < most ? (size_t)(rules[k] - '0') : was.reductions[k]), "parse", "another rule");
     }
+    wanted = made;
+    REFUSE_EACH(parse(t, tokens, count, most, &made), made, was, wanted, "parse")
 }
 
 static void refuses_token(const struct table *t, const char *text, size_t at) {
