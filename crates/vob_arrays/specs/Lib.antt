@@ -1,4 +1,5 @@
 pub mod Arrays
 pub mod Building
 pub mod Drives
+pub mod Ends
 pub mod Views

@@ -5,6 +5,7 @@ mod arrays;
 mod build;
 mod code;
 mod error;
+pub mod laws;
 mod parse;
 mod run;
 

@@ -100,11 +100,11 @@ impl Arrays<'_> {
     /// Parses tokens, each the number of a terminal, without the end, by at most so many reductions.
     /// Returns the rules by which the parser reduced, in their order: read backwards, they are a
     /// rightmost derivation of the tokens from the start symbol. It does what `Table::parse_within`
-    /// does by each table of which these are the arrays.
+    /// does by each table of which these are the arrays: see `laws::ends_are_one`.
     ///
     /// Fails with the index of the first token that no action takes, or the number of tokens if that
-    /// is the end. Fails if there are more than so many reductions, or if memory runs out. Arrays of
-    /// no table may be parsed by too: then nothing is said but that the call returns.
+    /// is the end. Fails if there are more than so many reductions, or if memory runs out. Of
+    /// arrays that are no table nothing is said but that the call returns.
     pub fn parse(
         &self,
         alloc: Global,
