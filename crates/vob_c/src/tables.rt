@@ -5,7 +5,7 @@
 //! number, and 0, 1 or 2. By 0 it enters the state with the number. By 1 it reduces by the rule with the
 //! number. By 2 it enters the state as by 0, unless all tokens are read: then it accepts. Rule i has `left[i]`
 //! on its left side, and `lengths[i]` symbols on its right side.
-ghost use Rattle.std.specs.Prelude.{◌≡◌, ◌≢◌, ◌⊎◌, length, IfOk, OnOk};
+ghost use Rattle.std.specs.Prelude.{◌≡◌, ◌≢◌, ◌↔◌, ◌⊎◌, length, IfOk, OnOk};
 ghost use Rattle.vob_lr.specs.Tables.{TableView};
 ghost use Rattle.vob_arrays.specs.Arrays.{IsTableOf, owned_view};
 ghost use Rattle.vob_arrays.specs.Views.{TableArrays};
@@ -77,6 +77,7 @@ pub extern "C" fn conthiral_table_sizes(
     column: &mut usize,
 ) -> u8
     ensures status { (result ≡ 0) ⊎ ((result ≡ 1) ⊎ ((result ≡ 3) ⊎ (result ≡ 5))) }
+    ensures length { (result ≡ 1) ↔ (length sizes.old ≢ 6) }
     ensures sizes { result ≡ 0 → (table : TableView) × (arrays : TableArrays)
         × IsTableOf table arrays × HasSizes arrays sizes.new }
     ensures refused { result ≢ 0 → sizes.new ≡ sizes.old }
