@@ -16,11 +16,17 @@ from ._bits import Bits
 from ._faults import LengthError, NotCanonicalError
 from ._graphs import components, dominators, greatest, least, liveness
 from ._matrix import close, closure, product, reach, transpose
+from ._tables import GrammarError, Node, ParseError, Rule, Table
 
 __all__ = [
     "Bits",
+    "GrammarError",
     "LengthError",
+    "Node",
     "NotCanonicalError",
+    "ParseError",
+    "Rule",
+    "Table",
     "close",
     "closure",
     "components",

@@ -18,7 +18,7 @@ class NotCanonicalError(ValueError):
 _FAULTS = {
     LENGTH: (LengthError, "the lengths differ"),
     RANGE: (IndexError, "an index is past the bits"),
-    MEMORY: (MemoryError, "there is no memory for the graph"),
+    MEMORY: (MemoryError, "there is no memory for the call"),
     NOT_CANONICAL: (NotCanonicalError, "a bit past the last one is set"),
 }
 
@@ -29,8 +29,12 @@ def fault(status: int) -> Exception:
     return kind(text)
 
 
-def call(name: str, *arguments: Any) -> None:
-    """Makes a call of the library, and raises what its status says."""
-    status = getattr(LIBRARY, "conthiral_" + name)(*arguments)
+def told(status: int) -> None:
+    """Raises what a status says, unless it says that all is well."""
     if status:
         raise fault(status)
+
+
+def call(name: str, *arguments: Any) -> None:
+    """Makes a call of the library, and raises what its status says."""
+    told(getattr(LIBRARY, "conthiral_" + name)(*arguments))

@@ -120,10 +120,39 @@ calls! {
         offsets: *const usize, offset_count: usize, ends: *const usize, end_count: usize, entry: usize,
         columns: usize, masks: *const u64, masks_count: usize, keep: bool, sets: *mut u64, sets_count: usize,
     );
+    fn conthiral_table_sizes(
+        text: *const u8, text_count: usize, sizes: *mut usize, size_count: usize,
+        line: *mut usize, column: *mut usize,
+    );
+    fn conthiral_table(
+        text: *const u8, text_count: usize, offsets: *mut usize, offset_count: usize,
+        symbols: *mut usize, symbol_count: usize, actions: *mut usize, action_count: usize,
+        left: *mut usize, left_count: usize, lengths: *mut usize, length_count: usize,
+        right: *mut usize, right_count: usize, terminals: *mut usize,
+    );
+    fn conthiral_table_names(
+        text: *const u8, text_count: usize, offsets: *mut usize, offset_count: usize,
+        names: *mut u8, name_count: usize,
+    );
+    fn conthiral_parse(
+        terminals: usize, offsets: *const usize, offset_count: usize, symbols: *const usize, symbol_count: usize,
+        actions: *const usize, action_count: usize, left: *const usize, left_count: usize,
+        lengths: *const usize, length_count: usize, tokens: *const usize, token_count: usize,
+        reductions: *mut usize, reduction_count: usize, count: *mut usize, at: *mut usize,
+    );
 }
+
+/// The status of a parse by more reductions than there is room for.
+pub const LENGTH: u8 = 1;
 
 /// The status of a call that found no memory.
 pub const MEMORY: u8 = 3;
+
+/// The status of a text that is no grammar.
+pub const TEXT: u8 = 5;
+
+/// The status of a token that a parser doesn't take.
+pub const TOKEN: u8 = 6;
 
 /// Panics unless a call met its conditions. The callers here meet them all.
 #[inline]

@@ -3,7 +3,7 @@
 //! A program that uses `vob::Vob` takes `conthiral::Vob` instead. The calls on more than one bit go to
 //! `libconthiral`, whose contracts are proved: `conthiral.h` says what each does. What reads or writes single
 //! bits is plain Rust, here: `get`, `set`, `push`, `pop`, the walks, and what stands on these. So are lengths
-//! and storage, and what puts the edges of a graph into arrays.
+//! and storage, what puts the edges of a graph into arrays, and the names of a table.
 //!
 //! ```
 //! use conthiral::{vob, Vob};
@@ -23,6 +23,7 @@ mod matrix;
 mod ops;
 #[cfg(feature = "serde")]
 mod record;
+mod table;
 mod words;
 
 #[cfg(not(target_pointer_width = "64"))]
@@ -32,6 +33,7 @@ pub use bits::{Bits, Block, Words};
 pub use graph::{Graph, GraphError, Masks};
 pub use iter::{Iter, IterSetBits, IterUnsetBits, StorageIter};
 pub use matrix::BitMatrix;
+pub use table::{Table, TableError};
 
 /// A bit vector in words of its own, by the name that it has in the crate `vob`.
 pub type Vob<T = usize> = Bits<T>;

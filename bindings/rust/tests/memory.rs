@@ -1,8 +1,8 @@
-//! What calls on graphs return when memory runs out: the first request of each is refused.
+//! What calls on graphs and of tables return when memory runs out: the first request of each is refused.
 
 #![cfg(target_env = "gnu")]
 
-use conthiral::{BitMatrix, Graph, GraphError, Masks};
+use conthiral::{BitMatrix, Graph, GraphError, Masks, Table, TableError};
 use std::cell::Cell;
 use std::ffi::c_void;
 use std::ptr;
@@ -44,4 +44,13 @@ fn a_call_without_memory_changes_nothing() {
     assert_eq!(refused(|| graph.greatest(&mut sets, Masks::Keep(&own), Some(0))), Err(GraphError::Memory));
     assert_eq!(sets, own);
     assert_eq!(graph.components(), Ok((vec![1, 0], 2)));
+}
+
+#[test]
+fn a_table_without_memory_is_refused() {
+    assert_eq!(refused(|| Table::new("%% s: 'x';")).err(), Some(TableError::Memory));
+    let table = Table::new("%% s: 'x';").unwrap();
+    let tokens = [table.terminal("x").unwrap()];
+    assert_eq!(refused(|| table.parse(&tokens)), Err(TableError::Memory));
+    assert_eq!(table.parse(&tokens), Ok(vec![1]));
 }
