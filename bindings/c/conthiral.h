@@ -298,17 +298,20 @@ conthiral_status conthiral_greatest(const size_t *offsets, size_t offset_count, 
     size_t entry, size_t columns, const uint64_t *masks, size_t masks_count, bool keep, uint64_t *sets,
     size_t sets_count);
 
-/* The table of a parser, from the text of a grammar as yacc and bison read it. The table is five arrays of numbers.
+/* The table of a parser, from the text of a grammar as yacc and bison read it. The table is six arrays of numbers.
    Terminals have the numbers from 0 on as symbols: 0 is the end, and the others follow in the order of their
    declarations, `error` first. Nonterminals come after them. The entries of state i stand from `offsets[i]` to below
    `offsets[i + 1]`: at symbol `symbols[k]` a parser does `actions[k]`. That is 4 times a number, and 0, 1 or 2. By 0
    it enters the state with the number. By 1 it reduces by the rule with the number. By 2 it enters the state as by 0,
    unless all tokens are read: then it accepts. Rule i has `left[i]` on its left side, and `lengths[i]` symbols on its
-   right side. */
+   right side. `right` has the symbols of all right sides, rule by rule. */
 
-/* Reads the text of a grammar, and writes six sizes of its table: how many terminals, nonterminals, states, entries
-   and rules there are, and how many bytes the names of its symbols have. If the status is `CONTHIRAL_TEXT`, writes
-   where the text is faulty, counted from 1: the line, and the byte within it. */
+/* Reads the text of a grammar, and writes nine sizes of its table. Six are how many terminals, nonterminals, states,
+   entries, rules and symbols of all right sides there are. The seventh is how many bytes the names of its symbols
+   have. The last two, `base` and `each`, say how many reductions suffice: base + each * n for each sentence of n
+   tokens. This is proved for none and for one token, and tested for more. If base + each is `SIZE_MAX`, no number is
+   known to suffice. If the status is `CONTHIRAL_TEXT`, writes where the text is faulty, counted from 1: the line, and
+   the byte within it. */
 conthiral_status conthiral_table_sizes(const char *text, size_t text_count, size_t *sizes, size_t size_count,
     size_t *line, size_t *column);
 
@@ -317,7 +320,7 @@ conthiral_status conthiral_table_sizes(const char *text, size_t text_count, size
    table leaves a choice, a parser shifts, or else reduces by the lowest rule, as that of yacc does. */
 conthiral_status conthiral_table(const char *text, size_t text_count, size_t *offsets, size_t offset_count,
     size_t *symbols, size_t symbol_count, size_t *actions, size_t action_count, size_t *left, size_t left_count,
-    size_t *lengths, size_t length_count, size_t *terminals);
+    size_t *lengths, size_t length_count, size_t *right, size_t right_count, size_t *terminals);
 
 /* Writes the names of all symbols of a table into `names`, and where they begin into `offsets`: the name of symbol i
    stands from `offsets[i]` to below `offsets[i + 1]`. That of a terminal is its text in quotes if it has one. `names`

@@ -9,16 +9,16 @@
 #include <string.h>
 #include <time.h>
 
-enum { STATES = 64, ENTRIES = 512, RULES = 16, SYMBOLS = 32, BYTES = 256, ROOM = 64, SIZES = 6 };
+enum { STATES = 64, ENTRIES = 512, RULES = 16, SYMBOLS = 32, BYTES = 256, ROOM = 1024, SIZES = 9 };
 
-// The six sizes that a call writes.
-enum { TERMINALS, NONTERMINALS, STATE_COUNT, ENTRY_COUNT, RULE_COUNT, BYTE_COUNT };
+// The nine sizes that a call writes.
+enum { TERMINALS, NONTERMINALS, STATE_COUNT, ENTRY_COUNT, RULE_COUNT, RIGHT_COUNT, BYTE_COUNT, BASE, EACH };
 
 static const size_t MARK = 0x5bd1e995;
 
 struct table {
     size_t sizes[SIZES], terminals;
-    size_t offsets[STATES + 1], symbols[ENTRIES], actions[ENTRIES], left[RULES], lengths[RULES];
+    size_t offsets[STATES + 1], symbols[ENTRIES], actions[ENTRIES], left[RULES], lengths[RULES], right[SYMBOLS];
     size_t starts[SYMBOLS + 1];
     char names[BYTES];
 };
@@ -92,7 +92,7 @@ static conthiral_status sizes_of(const char *text, struct table *t, size_t *line
 static conthiral_status table_of(const char *text, struct table *t, const size_t *sizes) {
     return conthiral_table(text, strlen(text), t->offsets, sizes[STATE_COUNT] + 1, t->symbols, sizes[ENTRY_COUNT],
                            t->actions, sizes[ENTRY_COUNT], t->left, sizes[RULE_COUNT], t->lengths, sizes[RULE_COUNT],
-                           &t->terminals);
+                           t->right, sizes[RIGHT_COUNT], &t->terminals);
 }
 
 static conthiral_status names_of(const char *text, struct table *t, const size_t *sizes) {
@@ -104,6 +104,12 @@ static conthiral_status parse(const struct table *t, const size_t *tokens, size_
     return conthiral_parse(t->terminals, t->offsets, t->sizes[STATE_COUNT] + 1, t->symbols, t->sizes[ENTRY_COUNT],
                            t->actions, t->sizes[ENTRY_COUNT], t->left, t->sizes[RULE_COUNT], t->lengths,
                            t->sizes[RULE_COUNT], tokens, count, p->reductions, room, &p->count, &p->at);
+}
+
+// How many reductions suffice for a sentence of so many tokens, if there is room for them.
+static size_t enough(const struct table *t, size_t count) {
+    size_t most = t->sizes[BASE] + t->sizes[EACH] * count;
+    return most < ROOM ? most : ROOM;
 }
 
 static void mark(void *place, size_t bytes) {
@@ -200,12 +206,13 @@ static bool is_as_in_the_book(const struct table *t, size_t state, size_t *ours)
 
 static void expressions(void) {
     static struct table t;
-    static const size_t sizes[] = {7, 4, 13, 45, 7, 33}, lengths[] = {2, 3, 1, 3, 1, 3, 1};
+    static const size_t sizes[] = {7, 4, 13, 45, 7, 14, 33}, lengths[] = {2, 3, 1, 3, 1, 3, 1};
     static const char *const lefts[] = {"$accept", "E", "E", "T", "T", "F", "F"};
+    static const char *const right[] = {"E", "$end", "E", "'+'", "T", "T", "T", "'*'", "F", "F", "'('", "E", "')'", "id"};
     size_t ours[12] = {0};
     mark(ours + 1, sizeof ours - sizeof *ours);
     make(EXPRESSIONS, &t);
-    for (int k = 0; k < SIZES; k++) {
+    for (int k = 0; k < BASE; k++) {
         is(t.sizes[k] == sizes[k], "table_sizes", "another size");
     }
     // each state of the book but the first is one to which a state before it leads
@@ -219,6 +226,9 @@ static void expressions(void) {
     }
     for (size_t rule = 0; rule < 7; rule++) {
         is(t.left[rule] == symbol(&t, lefts[rule]) && t.lengths[rule] == lengths[rule], "table", "another rule");
+    }
+    for (size_t k = 0; k < 14; k++) {
+        is(t.right[k] == symbol(&t, right[k]), "table", "another symbol of a right side");
     }
     is(t.offsets[0] == 0 && t.offsets[t.sizes[STATE_COUNT]] == t.sizes[ENTRY_COUNT], "table", "other offsets");
 }
@@ -244,6 +254,7 @@ static void accepts(const struct table *t, const char *text, const char *rules) 
     is(same(&made, &was, sizeof was), "parse", "a refused call writes");
     is(parse(t, tokens, count, most, &made) == CONTHIRAL_OK, "parse", text);
     is(made.count == most && made.at == MARK, "parse", "another count");
+    is(most <= enough(t, count), "table_sizes", text);
     for (size_t k = 0; k < ROOM; k++) {
         is(made.reductions[k] == (k < most ? (size_t)(rules[k] - '0') : was.reductions[k]), "parse", "another rule");
     }
@@ -278,6 +289,82 @@ static void parses(void) {
     refuses_token(&t, "x", 0);
 }
 
+// ---- trees, by the right sides of rules
+
+// Writes a random expression of at most so many tokens, and returns how many.
+static size_t expression(const struct table *t, size_t *tokens, size_t most) {
+    size_t count = 0, open = 0;
+    for (bool more = true; more;) {
+        for (; below(3) == 0 && count + open + 3 < most; open++) {
+            tokens[count++] = symbol(t, "'('");
+        }
+        tokens[count++] = symbol(t, "id");
+        for (; open > 0 && below(2); open--) {
+            tokens[count++] = symbol(t, "')'");
+        }
+        more = below(8) > 0 && count + open + 3 < most;
+        if (more) {
+            tokens[count++] = symbol(t, below(2) ? "'+'" : "'*'");
+        }
+    }
+    for (; open > 0; open--) {
+        tokens[count++] = symbol(t, "')'");
+    }
+    return count;
+}
+
+// Whether the reductions, read backwards, derive the tokens from what rule 0 has before the end: each puts a right side
+// where the last nonterminal is.
+static bool derives(const struct table *t, const struct parsed *made, const size_t *tokens, size_t count) {
+    size_t form[ROOM + 4] = {t->right[0]}, length = 1;
+    for (size_t k = made->count; k-- > 0;) {
+        size_t rule = made->reductions[k], from = 0, at = length;
+        for (size_t before = 0; before < rule; before++) {
+            from += t->lengths[before];
+        }
+        while (at > 0 && form[at - 1] < t->terminals) {
+            at--;
+        }
+        if (at == 0 || form[at - 1] != t->left[rule] || length + t->lengths[rule] > ROOM) {
+            return false;
+        }
+        memmove(form + at - 1 + t->lengths[rule], form + at, (length - at) * sizeof *form);
+        memcpy(form + at - 1, t->right + from, t->lengths[rule] * sizeof *form);
+        length += t->lengths[rule] - 1;
+    }
+    return length == count && same(form, tokens, count * sizeof *form);
+}
+
+static void trees(long rounds) {
+    static struct table t;
+    static struct parsed made;
+    size_t tokens[ROOM];
+    make(EXPRESSIONS, &t);
+    for (long round = 0; round < rounds; round++) {
+        size_t count = expression(&t, tokens, 1 + below(100));
+        is(parse(&t, tokens, count, enough(&t, count), &made) == CONTHIRAL_OK, "parse", "too few reductions suffice");
+        is(derives(&t, &made, tokens, count), "parse", "the reductions derive other tokens");
+    }
+}
+
+// Symbols that become empty, rules that become themselves, and a parser that makes reductions without end.
+static void empties(void) {
+    static struct table t;
+    static struct parsed made;
+    make("%%\ns: a b c | s 'z';\na: ;\nb: a a;\nc: 'y' | b b;\n", &t);
+    accepts(&t, "", "333433433461");
+    accepts(&t, "z", "3334334334612");
+    accepts(&t, "zzz", "333433433461222");
+    accepts(&t, "y", "333451");
+    accepts(&t, "yz", "3334512");
+    make("%% a: a | 'z';", &t);
+    accepts(&t, "z", "2");
+    refuses_token(&t, "", 0);
+    make("%start s\n%%\ne: ;\ns: e s | ;\n", &t);
+    is(parse(&t, NULL, 0, enough(&t, 0), &made) == CONTHIRAL_LENGTH, "parse", "reductions without end");
+    is(parse(&t, NULL, 0, ROOM, &made) == CONTHIRAL_LENGTH, "parse", "reductions without end");
+}
+
 // ---- texts that are refused, each with its line and its column
 
 static void refuses_text(const char *text, size_t at_line, size_t at_column) {
@@ -292,7 +379,7 @@ static void refuses_text(const char *text, size_t at_line, size_t at_column) {
     is(same(&t, &was, sizeof was), "table", "a refused call writes");
     line = column = MARK;
     is(conthiral_table_sizes(text, strlen(text), t.sizes, SIZES - 1, &line, &column) == CONTHIRAL_LENGTH, "table_sizes",
-       "five sizes");
+       "eight sizes");
     is(line == MARK && column == MARK, "table_sizes", "a place is written");
 }
 
@@ -359,6 +446,8 @@ int main(int count, char **arguments) {
     seed |= (uint64_t)1 << 63;
     expressions();
     parses();
+    trees(rounds);
+    empties();
     texts();
     no_tables(rounds);
     printf("%ld passed, %d failed\n", tried - wrong, wrong);

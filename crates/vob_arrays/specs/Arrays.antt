@@ -1,9 +1,11 @@
 -- Which arrays are those of a table.
-use Rattle.std.specs.Prelude.{◌≡◌, ◌⊎◌, ◌↔◌, ℕ, ◌+◌, ◌*◌, ◌<◌, ◌≤◌, List, [], length, map, slice_get, slice_index, slice_index_or, Contains, Some}
+use Rattle.std.specs.Prelude.{◌≡◌, ◌⊎◌, ◌↔◌, ℕ, ◌+◌, ◌*◌, ◌<◌, ◌≤◌, List, [], flat_map, length, map, slice_get, slice_index, slice_index_or, Contains, Some}
 use Rattle.vob_lr.specs.Accepting.{Accepts}
 use Rattle.vob_lr.specs.Stops.{IsSound}
 use Rattle.vob_lr.specs.Tables.{TableView, chosen_at}
-use Rattle.vob_lr.specs.declared.grammar.Symbol.TheVariants.{Nonterminal}
+use Rattle.vob_lr.specs.declared.grammar.Rule.{Rule}
+use Rattle.vob_lr.specs.declared.grammar.Symbol.{Symbol}
+use Rattle.vob_lr.specs.declared.grammar.Symbol.TheVariants.{Nonterminal, Terminal}
 use Rattle.vob_lr.specs.declared.state.Move.{Move}
 use Rattle.vob_lr.specs.declared.table.Action.{Action}
 use Rattle.vob_lr.specs.declared.table.Action.TheVariants.{Accept, Reduce, Shift}
@@ -70,3 +72,16 @@ pub record IsTableOf (table : TableView) (arrays : TableArrays) : Type 0 where
   pub left : arrays.left
       ≡ map (λ rule. table.machine.grammar.terminals + rule.left) table.machine.grammar.rules.items
   pub lengths : arrays.lengths ≡ map (λ rule. length rule.right.items) table.machine.grammar.rules.items
+
+-- the number of a symbol: terminals have their own, and nonterminals come after them
+abbrev pub symbol_number : ℕ → Symbol → ℕ
+symbol_number terminals (Terminal t) = t
+symbol_number terminals (Nonterminal n) = terminals + n
+
+-- the symbols on the right sides of rules, rule by rule
+abbrev pub right_numbers : ℕ → List Rule → List ℕ
+right_numbers terminals rules = flat_map (λ rule. map (symbol_number terminals) rule.right.items) rules
+
+-- those of all rules of a table
+abbrev pub right_symbols : TableView → List ℕ
+right_symbols table = right_numbers table.machine.grammar.terminals table.machine.grammar.rules.items

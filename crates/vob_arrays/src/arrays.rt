@@ -55,6 +55,8 @@ pub struct OwnedArrays {
     pub left: Vec<usize>,
     /// The number of symbols on each rule's right side.
     pub lengths: Vec<usize>,
+    /// The symbols on the right sides of all rules, rule by rule. A parser needs none of them.
+    pub right: Vec<usize>,
 }
 
 impl OwnedArrays {

@@ -1,7 +1,7 @@
 //! The arrays of a table.
-ghost use Rattle.std.specs.Prelude.{◌≡◌, ◌⊎◌, ◌↔◌, ℕ, ◌+◌, ◌<◌, [], ◌∷◌, length, map, slice_index_or, IfOk, OnOk, Some};
+ghost use Rattle.std.specs.Prelude.{◌≡◌, ◌⊎◌, ◌↔◌, ℕ, ◌+◌, ◌<◌, [], ◌∷◌, ◌++◌, length, map, slice_index_or, IfOk, OnOk, Some};
 ghost use Rattle.vob_lr.specs.Accepting.{Accepts};
-ghost use Rattle.vob_arrays.specs.Arrays.{IsActionAt, IsEntry, IsMoveEntry, IsTableOf, IsTerminalEntry, owned_view};
+ghost use Rattle.vob_arrays.specs.Arrays.{IsActionAt, IsEntry, IsMoveEntry, IsTableOf, IsTerminalEntry, owned_view, right_numbers, right_symbols, symbol_number};
 ghost use Rattle.vob_arrays.specs.Building.{Appends, AreBuilt};
 
 use crate::arrays::OwnedArrays;
@@ -171,12 +171,51 @@ fn lengths_of(alloc: Global, rules: &[Rule]) -> Result<Vec<usize>, AllocError>
     rules.iter().map(|rule| rule.right.len()).collect(alloc)
 }
 
+/// Returns the number of a symbol. Fails if no `usize` is that number.
+fn number_of(terminals: usize, symbol: Symbol) -> Result<usize, AllocError>
+    ensures { IfOk result (λ number. number ≡ symbol_number terminals symbol) }
+{
+    match symbol {
+        Symbol::Terminal(terminal) => Ok(terminal),
+        Symbol::Nonterminal(nonterminal) => terminals.checked_add(nonterminal).ok_or(AllocError),
+    }
+}
+
+/// Appends the numbers of some symbols.
+fn push_symbols(
+    terminals: usize,
+    symbols: &[Symbol],
+    numbers: &mut Vec<usize>,
+) -> Result<(), AllocError>
+    ensures { OnOk result (numbers.new.items
+        ≡ numbers.old.items ++ map (symbol_number terminals) symbols.now) }
+{
+    for symbol in symbols {
+        let number = number_of(terminals, *symbol)?;
+        numbers.push(number)?;
+    }
+    Ok(())
+}
+
+/// Returns the symbols on the right sides of all rules, rule by rule. Fails if memory runs out, or if
+/// no `usize` is a symbol.
+fn right_of(alloc: Global, terminals: usize, rules: &[Rule]) -> Result<Vec<usize>, AllocError>
+    ensures { IfOk result (λ right. right.items ≡ right_numbers terminals rules.now) }
+{
+    let mut right = Vec::new(alloc);
+    for rule in rules {
+        push_symbols(terminals, &rule.right, &mut right)?;
+    }
+    Ok(right)
+}
+
 /// Returns the arrays of a table.
 ///
 /// Fails if memory runs out, or if the terminals, the nonterminals or the states are too many for the
 /// numbers of `usize`.
 pub fn arrays_of(alloc: Global, table: &Table<'_>) -> Result<OwnedArrays, AllocError>
-    ensures { IfOk result (λ arrays. IsTableOf table.now (owned_view arrays)) }
+    ensures table { IfOk result (λ arrays. IsTableOf table.now (owned_view arrays)) }
+    ensures right { IfOk result (λ arrays. arrays.right.items ≡ right_symbols table.now) }
 {
     let grammar = table.lookaheads().items().grammar();
     let (offsets, entries) = rows_of(alloc, table)?;
@@ -187,5 +226,6 @@ pub fn arrays_of(alloc: Global, table: &Table<'_>) -> Result<OwnedArrays, AllocE
         actions: actions_of(alloc, &entries)?,
         left: left_of(alloc, grammar.terminals, &grammar.rules)?,
         lengths: lengths_of(alloc, &grammar.rules)?,
+        right: right_of(alloc, grammar.terminals, &grammar.rules)?,
     })
 }

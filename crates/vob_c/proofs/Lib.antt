@@ -1,3 +1,4 @@
+pub mod BoundLemmas
 pub mod BytesLemmas
 pub mod ClosingLemmas
 pub mod CombineLemmas

@@ -1,15 +1,16 @@
-//! The table of a parser, from the text of a grammar as yacc and bison read it. The table is five arrays of
+//! The table of a parser, from the text of a grammar as yacc and bison read it. The table is six arrays of
 //! numbers. Terminals have the numbers from 0 on as symbols: 0 is the end, and the others follow in the order
 //! of their declarations, `error` first. Nonterminals come after them. The entries of state i stand from
 //! `offsets[i]` to below `offsets[i + 1]`: at symbol `symbols[k]` a parser does `actions[k]`. That is 4 times a
 //! number, and 0, 1 or 2. By 0 it enters the state with the number. By 1 it reduces by the rule with the
 //! number. By 2 it enters the state as by 0, unless all tokens are read: then it accepts. Rule i has `left[i]`
-//! on its left side, and `lengths[i]` symbols on its right side.
-ghost use Rattle.std.specs.Prelude.{◌≡◌, ◌≢◌, ◌↔◌, ◌⊎◌, length, IfOk, OnOk};
+//! on its left side, and `lengths[i]` symbols on its right side. `right` has the symbols of all right sides, rule
+//! by rule.
+ghost use Rattle.std.specs.Prelude.{◌≡◌, ◌≢◌, ◌↔◌, ◌⊎◌, ◌+◌, length, IfOk, OnOk};
 ghost use Rattle.vob_lr.specs.Tables.{TableView};
-ghost use Rattle.vob_arrays.specs.Arrays.{IsTableOf, owned_view};
+ghost use Rattle.vob_arrays.specs.Arrays.{IsTableOf, owned_view, right_symbols};
 ghost use Rattle.vob_arrays.specs.Views.{TableArrays};
-ghost use Rattle.vob_c.specs.Tables.{AreNamed, HasSizes, table_arrays};
+ghost use Rattle.vob_c.specs.Tables.{AreNamed, HasSizes, IsMostFor, table_arrays};
 
 use crate::status::{LENGTH, MEMORY, OK, TEXT};
 use std::alloc::{AllocError, Global};
@@ -18,18 +19,15 @@ use vob_lr::{Lookaheads, Table};
 use vob_yacc::{GrammarText, TextError, TextFault, grammar_of};
 
 /// How many sizes a table has.
-const SIZES: usize = 6;
+const SIZES: usize = 9;
 
-/// Returns the arrays of the table of a grammar. Fails if memory runs out.
-fn arrays_of_text(alloc: Global, text: &GrammarText) -> Result<OwnedArrays, AllocError>
-    ensures { IfOk result (λ arrays. (table : TableView) × IsTableOf table (owned_view arrays)) }
-{
+/// Returns the table of a grammar. Fails if memory runs out.
+fn table_of_text(alloc: Global, text: &GrammarText) -> Result<Table<'_>, AllocError> {
     // Rules that were read name symbols that are there.
     let Ok(lookaheads) = Lookaheads::new(alloc, &text.grammar) else {
         return Err(AllocError);
     };
-    let table = Table::new(alloc, lookaheads, &text.precedences, &text.rule_precedences)?;
-    arrays_of(alloc, &table)
+    Table::new(alloc, lookaheads, &text.precedences, &text.rule_precedences)
 }
 
 /// Returns the status of a text that wasn't read.
@@ -51,23 +49,41 @@ fn byte_count(names: &[Vec<u8>]) -> usize {
     count
 }
 
+/// Returns how many reductions suffice for no token, and how many more for one.
+fn bound_of(table: &Table<'_>) -> (usize, usize)
+    ensures none { IsMostFor table.now 0 result.0 }
+    ensures one { IsMostFor table.now 1 (result.0 + result.1) }
+{
+    let base = table.most_reductions(0);
+    let one = table.most_reductions(1);
+    (base, one.saturating_sub(base))
+}
+
 /// Writes the sizes of a table.
-fn write_sizes(text: &GrammarText, arrays: &OwnedArrays, sizes: &mut [usize])
-    requires { length sizes.old ≡ 6 }
-    ensures { HasSizes (owned_view arrays.now) sizes.new }
+fn write_sizes(text: &GrammarText, table: &Table<'_>, arrays: &OwnedArrays, sizes: &mut [usize])
+    requires long { length sizes.old ≡ 9 }
+    requires right { arrays.now.right.items ≡ right_symbols table.now }
+    ensures { HasSizes table.now (owned_view arrays.now) sizes.new }
 {
     let bytes = byte_count(&text.terminals).saturating_add(byte_count(&text.nonterminals));
+    let (base, each) = bound_of(table);
     sizes[0] = arrays.terminals;
-    sizes[1] = text.grammar.nonterminals;
+    sizes[1] = table.lookaheads().items().grammar().nonterminals;
     sizes[2] = arrays.offsets.len().saturating_sub(1);
     sizes[3] = arrays.symbols.len();
     sizes[4] = arrays.left.len();
-    sizes[5] = bytes;
+    sizes[5] = arrays.right.len();
+    sizes[6] = bytes;
+    sizes[7] = base;
+    sizes[8] = each;
 }
 
-/// Reads the text of a grammar, and writes six sizes of its table: how many terminals, nonterminals, states,
-/// entries and rules there are, and how many bytes the names of its symbols have. If the status is
-/// `CONTHIRAL_TEXT`, writes where the text is faulty, counted from 1: the line, and the byte within it.
+/// Reads the text of a grammar, and writes nine sizes of its table. Six are how many terminals, nonterminals,
+/// states, entries, rules and symbols of all right sides there are. The seventh is how many bytes the names of
+/// its symbols have. The last two, `base` and `each`, say how many reductions suffice: base + each * n for each
+/// sentence of n tokens. This is proved for none and for one token, and tested for more. If base + each is
+/// `SIZE_MAX`, no number is known to suffice. If the status is `CONTHIRAL_TEXT`, writes where the text is faulty,
+/// counted from 1: the line, and the byte within it.
 #[unsafe(no_mangle)]
 pub extern "C" fn conthiral_table_sizes(
     alloc: Global,
@@ -79,7 +95,7 @@ pub extern "C" fn conthiral_table_sizes(
     ensures status { (result ≡ 0) ⊎ ((result ≡ 1) ⊎ ((result ≡ 3) ⊎ (result ≡ 5))) }
     ensures length { (result ≡ 1) ↔ (length sizes.old ≢ 6) }
     ensures sizes { result ≡ 0 → (table : TableView) × (arrays : TableArrays)
-        × IsTableOf table arrays × HasSizes arrays sizes.new }
+        × IsTableOf table arrays × HasSizes table arrays sizes.new }
     ensures refused { result ≢ 0 → sizes.new ≡ sizes.old }
     ensures place { result ≢ 5 → (line.new ≡ line.old) × (column.new ≡ column.old) }
 {
@@ -97,10 +113,13 @@ pub extern "C" fn conthiral_table_sizes(
             return status;
         }
     };
-    let Ok(arrays) = arrays_of_text(alloc, &grammar) else {
+    let Ok(table) = table_of_text(alloc, &grammar) else {
         return MEMORY;
     };
-    write_sizes(&grammar, &arrays, sizes);
+    let Ok(arrays) = arrays_of(alloc, &table) else {
+        return MEMORY;
+    };
+    write_sizes(&grammar, &table, &arrays, sizes);
     OK
 }
 
@@ -117,26 +136,31 @@ pub extern "C" fn conthiral_table(
     actions: &mut [usize],
     left: &mut [usize],
     lengths: &mut [usize],
+    right: &mut [usize],
     terminals: &mut usize,
 ) -> u8
     ensures status { (result ≡ 0) ⊎ ((result ≡ 1) ⊎ ((result ≡ 3) ⊎ (result ≡ 5))) }
     ensures table { result ≡ 0 → (table : TableView) × IsTableOf table (table_arrays terminals.new
-        offsets.new symbols.new actions.new left.new lengths.new) }
+        offsets.new symbols.new actions.new left.new lengths.new)
+        × (right.new ≡ right_symbols table) }
     ensures refused { result ≢ 0 → (offsets.new ≡ offsets.old) × (symbols.new ≡ symbols.old)
         × (actions.new ≡ actions.old) × (left.new ≡ left.old) × (lengths.new ≡ lengths.old)
-        × (terminals.new ≡ terminals.old) }
+        × (right.new ≡ right.old) × (terminals.new ≡ terminals.old) }
 {
     let grammar = match grammar_of(alloc, text) {
         Ok(grammar) => grammar,
         Err(error) => return status_of_error(&error),
     };
-    let Ok(arrays) = arrays_of_text(alloc, &grammar) else {
+    let Ok(table) = table_of_text(alloc, &grammar) else {
+        return MEMORY;
+    };
+    let Ok(arrays) = arrays_of(alloc, &table) else {
         return MEMORY;
     };
     if offsets.len() != arrays.offsets.len() || symbols.len() != arrays.symbols.len() {
         return LENGTH;
     }
-    if actions.len() != arrays.actions.len() {
+    if actions.len() != arrays.actions.len() || right.len() != arrays.right.len() {
         return LENGTH;
     }
     if left.len() != arrays.left.len() || lengths.len() != arrays.lengths.len() {
@@ -147,6 +171,7 @@ pub extern "C" fn conthiral_table(
     actions.copy_from_slice(&arrays.actions);
     left.copy_from_slice(&arrays.left);
     lengths.copy_from_slice(&arrays.lengths);
+    right.copy_from_slice(&arrays.right);
     *terminals = arrays.terminals;
     OK
 }
