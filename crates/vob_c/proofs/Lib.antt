@@ -1,4 +1,3 @@
-pub mod BoundLemmas
 pub mod BytesLemmas
 pub mod ClosingLemmas
 pub mod CombineLemmas
