@@ -93,7 +93,7 @@ pub extern "C" fn conthiral_table_sizes(
     column: &mut usize,
 ) -> u8
     ensures status { (result ≡ 0) ⊎ ((result ≡ 1) ⊎ ((result ≡ 3) ⊎ (result ≡ 5))) }
-    ensures length { (result ≡ 1) ↔ (length sizes.old ≢ 6) }
+    ensures length { (result ≡ 1) ↔ (length sizes.old ≢ 9) }
     ensures sizes { result ≡ 0 → (table : TableView) × (arrays : TableArrays)
         × IsTableOf table arrays × HasSizes table arrays sizes.new }
     ensures refused { result ≢ 0 → sizes.new ≡ sizes.old }
