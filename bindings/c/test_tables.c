@@ -128,6 +128,7 @@ static void make(const char *text, struct table *t) {
     wanted = *t;
     REFUSE_EACH(sizes_of(text, t, &line, &column), *t, was, wanted, "table_sizes")
     is(line == MARK && column == MARK, "table_sizes", "a place is written");
+    is(t->sizes[BASE] + t->sizes[EACH] < SIZE_MAX, "table_sizes", "no number suffices");
     was = *t;
     for (int array = STATE_COUNT; array < BYTE_COUNT; array++) {
         for (int more = -1; more < 2; more += 2) {
