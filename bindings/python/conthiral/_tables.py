@@ -4,6 +4,7 @@ from __future__ import annotations
 
 from array import array
 from ctypes import POINTER, c_char_p, c_size_t, c_uint8
+from sys import maxsize
 from typing import Any, Dict, Iterable, List, NamedTuple, Tuple, Union
 
 from ._faults import told
@@ -133,7 +134,10 @@ class Table:
         return self._reductions(self._tokens(tokens)).tolist()
 
     def _reductions(self, tokens: array[int]) -> array[int]:
-        reductions = _zeros(self._base + self._each * len(tokens))
+        room = self._base + self._each * len(tokens)
+        if room > maxsize // 8:
+            raise MemoryError("no number of reductions is known to suffice")
+        reductions = _zeros(room)
         count, at = c_size_t(), c_size_t()
         pairs = [pair for each in (*self._arrays, tokens, reductions) for pair in _numbers(each)]
         status = LIBRARY.conthiral_parse(self._count, *pairs, count, at)

@@ -209,7 +209,7 @@ impl Table {
     /// their order: read backwards, they are the rightmost derivation of the tokens.
     ///
     /// Fails with the first token that the parser doesn't take, if it makes more reductions than suffice for a sentence of
-    /// so many tokens, or if memory runs out.
+    /// so many tokens, or if memory runs out, as it does if no number is known to suffice.
     ///
     /// ```
     /// use conthiral::{Table, TableError};
