@@ -94,15 +94,10 @@ class Tables(unittest.TestCase):
         self.assertEqual(depth, 20000)
 
     def test_faults(self):
-        for grammar, place in [("%% s: 'a'", None), ("%% s: x;", (1, 7)), ("%token\n A A\n%% s: A | ;\n%left", None), ("", (1, 1))]:
-            try:
+        for grammar, place in [("%% s: x;", (1, 7)), ("%token A\n%% s: A B;", (2, 9)), ("", (1, 1)), (b"\xff", (1, 1))]:
+            with self.assertRaises(GrammarError) as raised:
                 Table(grammar)
-            except GrammarError as error:
-                self.assertIn((error.line, error.column), [place])
-            else:
-                self.assertIsNone(place)
-        with self.assertRaises(GrammarError):
-            Table(b"\xff")
+            self.assertEqual((raised.exception.line, raised.exception.column), place)
 
     def test_cycle(self):
         table = Table("%% s: s | 'x';")

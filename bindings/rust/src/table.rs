@@ -114,7 +114,7 @@ impl Table {
     /// ```
     /// use conthiral::{Table, TableError};
     ///
-    /// assert_eq!(Table::new("%% list: list").err(), Some(TableError::Text { line: 1, column: 14 }));
+    /// assert_eq!(Table::new("%% list: item;").err(), Some(TableError::Text { line: 1, column: 10 }));
     /// ```
     pub fn new(text: &str) -> Result<Table, TableError> {
         let (mut sizes, mut line, mut column) = ([0; SIZES], 0, 0);
@@ -215,9 +215,9 @@ impl Table {
     /// use conthiral::{Table, TableError};
     ///
     /// let table = Table::new("%% list: %empty | list 'x';")?;
-    /// let x = table.terminal("x").unwrap();
+    /// let [x, error] = ["x", "error"].map(|name| table.terminal(name).unwrap());
     /// assert_eq!(table.parse(&[x, x])?, [1, 2, 2]);
-    /// assert_eq!(table.parse(&[x, 0]), Err(TableError::Unexpected { at: 1 }));
+    /// assert_eq!(table.parse(&[x, error]), Err(TableError::Unexpected { at: 1 }));
     /// # Ok::<(), TableError>(())
     /// ```
     pub fn parse(&self, tokens: &[usize]) -> Result<Vec<usize>, TableError> {
